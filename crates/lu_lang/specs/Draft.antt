@@ -1,0 +1,23 @@
+-- What the lines of a component's text have declared so far.
+use Rattle.std.specs.Prelude.{ℕ, List, [], Option, None}
+use Rattle.lu_lang.specs.declared.component.Array.{Array}
+use Rattle.lu_lang.specs.declared.component.Op.{Op}
+use Rattle.lu_lang.specs.declared.draft.Statement.{Statement}
+
+-- an operation that has no `end` yet: its instructions, and its labels with the places of theirs
+pub record Begun : Type 0 where
+  pub name : List ℕ
+  pub args : ℕ
+  pub statements : List Statement
+  pub labels : List (List ℕ × ℕ)
+
+-- what is declared, and the operation that has no `end` yet
+pub record Drafted : Type 0 where
+  pub name : Option (List ℕ)
+  pub arrays : List Array
+  pub locks : List (List ℕ)
+  pub operations : List Op
+  pub begun : Option Begun
+
+abbrev pub nothing : Drafted
+nothing = record { name = None; arrays = []; locks = []; operations = []; begun = None }

@@ -1,0 +1,357 @@
+-- The text of a component: what each line says, or what is wrong with it.
+use Rattle.std.specs.Prelude.{find, ℕ, ◌+◌, ◌-◌, Bool, true, false, List, [], ◌∷◌, ◌++◌, length, map, take, slice_index, slice_get, Option, Some, None, is_some, Result, Ok, Err, codes, ◌==◌, ◌||◌, not, nat_le, nat_lt, if◌then◌else◌}
+use Rattle.std.specs.List.{position, list_all}
+use Rattle.std.specs.Str.{bytes_eq}
+use Rattle.std.specs.Option.{unwrap_or, option_map}
+use Rattle.lu_text.specs.Names.{has_name_form, is_long}
+use Rattle.lu_text.specs.Numbers.{value_in}
+use Rattle.lu_text.specs.Lines.{words_of, is_allowed}
+use Rattle.lu_text.specs.Words.{Word, one, two, three, four, five}
+use Rattle.lu_text.specs.Faults.{Grammar, says, or_else}
+use Rattle.lu_lang.specs.declared.instr.Operand.{Operand}
+use Rattle.lu_lang.specs.declared.instr.Operand.TheVariants.{Num}
+use Rattle.lu_lang.specs.declared.instr.Arithmetic.{Arithmetic}
+use Rattle.lu_lang.specs.declared.instr.Instr.{Instr}
+use Rattle.lu_lang.specs.declared.instr.Instr.TheVariants as instr
+use Rattle.lu_lang.specs.declared.component.Array.{Array}
+use Rattle.lu_lang.specs.declared.component.Op.{Op}
+use Rattle.lu_lang.specs.declared.draft.Statement.{Statement}
+use Rattle.lu_lang.specs.declared.draft.Statement.TheVariants.{Plain, Jump, JumpIfZero}
+use Rattle.lu_lang.specs.declared.keyword.Keyword.{Keyword}
+use Rattle.lu_lang.specs.declared.keyword.Keyword.TheVariants as keyword
+use Rattle.lu_lang.specs.declared.fault.LangFaultKind.{LangFaultKind}
+use Rattle.lu_lang.specs.declared.fault.LangFaultKind.TheVariants.{Byte, Missing, Form, Number, Limit, Flow, Name}
+use Rattle.lu_lang.specs.Kinds.{rank}
+use Rattle.lu_lang.specs.Component.{Declarations}
+use Rattle.lu_lang.specs.Draft.{Begun, Drafted, nothing}
+use Rattle.lu_lang.specs.Words.{keyword_in, register_in, operand_in}
+
+-- ---- words
+
+-- the number that a word is, where it is one
+abbrev pub value : Word → ℕ
+value word = unwrap_or (value_in word) 0
+
+abbrev pub register : Word → ℕ
+register word = unwrap_or (register_in word) 0
+
+abbrev pub operand : Word → Operand
+operand word = unwrap_or (operand_in word) (Num 0)
+
+abbrev pub is_value : Word → Bool
+is_value word = is_some (value_in word)
+
+abbrev pub is_register : Word → Bool
+is_register word = is_some (register_in word)
+
+abbrev pub is_operand : Word → Bool
+is_operand word = is_some (operand_in word)
+
+-- ---- what is declared so far
+
+abbrev pub array_place : Drafted → Word → Option ℕ
+array_place d name = position (λ a. bytes_eq a.name name) d.arrays
+
+abbrev pub lock_place : Drafted → Word → Option ℕ
+lock_place d name = position (λ l. bytes_eq l name) d.locks
+
+abbrev pub operation_place : Drafted → Word → Option ℕ
+operation_place d name = position (λ o. bytes_eq o.name name) d.operations
+
+abbrev pub label_place : List (List ℕ × ℕ) → Word → Option ℕ
+label_place labels name = position (λ l. bytes_eq l.0 name) labels
+
+abbrev pub array_number : Drafted → Word → ℕ
+array_number d name = unwrap_or (array_place d name) 0
+
+abbrev pub lock_number : Drafted → Word → ℕ
+lock_number d name = unwrap_or (lock_place d name) 0
+
+-- ---- declarations, outside an operation
+
+-- `component NAME`, the first line with words
+abbrev pub component_line : Drafted → Option Word → Result Drafted LangFaultKind
+component_line d None = Err Form
+component_line d (Some name) =
+    says ((not (has_name_form name), Form) ∷ (is_long name, Limit) ∷ [])
+    (record d { name = Some name })
+
+-- `word NAME LEN INIT`
+abbrev pub array_line : Drafted → Option (Word × Word × Word) → Result Drafted LangFaultKind
+array_line d None = Err Form
+array_line d (Some (name, len, init)) =
+    says ((not (has_name_form name), Form)
+      ∷ (not (is_value len) || not (is_value init), Number)
+      ∷ (is_long name || (nat_le 16 (length d.arrays) || (nat_lt (value len) 1 || nat_lt 64 (value len))), Limit)
+      ∷ (is_some (array_place d name), Name) ∷ [])
+    (record d { arrays = d.arrays ++ record { name = name; len = value len; init = value init } ∷ [] })
+
+-- `lock NAME`
+abbrev pub lock_line : Drafted → Option Word → Result Drafted LangFaultKind
+lock_line d None = Err Form
+lock_line d (Some name) =
+    says ((not (has_name_form name), Form)
+      ∷ (is_long name || nat_le 8 (length d.locks), Limit)
+      ∷ (is_some (lock_place d name), Name) ∷ [])
+    (record d { locks = d.locks ++ name ∷ [] })
+
+-- `op NAME ARGS`
+abbrev pub op_line : Drafted → Option (Word × Word) → Result Drafted LangFaultKind
+op_line d None = Err Form
+op_line d (Some (name, args)) =
+    says ((not (has_name_form name), Form)
+      ∷ (not (is_value args), Number)
+      ∷ (is_long name || (nat_le 16 (length d.operations) || nat_lt 4 (value args)), Limit)
+      ∷ (is_some (operation_place d name), Name) ∷ [])
+    (record d { begun = Some (record { name = name; args = value args; statements = []; labels = [] }) })
+
+abbrev pub declaration : Drafted → Word → List Word → Result Drafted LangFaultKind
+declaration d word words =
+    if bytes_eq word (codes "word") then array_line d (three words)
+    else (if bytes_eq word (codes "lock") then lock_line d (one words)
+    else (if bytes_eq word (codes "op") then op_line d (two words)
+    else Err Form))
+
+-- ---- instructions
+
+-- `set rD v`
+abbrev pub set_line : Option (Word × Word) → Result Statement LangFaultKind
+set_line None = Err Form
+set_line (Some (dst, v)) =
+    says ((not (is_register dst), Form) ∷ (not (is_operand v), Number) ∷ [])
+    (Plain (instr.Set (register dst) (operand v)))
+
+-- `add rD a b`, `sub`, `mul`, `eq`, `lt`
+abbrev pub compute_line : Arithmetic → Option (Word × Word × Word) → Result Statement LangFaultKind
+compute_line arithmetic None = Err Form
+compute_line arithmetic (Some (dst, a, b)) =
+    says ((not (is_register dst), Form) ∷ (not (is_operand a) || not (is_operand b), Number) ∷ [])
+    (Plain (instr.Compute arithmetic (register dst) (operand a) (operand b)))
+
+-- `load rD W i`
+abbrev pub load_line : Drafted → Option (Word × Word × Word) → Result Statement LangFaultKind
+load_line d None = Err Form
+load_line d (Some (dst, array, i)) =
+    says ((not (is_register dst) || not (has_name_form array), Form)
+      ∷ (not (is_operand i), Number)
+      ∷ (is_long array, Limit)
+      ∷ (not (is_some (array_place d array)), Name) ∷ [])
+    (Plain (instr.Load (register dst) (array_number d array) (operand i)))
+
+-- `store W i v`
+abbrev pub store_line : Drafted → Option (Word × Word × Word) → Result Statement LangFaultKind
+store_line d None = Err Form
+store_line d (Some (array, i, v)) =
+    says ((not (has_name_form array), Form)
+      ∷ (not (is_operand i) || not (is_operand v), Number)
+      ∷ (is_long array, Limit)
+      ∷ (not (is_some (array_place d array)), Name) ∷ [])
+    (Plain (instr.Store (array_number d array) (operand i) (operand v)))
+
+-- `cas rD W i old new`
+abbrev pub cas_line : Drafted → Option (Word × Word × Word × Word × Word) → Result Statement LangFaultKind
+cas_line d None = Err Form
+cas_line d (Some (dst, array, i, old, new)) =
+    says ((not (is_register dst) || not (has_name_form array), Form)
+      ∷ (not (is_operand i) || (not (is_operand old) || not (is_operand new)), Number)
+      ∷ (is_long array, Limit)
+      ∷ (not (is_some (array_place d array)), Name) ∷ [])
+    (Plain (instr.Cas (register dst) (array_number d array) (operand i) (operand old) (operand new)))
+
+abbrev pub as_plain : {A : Type 0} → (A → Instr) → Result A LangFaultKind → Result Statement LangFaultKind
+as_plain instruction (Ok x) = Ok (Plain (instruction x))
+as_plain instruction (Err kind) = Err kind
+
+-- the lock of `lock L` and `unlock L`
+abbrev pub locked : Drafted → Option Word → Result ℕ LangFaultKind
+locked d None = Err Form
+locked d (Some lock) =
+    says ((not (has_name_form lock), Form)
+      ∷ (is_long lock, Limit)
+      ∷ (not (is_some (lock_place d lock)), Name) ∷ [])
+    (lock_number d lock)
+
+-- the array, the index and the value of `await W i v` and `awaitne W i v`
+abbrev pub awaited : Drafted → Option (Word × Word × Word) → Result (ℕ × Operand × Operand) LangFaultKind
+awaited d None = Err Form
+awaited d (Some (array, i, v)) =
+    says ((not (has_name_form array), Form)
+      ∷ (not (is_operand i) || not (is_operand v), Number)
+      ∷ (is_long array, Limit)
+      ∷ (not (is_some (array_place d array)), Name) ∷ [])
+    (array_number d array, operand i, operand v)
+
+-- `pick rD K`
+abbrev pub pick_line : Option (Word × Word) → Result Statement LangFaultKind
+pick_line None = Err Form
+pick_line (Some (dst, count)) =
+    says ((not (is_register dst), Form)
+      ∷ (not (is_value count), Number)
+      ∷ (nat_lt (value count) 1 || nat_lt 8 (value count), Limit) ∷ [])
+    (Plain (instr.Pick (register dst) (value count)))
+
+-- `jump LABEL`
+abbrev pub jump_line : Option Word → Result Statement LangFaultKind
+jump_line None = Err Form
+jump_line (Some label) =
+    says ((not (has_name_form label), Form) ∷ (is_long label, Limit) ∷ [])
+    (Jump label)
+
+-- `jz v LABEL`
+abbrev pub jump_if_zero_line : Option (Word × Word) → Result Statement LangFaultKind
+jump_if_zero_line None = Err Form
+jump_if_zero_line (Some (v, label)) =
+    says ((not (has_name_form label), Form) ∷ (not (is_operand v), Number) ∷ (is_long label, Limit) ∷ [])
+    (JumpIfZero (operand v) label)
+
+-- `return v`
+abbrev pub return_line : Option Word → Result Statement LangFaultKind
+return_line None = Err Form
+return_line (Some v) = says ((not (is_operand v), Number) ∷ []) (Plain (instr.Return (operand v)))
+
+-- by the keyword; no word that is none begins an instruction
+abbrev pub statement : Drafted → Option Keyword → List Word → Result Statement LangFaultKind
+statement d None words = Err Form
+statement d (Some keyword.Set) words = set_line (two words)
+statement d (Some (keyword.Compute arithmetic)) words = compute_line arithmetic (three words)
+statement d (Some keyword.Load) words = load_line d (three words)
+statement d (Some keyword.Store) words = store_line d (three words)
+statement d (Some keyword.Cas) words = cas_line d (five words)
+statement d (Some keyword.Lock) words = as_plain (λ lock. instr.Lock lock) (locked d (one words))
+statement d (Some keyword.Unlock) words = as_plain (λ lock. instr.Unlock lock) (locked d (one words))
+statement d (Some keyword.Await) words = as_plain (λ (array, i, v). instr.Await array i v) (awaited d (three words))
+statement d (Some keyword.AwaitNot) words = as_plain (λ (array, i, v). instr.AwaitNot array i v) (awaited d (three words))
+statement d (Some keyword.Pick) words = pick_line (two words)
+statement d (Some keyword.Jump) words = jump_line (one words)
+statement d (Some keyword.JumpIfZero) words = jump_if_zero_line (two words)
+statement d (Some keyword.Return) words = return_line (one words)
+
+-- ---- a line of an operation: a label or none, and an instruction
+
+-- the one that is looked for first
+abbrev pub sooner : Option LangFaultKind → Option LangFaultKind → Option LangFaultKind
+sooner None other = other
+sooner (Some kind) None = Some kind
+sooner (Some kind) (Some other) = if nat_le (rank kind) (rank other) then Some kind else Some other
+
+abbrev pub fault_in : {A : Type 0} → Result A LangFaultKind → Option LangFaultKind
+fault_in (Ok x) = None
+fault_in (Err kind) = Some kind
+
+-- a word `NAME:` is a label
+abbrev pub label_in : Word → Option Word
+label_in word = if slice_index word (length word - 1) == 58 then Some (take (length word - 1) word) else None
+
+-- what is wrong with a label, and with one more instruction
+abbrev pub place_fault : Begun → Option Word → Option LangFaultKind
+place_fault b None = if nat_le 64 (length b.statements) then Some Limit else None
+place_fault b (Some label) =
+    if not (has_name_form label) then Some Form
+    else (if is_long label || nat_le 64 (length b.statements) then Some Limit
+    else (if is_some (label_place b.labels label) then Some Name
+    else None))
+
+abbrev pub with_label : Begun → Option Word → List (List ℕ × ℕ)
+with_label b None = b.labels
+with_label b (Some label) = b.labels ++ (label, length b.statements) ∷ []
+
+-- the open operation with this label and instruction
+abbrev pub with_statement : Begun → Option Word → Statement → Begun
+with_statement b label s = record b { statements = b.statements ++ s ∷ []; labels = with_label b label }
+
+abbrev pub placed : Drafted → Begun → Option Word → Option LangFaultKind → Result Statement LangFaultKind → Result Drafted LangFaultKind
+placed d b label fault (Ok s) = or_else fault (record d { begun = Some (with_statement b label s) })
+placed d b label fault (Err kind) = or_else (sooner fault (Some kind)) d
+
+-- the label's fault or the instruction's, that which is looked for first; or one instruction more
+abbrev pub instr_line : Drafted → Begun → Option Word → Word → List Word → Result Drafted LangFaultKind
+instr_line d b label word words = placed d b label (place_fault b label) (statement d (keyword_in word) words)
+
+-- an instruction behind a label
+abbrev pub labelled : Drafted → Begun → Word → List Word → Result Drafted LangFaultKind
+labelled d b label [] = Err Form
+labelled d b label (word ∷ words) = instr_line d b (Some label) word words
+
+-- ---- `end`
+
+abbrev pub label_used : Statement → Option Word
+label_used (Plain i) = None
+label_used (Jump label) = Some label
+label_used (JumpIfZero v label) = Some label
+
+abbrev pub is_there : List (List ℕ × ℕ) → Option Word → Bool
+is_there labels None = true
+is_there labels (Some label) = is_some (label_place labels label)
+
+-- each label that is used is there
+abbrev pub are_there : Begun → Bool
+are_there b = list_all (λ s. is_there b.labels (label_used s)) b.statements
+
+abbrev pub is_last : Option Statement → Bool
+is_last (Some (Jump label)) = true
+is_last (Some (Plain (instr.Return v))) = true
+is_last _ = false
+
+-- there is an instruction, and the last is `return` or `jump`
+abbrev pub ends_well : Begun → Bool
+ends_well b = is_last (slice_get b.statements (length b.statements - 1))
+
+-- the place of a label
+abbrev pub target : List (List ℕ × ℕ) → Word → ℕ
+target labels label = unwrap_or (option_map (λ l. l.1) (find (λ l. bytes_eq l.0 label) labels)) 0
+
+-- the instruction, with the place of its label
+abbrev pub resolved : List (List ℕ × ℕ) → Statement → Instr
+resolved labels (Plain i) = i
+resolved labels (Jump label) = instr.Jump (target labels label)
+resolved labels (JumpIfZero v label) = instr.JumpIfZero v (target labels label)
+
+abbrev pub op_of : Begun → Op
+op_of b = record { name = b.name; args = b.args; code = map (resolved b.labels) b.statements }
+
+abbrev pub end_line : Drafted → Begun → List Word → Result Drafted LangFaultKind
+end_line d b [] =
+    says ((not (ends_well b), Flow) ∷ (not (are_there b), Name) ∷ [])
+    (record d { operations = d.operations ++ op_of b ∷ []; begun = None })
+end_line d b (word ∷ words) = Err Form
+
+-- ---- lines
+
+abbrev pub inside : Drafted → Begun → Option Word → Word → List Word → Result Drafted LangFaultKind
+inside d b None word words = if bytes_eq word (codes "end") then end_line d b words else instr_line d b None word words
+inside d b (Some label) word words = labelled d b label words
+
+abbrev pub component_first : Drafted → Word → List Word → Result Drafted LangFaultKind
+component_first d word words =
+    if bytes_eq word (codes "component") then component_line d (one words) else Err Missing
+
+-- The first line with words is the `component` line. Then come declarations, and in an open operation
+-- instructions.
+abbrev pub by_state : Drafted → Option Word → Option Begun → Word → List Word → Result Drafted LangFaultKind
+by_state d None begun word words = component_first d word words
+by_state d (Some name) None word words = declaration d word words
+by_state d (Some name) (Some b) word words = inside d b (label_in word) word words
+
+-- what is declared, without the open operation
+abbrev pub closed : Drafted → Drafted
+closed d = record d { begun = None }
+
+abbrev pub by_words : Drafted → List Word → Result Drafted LangFaultKind
+by_words d [] = Ok d
+by_words d (word ∷ words) = by_state (closed d) d.name d.begun word words
+
+unfoldable pub line_of : Drafted → List ℕ → Result Drafted LangFaultKind
+line_of d line = if list_all is_allowed line then by_words d (words_of line) else Err Byte
+
+abbrev pub declared : Drafted → Option Word → Option Begun → Result Declarations LangFaultKind
+declared d None begun = Err Missing
+declared d (Some name) (Some b) = Err Missing
+declared d (Some name) None = Ok (record { name = name; arrays = d.arrays; locks = d.locks; operations = d.operations })
+
+-- the text of a component
+abbrev pub component_grammar : Grammar LangFaultKind Drafted Declarations
+component_grammar = record {
+  nothing = nothing;
+  line = line_of;
+  finish = λ d. declared d d.name d.begun;
+}

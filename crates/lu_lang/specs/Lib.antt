@@ -1,0 +1,6 @@
+pub mod Component
+pub mod Kinds
+pub mod Draft
+pub mod Words
+pub mod Grammar
+pub mod Sound

@@ -1,0 +1,73 @@
+//! What the lines so far have declared.
+
+ghost use Rattle.std.specs.Prelude.{◌≡◌};
+ghost use Rattle.lu_lang.specs.Draft.{nothing};
+
+use crate::component::{Array, Op};
+use crate::instr::{Instr, Operand};
+use lu_text::Name;
+use std::alloc::Global;
+use std::marker::Model;
+
+/// An instruction whose target, where it has one, is still the name of a label.
+#[derive(Debug, Drop)]
+pub enum Statement {
+    Plain(Instr),
+    Jump(Name),
+    JumpIfZero(Operand, Name),
+}
+
+/// An operation that has no `end` yet.
+#[derive(Debug, Drop)]
+pub struct OpenOp {
+    pub name: Name,
+    pub args: u8,
+    pub statements: Vec<Statement>,
+
+    /// The labels so far, each with the place of its instruction.
+    pub labels: Vec<(Name, u8)>,
+}
+
+impl Model for OpenOp {
+    ghost use Rattle.lu_lang.specs.Draft.{Begun};
+
+    ghost Value = { Begun };
+
+    ghost view = { λ o. record { name = o.name; args = o.args; statements = o.statements.items; labels = o.labels.items } };
+}
+
+/// A component of which not all lines are read.
+#[derive(Debug, Drop)]
+pub struct Draft {
+    pub name: Option<Name>,
+    pub arrays: Vec<Array>,
+    pub locks: Vec<Name>,
+    pub operations: Vec<Op>,
+    pub begun: Option<OpenOp>,
+}
+
+impl Model for Draft {
+    ghost use Rattle.std.specs.Prelude.{◌≤◌, length};
+    ghost use Rattle.lu_lang.specs.Draft.{Drafted};
+
+    ghost Value = { Drafted };
+
+    ghost view = { λ d. record { name = d.name; arrays = d.arrays.items; locks = d.locks.items; operations = d.operations.items; begun = d.begun } };
+
+    ghost invariant = { λ d. (length d.arrays.items ≤ 16) × (length d.locks.items ≤ 8) };
+}
+
+impl Draft {
+    /// Nothing is declared yet.
+    pub fn new(alloc: Global) -> Draft
+        ensures { result ≡ nothing }
+    {
+        Draft {
+            name: None,
+            arrays: Vec::new(alloc),
+            locks: Vec::new(alloc),
+            operations: Vec::new(alloc),
+            begun: None,
+        }
+    }
+}

@@ -1,0 +1,348 @@
+//! Reading of instructions.
+
+ghost use Rattle.std.specs.Prelude.{◌≡◌, ◌==◌, IfOk, Some};
+ghost use Rattle.std.specs.List.{position};
+ghost use Rattle.std.specs.Str.{bytes_eq};
+ghost use Rattle.lu_text.specs.Lines.{texts};
+ghost use Rattle.lu_text.specs.Words.{one, two, three, five};
+ghost use Rattle.lu_lang.specs.Grammar as spec;
+
+use crate::component::Array;
+use crate::draft::{Draft, Statement};
+use crate::fault::LangFaultKind;
+use crate::instr::{Arithmetic, Instr, MOST_PICKS, Operand};
+use crate::keyword::{Keyword, operand_in, register_in};
+use lu_text::{Name, five, has_name_form, is_long, one, three, two, value_in};
+use std::alloc::{AllocError, Global};
+
+fn place_among(arrays: &[Array], name: &[u8]) -> Option<usize>
+    ensures { result ≡ position (λ a. bytes_eq a.name name.now) arrays.now }
+{
+    arrays.iter().position(|array| array.name.is(name))
+}
+
+/// The number of the array of this name among those declared so far.
+pub fn array_number(draft: &Draft, name: &[u8]) -> Option<u8>
+    ensures { result ≡ spec.array_place draft.now name.now }
+{
+    Some(place_among(&draft.arrays, name)? as u8)
+}
+
+fn name_among(names: &[Name], name: &[u8]) -> Option<usize>
+    ensures { result ≡ position (λ l. bytes_eq l name.now) names.now }
+{
+    names.iter().position(|other| other.is(name))
+}
+
+/// The number of the lock of this name among those declared so far.
+pub fn lock_number(draft: &Draft, name: &[u8]) -> Option<u8>
+    ensures { result ≡ spec.lock_place draft.now name.now }
+{
+    Some(name_among(&draft.locks, name)? as u8)
+}
+
+/// `set rD v`
+fn set_line(words: &[&[u8]]) -> Result<Statement, LangFaultKind>
+    ensures { result ≡ spec.set_line (two (texts words.now)) }
+{
+    let Some((to, value)) = two(words) else {
+        return Err(LangFaultKind::Form);
+    };
+    let Some(to) = register_in(to) else {
+        return Err(LangFaultKind::Form);
+    };
+    let Some(value) = operand_in(value) else {
+        return Err(LangFaultKind::Number);
+    };
+    Ok(Statement::Plain(Instr::Set { to, value }))
+}
+
+/// `add rD a b`, `sub`, `mul`, `eq`, `lt`
+fn compute_line(arithmetic: Arithmetic, words: &[&[u8]]) -> Result<Statement, LangFaultKind>
+    ensures { result ≡ spec.compute_line arithmetic (three (texts words.now)) }
+{
+    let Some((to, left, right)) = three(words) else {
+        return Err(LangFaultKind::Form);
+    };
+    let Some(to) = register_in(to) else {
+        return Err(LangFaultKind::Form);
+    };
+    let (Some(left), Some(right)) = (operand_in(left), operand_in(right)) else {
+        return Err(LangFaultKind::Number);
+    };
+    Ok(Statement::Plain(Instr::Compute {
+        arithmetic,
+        to,
+        left,
+        right,
+    }))
+}
+
+/// `load rD W i`
+fn load_line(draft: &Draft, words: &[&[u8]]) -> Result<Statement, LangFaultKind>
+    ensures { result ≡ spec.load_line draft.now (three (texts words.now)) }
+{
+    let Some((to, array, index)) = three(words) else {
+        return Err(LangFaultKind::Form);
+    };
+    let Some(to) = register_in(to) else {
+        return Err(LangFaultKind::Form);
+    };
+    if !has_name_form(array) {
+        return Err(LangFaultKind::Form);
+    }
+    let Some(index) = operand_in(index) else {
+        return Err(LangFaultKind::Number);
+    };
+    if is_long(array) {
+        return Err(LangFaultKind::Limit);
+    }
+    let Some(array) = array_number(draft, array) else {
+        return Err(LangFaultKind::Name);
+    };
+    Ok(Statement::Plain(Instr::Load { to, array, index }))
+}
+
+/// `store W i v`
+fn store_line(draft: &Draft, words: &[&[u8]]) -> Result<Statement, LangFaultKind>
+    ensures { result ≡ spec.store_line draft.now (three (texts words.now)) }
+{
+    let Some((array, index, value)) = three(words) else {
+        return Err(LangFaultKind::Form);
+    };
+    if !has_name_form(array) {
+        return Err(LangFaultKind::Form);
+    }
+    let (Some(index), Some(value)) = (operand_in(index), operand_in(value)) else {
+        return Err(LangFaultKind::Number);
+    };
+    if is_long(array) {
+        return Err(LangFaultKind::Limit);
+    }
+    let Some(array) = array_number(draft, array) else {
+        return Err(LangFaultKind::Name);
+    };
+    Ok(Statement::Plain(Instr::Store {
+        array,
+        index,
+        value,
+    }))
+}
+
+/// `cas rD W i old new`
+fn cas_line(draft: &Draft, words: &[&[u8]]) -> Result<Statement, LangFaultKind>
+    ensures { result ≡ spec.cas_line draft.now (five (texts words.now)) }
+{
+    let Some((to, array, index, expected, desired)) = five(words) else {
+        return Err(LangFaultKind::Form);
+    };
+    let Some(to) = register_in(to) else {
+        return Err(LangFaultKind::Form);
+    };
+    if !has_name_form(array) {
+        return Err(LangFaultKind::Form);
+    }
+    let (Some(index), Some(expected), Some(desired)) =
+        (operand_in(index), operand_in(expected), operand_in(desired))
+    else {
+        return Err(LangFaultKind::Number);
+    };
+    if is_long(array) {
+        return Err(LangFaultKind::Limit);
+    }
+    let Some(array) = array_number(draft, array) else {
+        return Err(LangFaultKind::Name);
+    };
+    Ok(Statement::Plain(Instr::Cas {
+        to,
+        array,
+        index,
+        expected,
+        desired,
+    }))
+}
+
+/// The lock of `lock L` and `unlock L`.
+fn locked(draft: &Draft, words: &[&[u8]]) -> Result<u8, LangFaultKind>
+    ensures { result ≡ spec.locked draft.now (one (texts words.now)) }
+{
+    let Some(lock) = one(words) else {
+        return Err(LangFaultKind::Form);
+    };
+    if !has_name_form(lock) {
+        return Err(LangFaultKind::Form);
+    }
+    if is_long(lock) {
+        return Err(LangFaultKind::Limit);
+    }
+    let Some(lock) = lock_number(draft, lock) else {
+        return Err(LangFaultKind::Name);
+    };
+    Ok(lock)
+}
+
+/// The array, the index and the value of `await W i v` and `awaitne W i v`.
+fn awaited(draft: &Draft, words: &[&[u8]]) -> Result<(u8, Operand, Operand), LangFaultKind>
+    ensures { result ≡ spec.awaited draft.now (three (texts words.now)) }
+{
+    let Some((array, index, value)) = three(words) else {
+        return Err(LangFaultKind::Form);
+    };
+    if !has_name_form(array) {
+        return Err(LangFaultKind::Form);
+    }
+    let (Some(index), Some(value)) = (operand_in(index), operand_in(value)) else {
+        return Err(LangFaultKind::Number);
+    };
+    if is_long(array) {
+        return Err(LangFaultKind::Limit);
+    }
+    let Some(array) = array_number(draft, array) else {
+        return Err(LangFaultKind::Name);
+    };
+    Ok((array, index, value))
+}
+
+/// `pick rD K`
+fn pick_line(words: &[&[u8]]) -> Result<Statement, LangFaultKind>
+    ensures { result ≡ spec.pick_line (two (texts words.now)) }
+{
+    let Some((to, count)) = two(words) else {
+        return Err(LangFaultKind::Form);
+    };
+    let Some(to) = register_in(to) else {
+        return Err(LangFaultKind::Form);
+    };
+    let Some(count) = value_in(count) else {
+        return Err(LangFaultKind::Number);
+    };
+    if count < 1 || count > MOST_PICKS {
+        return Err(LangFaultKind::Limit);
+    }
+    let count = count as u8;
+    Ok(Statement::Plain(Instr::Pick { to, count }))
+}
+
+/// `jump LABEL`
+fn jump_line(alloc: Global, words: &[&[u8]]) -> Result<Result<Statement, LangFaultKind>, AllocError>
+    ensures { IfOk result (λ own. own ≡ spec.jump_line (one (texts words.now))) }
+{
+    let Some(label) = one(words) else {
+        return Ok(Err(LangFaultKind::Form));
+    };
+    if !has_name_form(label) {
+        return Ok(Err(LangFaultKind::Form));
+    }
+    if is_long(label) {
+        return Ok(Err(LangFaultKind::Limit));
+    }
+    Ok(Ok(Statement::Jump(Name::new(alloc, label)?)))
+}
+
+/// `jz v LABEL`
+fn jump_if_zero_line(
+    alloc: Global,
+    words: &[&[u8]],
+) -> Result<Result<Statement, LangFaultKind>, AllocError>
+    ensures { IfOk result (λ own. own ≡ spec.jump_if_zero_line (two (texts words.now))) }
+{
+    let Some((value, label)) = two(words) else {
+        return Ok(Err(LangFaultKind::Form));
+    };
+    if !has_name_form(label) {
+        return Ok(Err(LangFaultKind::Form));
+    }
+    let Some(value) = operand_in(value) else {
+        return Ok(Err(LangFaultKind::Number));
+    };
+    if is_long(label) {
+        return Ok(Err(LangFaultKind::Limit));
+    }
+    Ok(Ok(Statement::JumpIfZero(value, Name::new(alloc, label)?)))
+}
+
+/// `return v`
+fn return_line(words: &[&[u8]]) -> Result<Statement, LangFaultKind>
+    ensures { result ≡ spec.return_line (one (texts words.now)) }
+{
+    let Some(value) = one(words) else {
+        return Err(LangFaultKind::Form);
+    };
+    let Some(value) = operand_in(value) else {
+        return Err(LangFaultKind::Number);
+    };
+    Ok(Statement::Plain(Instr::Return(value)))
+}
+
+fn lock_line(draft: &Draft, words: &[&[u8]]) -> Result<Statement, LangFaultKind>
+    ensures { result ≡ spec.statement draft.now (Some Keyword.Lock) (texts words.now) }
+{
+    match locked(draft, words) {
+        Ok(lock) => Ok(Statement::Plain(Instr::Lock(lock))),
+        Err(kind) => Err(kind),
+    }
+}
+
+fn unlock_line(draft: &Draft, words: &[&[u8]]) -> Result<Statement, LangFaultKind>
+    ensures { result ≡ spec.statement draft.now (Some Keyword.Unlock) (texts words.now) }
+{
+    match locked(draft, words) {
+        Ok(lock) => Ok(Statement::Plain(Instr::Unlock(lock))),
+        Err(kind) => Err(kind),
+    }
+}
+
+fn await_line(draft: &Draft, words: &[&[u8]]) -> Result<Statement, LangFaultKind>
+    ensures { result ≡ spec.statement draft.now (Some Keyword.Await) (texts words.now) }
+{
+    match awaited(draft, words) {
+        Ok((array, index, value)) => Ok(Statement::Plain(Instr::Await {
+            array,
+            index,
+            value,
+        })),
+        Err(kind) => Err(kind),
+    }
+}
+
+fn await_not_line(draft: &Draft, words: &[&[u8]]) -> Result<Statement, LangFaultKind>
+    ensures { result ≡ spec.statement draft.now (Some Keyword.AwaitNot) (texts words.now) }
+{
+    match awaited(draft, words) {
+        Ok((array, index, value)) => Ok(Statement::Plain(Instr::AwaitNot {
+            array,
+            index,
+            value,
+        })),
+        Err(kind) => Err(kind),
+    }
+}
+
+/// The instruction of a line, or the first fault that it has.
+pub fn statement(
+    alloc: Global,
+    draft: &Draft,
+    keyword: Option<Keyword>,
+    words: &[&[u8]],
+) -> Result<Result<Statement, LangFaultKind>, AllocError>
+    ensures { IfOk result (λ own. own ≡ spec.statement draft.now keyword (texts words.now)) }
+{
+    let Some(keyword) = keyword else {
+        return Ok(Err(LangFaultKind::Form));
+    };
+    match keyword {
+        Keyword::Set => Ok(set_line(words)),
+        Keyword::Compute(arithmetic) => Ok(compute_line(arithmetic, words)),
+        Keyword::Load => Ok(load_line(draft, words)),
+        Keyword::Store => Ok(store_line(draft, words)),
+        Keyword::Cas => Ok(cas_line(draft, words)),
+        Keyword::Lock => Ok(lock_line(draft, words)),
+        Keyword::Unlock => Ok(unlock_line(draft, words)),
+        Keyword::Await => Ok(await_line(draft, words)),
+        Keyword::AwaitNot => Ok(await_not_line(draft, words)),
+        Keyword::Pick => Ok(pick_line(words)),
+        Keyword::Jump => jump_line(alloc, words),
+        Keyword::JumpIfZero => jump_if_zero_line(alloc, words),
+        Keyword::Return => Ok(return_line(words)),
+    }
+}

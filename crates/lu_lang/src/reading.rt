@@ -1,0 +1,553 @@
+//! Reading of components, line by line.
+
+ghost use Rattle.std.specs.Prelude.{◌≡◌, ◌==◌, ◌<◌, ◌≤◌, ℕ, List, IfOk, Ok, Some, None, IsErrOf, length, map, nat_le, is_some};
+ghost use Rattle.std.specs.Option.{option_map};
+ghost use Rattle.std.specs.List.{position, list_all};
+ghost use Rattle.std.specs.Str.{bytes_eq};
+ghost use Rattle.lu_text.specs.Lines.{texts};
+ghost use Rattle.lu_text.specs.Words.{one, two, three};
+ghost use Rattle.lu_text.specs.Faults.{Gives, IsFirstFault, on_line, value_of, lines_after};
+ghost use Rattle.lu_text.specs.declared.fault.Fault.TheVariants.{At};
+ghost use Rattle.lu_lang.specs.declared.fault.LangFaultKind.{LangFaultKind as Kind};
+ghost use Rattle.lu_lang.specs.Draft.{nothing};
+ghost use Rattle.lu_lang.specs.Sound.{IsDraft};
+ghost use Rattle.lu_lang.specs.Grammar as spec;
+ghost use Rattle.lu_lang.specs.Grammar.{component_grammar};
+
+use crate::component::{
+    Array, Code, Component, MOST_ARGUMENTS, MOST_ARRAYS, MOST_CELLS, MOST_INSTRS, MOST_LOCKS,
+    MOST_OPS, Op,
+};
+use crate::draft::{Draft, OpenOp, Statement};
+use crate::fault::{LangFault, LangFaultKind};
+use crate::instr::Instr;
+use crate::instructions::{array_number, lock_number, statement};
+use crate::keyword::keyword_in;
+use lu_text::{
+    Fault, Name, are_allowed, has_name_form, is_long, lines_of, one, three, two, value_in, words_of,
+};
+use std::alloc::{AllocError, Global};
+
+/// `component NAME`
+fn component_line(
+    alloc: Global,
+    line: usize,
+    draft: Draft,
+    words: &[&[u8]],
+) -> Result<Draft, LangFault>
+    ensures { Gives result (on_line line (spec.component_line draft (one (texts words.now)))) }
+{
+    let Some(name) = one(words) else {
+        return Err(Fault::At(LangFaultKind::Form, line));
+    };
+    if !has_name_form(name) {
+        return Err(Fault::At(LangFaultKind::Form, line));
+    }
+    if is_long(name) {
+        return Err(Fault::At(LangFaultKind::Limit, line));
+    }
+    let mut draft = draft;
+    draft.name = Some(Name::new(alloc, name)?);
+    Ok(draft)
+}
+
+fn has_most_arrays(draft: &Draft) -> bool
+    ensures { result ≡ nat_le 16 (length draft.now.arrays) }
+{
+    draft.arrays.len() >= MOST_ARRAYS
+}
+
+/// `word NAME LEN INIT`
+fn array_line(alloc: Global, line: usize, draft: Draft, words: &[&[u8]]) -> Result<Draft, LangFault>
+    ensures { Gives result (on_line line (spec.array_line draft (three (texts words.now)))) }
+{
+    let Some((name, len, init)) = three(words) else {
+        return Err(Fault::At(LangFaultKind::Form, line));
+    };
+    if !has_name_form(name) {
+        return Err(Fault::At(LangFaultKind::Form, line));
+    }
+    let (Some(len), Some(init)) = (value_in(len), value_in(init)) else {
+        return Err(Fault::At(LangFaultKind::Number, line));
+    };
+    if is_long(name) || has_most_arrays(&draft) || len < 1 || len > MOST_CELLS {
+        return Err(Fault::At(LangFaultKind::Limit, line));
+    }
+    if array_number(&draft, name).is_some() {
+        return Err(Fault::At(LangFaultKind::Name, line));
+    }
+    let mut draft = draft;
+    draft.arrays.push(Array {
+        name: Name::new(alloc, name)?,
+        len: len as u8,
+        init,
+    })?;
+    Ok(draft)
+}
+
+fn has_most_locks(draft: &Draft) -> bool
+    ensures { result ≡ nat_le 8 (length draft.now.locks) }
+{
+    draft.locks.len() >= MOST_LOCKS
+}
+
+/// `lock NAME`, outside an operation
+fn lock_line(alloc: Global, line: usize, draft: Draft, words: &[&[u8]]) -> Result<Draft, LangFault>
+    ensures { Gives result (on_line line (spec.lock_line draft (one (texts words.now)))) }
+{
+    let Some(name) = one(words) else {
+        return Err(Fault::At(LangFaultKind::Form, line));
+    };
+    if !has_name_form(name) {
+        return Err(Fault::At(LangFaultKind::Form, line));
+    }
+    if is_long(name) || has_most_locks(&draft) {
+        return Err(Fault::At(LangFaultKind::Limit, line));
+    }
+    if lock_number(&draft, name).is_some() {
+        return Err(Fault::At(LangFaultKind::Name, line));
+    }
+    let mut draft = draft;
+    draft.locks.push(Name::new(alloc, name)?)?;
+    Ok(draft)
+}
+
+fn has_most_operations(draft: &Draft) -> bool
+    ensures { result ≡ nat_le 16 (length draft.now.operations) }
+{
+    draft.operations.len() >= MOST_OPS
+}
+
+fn place_among(operations: &[Op], name: &[u8]) -> Option<usize>
+    ensures { result ≡ position (λ o. bytes_eq o.name name.now) operations.now }
+{
+    operations.iter().position(|op| op.name.is(name))
+}
+
+fn has_operation(draft: &Draft, name: &[u8]) -> bool
+    ensures { result ≡ is_some (spec.operation_place draft.now name.now) }
+{
+    place_among(&draft.operations, name).is_some()
+}
+
+/// `op NAME ARGS`
+fn op_line(alloc: Global, line: usize, draft: Draft, words: &[&[u8]]) -> Result<Draft, LangFault>
+    ensures { Gives result (on_line line (spec.op_line draft (two (texts words.now)))) }
+{
+    let Some((name, args)) = two(words) else {
+        return Err(Fault::At(LangFaultKind::Form, line));
+    };
+    if !has_name_form(name) {
+        return Err(Fault::At(LangFaultKind::Form, line));
+    }
+    let Some(args) = value_in(args) else {
+        return Err(Fault::At(LangFaultKind::Number, line));
+    };
+    if is_long(name) || has_most_operations(&draft) || args > MOST_ARGUMENTS {
+        return Err(Fault::At(LangFaultKind::Limit, line));
+    }
+    if has_operation(&draft, name) {
+        return Err(Fault::At(LangFaultKind::Name, line));
+    }
+    let mut draft = draft;
+    draft.begun = Some(OpenOp {
+        name: Name::new(alloc, name)?,
+        args: args as u8,
+        statements: Vec::new(alloc),
+        labels: Vec::new(alloc),
+    });
+    Ok(draft)
+}
+
+fn declaration(
+    alloc: Global,
+    line: usize,
+    draft: Draft,
+    word: &[u8],
+    words: &[&[u8]],
+) -> Result<Draft, LangFault>
+    ensures { Gives result (on_line line (spec.declaration draft word.now (texts words.now))) }
+{
+    if word == b"word".as_slice() {
+        array_line(alloc, line, draft, words)
+    } else if word == b"lock".as_slice() {
+        lock_line(alloc, line, draft, words)
+    } else if word == b"op".as_slice() {
+        op_line(alloc, line, draft, words)
+    } else {
+        Err(Fault::At(LangFaultKind::Form, line))
+    }
+}
+
+/// Which of two faults is looked for first.
+fn sooner(fault: Option<LangFaultKind>, other: LangFaultKind) -> LangFaultKind
+    ensures { Some result ≡ spec.sooner fault (Some other) }
+{
+    match fault {
+        Some(kind) if kind.rank() <= other.rank() => kind,
+        _ => other,
+    }
+}
+
+/// The label that a word is, `NAME:`, without the colon.
+fn label_in(word: &[u8]) -> Option<&[u8]>
+    ensures { option_map (λ label. label.now) result ≡ spec.label_in word.now }
+{
+    match word {
+        [name @ .., b':'] => Some(name),
+        _ => None,
+    }
+}
+
+fn label_place(labels: &[(Name, u8)], label: &[u8]) -> Option<usize>
+    ensures { result ≡ spec.label_place labels.now label.now }
+{
+    labels.iter().position(|(name, _)| name.is(label))
+}
+
+fn has_label(op: &OpenOp, label: &[u8]) -> bool
+    ensures { result ≡ is_some (spec.label_place op.now.labels label.now) }
+{
+    label_place(&op.labels, label).is_some()
+}
+
+fn has_most_statements(op: &OpenOp) -> bool
+    ensures { result ≡ nat_le 64 (length op.now.statements) }
+{
+    op.statements.len() >= MOST_INSTRS
+}
+
+/// What is wrong with a label, and with one more instruction.
+fn place_fault(op: &OpenOp, label: Option<&[u8]>) -> Option<LangFaultKind>
+    ensures { result ≡ spec.place_fault op.now (option_map (λ label. label.now) label.entry) }
+{
+    let Some(label) = label else {
+        return if has_most_statements(op) {
+            Some(LangFaultKind::Limit)
+        } else {
+            None
+        };
+    };
+    if !has_name_form(label) {
+        Some(LangFaultKind::Form)
+    } else if is_long(label) || has_most_statements(op) {
+        Some(LangFaultKind::Limit)
+    } else if has_label(op, label) {
+        Some(LangFaultKind::Name)
+    } else {
+        None
+    }
+}
+
+/// The open operation with one more instruction.
+fn with_statement(
+    alloc: Global,
+    op: OpenOp,
+    label: Option<&[u8]>,
+    statement: Statement,
+) -> Result<OpenOp, AllocError>
+    requires { spec.place_fault op (option_map (λ label. label.now) label) ≡ None }
+    ensures { IfOk result (λ next. next ≡ spec.with_statement op (option_map (λ label. label.now) label.entry) statement) }
+{
+    let mut op = op;
+    if let Some(label) = label {
+        let place = op.statements.len() as u8;
+        op.labels.push((Name::new(alloc, label)?, place))?;
+    }
+    op.statements.push(statement)?;
+    Ok(op)
+}
+
+/// A label or none, and an instruction.
+fn instr_line(
+    alloc: Global,
+    line: usize,
+    draft: Draft,
+    op: OpenOp,
+    label: Option<&[u8]>,
+    word: &[u8],
+    words: &[&[u8]],
+) -> Result<Draft, LangFault>
+    ensures { Gives result (on_line line (spec.instr_line draft op (option_map (λ label. label.now) label.entry) word.now (texts words.now))) }
+{
+    let mut draft = draft;
+    let fault = place_fault(&op, label);
+    match statement(alloc, &draft, keyword_in(word), words)? {
+        Err(kind) => Err(Fault::At(sooner(fault, kind), line)),
+        Ok(statement) => match fault {
+            Some(kind) => Err(Fault::At(kind, line)),
+            None => {
+                draft.begun = Some(with_statement(alloc, op, label, statement)?);
+                Ok(draft)
+            }
+        },
+    }
+}
+
+/// An instruction behind a label.
+fn labelled(
+    alloc: Global,
+    line: usize,
+    draft: Draft,
+    op: OpenOp,
+    label: &[u8],
+    words: &[&[u8]],
+) -> Result<Draft, LangFault>
+    ensures { Gives result (on_line line (spec.labelled draft op label.now (texts words.now))) }
+{
+    match words {
+        [] => Err(Fault::At(LangFaultKind::Form, line)),
+        [word, rest @ ..] => instr_line(alloc, line, draft, op, Some(label), word, rest),
+    }
+}
+
+fn is_last(statement: &Statement) -> bool
+    ensures { result ≡ spec.is_last (Some statement.now) }
+{
+    matches!(
+        statement,
+        Statement::Jump(_) | Statement::Plain(Instr::Return(_))
+    )
+}
+
+/// Whether there is an instruction, and the last is `return` or `jump`.
+fn ends_well(op: &OpenOp) -> bool
+    ensures { result ≡ spec.ends_well op.now }
+{
+    match op.statements.last() {
+        None => false,
+        Some(statement) => is_last(statement),
+    }
+}
+
+/// Whether the label that a statement uses is there.
+fn is_there(labels: &[(Name, u8)], statement: &Statement) -> bool
+    ensures { result ≡ spec.is_there labels.now (spec.label_used statement.now) }
+{
+    match statement {
+        Statement::Plain(_) => true,
+        Statement::Jump(label) => label_place(labels, label.as_bytes()).is_some(),
+        Statement::JumpIfZero(_, label) => label_place(labels, label.as_bytes()).is_some(),
+    }
+}
+
+fn all_there(labels: &[(Name, u8)], statements: &[Statement]) -> bool
+    ensures { result ≡ list_all (λ s. spec.is_there labels.now (spec.label_used s)) statements.now }
+{
+    statements
+        .iter()
+        .all(|statement| is_there(labels, statement))
+}
+
+/// Whether each label that is used is there.
+fn are_there(op: &OpenOp) -> bool
+    ensures { result ≡ spec.are_there op.now }
+{
+    all_there(&op.labels, &op.statements)
+}
+
+/// The place of a label, which is there.
+fn target(labels: &[(Name, u8)], label: &[u8]) -> u8
+    ensures { result ≡ spec.target labels.now label.now }
+{
+    match labels.iter().find(|(name, _)| name.is(label)) {
+        None => 0,
+        Some((_, place)) => *place,
+    }
+}
+
+/// The instruction, with the place of its label.
+fn resolved(labels: &[(Name, u8)], statement: &Statement) -> Instr
+    ensures { result ≡ spec.resolved labels.now statement.now }
+{
+    match statement {
+        Statement::Plain(instr) => *instr,
+        Statement::Jump(label) => Instr::Jump(target(labels, label.as_bytes())),
+        Statement::JumpIfZero(value, label) => Instr::JumpIfZero {
+            value: *value,
+            target: target(labels, label.as_bytes()),
+        },
+    }
+}
+
+/// The instructions, with the places of their labels.
+fn all_resolved(
+    alloc: Global,
+    labels: &[(Name, u8)],
+    statements: &[Statement],
+) -> Result<Vec<Instr>, AllocError>
+    ensures { IfOk result (λ instrs. instrs.items ≡ map (spec.resolved labels.now) statements.now) }
+{
+    statements
+        .iter()
+        .map(|statement| resolved(labels, statement))
+        .collect(alloc)
+}
+
+fn op_of(alloc: Global, op: OpenOp) -> Result<Op, AllocError>
+    ensures { IfOk result (λ done. done ≡ spec.op_of op) }
+{
+    let instrs = all_resolved(alloc, &op.labels, &op.statements)?;
+    Ok(Op {
+        name: op.name,
+        args: op.args,
+        code: Code::new(instrs),
+    })
+}
+
+/// `end`
+fn end_line(
+    alloc: Global,
+    line: usize,
+    draft: Draft,
+    op: OpenOp,
+    words: &[&[u8]],
+) -> Result<Draft, LangFault>
+    requires { draft.begun ≡ None }
+    ensures { Gives result (on_line line (spec.end_line draft op (texts words.now))) }
+{
+    if !words.is_empty() {
+        return Err(Fault::At(LangFaultKind::Form, line));
+    }
+    if !ends_well(&op) {
+        return Err(Fault::At(LangFaultKind::Flow, line));
+    }
+    if !are_there(&op) {
+        return Err(Fault::At(LangFaultKind::Name, line));
+    }
+    let mut draft = draft;
+    draft.operations.push(op_of(alloc, op)?)?;
+    Ok(draft)
+}
+
+/// A line inside an operation.
+fn inside(
+    alloc: Global,
+    line: usize,
+    draft: Draft,
+    op: OpenOp,
+    word: &[u8],
+    words: &[&[u8]],
+) -> Result<Draft, LangFault>
+    requires { draft.begun ≡ None }
+    ensures { Gives result (on_line line (spec.inside draft op (spec.label_in word.now) word.now (texts words.now))) }
+{
+    if let Some(label) = label_in(word) {
+        return labelled(alloc, line, draft, op, label, words);
+    }
+    if word == b"end".as_slice() {
+        end_line(alloc, line, draft, op, words)
+    } else {
+        instr_line(alloc, line, draft, op, None, word, words)
+    }
+}
+
+/// The first line with words.
+fn component_first(
+    alloc: Global,
+    line: usize,
+    draft: Draft,
+    word: &[u8],
+    words: &[&[u8]],
+) -> Result<Draft, LangFault>
+    ensures { Gives result (on_line line (spec.component_first draft word.now (texts words.now))) }
+{
+    if word == b"component".as_slice() {
+        component_line(alloc, line, draft, words)
+    } else {
+        Err(Fault::At(LangFaultKind::Missing, line))
+    }
+}
+
+fn by_state(
+    alloc: Global,
+    line: usize,
+    draft: Draft,
+    word: &[u8],
+    words: &[&[u8]],
+) -> Result<Draft, LangFault>
+    ensures { Gives result (on_line line (spec.by_state (spec.closed draft) draft.name draft.begun word.now (texts words.now))) }
+{
+    let mut draft = draft;
+    let begun = draft.begun.take();
+    if draft.name.is_none() {
+        return component_first(alloc, line, draft, word, words);
+    }
+    match begun {
+        None => declaration(alloc, line, draft, word, words),
+        Some(op) => inside(alloc, line, draft, op, word, words),
+    }
+}
+
+fn by_words(
+    alloc: Global,
+    line: usize,
+    draft: Draft,
+    words: &[&[u8]],
+) -> Result<Draft, LangFault>
+    ensures { Gives result (on_line line (spec.by_words draft (texts words.now))) }
+{
+    match words {
+        [] => Ok(draft),
+        [word, rest @ ..] => by_state(alloc, line, draft, word, rest),
+    }
+}
+
+#[tactic(auto, unfolding(crate::specs::Grammar::line_of))]
+fn read_line(alloc: Global, line: usize, draft: Draft, text: &[u8]) -> Result<Draft, LangFault>
+    ensures { Gives result (on_line line (spec.line_of draft text.now)) }
+{
+    if !are_allowed(text) {
+        return Err(Fault::At(LangFaultKind::Byte, line));
+    }
+    let words = words_of(alloc, text)?;
+    by_words(alloc, line, draft, &words)
+}
+
+/// What is declared at the end of the text.
+fn finished(line: usize, draft: Draft) -> Result<Component, LangFault>
+    requires { IsDraft draft }
+    ensures { Gives result (on_line line (component_grammar.finish draft)) }
+{
+    let Draft {
+        name,
+        arrays,
+        locks,
+        operations,
+        begun,
+    } = draft;
+    match (name, begun) {
+        (Some(name), None) => Ok(Component::new(name, arrays, locks, operations)),
+        _ => Err(Fault::At(LangFaultKind::Missing, line)),
+    }
+}
+
+fn read_lines(alloc: Global, lines: &[&[u8]]) -> Result<Component, LangFault>
+    ensures { Gives result (lines_after component_grammar 1 nothing (texts lines.now)) }
+{
+    let mut draft = Draft::new(alloc);
+    for (before, text) in lines.iter().enumerate() {
+        draft = read_line(alloc, before + 1, draft, text)?;
+    }
+    finished(lines.len() + 1, draft)
+}
+
+fn component_in(alloc: Global, text: &[u8]) -> Result<Component, LangFault>
+    ensures { Gives result (value_of component_grammar text.now) }
+{
+    let lines = lines_of(alloc, text)?;
+    read_lines(alloc, &lines)
+}
+
+/// Reads a component from its text.
+///
+/// A fault is the first one of the text: by line, and on a line by the order of [`LangFaultKind`]. One
+/// at the end of the text carries the number of lines plus one.
+pub fn read_component(alloc: Global, text: &[u8]) -> Result<Component, LangFault>
+    // Which component, or which fault.
+    ensures exact { Gives result (value_of component_grammar text.now) }
+    // No line before the fault's has one.
+    ensures first { (kind : Kind) (n : ℕ) → IsErrOf result (At kind n) → IsFirstFault component_grammar text.now kind n }
+{
+    component_in(alloc, text)
+}

@@ -1,0 +1,21 @@
+-- Words in memory, and their bytes.
+use Rattle.std.proofs.Common.{◌≡◌, ℕ, zero, suc, take, ◌-◌, ◌+◌, ◌≤◌, ◌<◌, Bool, true, false, List, [], ◌∷◌, length, get_or, drop, refl, sym, ap, ◌∙◌, arith}
+use Rattle.std.specs.Prelude.{codes, not, ◌==◌}
+use Rattle.std.specs.List.{list_all}
+use Rattle.std.specs.Str.{bytes_eq}
+use Rattle.std.proofs.lemmas.List.{length-drop, take_all}
+use Rattle.std.proofs.Math.ListN.{drop_of_length-le}
+use denote.Ref.{Bor}
+use Rattle.lu_text.specs.Lines.{texts}
+use Rattle.lu_test.specs.ScheduleText.{has_form}
+
+all_texts : (words : List (Bor (List ℕ))) → list_all (λ w. not (length w.now == 0)) words ≡ list_all (λ w. not (length w == 0)) (texts words)
+all_texts [] = refl
+all_texts (w ∷ ws) = rw (all_texts ws) refl
+
+pub form_at : (words : List (Bor (List ℕ))) (d : Bor (List ℕ)) → 1 ≤ length words → bytes_eq (get_or words 0 d).now (codes "schedule") ≡ true → has_form (texts words) ≡ list_all (λ w. not (length w.now == 0)) (drop 1 words)
+form_at [] d h e = absurd (omega arith)
+form_at (w ∷ ws) d h e = rw e (sym (all_texts ws))
+
+pub rest_at : (words : List (Bor (List ℕ))) → take (length words - 1) (drop 1 words) ≡ drop 1 words
+rest_at words = take_all _ _ (omega (arith, length-drop 1 words))

@@ -1,0 +1,5 @@
+pub mod Form
+pub mod Capped
+pub mod Loop
+pub mod Words
+pub mod RoundTrip

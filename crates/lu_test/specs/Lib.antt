@@ -1,0 +1,4 @@
+pub mod Schedule
+pub mod Matrix
+pub mod Codes
+pub mod ScheduleText

@@ -1,0 +1,28 @@
+-- Matrices: for each thread the calls that it makes.
+use Rattle.std.specs.Prelude.{◌≡◌, ℕ, ◌≤◌, List, [], length, All, slice_get, sum_by, unwrap_or, IsSomeAnd}
+use Rattle.lu_lang.specs.Component.{Declarations}
+use Rattle.lu_test.specs.declared.matrix.Call.{Call}
+
+-- the calls of thread t: none where there is no such thread
+abbrev pub calls_of : List (List Call) → ℕ → List Call
+calls_of matrix t = unwrap_or (slice_get matrix t) []
+
+-- the number of calls in all
+abbrev pub call_count : List (List Call) → ℕ
+call_count matrix = sum_by length matrix
+
+-- the limits hold
+pub record IsMatrix (matrix : List (List Call)) : Type 0 where
+  pub some : 1 ≤ length matrix
+  pub threads : length matrix ≤ 8
+  pub each : All (λ calls. length calls ≤ 8) matrix
+  pub calls : call_count matrix ≤ 16
+  pub arguments : All (λ calls. All (λ call. length call.args ≤ 4) calls) matrix
+
+-- the component has the call's operation, with as many arguments
+abbrev pub IsCallOf : Declarations → Call → Type 0
+IsCallOf c call = IsSomeAnd (slice_get c.operations call.op) (λ op. length call.args ≡ op.args)
+
+-- the component has the operation of each call, with as many arguments
+abbrev pub IsOf : List (List Call) → Declarations → Type 0
+IsOf matrix c = All (λ calls. All (IsCallOf c) calls) matrix

@@ -1,0 +1,12 @@
+//! Tests of a component: matrices of calls, and schedules of moves, with their texts.
+#![tactic(auto)]
+
+mod matrix;
+mod schedule;
+mod schedule_fault;
+mod schedule_text;
+
+pub use matrix::{Arguments, Call, Calls, MOST_CALLS, MOST_CALLS_OF_THREAD, MOST_THREADS, Matrix};
+pub use schedule::{MOST_MOVES, Move, Schedule};
+pub use schedule_fault::ScheduleFault;
+pub use schedule_text::{read_schedule, write_schedule};

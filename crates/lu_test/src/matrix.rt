@@ -1,0 +1,139 @@
+//! Matrices.
+
+ghost use Rattle.std.specs.Prelude.{◌≡◌, ◌<◌, ◌≤◌, ◌↔◌, IsTrue, length, slice_get, Some};
+ghost use Rattle.lu_test.specs.Matrix.{IsMatrix, IsOf, calls_of};
+
+use lu_lang::Component;
+use std::marker::Model;
+
+/// The most threads that a matrix has.
+pub const MOST_THREADS: usize = 8;
+
+/// The most calls that one thread makes.
+pub const MOST_CALLS_OF_THREAD: usize = 8;
+
+/// The most calls that a matrix has in all.
+pub const MOST_CALLS: usize = 16;
+
+/// The arguments of a call, in order.
+#[derive(Debug, Drop)]
+pub struct Arguments {
+    numbers: Vec<u32>,
+}
+
+impl Model for Arguments {
+    ghost use Rattle.std.specs.Prelude.{ℕ, List};
+
+    ghost Value = { List ℕ };
+
+    ghost view = { λ a. a.numbers.items };
+}
+
+impl Arguments {
+    /// These arguments.
+    pub fn new(numbers: Vec<u32>) -> Arguments
+        ensures { result ≡ numbers.items }
+    {
+        Arguments { numbers }
+    }
+
+    /// The arguments, in order.
+    pub fn as_slice(&self) -> &[u32]
+        ensures { result.now ≡ self.now }
+    {
+        &self.numbers
+    }
+}
+
+/// A call: the number of the operation in its component, from 0, and the arguments.
+#[derive(Debug, Drop)]
+pub struct Call {
+    pub op: u8,
+    pub args: Arguments,
+}
+
+/// The calls of one thread, in order.
+#[derive(Debug, Drop)]
+pub struct Calls {
+    calls: Vec<Call>,
+}
+
+impl Model for Calls {
+    ghost use Rattle.std.specs.Prelude.{List};
+    ghost use Rattle.lu_test.specs.declared.matrix.Call.{Call as ACall};
+
+    ghost Value = { List ACall };
+
+    ghost view = { λ c. c.calls.items };
+}
+
+impl Calls {
+    /// These calls.
+    pub fn new(calls: Vec<Call>) -> Calls
+        ensures { result ≡ calls.items }
+    {
+        Calls { calls }
+    }
+
+    /// The calls, in order.
+    pub fn as_slice(&self) -> &[Call]
+        ensures { result.now ≡ self.now }
+    {
+        &self.calls
+    }
+}
+
+/// A matrix: for each thread the calls that it makes. 1 to 8 threads of at most 8 calls, 16 calls in
+/// all, and at most 4 arguments of a call.
+#[derive(Debug, Drop)]
+pub struct Matrix {
+    threads: Vec<Calls>,
+}
+
+impl Model for Matrix {
+    ghost use Rattle.std.specs.Prelude.{List};
+    ghost use Rattle.lu_test.specs.Matrix.{IsMatrix};
+    ghost use Rattle.lu_test.specs.declared.matrix.Call.{Call as ACall};
+
+    ghost Value = { List (List ACall) };
+
+    ghost view = { λ m. m.threads.items };
+
+    ghost invariant = { λ m. IsMatrix m.threads.items };
+}
+
+impl Matrix {
+    /// The matrix of these threads' calls.
+    pub fn new(threads: Vec<Calls>) -> Matrix
+        requires { IsMatrix threads.items }
+        ensures { result ≡ threads.items }
+    {
+        Matrix { threads }
+    }
+
+    /// The number of threads, 1 to 8.
+    pub fn threads(&self) -> u8
+        ensures threads { result ≡ length self.now }
+        ensures sound { IsMatrix self.now }
+    {
+        self.threads.len() as u8
+    }
+
+    /// The number of calls of thread `t`: 0 where there is no such thread.
+    pub fn calls(&self, t: u8) -> u8
+        ensures { result ≡ length (calls_of self.now t) }
+    {
+        match self.threads.get(usize::from(t)) {
+            None => 0,
+            Some(calls) => calls.as_slice().len() as u8,
+        }
+    }
+
+    /// Call number `k` of thread `t`, both from 0.
+    pub fn call(&self, t: u8, k: u8) -> &Call
+        requires { k < length (calls_of self.now t) }
+        ensures { slice_get (calls_of self.now t) k ≡ Some result.now }
+    {
+        &self.threads[usize::from(t)].as_slice()[usize::from(k)]
+    }
+}

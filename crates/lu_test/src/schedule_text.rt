@@ -1,0 +1,142 @@
+//! Reading and writing of schedules.
+
+ghost use Rattle.std.specs.Prelude.{◌≡◌, ◌==◌, ◌++◌, ◌∷◌, List, IfOk, OnOk, Ok, not, length, string_bytes};
+ghost use Rattle.std.specs.Option.{option_map};
+ghost use Rattle.std.specs.List.{position, slice_split, list_all};
+ghost use Rattle.lu_text.specs.Lines.{texts};
+ghost use Rattle.lu_test.specs.Schedule.{AreMoves};
+ghost use Rattle.lu_test.specs.ScheduleText.{Gives, schedule_text, move_text, schedule_of, move_of, one_line};
+ghost use Rattle.lu_test.specs.ScheduleText as spec;
+
+use crate::schedule::{MOST_MOVES, Move, Schedule};
+use crate::schedule_fault::ScheduleFault;
+use lu_text::{number_of, place_of};
+use std::alloc::{AllocError, Global};
+
+fn move_with(thread: Option<u64>, pick: Option<u64>) -> Result<Move, ScheduleFault>
+    ensures { result ≡ spec.move_with thread pick }
+{
+    let (Some(thread), Some(pick)) = (thread, pick) else {
+        return Err(ScheduleFault::Number);
+    };
+    if thread > 7 || pick > 7 {
+        return Err(ScheduleFault::Limit);
+    }
+    Ok(Move {
+        thread: thread as u8,
+        pick: pick as u8,
+    })
+}
+
+#[tactic(auto, using(crate::proofs::Capped::same_move), unfolding(crate::specs::ScheduleText::move_of))]
+fn move_in(word: &[u8]) -> Result<Move, ScheduleFault>
+    ensures { result ≡ move_of word.now }
+{
+    match place_of(b':', word) {
+        None => move_with(number_of(word), Some(0)),
+        Some(colon) => {
+            let (thread, pick) = (&word[..colon], &word[colon + 1..]);
+            if pick == b"0".as_slice() {
+                return Err(ScheduleFault::Number);
+            }
+            move_with(number_of(thread), number_of(pick))
+        }
+    }
+}
+
+fn line_in(text: &[u8]) -> Option<&[u8]>
+    ensures { option_map (λ line. line.now) result ≡ one_line text.now }
+{
+    match place_of(b'\n', text) {
+        Some(end) if end + 1 == text.len() => Some(&text[..end]),
+        _ => None,
+    }
+}
+
+fn words_of(alloc: Global, line: &[u8]) -> Result<Vec<&[u8]>, AllocError>
+    ensures { IfOk result (λ words. texts words.items ≡ slice_split (λ b. b == 32) line.now) }
+{
+    line.split(|byte| *byte == b' ').collect(alloc)
+}
+
+fn are_words(words: &[&[u8]]) -> bool
+    ensures { result ≡ list_all (λ word. not (length word.now == 0)) words.now }
+{
+    words.iter().all(|word| !word.is_empty())
+}
+
+fn has_form(words: &[&[u8]]) -> bool
+    ensures { result ≡ spec.has_form (texts words.now) }
+{
+    match words {
+        [] => false,
+        [first, rest @ ..] => { *first == b"schedule".as_slice() && are_words(rest) }
+    }
+}
+
+fn moves_of(alloc: Global, words: &[&[u8]]) -> Result<Schedule, ScheduleFault>
+    ensures { Gives result (spec.moves_of 0 (texts words.now)) }
+{
+    let mut moves = Vec::new(alloc);
+    for word in words {
+        let next = move_in(word)?;
+        if moves.len() == MOST_MOVES {
+            return Err(ScheduleFault::Limit);
+        }
+        moves.push(next)?;
+    }
+    Ok(Schedule::new(moves))
+}
+
+fn schedule_in(alloc: Global, text: &[u8]) -> Result<Schedule, ScheduleFault>
+    ensures { Gives result (schedule_of text.now) }
+{
+    let Some(line) = line_in(text) else {
+        return Err(ScheduleFault::Form);
+    };
+    let words = words_of(alloc, line)?;
+    if !has_form(&words) {
+        return Err(ScheduleFault::Form);
+    }
+    moves_of(alloc, &words[1..])
+}
+
+/// Reads a schedule from its text. Each schedule has one spelling.
+///
+/// A fault is [`ScheduleFault::Form`] where the form of the whole text is wrong; else the first bad
+/// word from the left decides, and of one word [`ScheduleFault::Number`] before
+/// [`ScheduleFault::Limit`].
+pub fn read_schedule(alloc: Global, text: &[u8]) -> Result<Schedule, ScheduleFault>
+    // What is read is spelled so.
+    ensures found { IfOk result (λ s. AreMoves s × (text.now ≡ schedule_text s)) }
+    // What is spelled so is read, unless memory runs out.
+    ensures only { (ms : List Move) → AreMoves ms → text.now ≡ schedule_text ms → Gives result (Ok ms) }
+    // Which fault it is.
+    ensures exact { Gives result (schedule_of text.now) }
+{
+    schedule_in(alloc, text)
+}
+
+/// Adds a space and a move at the end of a text.
+fn put_move(text: &mut String, next: &Move) -> Result<(), AllocError>
+    ensures { OnOk result (string_bytes text.new ≡ string_bytes text.old ++ 32 ∷ move_text next.now) }
+{
+    if next.pick == 0 {
+        write!(text, " {}", next.thread)?;
+    } else {
+        write!(text, " {}:{}", next.thread, next.pick)?;
+    }
+    Ok(())
+}
+
+/// The text of a schedule, which reads back as it.
+pub fn write_schedule(alloc: Global, schedule: &Schedule) -> Result<String, AllocError>
+    ensures { IfOk result (λ text. string_bytes text ≡ schedule_text schedule.now) }
+{
+    let mut text = String::from_str(alloc, "schedule")?;
+    for next in schedule.moves() {
+        put_move(&mut text, next)?;
+    }
+    text.push('\n')?;
+    Ok(text)
+}

@@ -1,0 +1,5 @@
+pub mod NameText
+pub mod Capped
+pub mod Arity
+pub mod Reading
+pub mod NumberText

@@ -1,0 +1,5 @@
+pub mod Names
+pub mod Numbers
+pub mod Lines
+pub mod Words
+pub mod Faults

@@ -1,0 +1,35 @@
+-- Lines and words of a text.
+use Rattle.std.specs.Prelude.{ℕ, ◌-◌, Bool, List, [], length, map, take, slice_index, Option, Some, None, ◌==◌, ◌&&◌, ◌||◌, not, nat_le, filter, if◌then◌else◌}
+use Rattle.std.specs.List.{slice_split, position}
+use denote.Ref.{Bor}
+
+-- the bytes of words in memory
+abbrev pub texts : List (Bor (List ℕ)) → List (List ℕ)
+texts words = map (λ w. w.now) words
+
+-- the lines, without their LFs; a last LF begins no further line, and the empty text has no lines
+abbrev pub without_last_lf : List ℕ → List ℕ
+without_last_lf text = if slice_index text (length text - 1) == 10 then take (length text - 1) text else text
+
+abbrev pub lines_of : List ℕ → List (List ℕ)
+lines_of text = if length text == 0 then [] else slice_split (λ b. b == 10) (without_last_lf text)
+
+-- what may stand in a text of words: 32 to 126, tab and CR
+abbrev pub is_allowed : ℕ → Bool
+is_allowed b = nat_le 32 b && nat_le b 126 || (b == 9 || b == 13)
+
+-- space, tab and CR
+abbrev pub is_blank : ℕ → Bool
+is_blank b = b == 32 || (b == 9 || b == 13)
+
+abbrev pub cut_at : List ℕ → Option ℕ → List ℕ
+cut_at line None = line
+cut_at line (Some place) = take place line
+
+-- `#` begins a comment, up to the line's end
+abbrev pub before_comment : List ℕ → List ℕ
+before_comment line = cut_at line (position (λ b. b == 35) line)
+
+-- the words of a line, up to a comment: what blanks part
+abbrev pub words_of : List ℕ → List (List ℕ)
+words_of line = filter (λ word. not (length word == 0)) (slice_split is_blank (before_comment line))

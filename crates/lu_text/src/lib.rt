@@ -1,0 +1,17 @@
+//! What all texts of lineup are made of: lines, words, names and numbers, and faults by line.
+//!
+//! Every reader of the product is a definition on lists of bytes and a function that meets it. This
+//! crate has the parts that they share.
+#![tactic(auto)]
+
+mod fault;
+mod line;
+mod name;
+mod number;
+mod words;
+
+pub use fault::Fault;
+pub use line::{are_allowed, lines_of, words_of};
+pub use name::{MOST_NAME, Name, has_name_form, is_long};
+pub use number::{number_of, value_in};
+pub use words::{five, four, one, place_of, three, two};

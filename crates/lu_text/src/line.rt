@@ -1,0 +1,68 @@
+//! Lines and their words.
+
+ghost use Rattle.std.specs.Prelude.{◌≡◌, ◌==◌, IfOk};
+ghost use Rattle.std.specs.List.{list_all, slice_split};
+ghost use Rattle.lu_text.specs.Lines as spec;
+ghost use Rattle.lu_text.specs.Lines.{texts};
+
+use crate::words::place_of;
+use std::alloc::{AllocError, Global};
+
+fn is_blank(byte: u8) -> bool
+    ensures { result ≡ spec.is_blank byte }
+{
+    matches!(byte, b' ' | b'\t' | b'\r')
+}
+
+/// Whether each byte of a line may stand in a text of words: 32 to 126, tab and CR.
+pub fn are_allowed(line: &[u8]) -> bool
+    ensures { result ≡ list_all spec.is_allowed line.now }
+{
+    line.iter()
+        .all(|byte| matches!(*byte, 32..=126 | b'\t' | b'\r'))
+}
+
+fn before_comment(line: &[u8]) -> &[u8]
+    ensures { result.now ≡ spec.before_comment line.now }
+{
+    match place_of(b'#', line) {
+        None => line,
+        Some(hash) => &line[..hash],
+    }
+}
+
+/// The words of a line, up to a comment: what blanks part.
+pub fn words_of(alloc: Global, line: &[u8]) -> Result<Vec<&[u8]>, AllocError>
+    ensures { IfOk result (λ words. texts words.items ≡ spec.words_of line.now) }
+{
+    before_comment(line)
+        .split(|byte| is_blank(*byte))
+        .filter(|word| !word.is_empty())
+        .collect(alloc)
+}
+
+fn without_last_lf(text: &[u8]) -> &[u8]
+    ensures { result.now ≡ spec.without_last_lf text.now }
+{
+    match text {
+        [front @ .., b'\n'] => front,
+        _ => text,
+    }
+}
+
+fn parts_of(alloc: Global, text: &[u8]) -> Result<Vec<&[u8]>, AllocError>
+    ensures { IfOk result (λ parts. texts parts.items ≡ slice_split (λ b. b == 10) text.now) }
+{
+    text.split(|byte| *byte == b'\n').collect(alloc)
+}
+
+/// The lines of a text, without their LFs. A last LF begins no further line, and the empty text has
+/// no lines.
+pub fn lines_of(alloc: Global, text: &[u8]) -> Result<Vec<&[u8]>, AllocError>
+    ensures { IfOk result (λ lines. texts lines.items ≡ spec.lines_of text.now) }
+{
+    if text.is_empty() {
+        return Ok(Vec::new(alloc));
+    }
+    parts_of(alloc, without_last_lf(text))
+}
