@@ -1,13 +1,13 @@
 -- Each line without a fault keeps what is declared within the rules, and at the end it is a component.
-use Rattle.std.proofs.Common.{◌≡◌, ℕ, zero, suc, ◌+◌, ◌-◌, ◌<◌, ◌≤◌, Bool, true, false, cond, List, [], ◌∷◌, ◌++◌, length, get_or, Option, Some, None, Result, Ok, Err, refl, subst, sym, ap, ◌∙◌, arith}
-use Rattle.std.specs.Prelude.{◌==◌, ◌||◌, not, nat_le, nat_lt, is_some, map, All, IfSome, slice_get, codes, find}
+use Rattle.std.proofs.Common.{◌≡◌, ℕ, zero, suc, ◌+◌, ◌-◌, ◌<◌, ◌≤◌, Bool, true, false, cond, List, [], ◌∷◌, ◌++◌, length, get_or, Option, Some, None, Result, Ok, Err, refl, subst, sym, ap, arith}
+use Rattle.std.specs.Prelude.{◌||◌, not, nat_le, nat_lt, is_some, map, All, IfSome, slice_get, codes, find}
 use Rattle.std.specs.List.{position, position_or_len, prefix_len, AllByRecursion, IsDistinct, list_all}
 use Rattle.std.specs.Str.{bytes_eq}
 use Rattle.std.specs.Option.{unwrap_or, option_map}
-use Rattle.std.proofs.lemmas.Bool.{or_parts, leb-true, leb-false, ltb-false, not-false, lt-ltb}
+use Rattle.std.proofs.lemmas.Bool.{or_parts, leb-false, ltb-false, not-false}
 use Rattle.std.proofs.lemmas.List.{length-append, length-map}
 use Rattle.std.proofs.lemmas.Option.{slice_get-map}
-use Rattle.std.proofs.lemmas.List.Elements.{All-append, All-from_recursion, All-nil, All-map}
+use Rattle.std.proofs.lemmas.List.Elements.{All-append, All-nil, All-map}
 use Rattle.lu_text.specs.Names.{has_name_form, is_long, IsName}
 use Rattle.lu_text.specs.Lines.{is_allowed, words_of}
 use Rattle.lu_text.specs.Words.{Word, one, two, three}
@@ -20,13 +20,14 @@ use Rattle.lu_lang.specs.declared.draft.Statement.{Statement}
 use Rattle.lu_lang.specs.declared.draft.Statement.TheVariants.{Plain, Jump, JumpIfZero}
 use Rattle.lu_lang.specs.declared.fault.LangFaultKind.{LangFaultKind}
 use Rattle.lu_lang.specs.declared.fault.LangFaultKind.TheVariants.{Byte, Missing, Form, Number, Limit, Flow, Name}
-use Rattle.lu_lang.specs.Component.{AreDistinct, Declarations, EndsWell, IsArray, IsCode, IsComponent, IsInstr, IsLast, IsOp, IsOperand}
+use Rattle.lu_lang.specs.Component.{AreDistinct, EndsWell, IsArray, IsComponent, IsInstr, IsOp}
 use Rattle.lu_lang.specs.Draft.{Begun, Drafted, nothing}
-use Rattle.lu_lang.specs.Grammar.{value, is_value, array_place, lock_place, operation_place, label_place, component_line, array_line, lock_line, op_line, declaration, statement, sooner, place_fault, with_label, with_statement, placed, instr_line, labelled, label_used, is_there, are_there, is_last, ends_well, target, resolved, op_of, end_line, inside, component_first, by_state, closed, by_words, line_of, declared, component_grammar, label_in}
+use Rattle.lu_lang.specs.Grammar.{value, is_value, array_place, lock_place, operation_place, component_line, array_line, lock_line, op_line, declaration, statement, sooner, place_fault, with_label, with_statement, placed, instr_line, labelled, are_there, is_last, ends_well, target, resolved, op_of, end_line, inside, by_state, closed, by_words, line_of, label_in}
 use Rattle.lu_lang.specs.Words.{keyword_in}
 use Rattle.lu_lang.specs.Sound.{IsStatement, IsBegun, IsDraft}
-use Rattle.lu_lang.proofs.Statements.{NoneHold, Said, said, statement_sound, value_small}
-use Rattle.lu_lang.proofs.Placing.{has_room, label_is_name}
+use Rattle.lu_text.proofs.Tests.{NoneHold, said}
+use Rattle.lu_lang.proofs.Statements.{statement_sound}
+use Rattle.lu_lang.proofs.Placing.{has_room}
 
 -- ---- lists
 
@@ -135,9 +136,15 @@ component_keeps d h (Some name) = kept
     (record d { name = Some name })
     (λ n. record {
       name = name_from name n.0 n.1.0;
-      arrays_few = h.arrays_few; arrays = h.arrays; arrays_apart = h.arrays_apart;
-      locks_few = h.locks_few; locks = h.locks; locks_apart = h.locks_apart;
-      operations_few = h.operations_few; operations = h.operations; operations_apart = h.operations_apart;
+      arrays_few = h.arrays_few;
+      arrays = h.arrays;
+      arrays_apart = h.arrays_apart;
+      locks_few = h.locks_few;
+      locks = h.locks;
+      locks_apart = h.locks_apart;
+      operations_few = h.operations_few;
+      operations = h.operations;
+      operations_apart = h.operations_apart;
       begun = h.begun;
     })
 
@@ -145,78 +152,88 @@ array_keeps : (d : Drafted) → IsDraft d → d.begun ≡ None → (o : Option (
 array_keeps d h none None = refused _
 array_keeps d h none (Some (name, len, init)) = kept
     ((not (has_name_form name), Form)
-      ∷ (not (is_value len) || not (is_value init), Number)
-      ∷ (is_long name || (nat_le 16 (length d.arrays) || (nat_lt (value len) 1 || nat_lt 64 (value len))), Limit)
-      ∷ (is_some (array_place d name), Name) ∷ [])
+    ∷ (not (is_value len) || not (is_value init), Number)
+    ∷ (is_long name || (nat_le 16 (length d.arrays) || (nat_lt (value len) 1 || nat_lt 64 (value len))), Limit)
+    ∷ (is_some (array_place d name), Name) ∷ [])
     (record d { arrays = d.arrays ++ record { name = name; len = value len; init = value init } ∷ [] })
     (λ n.
-      let new : Array = record { name = name; len = value len; init = value init } in
-      let long = or_parts (is_long name) (nat_le 16 (length d.arrays) || (nat_lt (value len) 1 || nat_lt 64 (value len))) n.1.1.0 in
-      let full = or_parts (nat_le 16 (length d.arrays)) (nat_lt (value len) 1 || nat_lt 64 (value len)) long.1 in
-      let size = or_parts (nat_lt (value len) 1) (nat_lt 64 (value len)) full.1 in
-      let few : length d.arrays < 16 = omega (arith, leb-false 16 (length d.arrays) full.0) in
-      let more : length (d.arrays ++ new ∷ []) ≡ length d.arrays + 1 = length-last d.arrays new in
-      record {
-        name = h.name;
-        arrays_few = omega arith;
-        arrays = All-last IsArray d.arrays new h.arrays (record { name = name_from name n.0 long.0; some = ltb-false (value len) 1 size.0; few = ltb-false 64 (value len) size.1 });
-        arrays_apart = distinct_more (λ a. a.name) d.arrays new h.arrays_apart n.1.1.1.0;
-        locks_few = h.locks_few; locks = h.locks; locks_apart = h.locks_apart;
-        operations_few = h.operations_few;
-        operations = All-weaker (IsOp (length d.arrays) (length d.locks)) (IsOp (length (d.arrays ++ new ∷ [])) (length d.locks)) (op_weaker (length d.arrays) (length d.locks) (length (d.arrays ++ new ∷ [])) (length d.locks) (omega arith) (omega arith)) d.operations h.operations;
-        operations_apart = h.operations_apart;
-        begun = rw none tt;
-      })
+    let new : Array = record { name = name; len = value len; init = value init } in
+    let long = or_parts (is_long name) (nat_le 16 (length d.arrays) || (nat_lt (value len) 1 || nat_lt 64 (value len))) n.1.1.0 in
+    let full = or_parts (nat_le 16 (length d.arrays)) (nat_lt (value len) 1 || nat_lt 64 (value len)) long.1 in
+    let size = or_parts (nat_lt (value len) 1) (nat_lt 64 (value len)) full.1 in
+    let few : length d.arrays < 16 = omega (arith, leb-false 16 (length d.arrays) full.0) in
+    let more : length (d.arrays ++ new ∷ []) ≡ length d.arrays + 1 = length-last d.arrays new in
+    record {
+      name = h.name;
+      arrays_few = omega arith;
+      arrays = All-last IsArray d.arrays new h.arrays (record { name = name_from name n.0 long.0; some = ltb-false (value len) 1 size.0; few = ltb-false 64 (value len) size.1 });
+      arrays_apart = distinct_more (λ a. a.name) d.arrays new h.arrays_apart n.1.1.1.0;
+      locks_few = h.locks_few;
+      locks = h.locks;
+      locks_apart = h.locks_apart;
+      operations_few = h.operations_few;
+      operations = All-weaker (IsOp (length d.arrays) (length d.locks)) (IsOp (length (d.arrays ++ new ∷ [])) (length d.locks)) (op_weaker (length d.arrays) (length d.locks) (length (d.arrays ++ new ∷ [])) (length d.locks) (omega arith) (omega arith)) d.operations h.operations;
+      operations_apart = h.operations_apart;
+      begun = rw none tt;
+    })
 
 lock_keeps : (d : Drafted) → IsDraft d → d.begun ≡ None → (o : Option Word) → Keeps (lock_line d o)
 lock_keeps d h none None = refused _
 lock_keeps d h none (Some name) = kept
     ((not (has_name_form name), Form)
-      ∷ (is_long name || nat_le 8 (length d.locks), Limit)
-      ∷ (is_some (lock_place d name), Name) ∷ [])
+    ∷ (is_long name || nat_le 8 (length d.locks), Limit)
+    ∷ (is_some (lock_place d name), Name) ∷ [])
     (record d { locks = d.locks ++ name ∷ [] })
     (λ n.
-      let long = or_parts (is_long name) (nat_le 8 (length d.locks)) n.1.0 in
-      let few : length d.locks < 8 = omega (arith, leb-false 8 (length d.locks) long.1) in
-      let more : length (d.locks ++ name ∷ []) ≡ length d.locks + 1 = length-last d.locks name in
-      record {
-        name = h.name;
-        arrays_few = h.arrays_few; arrays = h.arrays; arrays_apart = h.arrays_apart;
-        locks_few = omega arith;
-        locks = All-last IsName d.locks name h.locks (name_from name n.0 long.0);
-        locks_apart = distinct_name d.locks name h.locks_apart n.1.1.0;
-        operations_few = h.operations_few;
-        operations = All-weaker (IsOp (length d.arrays) (length d.locks)) (IsOp (length d.arrays) (length (d.locks ++ name ∷ []))) (op_weaker (length d.arrays) (length d.locks) (length d.arrays) (length (d.locks ++ name ∷ [])) (omega arith) (omega arith)) d.operations h.operations;
-        operations_apart = h.operations_apart;
-        begun = rw none tt;
-      })
+    let long = or_parts (is_long name) (nat_le 8 (length d.locks)) n.1.0 in
+    let few : length d.locks < 8 = omega (arith, leb-false 8 (length d.locks) long.1) in
+    let more : length (d.locks ++ name ∷ []) ≡ length d.locks + 1 = length-last d.locks name in
+    record {
+      name = h.name;
+      arrays_few = h.arrays_few;
+      arrays = h.arrays;
+      arrays_apart = h.arrays_apart;
+      locks_few = omega arith;
+      locks = All-last IsName d.locks name h.locks (name_from name n.0 long.0);
+      locks_apart = distinct_name d.locks name h.locks_apart n.1.1.0;
+      operations_few = h.operations_few;
+      operations = All-weaker (IsOp (length d.arrays) (length d.locks)) (IsOp (length d.arrays) (length (d.locks ++ name ∷ []))) (op_weaker (length d.arrays) (length d.locks) (length d.arrays) (length (d.locks ++ name ∷ [])) (omega arith) (omega arith)) d.operations h.operations;
+      operations_apart = h.operations_apart;
+      begun = rw none tt;
+    })
 
 op_keeps : (d : Drafted) → IsDraft d → (o : Option (Word × Word)) → Keeps (op_line d o)
 op_keeps d h None = refused _
 op_keeps d h (Some (name, args)) = kept
     ((not (has_name_form name), Form)
-      ∷ (not (is_value args), Number)
-      ∷ (is_long name || (nat_le 16 (length d.operations) || nat_lt 4 (value args)), Limit)
-      ∷ (is_some (operation_place d name), Name) ∷ [])
+    ∷ (not (is_value args), Number)
+    ∷ (is_long name || (nat_le 16 (length d.operations) || nat_lt 4 (value args)), Limit)
+    ∷ (is_some (operation_place d name), Name) ∷ [])
     (record d { begun = Some (record { name = name; args = value args; statements = []; labels = [] }) })
     (λ n.
-      let long = or_parts (is_long name) (nat_le 16 (length d.operations) || nat_lt 4 (value args)) n.1.1.0 in
-      let full = or_parts (nat_le 16 (length d.operations)) (nat_lt 4 (value args)) long.1 in
-      record {
-        name = h.name;
-        arrays_few = h.arrays_few; arrays = h.arrays; arrays_apart = h.arrays_apart;
-        locks_few = h.locks_few; locks = h.locks; locks_apart = h.locks_apart;
-        operations_few = h.operations_few; operations = h.operations; operations_apart = h.operations_apart;
-        begun = record {
-          room = omega (arith, leb-false 16 (length d.operations) full.0);
-          apart = n.1.1.1.0;
-          name = name_from name n.0 long.0;
-          args = ltb-false 4 (value args) full.1;
-          few = omega arith;
-          statements = All-nil (IsStatement (length d.arrays) (length d.locks));
-          labels = λ k label within. absurd (omega arith);
-        };
-      })
+    let long = or_parts (is_long name) (nat_le 16 (length d.operations) || nat_lt 4 (value args)) n.1.1.0 in
+    let full = or_parts (nat_le 16 (length d.operations)) (nat_lt 4 (value args)) long.1 in
+    record {
+      name = h.name;
+      arrays_few = h.arrays_few;
+      arrays = h.arrays;
+      arrays_apart = h.arrays_apart;
+      locks_few = h.locks_few;
+      locks = h.locks;
+      locks_apart = h.locks_apart;
+      operations_few = h.operations_few;
+      operations = h.operations;
+      operations_apart = h.operations_apart;
+      begun = record {
+        room = omega (arith, leb-false 16 (length d.operations) full.0);
+        apart = n.1.1.1.0;
+        name = name_from name n.0 long.0;
+        args = ltb-false 4 (value args) full.1;
+        few = omega arith;
+        statements = All-nil (IsStatement (length d.arrays) (length d.locks));
+        labels = λ k label within. absurd (omega arith);
+      };
+    })
 
 keeps_if : (b : Bool) (x y : Result Drafted LangFaultKind) → Keeps x → Keeps y → Keeps (cond b x y)
 keeps_if true x y p q = p
@@ -237,12 +254,15 @@ labels_kept : (b : Begun) (label : Option Word) (s : Statement) → All (λ l. l
 labels_kept b None s all = label_weaker (length b.statements) (length (b.statements ++ s ∷ [])) (omega (arith, length-last b.statements s)) b.labels all
 labels_kept b (Some label) s all =
     All-last (λ l. l.1 < length (b.statements ++ s ∷ [])) b.labels (label, length b.statements)
-      (label_weaker (length b.statements) (length (b.statements ++ s ∷ [])) (omega (arith, length-last b.statements s)) b.labels all)
-      (omega (arith, length-last b.statements s))
+    (label_weaker (length b.statements) (length (b.statements ++ s ∷ [])) (omega (arith, length-last b.statements s)) b.labels all)
+    (omega (arith, length-last b.statements s))
 
 begun_kept : (a l : ℕ) (operations : List Op) (b : Begun) (label : Option Word) (s : Statement) → IsBegun a l operations b → length b.statements < 64 → IsStatement a l s → IsBegun a l operations (with_statement b label s)
 begun_kept a l operations b label s h room is = record {
-  room = h.room; apart = h.apart; name = h.name; args = h.args;
+  room = h.room;
+  apart = h.apart;
+  name = h.name;
+  args = h.args;
   few = omega (arith, length-last b.statements s);
   statements = All-last (IsStatement a l) b.statements s h.statements is;
   labels = labels_kept b label s h.labels;
@@ -270,9 +290,15 @@ instr_keeps d h b begun label word words = go (statement d (keyword_in word) wor
         let same : record d { begun = Some (with_statement b label s) } ≡ next = cc in
         subst IsDraft same (record {
           name = h.name;
-          arrays_few = h.arrays_few; arrays = h.arrays; arrays_apart = h.arrays_apart;
-          locks_few = h.locks_few; locks = h.locks; locks_apart = h.locks_apart;
-          operations_few = h.operations_few; operations = h.operations; operations_apart = h.operations_apart;
+          arrays_few = h.arrays_few;
+          arrays = h.arrays;
+          arrays_apart = h.arrays_apart;
+          locks_few = h.locks_few;
+          locks = h.locks;
+          locks_apart = h.locks_apart;
+          operations_few = h.operations_few;
+          operations = h.operations;
+          operations_apart = h.operations_apart;
           begun = begun_kept (length d.arrays) (length d.locks) d.operations b label s begun (room refl) (is s refl);
         })
 
@@ -332,7 +358,7 @@ op_sound a l operations b h ends =
         few = omega (arith, h.few);
         ends = rw (same, slice_get-map (resolved b.labels) b.statements (n - 1)) (last_resolved b.labels (slice_get b.statements (n - 1)) ends);
         instrs = subst (λ (k : ℕ). All (IsInstr a l k) (map (resolved b.labels) b.statements)) (sym same) (All-map (IsInstr a l n) (resolved b.labels) b.statements
-          (All-weaker (IsStatement a l) (λ s. IsInstr a l n (resolved b.labels s)) (resolved_sound a l n b.labels some h.labels) b.statements h.statements));
+            (All-weaker (IsStatement a l) (λ s. IsInstr a l n (resolved b.labels s)) (resolved_sound a l n b.labels some h.labels) b.statements h.statements));
       };
     }
 
@@ -343,8 +369,12 @@ end_keeps d h none b begun [] = kept
     (record d { operations = d.operations ++ op_of b ∷ []; begun = None })
     (λ n. record {
       name = h.name;
-      arrays_few = h.arrays_few; arrays = h.arrays; arrays_apart = h.arrays_apart;
-      locks_few = h.locks_few; locks = h.locks; locks_apart = h.locks_apart;
+      arrays_few = h.arrays_few;
+      arrays = h.arrays;
+      arrays_apart = h.arrays_apart;
+      locks_few = h.locks_few;
+      locks = h.locks;
+      locks_apart = h.locks_apart;
       operations_few = omega (arith, begun.room, length-last d.operations (op_of b));
       operations = All-last (IsOp (length d.arrays) (length d.locks)) d.operations (op_of b) h.operations (op_sound (length d.arrays) (length d.locks) d.operations b begun (not-false (ends_well b) n.0));
       operations_apart = distinct_more (λ o. o.name) d.operations (op_of b) h.operations_apart begun.apart;
@@ -371,9 +401,15 @@ state_keeps d h none (Some name) (Some b) is word words = inside_keeps d h none 
 closed_draft : (d : Drafted) → IsDraft d → IsDraft (closed d)
 closed_draft d h = record {
   name = h.name;
-  arrays_few = h.arrays_few; arrays = h.arrays; arrays_apart = h.arrays_apart;
-  locks_few = h.locks_few; locks = h.locks; locks_apart = h.locks_apart;
-  operations_few = h.operations_few; operations = h.operations; operations_apart = h.operations_apart;
+  arrays_few = h.arrays_few;
+  arrays = h.arrays;
+  arrays_apart = h.arrays_apart;
+  locks_few = h.locks_few;
+  locks = h.locks;
+  locks_apart = h.locks_apart;
+  operations_few = h.operations_few;
+  operations = h.operations;
+  operations_apart = h.operations_apart;
   begun = tt;
 }
 
@@ -391,9 +427,15 @@ pub nothing_draft : IsDraft nothing
 unfolding IsDistinct
 nothing_draft = record {
   name = tt;
-  arrays_few = omega arith; arrays = All-nil IsArray; arrays_apart = tt;
-  locks_few = omega arith; locks = All-nil IsName; locks_apart = tt;
-  operations_few = omega arith; operations = All-nil (IsOp 0 0); operations_apart = tt;
+  arrays_few = omega arith;
+  arrays = All-nil IsArray;
+  arrays_apart = tt;
+  locks_few = omega arith;
+  locks = All-nil IsName;
+  locks_apart = tt;
+  operations_few = omega arith;
+  operations = All-nil (IsOp 0 0);
+  operations_apart = tt;
   begun = tt;
 }
 
@@ -401,7 +443,13 @@ nothing_draft = record {
 pub draft_component : (d : Drafted) → IsDraft d → (name : Word) → IsName name → IsComponent (record { name = name; arrays = d.arrays; locks = d.locks; operations = d.operations })
 draft_component d h name is = record {
   name = is;
-  arrays_few = h.arrays_few; arrays = h.arrays; arrays_apart = h.arrays_apart;
-  locks_few = h.locks_few; locks = h.locks; locks_apart = h.locks_apart;
-  operations_few = h.operations_few; operations = h.operations; operations_apart = h.operations_apart;
+  arrays_few = h.arrays_few;
+  arrays = h.arrays;
+  arrays_apart = h.arrays_apart;
+  locks_few = h.locks_few;
+  locks = h.locks;
+  locks_apart = h.locks_apart;
+  operations_few = h.operations_few;
+  operations = h.operations;
+  operations_apart = h.operations_apart;
 }

@@ -1,6 +1,6 @@
 -- What holds of a label and of an operation where nothing is wrong with one more instruction.
-use Rattle.std.proofs.Common.{◌≡◌, ℕ, ◌<◌, ◌≤◌, Bool, true, false, cond, List, length, Option, Some, None, refl, arith}
-use Rattle.std.specs.Prelude.{◌||◌, not, nat_le, nat_lt, is_some}
+use Rattle.std.proofs.Common.{◌≡◌, ◌<◌, Bool, true, false, cond, length, Option, Some, None, refl, arith}
+use Rattle.std.specs.Prelude.{◌||◌, not, nat_le, is_some}
 use Rattle.std.proofs.lemmas.Bool.{or_parts, leb-false, ltb-false, not-false}
 use Rattle.lu_text.specs.Names.{has_name_form, is_long, IsName}
 use Rattle.lu_text.specs.Words.{Word}

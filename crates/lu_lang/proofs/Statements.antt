@@ -1,14 +1,15 @@
 -- What an instruction's line says names what is there.
-use Rattle.std.proofs.Common.{◌≡◌, ℕ, zero, suc, ◌+◌, ◌-◌, ◌^◌, ◌<◌, ◌≤◌, Bool, true, false, cond, List, [], ◌∷◌, length, Option, Some, None, Result, Ok, Err, refl, subst, sym, ap, ◌∙◌, arith}
+use Rattle.std.proofs.Common.{◌≡◌, ℕ, ◌-◌, ◌^◌, ◌<◌, Bool, true, false, cond, List, [], ◌∷◌, length, Option, Some, None, Result, Ok, Err, refl, subst, ap, ◌∙◌, arith}
 use Rattle.std.specs.Prelude.{◌==◌, ◌&&◌, ◌||◌, not, nat_le, nat_lt, is_some}
 use Rattle.std.specs.List.{position, position_or_len}
 use Rattle.std.specs.Str.{bytes_eq}
 use Rattle.std.specs.Option.{unwrap_or}
-use Rattle.std.proofs.lemmas.Bool.{or_parts, and_parts, leb-true, leb-false, ltb-true, ltb-false, not-false}
+use Rattle.std.proofs.lemmas.Bool.{or_parts, and_parts, leb-true, ltb-true, ltb-false, not-false}
 use Rattle.lu_text.specs.Names.{has_name_form, is_long}
 use Rattle.lu_text.specs.Numbers.{number_in, value_in, below}
 use Rattle.lu_text.specs.Words.{Word, one, two, three, five}
-use Rattle.lu_text.specs.Faults.{Tests, first_fault, or_else, says}
+use Rattle.lu_text.specs.Faults.{Tests, says}
+use Rattle.lu_text.proofs.Tests.{NoneHold, said}
 use Rattle.lu_lang.specs.declared.instr.Operand.{Operand}
 use Rattle.lu_lang.specs.declared.instr.Operand.TheVariants.{Num}
 use Rattle.lu_lang.specs.declared.instr.Arithmetic.{Arithmetic}
@@ -22,35 +23,9 @@ use Rattle.lu_lang.specs.declared.fault.LangFaultKind.{LangFaultKind}
 use Rattle.lu_lang.specs.declared.fault.LangFaultKind.TheVariants.{Form, Number, Limit, Name}
 use Rattle.lu_lang.specs.Component.{IsRegister, IsOperand, IsInstr}
 use Rattle.lu_lang.specs.Draft.{Drafted}
-use Rattle.lu_lang.specs.Words.{register_in, operand_in, or_number, as_number}
+use Rattle.lu_lang.specs.Words.{register_in, or_number, as_number}
 use Rattle.lu_lang.specs.Grammar.{value, is_value, register, is_register, operand, is_operand, array_place, lock_place, array_number, lock_number, set_line, compute_line, load_line, store_line, cas_line, locked, awaited, as_plain, pick_line, jump_line, jump_if_zero_line, return_line, statement}
 use Rattle.lu_lang.specs.Sound.{IsStatement}
-
--- ---- tests
-
-abbrev pub NoneHold : {Kind : Type 0} → Tests Kind → Type 0
-NoneHold [] = Unit {0}
-NoneHold (test ∷ tests) = (test.0 ≡ false) × NoneHold tests
-
-none_hold : {Kind : Type 0} (tests : Tests Kind) → first_fault tests ≡ None → NoneHold tests
-none_hold [] e = tt
-none_hold {Kind = Kind} (test ∷ tests) e = go test.0 refl (none_hold tests) e
-  where
-    go : (b : Bool) → test.0 ≡ b → (first_fault tests ≡ None → NoneHold tests) → cond b (Some test.1) (first_fault tests) ≡ None → (test.0 ≡ false) × NoneHold tests
-    go true is rest f = absurd cc
-    go false is rest f = (is, rest f)
-
-pub record Said {Kind A : Type 0} (tests : Tests Kind) (x y : A) : Type 0 where
-  pub none : NoneHold tests
-  pub same : x ≡ y
-
--- where a line says something, nothing is wrong with it
-pub said : {Kind A : Type 0} (tests : Tests Kind) (x y : A) → says tests x ≡ Ok y → Said tests x y
-said {Kind = Kind} {A = A} tests x y e = go (first_fault tests) refl e
-  where
-    go : (o : Option Kind) → first_fault tests ≡ o → or_else o x ≡ Ok y → Said tests x y
-    go None is f = record { none = none_hold tests is; same = cc }
-    go (Some kind) is f = absurd cc
 
 -- ---- words
 
@@ -164,8 +139,8 @@ locking_sound d locking each (Some lock) = λ s e. go (locked d (Some lock)) (λ
     said_lock : (r : Result ℕ LangFaultKind) (l : ℕ) → locked d (Some lock) ≡ r → r ≡ Ok l → l < length d.locks
     said_lock r l is f =
         let x = said
-            ((not (has_name_form lock), Form) ∷ (is_long lock, Limit) ∷ (not (is_some (lock_place d lock)), Name) ∷ [])
-            (lock_number d lock) l (is ∙ f) in
+        ((not (has_name_form lock), Form) ∷ (is_long lock, Limit) ∷ (not (is_some (lock_place d lock)), Name) ∷ [])
+        (lock_number d lock) l (is ∙ f) in
         subst (λ (n : ℕ). n < length d.locks) x.same (lock_there d lock x.none.1.1.0)
 
     go : (r : Result ℕ LangFaultKind) → ((l : ℕ) → r ≡ Ok l → l < length d.locks) → (s : Statement) → as_plain locking r ≡ Ok s → IsStatement (length d.arrays) (length d.locks) s
@@ -182,8 +157,8 @@ waiting_sound d waiting each (Some (array, i, v)) = λ s e. go (awaited d (Some 
     said_array : (r : Result (ℕ × Operand × Operand) LangFaultKind) (w : ℕ × Operand × Operand) → awaited d (Some (array, i, v)) ≡ r → r ≡ Ok w → Fits w
     said_array r w is f =
         let x = said
-            ((not (has_name_form array), Form) ∷ (not (is_operand i) || not (is_operand v), Number) ∷ (is_long array, Limit) ∷ (not (is_some (array_place d array)), Name) ∷ [])
-            (array_number d array, operand i, operand v) w (is ∙ f) in
+        ((not (has_name_form array), Form) ∷ (not (is_operand i) || not (is_operand v), Number) ∷ (is_long array, Limit) ∷ (not (is_some (array_place d array)), Name) ∷ [])
+        (array_number d array, operand i, operand v) w (is ∙ f) in
         subst Fits x.same (array_there d array x.none.1.1.1.0, operand_sound i, operand_sound v)
 
     go : (r : Result (ℕ × Operand × Operand) LangFaultKind) → ((w : ℕ × Operand × Operand) → r ≡ Ok w → Fits w) → (s : Statement) → as_plain waiting r ≡ Ok s → IsStatement (length d.arrays) (length d.locks) s

@@ -1,19 +1,18 @@
 -- The text of a component: what each line says, or what is wrong with it.
-use Rattle.std.specs.Prelude.{find, ℕ, ◌+◌, ◌-◌, Bool, true, false, List, [], ◌∷◌, ◌++◌, length, map, take, slice_index, slice_get, Option, Some, None, is_some, Result, Ok, Err, codes, ◌==◌, ◌||◌, not, nat_le, nat_lt, if◌then◌else◌}
+use Rattle.std.specs.Prelude.{find, ℕ, ◌-◌, Bool, true, false, List, [], ◌∷◌, ◌++◌, length, map, take, slice_index, slice_get, Option, Some, None, is_some, Result, Ok, Err, codes, ◌==◌, ◌||◌, not, nat_le, nat_lt, if◌then◌else◌}
 use Rattle.std.specs.List.{position, list_all}
 use Rattle.std.specs.Str.{bytes_eq}
 use Rattle.std.specs.Option.{unwrap_or, option_map}
 use Rattle.lu_text.specs.Names.{has_name_form, is_long}
 use Rattle.lu_text.specs.Numbers.{value_in}
 use Rattle.lu_text.specs.Lines.{words_of, is_allowed}
-use Rattle.lu_text.specs.Words.{Word, one, two, three, four, five}
+use Rattle.lu_text.specs.Words.{Word, one, two, three, five}
 use Rattle.lu_text.specs.Faults.{Grammar, says, or_else}
 use Rattle.lu_lang.specs.declared.instr.Operand.{Operand}
 use Rattle.lu_lang.specs.declared.instr.Operand.TheVariants.{Num}
 use Rattle.lu_lang.specs.declared.instr.Arithmetic.{Arithmetic}
 use Rattle.lu_lang.specs.declared.instr.Instr.{Instr}
 use Rattle.lu_lang.specs.declared.instr.Instr.TheVariants as instr
-use Rattle.lu_lang.specs.declared.component.Array.{Array}
 use Rattle.lu_lang.specs.declared.component.Op.{Op}
 use Rattle.lu_lang.specs.declared.draft.Statement.{Statement}
 use Rattle.lu_lang.specs.declared.draft.Statement.TheVariants.{Plain, Jump, JumpIfZero}
@@ -81,9 +80,9 @@ abbrev pub array_line : Drafted → Option (Word × Word × Word) → Result Dra
 array_line d None = Err Form
 array_line d (Some (name, len, init)) =
     says ((not (has_name_form name), Form)
-      ∷ (not (is_value len) || not (is_value init), Number)
-      ∷ (is_long name || (nat_le 16 (length d.arrays) || (nat_lt (value len) 1 || nat_lt 64 (value len))), Limit)
-      ∷ (is_some (array_place d name), Name) ∷ [])
+    ∷ (not (is_value len) || not (is_value init), Number)
+    ∷ (is_long name || (nat_le 16 (length d.arrays) || (nat_lt (value len) 1 || nat_lt 64 (value len))), Limit)
+    ∷ (is_some (array_place d name), Name) ∷ [])
     (record d { arrays = d.arrays ++ record { name = name; len = value len; init = value init } ∷ [] })
 
 -- `lock NAME`
@@ -91,8 +90,8 @@ abbrev pub lock_line : Drafted → Option Word → Result Drafted LangFaultKind
 lock_line d None = Err Form
 lock_line d (Some name) =
     says ((not (has_name_form name), Form)
-      ∷ (is_long name || nat_le 8 (length d.locks), Limit)
-      ∷ (is_some (lock_place d name), Name) ∷ [])
+    ∷ (is_long name || nat_le 8 (length d.locks), Limit)
+    ∷ (is_some (lock_place d name), Name) ∷ [])
     (record d { locks = d.locks ++ name ∷ [] })
 
 -- `op NAME ARGS`
@@ -100,9 +99,9 @@ abbrev pub op_line : Drafted → Option (Word × Word) → Result Drafted LangFa
 op_line d None = Err Form
 op_line d (Some (name, args)) =
     says ((not (has_name_form name), Form)
-      ∷ (not (is_value args), Number)
-      ∷ (is_long name || (nat_le 16 (length d.operations) || nat_lt 4 (value args)), Limit)
-      ∷ (is_some (operation_place d name), Name) ∷ [])
+    ∷ (not (is_value args), Number)
+    ∷ (is_long name || (nat_le 16 (length d.operations) || nat_lt 4 (value args)), Limit)
+    ∷ (is_some (operation_place d name), Name) ∷ [])
     (record d { begun = Some (record { name = name; args = value args; statements = []; labels = [] }) })
 
 abbrev pub declaration : Drafted → Word → List Word → Result Drafted LangFaultKind
@@ -133,9 +132,9 @@ abbrev pub load_line : Drafted → Option (Word × Word × Word) → Result Stat
 load_line d None = Err Form
 load_line d (Some (dst, array, i)) =
     says ((not (is_register dst) || not (has_name_form array), Form)
-      ∷ (not (is_operand i), Number)
-      ∷ (is_long array, Limit)
-      ∷ (not (is_some (array_place d array)), Name) ∷ [])
+    ∷ (not (is_operand i), Number)
+    ∷ (is_long array, Limit)
+    ∷ (not (is_some (array_place d array)), Name) ∷ [])
     (Plain (instr.Load (register dst) (array_number d array) (operand i)))
 
 -- `store W i v`
@@ -143,9 +142,9 @@ abbrev pub store_line : Drafted → Option (Word × Word × Word) → Result Sta
 store_line d None = Err Form
 store_line d (Some (array, i, v)) =
     says ((not (has_name_form array), Form)
-      ∷ (not (is_operand i) || not (is_operand v), Number)
-      ∷ (is_long array, Limit)
-      ∷ (not (is_some (array_place d array)), Name) ∷ [])
+    ∷ (not (is_operand i) || not (is_operand v), Number)
+    ∷ (is_long array, Limit)
+    ∷ (not (is_some (array_place d array)), Name) ∷ [])
     (Plain (instr.Store (array_number d array) (operand i) (operand v)))
 
 -- `cas rD W i old new`
@@ -153,9 +152,9 @@ abbrev pub cas_line : Drafted → Option (Word × Word × Word × Word × Word) 
 cas_line d None = Err Form
 cas_line d (Some (dst, array, i, old, new)) =
     says ((not (is_register dst) || not (has_name_form array), Form)
-      ∷ (not (is_operand i) || (not (is_operand old) || not (is_operand new)), Number)
-      ∷ (is_long array, Limit)
-      ∷ (not (is_some (array_place d array)), Name) ∷ [])
+    ∷ (not (is_operand i) || (not (is_operand old) || not (is_operand new)), Number)
+    ∷ (is_long array, Limit)
+    ∷ (not (is_some (array_place d array)), Name) ∷ [])
     (Plain (instr.Cas (register dst) (array_number d array) (operand i) (operand old) (operand new)))
 
 abbrev pub as_plain : {A : Type 0} → (A → Instr) → Result A LangFaultKind → Result Statement LangFaultKind
@@ -167,8 +166,8 @@ abbrev pub locked : Drafted → Option Word → Result ℕ LangFaultKind
 locked d None = Err Form
 locked d (Some lock) =
     says ((not (has_name_form lock), Form)
-      ∷ (is_long lock, Limit)
-      ∷ (not (is_some (lock_place d lock)), Name) ∷ [])
+    ∷ (is_long lock, Limit)
+    ∷ (not (is_some (lock_place d lock)), Name) ∷ [])
     (lock_number d lock)
 
 -- the array, the index and the value of `await W i v` and `awaitne W i v`
@@ -176,9 +175,9 @@ abbrev pub awaited : Drafted → Option (Word × Word × Word) → Result (ℕ �
 awaited d None = Err Form
 awaited d (Some (array, i, v)) =
     says ((not (has_name_form array), Form)
-      ∷ (not (is_operand i) || not (is_operand v), Number)
-      ∷ (is_long array, Limit)
-      ∷ (not (is_some (array_place d array)), Name) ∷ [])
+    ∷ (not (is_operand i) || not (is_operand v), Number)
+    ∷ (is_long array, Limit)
+    ∷ (not (is_some (array_place d array)), Name) ∷ [])
     (array_number d array, operand i, operand v)
 
 -- `pick rD K`
@@ -186,8 +185,8 @@ abbrev pub pick_line : Option (Word × Word) → Result Statement LangFaultKind
 pick_line None = Err Form
 pick_line (Some (dst, count)) =
     says ((not (is_register dst), Form)
-      ∷ (not (is_value count), Number)
-      ∷ (nat_lt (value count) 1 || nat_lt 8 (value count), Limit) ∷ [])
+    ∷ (not (is_value count), Number)
+    ∷ (nat_lt (value count) 1 || nat_lt 8 (value count), Limit) ∷ [])
     (Plain (instr.Pick (register dst) (value count)))
 
 -- `jump LABEL`

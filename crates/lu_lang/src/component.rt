@@ -1,6 +1,7 @@
 //! Components.
 
-ghost use Rattle.std.specs.Prelude.{◌≡◌};
+ghost use Rattle.std.specs.Prelude.{◌≡◌, slice_get};
+ghost use Rattle.std.specs.Option.{option_copied};
 ghost use Rattle.lu_lang.specs.Component.{IsComponent};
 
 use crate::instr::Instr;
@@ -145,5 +146,12 @@ impl Component {
         ensures sound { IsComponent self.now }
     {
         &self.operations
+    }
+
+    /// Operation number `number`, from 0, where there is one.
+    pub fn operation(&self, number: u8) -> Option<&Op>
+        ensures { option_copied result ≡ slice_get self.now.operations number }
+    {
+        self.operations.get(usize::from(number))
     }
 }

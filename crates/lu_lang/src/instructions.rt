@@ -142,9 +142,11 @@ fn cas_line(draft: &Draft, words: &[&[u8]]) -> Result<Statement, LangFaultKind>
     if !has_name_form(array) {
         return Err(LangFaultKind::Form);
     }
-    let (Some(index), Some(expected), Some(desired)) =
-        (operand_in(index), operand_in(expected), operand_in(desired))
-    else {
+    let (Some(index), Some(expected), Some(desired)) = (
+        operand_in(index),
+        operand_in(expected),
+        operand_in(desired),
+    ) else {
         return Err(LangFaultKind::Number);
     };
     if is_long(array) {

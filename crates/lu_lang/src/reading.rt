@@ -479,12 +479,7 @@ fn by_state(
     }
 }
 
-fn by_words(
-    alloc: Global,
-    line: usize,
-    draft: Draft,
-    words: &[&[u8]],
-) -> Result<Draft, LangFault>
+fn by_words(alloc: Global, line: usize, draft: Draft, words: &[&[u8]]) -> Result<Draft, LangFault>
     ensures { Gives result (on_line line (spec.by_words draft (texts words.now))) }
 {
     match words {

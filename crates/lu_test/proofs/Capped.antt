@@ -1,5 +1,5 @@
 -- A number that is cut at 2^32 is as good as itself, where only those up to 7 count.
-use Rattle.std.proofs.Common.{◌≡◌, ℕ, ◌^◌, ◌≤◌, ◌<◌, Bool, true, false, cond, inl, inr, Option, Some, None, arith, refl}
+use Rattle.std.proofs.Common.{◌≡◌, ℕ, ◌^◌, Bool, true, false, cond, inl, inr, Option, Some, None, arith, refl}
 use Rattle.std.specs.Prelude.{min, nat_le, ◌&&◌}
 use Rattle.std.specs.Option.{option_map}
 use Rattle.std.proofs.lemmas.Bool.{cases_lt, lt-leb}

@@ -3,3 +3,5 @@ pub mod Capped
 pub mod Loop
 pub mod Words
 pub mod RoundTrip
+pub mod Parts
+pub mod Threads

@@ -1,20 +1,20 @@
 -- Schedules: what is read is spelled so, and what is spelled so is read.
-use Rattle.std.proofs.Common.{◌≡◌, ℕ, zero, suc, ◌+◌, ◌-◌, ◌^◌, ◌<◌, ◌≤◌, ◌⊎◌, Bool, true, false, cond, List, [], ◌∷◌, ◌++◌, length, get_or, take, drop, All, Option, Some, None, Result, Ok, Err, refl, sym, ap, subst, ◌∙◌, append_assoc, arith, inl, inr}
+use Rattle.std.proofs.Common.{◌≡◌, ℕ, zero, suc, ◌+◌, ◌<◌, ◌≤◌, Bool, true, false, cond, List, [], ◌∷◌, ◌++◌, length, get_or, take, drop, All, Option, Some, None, Result, Ok, Err, refl, sym, ap, subst, ◌∙◌, append_assoc, arith}
 use Rattle.std.specs.Prelude.{IfOk, map, nat_lt, ◌==◌, ◌&&◌, not, codes}
-use Rattle.std.specs.List.{flat_map, join_with_byte, list_all, position, position_or_len, prefix_len, slice_split, AllByRecursion}
+use Rattle.std.specs.List.{flat_map, join_with_byte, list_all, position, prefix_len, slice_split, AllByRecursion}
 use Rattle.std.specs.Str.{bytes_eq}
-use Rattle.std.proofs.lemmas.Bool.{eqb-true, eq-eqb, ne_eqb, lt-ltb, ltb-true, ltb-false, cases_lt}
+use Rattle.std.proofs.lemmas.Bool.{eqb-true, eq-eqb, lt-ltb, ltb-true}
 use Rattle.std.proofs.Math.ListN.{drop_of_length-le}
 use Rattle.std.proofs.lemmas.List.{append-nil, length-append, take_at}
 use Rattle.std.proofs.lemmas.List.Elements.{All-from_recursion}
 use Rattle.std.proofs.lemmas.List.Splits.{slice_split_at, slice_split_none, join_with_byte-slice_split}
 use Rattle.lu_test.specs.declared.schedule.Move.{Move}
 use Rattle.lu_test.specs.declared.schedule_fault.ScheduleFault.{ScheduleFault}
-use Rattle.lu_test.specs.declared.schedule_fault.ScheduleFault.TheVariants.{Form, Number, Limit, Memory}
+use Rattle.lu_test.specs.declared.schedule_fault.ScheduleFault.TheVariants.{Form, Limit}
 use Rattle.lu_test.specs.ScheduleText.{◌>>=◌, Gives, has_form, line_to, one_line, move_of, move_text, moves_by, moves_in, moves_of, schedule_of, schedule_text}
 use Rattle.lu_text.proofs.NumberText.{bytes_same}
 use Rattle.lu_test.specs.Schedule.{IsMove, AreMoves}
-use Rattle.lu_test.proofs.Words.{IsAt, is_at, move_again, move_takes, lacks, some_byte}
+use Rattle.lu_test.proofs.Words.{is_at, move_again, move_takes, lacks, some_byte}
 
 -- ---- lists of moves
 

@@ -2,3 +2,4 @@ pub mod Schedule
 pub mod Matrix
 pub mod Codes
 pub mod ScheduleText
+pub mod MatrixText

@@ -11,13 +11,17 @@ calls_of matrix t = unwrap_or (slice_get matrix t) []
 abbrev pub call_count : List (List Call) → ℕ
 call_count matrix = sum_by length matrix
 
--- the limits hold
-pub record IsMatrix (matrix : List (List Call)) : Type 0 where
-  pub some : 1 ≤ length matrix
+-- the limits hold, but for that of one thread
+pub record IsDraft (matrix : List (List Call)) : Type 0 where
   pub threads : length matrix ≤ 8
   pub each : All (λ calls. length calls ≤ 8) matrix
   pub calls : call_count matrix ≤ 16
   pub arguments : All (λ calls. All (λ call. length call.args ≤ 4) calls) matrix
+
+-- the limits hold: 1 to 8 threads, at most 8 calls of each and 16 in all, at most 4 arguments of each
+pub record IsMatrix (matrix : List (List Call)) : Type 0 where
+  pub some : 1 ≤ length matrix
+  pub limits : IsDraft matrix
 
 -- the component has the call's operation, with as many arguments
 abbrev pub IsCallOf : Declarations → Call → Type 0

@@ -1,7 +1,7 @@
 //! Matrices.
 
-ghost use Rattle.std.specs.Prelude.{◌≡◌, ◌<◌, ◌≤◌, ◌↔◌, IsTrue, length, slice_get, Some};
-ghost use Rattle.lu_test.specs.Matrix.{IsMatrix, IsOf, calls_of};
+ghost use Rattle.std.specs.Prelude.{◌≡◌, ◌<◌, ◌≤◌, ◌↔◌, IsTrue, length, slice_get, All, Some};
+ghost use Rattle.lu_test.specs.Matrix.{IsMatrix, IsCallOf, IsOf, calls_of};
 
 use lu_lang::Component;
 use std::marker::Model;
@@ -52,6 +52,17 @@ pub struct Call {
     pub args: Arguments,
 }
 
+impl Call {
+    fn is_of(&self, component: &Component) -> bool
+        ensures { IsTrue result ↔ IsCallOf component.now self.now }
+    {
+        match component.operation(self.op) {
+            None => false,
+            Some(op) => self.args.as_slice().len() == usize::from(op.args),
+        }
+    }
+}
+
 /// The calls of one thread, in order.
 #[derive(Debug, Drop)]
 pub struct Calls {
@@ -80,6 +91,12 @@ impl Calls {
         ensures { result.now ≡ self.now }
     {
         &self.calls
+    }
+
+    fn are_of(&self, component: &Component) -> bool
+        ensures { IsTrue result ↔ All (IsCallOf component.now) self.now }
+    {
+        self.calls.iter().all(|call| call.is_of(component))
     }
 }
 
@@ -135,5 +152,13 @@ impl Matrix {
         ensures { slice_get (calls_of self.now t) k ≡ Some result.now }
     {
         &self.threads[usize::from(t)].as_slice()[usize::from(k)]
+    }
+
+    /// Whether this is a matrix of the component: it has the operation of each call, with as many
+    /// arguments.
+    pub fn of(&self, component: &Component) -> bool
+        ensures { IsTrue result ↔ IsOf self.now component.now }
+    {
+        self.threads.iter().all(|calls| calls.are_of(component))
     }
 }

@@ -1,5 +1,5 @@
 -- So many words and no more, and words in memory.
-use Rattle.std.proofs.Common.{◌≡◌, ℕ, List, [], ◌∷◌, length, get_or, Option, Some, None, refl, arith}
+use Rattle.std.proofs.Common.{◌≡◌, List, [], ◌∷◌, length, get_or, Some, None, refl, arith}
 use denote.Ref.{Bor}
 use Rattle.lu_text.specs.Lines.{texts}
 use Rattle.lu_text.specs.Words.{Word, one, two, three, four, five}

@@ -3,3 +3,4 @@ pub mod Capped
 pub mod Arity
 pub mod Reading
 pub mod NumberText
+pub mod Tests

@@ -11,7 +11,7 @@ mod number;
 mod words;
 
 pub use fault::Fault;
-pub use line::{are_allowed, lines_of, words_of};
+pub use line::{are_allowed, before_comment, lines_of, parts_of, words_of};
 pub use name::{MOST_NAME, Name, has_name_form, is_long};
 pub use number::{number_of, value_in};
 pub use words::{five, four, one, place_of, three, two};

@@ -22,7 +22,8 @@ pub fn are_allowed(line: &[u8]) -> bool
         .all(|byte| matches!(*byte, 32..=126 | b'\t' | b'\r'))
 }
 
-fn before_comment(line: &[u8]) -> &[u8]
+/// The line up to a comment, which `#` begins.
+pub fn before_comment(line: &[u8]) -> &[u8]
     ensures { result.now ≡ spec.before_comment line.now }
 {
     match place_of(b'#', line) {
@@ -50,10 +51,11 @@ fn without_last_lf(text: &[u8]) -> &[u8]
     }
 }
 
-fn parts_of(alloc: Global, text: &[u8]) -> Result<Vec<&[u8]>, AllocError>
-    ensures { IfOk result (λ parts. texts parts.items ≡ slice_split (λ b. b == 10) text.now) }
+/// What a separator parts a text into.
+pub fn parts_of(alloc: Global, separator: u8, text: &[u8]) -> Result<Vec<&[u8]>, AllocError>
+    ensures { IfOk result (λ parts. texts parts.items ≡ slice_split (λ b. b == separator) text.now) }
 {
-    text.split(|byte| *byte == b'\n').collect(alloc)
+    text.split(|byte| *byte == separator).collect(alloc)
 }
 
 /// The lines of a text, without their LFs. A last LF begins no further line, and the empty text has
@@ -64,5 +66,5 @@ pub fn lines_of(alloc: Global, text: &[u8]) -> Result<Vec<&[u8]>, AllocError>
     if text.is_empty() {
         return Ok(Vec::new(alloc));
     }
-    parts_of(alloc, without_last_lf(text))
+    parts_of(alloc, b'\n', without_last_lf(text))
 }

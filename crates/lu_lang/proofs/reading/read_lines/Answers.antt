@@ -1,7 +1,5 @@
-use Rattle.std.proofs.Common.{rules, refl, ◌≡◌, ◌+◌, ◌∙◌, drop, length, arith}
+use Rattle.std.proofs.Common.{refl, arith}
 use Rattle.std.proofs.lemmas.Result.{err_from_is_err_and}
-use Rattle.lu_text.specs.Lines.{texts}
-use Rattle.lu_text.specs.Faults.{lines_after}
 use Rattle.lu_text.proofs.Reading.{goes_on, ends, is_done, line_ok, text_more, texts_end}
 use Rattle.lu_lang.specs.Grammar.{component_grammar}
 use Rattle.lu_lang.proofs.Drafts.{line_keeps, nothing_draft}

@@ -1,5 +1,4 @@
-use Rattle.std.proofs.Common.{rules}
-use Rattle.lu_lang.proofs.Placing.{label_is_name, has_room}
+use Rattle.lu_lang.proofs.Placing.{label_is_name}
 use Rattle.lu_lang.proofs.reading.with_statement.Goals as goal
 
 pub new-requires : goal.new-requires

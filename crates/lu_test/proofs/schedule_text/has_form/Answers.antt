@@ -1,6 +1,4 @@
-use Rattle.std.proofs.Common.{◌∙◌, ap, sym, arith}
-use Rattle.std.specs.Prelude.{codes}
-use Rattle.std.specs.Str.{bytes_eq}
+use Rattle.std.proofs.Common.{◌∙◌, sym, arith}
 use Rattle.lu_test.proofs.Form.{form_at, rest_at}
 use Rattle.lu_test.proofs.schedule_text.has_form.Goals as goal
 

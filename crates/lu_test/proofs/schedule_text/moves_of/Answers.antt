@@ -1,11 +1,11 @@
-use Rattle.std.proofs.Common.{◌≡◌, ℕ, ◌+◌, ◌<◌, ◌≤◌, ◌++◌, ◌∷◌, ◌∙◌, List, [], add-one, drop, length, get_or, sym, ap, arith}
+use Rattle.std.proofs.Common.{◌<◌, ◌≤◌, ◌++◌, ◌∷◌, ◌∙◌, [], length, sym, arith}
 use Rattle.std.proofs.lemmas.List.{length-append}
 use Rattle.std.proofs.lemmas.Result.{err_from_is_err_and}
 use Rattle.lu_text.specs.Lines.{texts}
-use Rattle.lu_test.specs.ScheduleText.{move_of, moves_of}
+use Rattle.lu_test.specs.ScheduleText.{moves_of}
 use Rattle.lu_text.proofs.Reading.{text_more, texts_end}
 use Rattle.lu_test.proofs.RoundTrip.{made}
-use Rattle.lu_test.proofs.Loop.{with_front, goes_on, ends, is_full, is_done, told}
+use Rattle.lu_test.proofs.Loop.{goes_on, ends, is_full, is_done, told}
 use Rattle.lu_test.proofs.schedule_text.moves_of.Goals as goal
 
 pub returns-in_err-next : goal.returns-in_err-next

@@ -1,4 +1,4 @@
-use Rattle.std.proofs.Common.{◌≡◌, ◌^◌, ℕ, ◌+◌, ◌*◌, ◌-◌, ◌∷◌, ◌∙◌, true, ap, cond, drop, get_or, sym, arith}
+use Rattle.std.proofs.Common.{◌≡◌, ◌^◌, ◌+◌, ◌*◌, ◌-◌, ◌∷◌, ◌∙◌, true, drop, get_or, sym, arith}
 use Rattle.std.specs.Prelude.{min}
 use Rattle.std.specs.Str.{all_ascii_digits}
 use Rattle.std.specs.Char.{is_ascii_digit}

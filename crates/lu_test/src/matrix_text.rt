@@ -1,0 +1,382 @@
+//! Reading and writing of matrices.
+
+ghost use Rattle.std.specs.Prelude.{◌≡◌, ◌==◌, ◌||◌, ◌+◌, ◌∷◌, ◌^◌, ◌<◌, ◌≤◌, ℕ, [], IfOk, Ok, Some, IsErrOf, length, map, drop, nat_le, nat_lt, is_some};
+ghost use Rattle.std.specs.Option.{option_map, unwrap_or};
+ghost use Rattle.std.specs.List.{position, list_all, slice_split};
+ghost use Rattle.std.specs.Str.{bytes_eq};
+ghost use Rattle.lu_text.specs.Lines.{texts, words_of};
+ghost use Rattle.lu_text.specs.Numbers.{value_in};
+ghost use Rattle.lu_text.specs.Faults.{Gives, IsFirstFault, on_line, value_of, lines_after};
+ghost use Rattle.lu_text.specs.declared.fault.Fault.TheVariants.{At};
+ghost use Rattle.lu_test.specs.declared.matrix_fault.MatrixFaultKind.{MatrixFaultKind as Kind};
+ghost use Rattle.lu_test.specs.Matrix.{IsMatrix, IsOf, IsDraft, call_count};
+ghost use Rattle.lu_test.specs.MatrixText as spec;
+ghost use Rattle.lu_test.specs.MatrixText.{matrix_grammar};
+
+use crate::matrix::{
+    Arguments, Call, Calls, MOST_CALLS, MOST_CALLS_OF_THREAD, MOST_THREADS, Matrix,
+};
+use crate::matrix_fault::{MatrixFault, MatrixFaultKind};
+use lu_lang::{Component, Op};
+use lu_text::{Fault, are_allowed, before_comment, lines_of, parts_of, value_in, words_of};
+use std::alloc::{AllocError, Global};
+use std::marker::Model;
+
+/// The words of one part of a line.
+#[derive(Debug, Drop)]
+struct Part<'a> {
+    words: Vec<&'a [u8]>,
+}
+
+impl<'a> Model for Part<'a> {
+    ghost use Rattle.std.specs.Prelude.{ℕ, List};
+    ghost use Rattle.lu_text.specs.Lines.{texts, words_of};
+
+    ghost Value = { List (List ℕ) };
+
+    ghost view = { λ p. texts p.words.items };
+}
+
+impl<'a> Part<'a> {
+    /// The part's words.
+    fn new(alloc: Global, text: &'a [u8]) -> Result<Part<'a>, AllocError>
+        ensures { IfOk result (λ part. part ≡ words_of text.entry.now) }
+    {
+        Ok(Part {
+            words: words_of(alloc, text)?,
+        })
+    }
+}
+
+impl Part<'_> {
+    /// The first word, or nothing where there is none.
+    fn name(&self) -> &[u8]
+        ensures { result.now ≡ spec.name_in self.now }
+    {
+        match self.words.as_slice() {
+            [] => b"",
+            [name, ..] => name,
+        }
+    }
+
+    /// The words behind the first.
+    #[tactic(auto, using(crate::proofs::Parts::rest_texts))]
+    fn arguments(&self) -> &[&[u8]]
+        ensures { texts result.now ≡ drop 1 self.now }
+    {
+        let first = self.words.len().min(1);
+        &self.words[first..]
+    }
+
+    fn has_name(&self) -> bool
+        ensures { result ≡ spec.has_name self.now }
+    {
+        !self.words.is_empty()
+    }
+}
+
+fn place_among(operations: &[Op], name: &[u8]) -> Option<usize>
+    ensures { result ≡ position (λ o. bytes_eq o.name name.now) operations.now }
+{
+    operations.iter().position(|op| op.name.is(name))
+}
+
+fn operation_place(component: &Component, part: &Part<'_>) -> Option<u8>
+    ensures { result ≡ spec.operation_place component.now part.now }
+{
+    Some(place_among(component.operations(), part.name())? as u8)
+}
+
+fn has_operation(component: &Component, part: &Part<'_>) -> bool
+    ensures { result ≡ spec.has_operation component.now part.now }
+{
+    operation_place(component, part).is_some()
+}
+
+/// Whether there are as many arguments as the operation has.
+fn has_arguments(component: &Component, part: &Part<'_>) -> bool
+    ensures { result ≡ spec.has_arguments component.now part.now }
+{
+    let place = operation_place(component, part).unwrap_or(0);
+    let wanted = match component.operation(place) {
+        None => 0,
+        Some(op) => op.args,
+    };
+    usize::from(wanted) == part.arguments().len()
+}
+
+fn are_values(words: &[&[u8]]) -> bool
+    ensures { result ≡ list_all (λ word. is_some (value_in word.now)) words.now }
+{
+    words.iter().all(|word| value_in(word).is_some())
+}
+
+fn has_values(part: &Part<'_>) -> bool
+    ensures { result ≡ spec.has_values part.now }
+{
+    are_values(part.arguments())
+}
+
+fn all_have_names(parts: &[Part<'_>]) -> bool
+    ensures { result ≡ list_all spec.has_name parts.now }
+{
+    parts.iter().all(|part| part.has_name())
+}
+
+fn all_have_operations(component: &Component, parts: &[Part<'_>]) -> bool
+    ensures { result ≡ list_all (spec.has_operation component.now) parts.now }
+{
+    parts.iter().all(|part| has_operation(component, part))
+}
+
+fn all_have_arguments(component: &Component, parts: &[Part<'_>]) -> bool
+    ensures { result ≡ list_all (spec.has_arguments component.now) parts.now }
+{
+    parts.iter().all(|part| has_arguments(component, part))
+}
+
+fn all_have_values(parts: &[Part<'_>]) -> bool
+    ensures { result ≡ list_all spec.has_values parts.now }
+{
+    parts.iter().all(has_values)
+}
+
+fn values_of(alloc: Global, words: &[&[u8]]) -> Result<Vec<u32>, AllocError>
+    ensures { IfOk result (λ numbers. numbers.items ≡ map (λ word. unwrap_or (value_in word.now) 0) words.now) }
+{
+    words
+        .iter()
+        .map(|word| value_in(word).unwrap_or(0))
+        .collect(alloc)
+}
+
+fn arguments_of(alloc: Global, part: &Part<'_>) -> Result<Arguments, AllocError>
+    ensures { IfOk result (λ args. args ≡ map (λ word. unwrap_or (value_in word) 0) (drop 1 part.now)) }
+{
+    let numbers = values_of(alloc, part.arguments())?;
+    Ok(Arguments::new(numbers))
+}
+
+fn call_of(alloc: Global, component: &Component, part: &Part<'_>) -> Result<Call, AllocError>
+    ensures { IfOk result (λ call. call ≡ spec.call_of component.now part.now) }
+{
+    Ok(Call {
+        op: operation_place(component, part).unwrap_or(0),
+        args: arguments_of(alloc, part)?,
+    })
+}
+
+fn calls_of(
+    alloc: Global,
+    component: &Component,
+    parts: &[Part<'_>],
+) -> Result<Vec<Call>, AllocError>
+    ensures { IfOk result (λ calls. calls.items ≡ map (spec.call_of component.now) parts.now) }
+{
+    let mut calls = Vec::with_capacity(alloc, parts.len())?;
+    for part in parts {
+        calls.push(call_of(alloc, component, part)?)?;
+    }
+    Ok(calls)
+}
+
+/// The threads of a matrix of which not all lines are read.
+#[derive(Debug, Drop)]
+struct Draft {
+    threads: Vec<Calls>,
+}
+
+impl Model for Draft {
+    ghost use Rattle.std.specs.Prelude.{List};
+    ghost use Rattle.lu_test.specs.declared.matrix.Call.{Call as ACall};
+
+    ghost Value = { List (List ACall) };
+
+    ghost view = { λ d. d.threads.items };
+}
+
+fn call_count(threads: &[Calls]) -> usize
+    requires { call_count threads.now < 2 ^ 64 }
+    ensures { result ≡ call_count threads.now }
+{
+    threads.iter().map(|calls| calls.as_slice().len()).sum()
+}
+
+/// Whether there is no room for a thread of so many calls.
+fn is_full(draft: &Draft, calls: usize) -> bool
+    requires { IsDraft draft.now }
+    ensures { result ≡ (nat_le 8 (length draft.now) || (nat_lt 8 calls || nat_lt 16 (call_count draft.now + calls))) }
+{
+    draft.threads.len() >= MOST_THREADS
+        || calls > MOST_CALLS_OF_THREAD
+        || call_count(&draft.threads) + calls > MOST_CALLS
+}
+
+/// One more thread with these calls, or what is wrong with them.
+fn with_calls(
+    alloc: Global,
+    line: usize,
+    component: &Component,
+    draft: Draft,
+    calls: &[Part<'_>],
+) -> Result<Draft, MatrixFault>
+    requires { IsDraft draft }
+    ensures { Gives result (on_line line (spec.with_calls component.now draft calls.now)) }
+{
+    if !all_have_names(calls) {
+        return Err(Fault::At(MatrixFaultKind::Form, line));
+    }
+    if !all_have_operations(component, calls) {
+        return Err(Fault::At(MatrixFaultKind::UnknownOp, line));
+    }
+    if !all_have_arguments(component, calls) {
+        return Err(Fault::At(MatrixFaultKind::Arguments, line));
+    }
+    if !all_have_values(calls) {
+        return Err(Fault::At(MatrixFaultKind::Number, line));
+    }
+    if is_full(&draft, calls.len()) {
+        return Err(Fault::At(MatrixFaultKind::Limit, line));
+    }
+    let mut draft = draft;
+    let calls = calls_of(alloc, component, calls)?;
+    draft.threads.push(Calls::new(calls))?;
+    Ok(draft)
+}
+
+/// The parts behind `thread`: none, or the words of the first and the other parts of the line.
+fn call_parts<'a>(
+    alloc: Global,
+    words: &[&'a [u8]],
+    others: &[&'a [u8]],
+) -> Result<Vec<Part<'a>>, AllocError>
+    ensures { IfOk result (λ calls. calls.items ≡ spec.calls_after (texts words.now) (map words_of (texts others.now))) }
+{
+    let mut calls = Vec::new(alloc);
+    if words.is_empty() && others.is_empty() {
+        return Ok(calls);
+    }
+    calls.push(Part {
+        words: Vec::from_slice(alloc, words)?,
+    })?;
+    for other in others {
+        calls.push(Part::new(alloc, other)?)?;
+    }
+    Ok(calls)
+}
+
+/// A line whose first part has these words, and its other parts.
+fn by_words(
+    alloc: Global,
+    line: usize,
+    component: &Component,
+    draft: Draft,
+    words: &[&[u8]],
+    others: &[&[u8]],
+) -> Result<Draft, MatrixFault>
+    requires { IsDraft draft }
+    ensures { Gives result (on_line line (spec.by_parts component.now draft (texts words.now ∷ map words_of (texts others.now)))) }
+{
+    match words {
+        [] => {
+            if others.is_empty() {
+                Ok(draft)
+            } else {
+                Err(Fault::At(MatrixFaultKind::Form, line))
+            }
+        }
+        [word, rest @ ..] => {
+            if *word != b"thread".as_slice() {
+                return Err(Fault::At(MatrixFaultKind::Form, line));
+            }
+            let calls = call_parts(alloc, rest, others)?;
+            with_calls(alloc, line, component, draft, &calls)
+        }
+    }
+}
+
+/// A line by its parts, between which stands `;`.
+fn by_parts(
+    alloc: Global,
+    line: usize,
+    component: &Component,
+    draft: Draft,
+    parts: &[&[u8]],
+) -> Result<Draft, MatrixFault>
+    requires { IsDraft draft }
+    ensures { Gives result (on_line line (spec.by_parts component.now draft (map words_of (texts parts.now)))) }
+{
+    match parts {
+        [] => Ok(draft),
+        [first, others @ ..] => {
+            let words = words_of(alloc, first)?;
+            by_words(alloc, line, component, draft, &words, others)
+        }
+    }
+}
+
+#[tactic(auto, unfolding(crate::specs::MatrixText::line_of))]
+fn read_line(
+    alloc: Global,
+    line: usize,
+    component: &Component,
+    draft: Draft,
+    text: &[u8],
+) -> Result<Draft, MatrixFault>
+    requires { IsDraft draft }
+    ensures { Gives result (on_line line (spec.line_of component.now draft text.now)) }
+{
+    if !are_allowed(text) {
+        return Err(Fault::At(MatrixFaultKind::Byte, line));
+    }
+    let parts = parts_of(alloc, b';', before_comment(text))?;
+    by_parts(alloc, line, component, draft, &parts)
+}
+
+/// The matrix at the end of the text.
+fn finished(line: usize, draft: Draft) -> Result<Matrix, MatrixFault>
+    requires { IsDraft draft }
+    ensures { Gives result (on_line line (spec.finished draft)) }
+{
+    if draft.threads.is_empty() {
+        return Err(Fault::At(MatrixFaultKind::Limit, line));
+    }
+    Ok(Matrix::new(draft.threads))
+}
+
+fn read_lines(alloc: Global, component: &Component, lines: &[&[u8]]) -> Result<Matrix, MatrixFault>
+    ensures exact { Gives result (lines_after (matrix_grammar component.now) 1 [] (texts lines.now)) }
+    ensures of { IfOk result (λ matrix. IsOf matrix component.now) }
+{
+    let _operations = component.operations();
+    let mut draft = Draft {
+        threads: Vec::new(alloc),
+    };
+    for (before, text) in lines.iter().enumerate() {
+        draft = read_line(alloc, before + 1, component, draft, text)?;
+    }
+    finished(lines.len() + 1, draft)
+}
+
+fn matrix_in(alloc: Global, component: &Component, text: &[u8]) -> Result<Matrix, MatrixFault>
+    ensures exact { Gives result (value_of (matrix_grammar component.now) text.now) }
+    ensures of { IfOk result (λ matrix. IsOf matrix component.now) }
+{
+    let lines = lines_of(alloc, text)?;
+    read_lines(alloc, component, &lines)
+}
+
+/// Reads a matrix of a component from its text.
+///
+/// A fault is the first one of the text: by line, and on a line by the order of [`MatrixFaultKind`].
+/// One at the end of the text carries the number of lines plus one.
+pub fn read_matrix(alloc: Global, component: &Component, text: &[u8]) -> Result<Matrix, MatrixFault>
+    // Which matrix, or which fault.
+    ensures exact { Gives result (value_of (matrix_grammar component.now) text.now) }
+    // No line before the fault's has one.
+    ensures first { (kind : Kind) (n : ℕ) → IsErrOf result (At kind n) → IsFirstFault (matrix_grammar component.now) text.now kind n }
+    // Each call's operation is there, with its number of arguments.
+    ensures of { IfOk result (λ matrix. IsOf matrix component.now) }
+{
+    matrix_in(alloc, component, text)
+}
