@@ -5,3 +5,4 @@ pub mod Words
 pub mod RoundTrip
 pub mod Parts
 pub mod Threads
+pub mod FewerCalls

@@ -1,5 +1,5 @@
 -- Matrices: for each thread the calls that it makes.
-use Rattle.std.specs.Prelude.{◌≡◌, ℕ, ◌≤◌, List, [], length, All, slice_get, sum_by, unwrap_or, IsSomeAnd}
+use Rattle.std.specs.Prelude.{◌≡◌, ℕ, ◌≤◌, List, [], ◌∷◌, length, take, remove, slice_set, All, slice_get, sum_by, unwrap_or, IsSomeAnd}
 use Rattle.lu_lang.specs.Component.{Declarations}
 use Rattle.lu_test.specs.declared.matrix.Call.{Call}
 
@@ -30,3 +30,15 @@ IsCallOf c call = IsSomeAnd (slice_get c.operations call.op) (λ op. length call
 -- the component has the operation of each call, with as many arguments
 abbrev pub IsOf : List (List Call) → Declarations → Type 0
 IsOf matrix c = All (λ calls. All (IsCallOf c) calls) matrix
+
+-- ---- fewer calls
+
+-- the matrix without call k of thread t
+abbrev pub without : List (List Call) → ℕ → ℕ → List (List Call)
+without matrix t k = slice_set matrix t (remove (calls_of matrix t) k)
+
+-- each thread's first calls, as many as its length says
+abbrev pub cut : List (List Call) → List ℕ → List (List Call)
+cut [] lengths = []
+cut (calls ∷ matrix) [] = []
+cut (calls ∷ matrix) (n ∷ lengths) = take n calls ∷ cut matrix lengths

@@ -1,6 +1,7 @@
 //! Tests of a component: matrices of calls, and schedules of moves, with their texts.
 #![tactic(auto)]
 
+mod edits;
 mod matrix;
 mod matrix_fault;
 mod matrix_text;
@@ -14,3 +15,4 @@ pub use matrix_text::read_matrix;
 pub use schedule::{MOST_MOVES, Move, Schedule};
 pub use schedule_fault::ScheduleFault;
 pub use schedule_text::{read_schedule, write_schedule};
+pub use edits::remove;

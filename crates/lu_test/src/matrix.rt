@@ -1,6 +1,6 @@
 //! Matrices.
 
-ghost use Rattle.std.specs.Prelude.{◌≡◌, ◌<◌, ◌≤◌, ◌↔◌, IsTrue, length, slice_get, All, Some};
+ghost use Rattle.std.specs.Prelude.{◌≡◌, ◌<◌, ◌≤◌, ◌↔◌, IsTrue, length, slice_get, remove, All, Some};
 ghost use Rattle.lu_test.specs.Matrix.{IsMatrix, IsCallOf, IsOf, calls_of};
 
 use lu_lang::Component;
@@ -93,6 +93,14 @@ impl Calls {
         &self.calls
     }
 
+    /// Takes call number `k` away.
+    pub fn remove(&mut self, k: usize)
+        requires { k < length self.old }
+        ensures { self.new ≡ remove self.old k }
+    {
+        self.calls.remove(k);
+    }
+
     fn are_of(&self, component: &Component) -> bool
         ensures { IsTrue result ↔ All (IsCallOf component.now) self.now }
     {
@@ -134,6 +142,14 @@ impl Matrix {
         ensures sound { IsMatrix self.now }
     {
         self.threads.len() as u8
+    }
+
+    /// The calls of each thread.
+    pub fn as_slice(&self) -> &[Calls]
+        ensures calls { result.now ≡ self.now }
+        ensures sound { IsMatrix self.now }
+    {
+        &self.threads
     }
 
     /// The number of calls of thread `t`: 0 where there is no such thread.
