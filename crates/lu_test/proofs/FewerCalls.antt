@@ -13,9 +13,9 @@ use Rattle.lu_test.specs.Matrix.{IsMatrix, IsDraft, calls_of, call_count, withou
 -- there is a thread where there is a call
 pub is_thread : (m : List (List Call)) (t k : ℕ) → k < length (calls_of m t) → t < length m
 is_thread m t k h = elim (slice_get_cases m t).1 [
-    | inl (calls, within, is, same) ↦ within
-    | inr (past, none) ↦ absurd (let e : calls_of m t ≡ [] = ap (λ (o : Option (List Call)). unwrap_or o []) none in let l : length (calls_of m t) ≡ 0 = ap length e in omega arith)
-  ]
+  | inl (calls, within, is, same) ↦ within
+  | inr (past, none) ↦ absurd (let e : calls_of m t ≡ [] = ap (λ (o : Option (List Call)). unwrap_or o []) none in let l : length (calls_of m t) ≡ 0 = ap length e in omega arith)
+]
 
 calls_at : (m : List (List Call)) (t : ℕ) (d : List Call) → t < length m → calls_of m t ≡ get_or m t d
 calls_at m t d h = ap (λ (o : Option (List Call)). unwrap_or o []) (slice_get-get_or m t d h)
@@ -48,7 +48,7 @@ keeps_limits m t k h within =
         each = All-set (λ calls. length calls ≤ 8) m t new (omega (arith, few, shorter, ap length old)) h.limits.each;
         calls = omega (arith, h.limits.calls, count, shorter, ap length old);
         arguments = All-set (λ calls. All (λ call. length call.args ≤ 4) calls) m t new
-          (All-remove (λ call. length call.args ≤ 4) (calls_of m t) k (at_thread (λ call. length call.args ≤ 4) m t there h.limits.arguments))
-          h.limits.arguments;
+            (All-remove (λ call. length call.args ≤ 4) (calls_of m t) k (at_thread (λ call. length call.args ≤ 4) m t there h.limits.arguments))
+            h.limits.arguments;
       };
     }

@@ -6,3 +6,4 @@ pub mod RoundTrip
 pub mod Parts
 pub mod Threads
 pub mod FewerCalls
+pub mod Cutting

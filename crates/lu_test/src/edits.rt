@@ -46,3 +46,15 @@ pub fn remove(alloc: Global, matrix: &Matrix, t: u8, k: u8) -> Result<Matrix, Al
     threads[usize::from(t)].remove(usize::from(k));
     Ok(Matrix::new(threads))
 }
+
+/// The matrix of each thread's first calls: of thread `t` as many as `lengths[t]` says.
+pub fn cut_to(alloc: Global, matrix: &Matrix, lengths: &[u8]) -> Result<Matrix, AllocError>
+    requires { AllZip (λ calls n. n ≤ length calls) matrix.now lengths.now }
+    ensures { IfOk result (λ smaller. smaller ≡ cut matrix.now lengths.now) }
+{
+    let mut threads = Vec::with_capacity(alloc, lengths.len())?;
+    for (t, calls) in matrix.as_slice().iter().enumerate() {
+        threads.push(copy_of(alloc, &calls.as_slice()[..usize::from(lengths[t])])?)?;
+    }
+    Ok(Matrix::new(threads))
+}

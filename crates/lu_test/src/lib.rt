@@ -9,10 +9,10 @@ mod schedule;
 mod schedule_fault;
 mod schedule_text;
 
+pub use edits::{cut_to, remove};
 pub use matrix::{Arguments, Call, Calls, MOST_CALLS, MOST_CALLS_OF_THREAD, MOST_THREADS, Matrix};
 pub use matrix_fault::{MatrixFault, MatrixFaultKind};
 pub use matrix_text::read_matrix;
 pub use schedule::{MOST_MOVES, Move, Schedule};
 pub use schedule_fault::ScheduleFault;
 pub use schedule_text::{read_schedule, write_schedule};
-pub use edits::remove;

@@ -1,0 +1,9 @@
+pub mod Answer
+pub mod Close
+pub mod Core
+pub mod Events
+pub mod Fit
+pub mod Pieces
+pub mod Plays
+pub mod Seats
+pub mod Views

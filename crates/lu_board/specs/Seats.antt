@@ -1,0 +1,44 @@
+-- A board and its seats, as contracts see them.
+use Rattle.std.specs.Prelude.{◌≡◌, ℕ, ◌<◌, Bool, true, if◌then◌else◌, List, [], ◌∷◌, length, ◌↔◌}
+use Rattle.atomic_table.specs.Seated.{TableId}
+use Rattle.lu_board.specs.declared.view.View.{View}
+use Rattle.lu_board.specs.Views.{newcomer, IsOver, merged}
+
+-- a board: which one it is, and how many pieces and workers it has
+pub record BoardModel : Type 0 where
+  pub board : TableId
+  pub pieces : ℕ
+  pub workers : ℕ
+
+-- a seat: its board, and what it knows
+pub record SeatModel : Type 0 where
+  pub board : TableId
+  pub view : View
+
+-- a seat of a board of n pieces that has done nothing yet
+abbrev pub unused_seat : TableId → ℕ → SeatModel
+unused_seat board n = record { board = board; view = newcomer n 1 }
+
+-- a seat of this board
+abbrev pub IsOf : TableId → SeatModel → Type 0
+IsOf board seat = seat.board ≡ board
+
+-- a spent seat that holds no piece
+abbrev pub IsDone : SeatModel → Type 0
+IsDone seat = IsOver seat.view
+
+-- the flag is set exactly where the view has a piece that was given up
+abbrev pub TellsGiven : Bool → View → Type 0
+TellsGiven gave_up v = (gave_up ≡ true) ↔ (0 < length v.given)
+
+-- the plain fields of a seat say the same as its view, whose weight is 1
+pub record FieldsTell (n : ℕ) (spent gave_up : Bool) (v : View) : Type 0 where
+  pub pieces : v.pieces ≡ n
+  pub spent_is : v.spent ≡ (if spent then 1 else 0)
+  pub weight : v.weight ≡ 1
+  pub given : TellsGiven gave_up v
+
+-- the view v, behind all that the seats have
+abbrev pub gathered : List SeatModel → View → View
+gathered [] v = v
+gathered (seat ∷ seats) v = merged seat.view (gathered seats v)

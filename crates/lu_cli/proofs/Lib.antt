@@ -1,0 +1,4 @@
+pub mod Known
+pub mod Lines
+pub mod Orders
+pub mod Sayings

@@ -1,0 +1,5 @@
+pub mod Args
+pub mod Bundle
+pub mod Counted
+pub mod Outcomes
+pub mod Replies

@@ -1,0 +1,28 @@
+-- Texts with their exit statuses.
+use Rattle.std.specs.Prelude.{ℕ, List, [], ◌∷◌, ◌++◌, codes}
+use Rattle.std.specs.Fmt.{decimal}
+
+-- a text and a status
+pub record Answer : Type 0 where
+  pub text : List ℕ
+  pub status : ℕ
+
+-- ---- refusals
+
+abbrev pub refused : List ℕ → Answer
+refused why = record { text = codes "refused " ++ why ++ 10 ∷ []; status = 2 }
+
+abbrev pub refused_on_line : List ℕ → ℕ → Answer
+refused_on_line code n = refused (code ++ codes " line " ++ decimal n)
+
+abbrev pub no_memory : Answer
+no_memory = record { text = codes "refused memory\n"; status = 4 }
+
+abbrev pub no_command : Answer
+no_command = record { text = codes "refused command line\n"; status = 2 }
+
+abbrev pub no_device : Answer
+no_device = record { text = codes "refused device\n"; status = 4 }
+
+abbrev pub infeasible : ℕ → Answer
+infeasible i = record { text = codes "infeasible " ++ decimal i ++ 10 ∷ []; status = 1 }

@@ -1,0 +1,17 @@
+//! The program `lineup`, over any reader and writer: from words and bytes to bytes and an exit status.
+#![tactic(auto)]
+
+mod answer;
+mod args;
+mod bundle;
+mod counted;
+mod input;
+mod order;
+mod output;
+mod program;
+
+pub use counted::Counted;
+pub use program::run;
+
+#[cfg(test)]
+mod tests;

@@ -1,0 +1,125 @@
+//! The whole program over a reader and a writer.
+
+ghost use Rattle.std.specs.Prelude.{◌≡◌, ◌<◌, ◌≤◌, ◌-◌, ◌^◌, ◌⊎◌, Some, None, map, IfOk, IfSome, IsErrOf};
+ghost use Rattle.lu_cli.specs.declared.program.Failure.TheVariants.{Memory};
+ghost use Rattle.lu_cli.specs.Args.{order_of};
+ghost use Rattle.lu_cli.specs.Replies.{Answers, Tells, IsAnswerOf, no_device, no_command};
+ghost use Rattle.std.specs.Io.KnownBytes.{Appends};
+ghost use Rattle.lu_cli.specs.declared.order.Order.{Order as Orders};
+
+use crate::answer::{Answer, answer_to, refused};
+use crate::args::read_order;
+use crate::bundle::parts_in;
+use crate::counted::Counted;
+use crate::input::{InputFault, read_input};
+use crate::order::{ArgsFault, Order};
+use crate::output::write_text;
+use std::alloc::{AllocError, Global};
+use std::convert::AsStr;
+use std::io::{Read, Write};
+use thiserror::Error;
+
+/// Why there is no answer.
+#[derive(Clone, Copy, Debug, PartialEq, Eq, Error)]
+pub enum Failure {
+    #[error("memory")]
+    Memory,
+    #[error("device")]
+    Device,
+}
+
+impl From<AllocError> for Failure {
+    ghost from_gives = { λ _ e. e ≡ Memory };
+
+    fn from(_e: AllocError) -> Failure {
+        Failure::Memory
+    }
+}
+
+fn answer_in<R: Read>(
+    alloc: Global,
+    order: Order,
+    input: &mut Counted<R>,
+) -> Result<Answer, Failure>
+    requires { input.old.failures < 2 ^ 64 - 1 }
+    ensures answer { IfOk result (λ r. IfSome (R.remaining input.old.inner) (λ given. IsAnswerOf order given r)) }
+    ensures device { IsErrOf result Failure.Device → input.old.failures < input.new.failures }
+    ensures unfailed { IsErrOf result Failure.Device ⊎ (input.new.failures ≡ input.old.failures) }
+{
+    match read_input(alloc, input) {
+        Ok(bytes) => {
+            let parts = parts_in(alloc, &bytes)?;
+            Ok(answer_to(alloc, order, &parts)?)
+        }
+        Err(InputFault::TooLong) => Ok(refused(alloc, "B2")?),
+        Err(InputFault::Device) => Err(Failure::Device),
+        Err(InputFault::Memory) => Err(Failure::Memory),
+    }
+}
+
+fn answer_for<S: AsStr, R: Read>(
+    alloc: Global,
+    words: &[S],
+    input: &mut Counted<R>,
+) -> Result<Answer, Failure>
+    requires { input.old.failures < 2 ^ 64 - 1 }
+    ensures answer { IfOk result (λ r. (order : Orders) → order_of (map S.text words.now) ≡ Some order → IfSome (R.remaining input.old.inner) (λ given. IsAnswerOf order given r)) }
+    ensures refused { IfOk result (λ r. order_of (map S.text words.now) ≡ None → r ≡ no_command) }
+    ensures early { order_of (map S.text words.now) ≡ None → input.new ≡ input.old }
+    ensures device { IsErrOf result Failure.Device → input.old.failures < input.new.failures }
+    ensures unfailed { IsErrOf result Failure.Device ⊎ (input.new.failures ≡ input.old.failures) }
+{
+    match read_order(alloc, words) {
+        Ok(order) => answer_in(alloc, order, input),
+        Err(ArgsFault::Refused) => Ok(command_refused(alloc)?),
+        Err(ArgsFault::Memory) => Err(Failure::Memory),
+    }
+}
+
+fn command_refused(alloc: Global) -> Result<Answer, AllocError>
+    ensures { IfOk result (λ r. r ≡ no_command) }
+{
+    refused(alloc, "command line")
+}
+
+/// Runs the program on the words behind its name, and answers its exit status.
+pub fn run<X: AllocGlobal, S: AsStr, R: Read, W: Write>(
+    rt: &X,
+    words: &[S],
+    input: &mut Counted<R>,
+    output: &mut Counted<W>,
+) -> u8
+    requires reads { input.old.failures < 2 ^ 64 - 1 }
+    requires writes { output.old.failures < 2 ^ 64 - 1 }
+    // Where the command line was accepted and no read and no write failed, the answer goes out.
+    ensures answer { (order : Orders) → order_of (map S.text words.now) ≡ Some order → input.new.failures ≡ input.old.failures → output.new.failures ≡ output.old.failures
+        → IfSome (R.remaining input.old.inner) (λ given. Answers (IsAnswerOf order given) (W.contents output.old.inner) (W.contents output.new.inner) result) }
+    // Where it was refused, that is said, and nothing is read.
+    ensures refused { order_of (map S.text words.now) ≡ None → output.new.failures ≡ output.old.failures → Answers (λ answer. answer ≡ no_command) (W.contents output.old.inner) (W.contents output.new.inner) result }
+    // The command line is judged before anything is read.
+    ensures early { order_of (map S.text words.now) ≡ None → input.new ≡ input.old }
+    // A write that failed shows in the status.
+    ensures unwritten { output.old.failures < output.new.failures → result ≡ 4 }
+    // A device is blamed only where a read failed.
+    ensures unread { output.new.failures ≡ output.old.failures → input.new.failures ≡ input.old.failures ⊎ Tells no_device (W.contents output.old.inner) (W.contents output.new.inner) result }
+{
+    match answer_for(rt.alloc(), words, input) {
+        Ok(answer) => say(output, answer.text.as_str(), answer.status),
+        Err(Failure::Memory) => say(output, "refused memory\n", 4),
+        Err(Failure::Device) => say(output, "refused device\n", 4),
+    }
+}
+
+/// Writes a text, and answers this status, or 4 where a write failed.
+fn say<W: Write>(output: &mut Counted<W>, text: &str, status: u8) -> u8
+    requires { output.old.failures < 2 ^ 64 - 1 }
+    ensures told { output.new.failures ≡ output.old.failures → Appends (W.contents output.old.inner) (W.contents output.new.inner) text.now × (result ≡ status) }
+    ensures unwritten { output.old.failures < output.new.failures → result ≡ 4 }
+    ensures same { output.old.failures ≤ output.new.failures }
+{
+    if write_text(output, text.as_bytes()) {
+        status
+    } else {
+        4
+    }
+}

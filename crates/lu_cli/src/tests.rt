@@ -1,0 +1,103 @@
+use crate::{Counted, run};
+use std::io;
+use std::io::{Read, Write};
+use std::process::Abort;
+use std::test::Fail;
+
+const BUNDLE: &[u8] = b"component c\nop f 0\nreturn 7\nend\n---\nthread f\n---\nschedule 0 0\n";
+
+const SHOWN: &[u8] = b"replay complete\ncall 0 0\nreturn 0 0 ret 7\n";
+
+/// A reader over memory that fails at one of its reads.
+#[derive(Drop)]
+struct FailingReader<'a> {
+    left: &'a [u8],
+    until: u32,
+}
+
+impl Read for FailingReader<'_> {
+    fn read(&mut self, buf: &mut [u8]) -> io::Result<usize> {
+        if self.until == 0 {
+            return Err(io::Error::from(io::ErrorKind::Other));
+        }
+        self.until -= 1;
+        let count = self.left.len().min(buf.len()).min(8);
+        let (taken, left) = self.left.split_at(count);
+        buf[..count].copy_from_slice(taken);
+        self.left = left;
+        Ok(count)
+    }
+}
+
+/// A writer over memory that takes a few bytes a write, and fails at one of its writes.
+#[derive(Drop)]
+struct FailingWriter {
+    taken: Vec<u8>,
+    most: usize,
+    until: u32,
+}
+
+impl Write for FailingWriter {
+    fn write(&mut self, buf: &[u8]) -> io::Result<usize> {
+        if self.until == 0 {
+            return Err(io::Error::from(io::ErrorKind::Other));
+        }
+        self.until -= 1;
+        let count = buf.len().min(self.most);
+        self.taken.extend_from_slice(&buf[..count])?;
+        Ok(count)
+    }
+
+    fn flush(&mut self) -> io::Result<()> {
+        Ok(())
+    }
+}
+
+fn ran<X: AllocGlobal + Abort>(
+    rt: &X,
+    reads: u32,
+    writes: u32,
+) -> Result<(u8, Vec<u8>, u64, u64), Fail> {
+    let mut input = Counted::new(FailingReader {
+        left: BUNDLE,
+        until: reads,
+    });
+    let mut output = Counted::new(FailingWriter {
+        taken: Vec::new(rt.alloc()),
+        most: 1,
+        until: writes,
+    });
+    let status = run(rt, &["replay"], &mut input, &mut output);
+    let (reads, writes) = (input.failures(), output.failures());
+    let taken = output.into_inner().taken;
+    Ok((status, taken, reads, writes))
+}
+
+#[test]
+fn a_failing_read_is_blamed_on_the_device(rt: HostRuntime) -> Result<(), Fail> {
+    for reads in 0..16 {
+        let (status, taken, failures, _) = ran(&rt, reads, 1000)?;
+        if failures > 0 {
+            assert_eq!(rt; taken.as_slice(), b"refused device\n".as_slice());
+            assert_eq!(rt; status, 4);
+        } else {
+            assert_eq!(rt; taken.as_slice(), SHOWN);
+            assert_eq!(rt; status, 0);
+        }
+    }
+    Ok(())
+}
+
+#[test]
+fn a_failing_write_shows_in_the_status(rt: HostRuntime) -> Result<(), Fail> {
+    for writes in 0..60 {
+        let (status, taken, _, failures) = ran(&rt, 1000, writes)?;
+        if failures > 0 {
+            assert_eq!(rt; status, 4);
+        } else {
+            assert_eq!(rt; taken.as_slice(), SHOWN);
+            assert_eq!(rt; status, 0);
+        }
+    }
+    Ok(())
+}

@@ -1,0 +1,44 @@
+-- Laws of steps, starts and ends.
+use Rattle.std.specs.Prelude.{◌≡◌, ◌⊎◌, List, Option}
+use Rattle.lu_lang.specs.Component.{Declarations}
+use Rattle.lu_test.specs.declared.matrix.Call.{Call}
+use Rattle.lu_test.specs.declared.schedule.Move.{Move}
+use Rattle.lu_machine.specs.declared.event.Event.{Event}
+use Rattle.lu_machine.specs.declared.event.Status.{Status}
+use Rattle.lu_machine.specs.States.{State}
+use Rattle.lu_machine.specs.Steps.{Step, IsFeasible}
+use Rattle.lu_machine.specs.Starts.{IsStart}
+use Rattle.lu_machine.specs.Ends.{HasMove, HasStatus, HasNoMove, IsComplete}
+
+-- a component and a matrix start in at most one state
+abbrev pub OneStart : Type 0
+OneStart = (c : Declarations) (matrix : List (List Call)) (a b : State) → IsStart c matrix a → IsStart c matrix b → a ≡ b
+
+-- a move leads to at most one state, with one event or none
+abbrev pub OneOutcome : Type 0
+OneOutcome =
+    (s : State) (m : Move) (a b : State) (e f : Option Event) → Step s m a e → Step s m b f → (a ≡ b) × (e ≡ f)
+
+-- only a feasible move leads anywhere
+abbrev pub FeasibleOnly : Type 0
+FeasibleOnly = (s : State) (m : Move) (new : State) (event : Option Event) → Step s m new event → IsFeasible s m
+
+-- a feasible move leads somewhere
+abbrev pub AllFeasible : Type 0
+AllFeasible = (s : State) (m : Move) → IsFeasible s m → (new : State) × (event : Option Event) × Step s m new event
+
+-- no thread of a complete state is enabled
+abbrev pub CompleteIsOver : Type 0
+CompleteIsOver = (s : State) → IsComplete s → HasNoMove s
+
+-- a state is complete or not
+abbrev pub CompleteOrNot : Type 0
+CompleteOrNot = (s : State) → IsComplete s ⊎ (IsComplete s → ⊥)
+
+-- some thread is enabled or none
+abbrev pub MoveOrNot : Type 0
+MoveOrNot = (s : State) → HasMove s ⊎ HasNoMove s
+
+-- a state has one status
+abbrev pub OneStatus : Type 0
+OneStatus = (s : State) (a b : Status) → HasStatus s a → HasStatus s b → a ≡ b

@@ -1,0 +1,11 @@
+pub mod Effects
+pub mod States
+pub mod Steps
+pub mod Ends
+pub mod Starts
+pub mod Events
+pub mod Runs
+pub mod Order
+pub mod Undoes
+pub mod Layout
+pub mod Laws

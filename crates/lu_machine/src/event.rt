@@ -1,0 +1,31 @@
+//! What a move shows of an operation, and how a state stands.
+
+/// How an operation returned.
+#[derive(Clone, Copy, Debug, PartialEq, Eq)]
+pub enum Outcome {
+    /// It returned this value.
+    Ret(u32),
+
+    /// It trapped.
+    Trap,
+}
+
+/// The call or the return of an operation: call number `k` of thread `t`, both from 0.
+#[derive(Clone, Copy, Debug, PartialEq, Eq)]
+pub enum Event {
+    Call { t: u8, k: u8 },
+    Return { t: u8, k: u8, outcome: Outcome },
+}
+
+/// How a state stands.
+#[derive(Clone, Copy, Debug, PartialEq, Eq)]
+pub enum Status {
+    /// Some thread is enabled.
+    Running,
+
+    /// Every thread is idle and has made all its calls.
+    Complete,
+
+    /// Not complete, and no thread is enabled.
+    Stuck,
+}

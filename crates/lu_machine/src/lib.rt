@@ -1,0 +1,35 @@
+//! The step machine of a component and a matrix.
+//!
+//! A [`Machine`] runs the calls of a matrix's threads on the arrays and locks of a component, one move
+//! at a time. A move of an idle thread opens its next call; any other move carries out one instruction
+//! of the thread's open operation, and takes one of its picks. How many picks a thread has says whether
+//! it is enabled; a list of feasible moves is a schedule. Calls and returns show as an [`Event`] each.
+//!
+//! A search makes a move by [`Machine::apply`] and takes it back by [`Machine::undo`]. None of the calls
+//! but [`Machine::start`] takes memory.
+//!
+//! ```text
+//! let mut machine = Machine::start(alloc, &component, &matrix)?;
+//! for pick in 0..machine.picks(0) {
+//!     let undo = machine.apply(Move { thread: 0, pick });
+//!     ..
+//!     machine.undo(undo);
+//! }
+//! ```
+#![tactic(auto)]
+
+mod event;
+mod instructions;
+mod laws;
+mod machine;
+mod span;
+mod thread;
+mod undo;
+
+pub use event::{Event, Outcome, Status};
+pub use laws::step_laws;
+pub use machine::Machine;
+pub use undo::Undo;
+
+#[cfg(test)]
+mod tests;

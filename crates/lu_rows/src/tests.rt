@@ -1,0 +1,200 @@
+use crate::{ROWS, SMALL};
+use lu_cli::{Counted, run};
+use std::process::Abort;
+use std::test::Fail;
+
+/// Runs the program on words and an input, and compares what it writes and its status.
+fn ran<X: AllocGlobal + Abort>(
+    rt: &X,
+    words: &[&str],
+    given: &[u8],
+    wanted: &str,
+    status: u8,
+) -> Result<(), Fail> {
+    let mut out = Vec::new(rt.alloc());
+    let mut input = Counted::new(given);
+    let mut output = Counted::new(&mut out);
+    let answered = run(rt, words, &mut input, &mut output);
+    assert_eq!(rt; out.as_slice(), wanted.as_bytes());
+    assert_eq!(rt; answered, status, "{wanted}");
+    Ok(())
+}
+
+fn replays<X: AllocGlobal + Abort>(
+    rt: &X,
+    component: &str,
+    matrix: &str,
+    schedule: &str,
+    wanted: &str,
+    status: u8,
+) -> Result<(), Fail> {
+    let bundle = format!(in rt.alloc(); "{component}---\n{matrix}---\n{schedule}")?;
+    ran(rt, &["replay"], bundle.as_bytes(), wanted, status)
+}
+
+#[test]
+fn a_counter_is_replayed(rt: HostRuntime) -> Result<(), Fail> {
+    let matrix = "thread inc\nthread inc\n";
+    replays(
+        &rt,
+        SMALL,
+        matrix,
+        "schedule 0 0 0 1 1 0 0 1 1 1\n",
+        "replay complete\ncall 0 0\ncall 1 0\nreturn 0 0 ret 1\nreturn 1 0 ret 1\n",
+        0,
+    )?;
+    replays(&rt, SMALL, matrix, "schedule\n", "replay running\n", 0)?;
+    replays(&rt, SMALL, matrix, "schedule 0 0 2\n", "infeasible 2\n", 1)?;
+    replays(&rt, SMALL, matrix, "schedule 0:1\n", "infeasible 0\n", 1)?;
+    replays(
+        &rt,
+        SMALL,
+        matrix,
+        "schedule 0 0\n",
+        "replay running\ncall 0 0\n",
+        0,
+    )
+}
+
+#[test]
+fn matrices_of_the_counter_are_refused(rt: HostRuntime) -> Result<(), Fail> {
+    for (matrix, wanted) in [
+        ("thread dec\n", "refused M3 line 1\n"),
+        ("thread inc 1\n", "refused M4 line 1\n"),
+        ("thread inc;\n", "refused M2 line 1\n"),
+    ] {
+        replays(&rt, SMALL, matrix, "schedule\n", wanted, 2)?;
+    }
+    Ok(())
+}
+
+#[test]
+fn locks_waiting_and_picks_are_replayed(rt: HostRuntime) -> Result<(), Fail> {
+    for (matrix, schedule, wanted, status) in [
+        (
+            "thread mn\nthread nm\n",
+            "schedule 0 0 1 1\n",
+            "replay stuck\ncall 0 0\ncall 1 0\n",
+            0,
+        ),
+        (
+            "thread take\n",
+            "schedule 0\n",
+            "replay stuck\ncall 0 0\n",
+            0,
+        ),
+        ("thread take\n", "schedule 0 0\n", "infeasible 1\n", 1),
+        (
+            "thread flip\n",
+            "schedule 0 0:1 0\n",
+            "replay complete\ncall 0 0\nreturn 0 0 ret 1\n",
+            0,
+        ),
+        ("thread flip\n", "schedule 0 0:2\n", "infeasible 1\n", 1),
+        (
+            "thread wrap 0\n",
+            "schedule 0 0 0\n",
+            "replay complete\ncall 0 0\nreturn 0 0 ret 4294967295\n",
+            0,
+        ),
+        (
+            "thread past\n",
+            "schedule 0 0\n",
+            "replay complete\ncall 0 0\nreturn 0 0 trap\n",
+            0,
+        ),
+        (
+            "thread drop\n",
+            "schedule 0 0\n",
+            "replay complete\ncall 0 0\nreturn 0 0 trap\n",
+            0,
+        ),
+        (
+            "thread twice\n",
+            "schedule 0 0\n",
+            "replay stuck\ncall 0 0\n",
+            0,
+        ),
+        (
+            "thread hold\nthread put\nthread get\n",
+            "schedule 0 0 1 1 0 0 1 1 2 2 2\n",
+            "replay complete\ncall 0 0\ncall 1 0\nreturn 0 0 ret 0\nreturn 1 0 ret 0\ncall 2 0\nreturn 2 0 ret 0\n",
+            0,
+        ),
+    ] {
+        replays(&rt, ROWS, matrix, schedule, wanted, status)?;
+    }
+    Ok(())
+}
+
+#[test]
+fn components_are_refused(rt: HostRuntime) -> Result<(), Fail> {
+    for (component, wanted) in [
+        ("", "refused L7 line 1\n"),
+        ("component c\nop f 0\nreturn 0\n", "refused L7 line 4\n"),
+        ("component c\nword x 1 4294967296\n", "refused L4 line 2\n"),
+        (
+            "component c\nop f 0\nset r0 1\nend\n",
+            "refused L6 line 4\n",
+        ),
+        ("component c\nop f 0\njump Q\nend\n", "refused L3 line 4\n"),
+        ("component c\nword x 65 0\n", "refused L5 line 2\n"),
+        ("component c\nop f 5\n", "refused L5 line 2\n"),
+    ] {
+        replays(&rt, component, "thread\n", "schedule\n", wanted, 2)?;
+    }
+    Ok(())
+}
+
+#[test]
+fn matrices_are_refused(rt: HostRuntime) -> Result<(), Fail> {
+    for (matrix, wanted) in [
+        (
+            "thread\nthread\nthread\nthread\nthread\nthread\nthread\nthread\nthread\n",
+            "refused M6 line 9\n",
+        ),
+        ("thread wrap 4294967296\n", "refused M5 line 1\n"),
+        ("thread wrap\n", "refused M4 line 1\n"),
+        ("thread inc;\n", "refused M2 line 1\n"),
+        ("", "refused M6 line 1\n"),
+    ] {
+        replays(&rt, ROWS, matrix, "schedule\n", wanted, 2)?;
+    }
+    Ok(())
+}
+
+#[test]
+fn schedules_are_refused(rt: HostRuntime) -> Result<(), Fail> {
+    for (schedule, wanted) in [
+        ("schedule  0\n", "refused C1\n"),
+        ("schedule 0", "refused C1\n"),
+        ("schedule 0 \n", "refused C1\n"),
+        ("schedule 00\n", "refused C2\n"),
+        ("schedule 0:0\n", "refused C2\n"),
+        ("schedule 8\n", "refused C3\n"),
+        ("schedule 99999999999\n", "refused C3\n"),
+        ("schedule 9:0\n", "refused C2\n"),
+    ] {
+        replays(&rt, ROWS, "thread get\n", schedule, wanted, 2)?;
+    }
+    Ok(())
+}
+
+#[test]
+fn other_inputs_are_refused(rt: HostRuntime) -> Result<(), Fail> {
+    ran(&rt, &["replay"], b"component c\n", "refused B1\n", 2)?;
+    ran(
+        &rt,
+        &["replay"],
+        b"\n---\n\n---\n\n---\n",
+        "refused B1\n",
+        2,
+    )?;
+    ran(&rt, &["replay"], b"\n--- \n\n--- \n", "refused B1\n", 2)?;
+    ran(&rt, &["judge"], b"", "refused command line\n", 2)?;
+    ran(&rt, &["check"], b"", "refused command line\n", 2)?;
+    ran(&rt, &["--help"], b"", "refused command line\n", 2)?;
+    ran(&rt, &[], b"", "refused command line\n", 2)?;
+    let large = vec![in rt.alloc(); b'\n'; 1_048_577]?;
+    ran(&rt, &["replay"], &large, "refused B2\n", 2)
+}
