@@ -16,3 +16,6 @@ pub use matrix_text::read_matrix;
 pub use schedule::{MOST_MOVES, Move, Schedule};
 pub use schedule_fault::ScheduleFault;
 pub use schedule_text::{read_schedule, write_schedule};
+
+#[cfg(test)]
+mod tests;

@@ -1,0 +1,143 @@
+//! Sets of serial histories in flat vectors.
+
+ghost use Rattle.std.specs.Prelude.{◌≡◌, ◌<◌, ◌++◌, List, [], length, slice_index_or, IfOk};
+ghost use Rattle.lu_history.specs.declared.serial.SerialOp.{SerialOp};
+ghost use Rattle.lu_trie.specs.Branches.{IsBranching};
+ghost use Rattle.lu_trie.specs.Packed.{members_of};
+
+use crate::tree::SerialTree;
+use crate::trie::Trie;
+use lu_history::SerialOp;
+use std::alloc::{AllocError, Allocator};
+use std::marker::Model;
+
+/// A node, whose links to its kids stand in a row.
+#[derive(Clone, Copy)]
+struct Node {
+    /// Whether the operations that lead to the node are a member.
+    ends: bool,
+
+    /// The place of its first link.
+    first: usize,
+
+    /// The number of its links.
+    count: usize,
+}
+
+/// Nodes, each after its kids. In clauses it is the list of the sets of members below each node.
+#[derive(Drop)]
+struct Table<A: Allocator> {
+    nodes: Vec<Node, A>,
+
+    /// The labels of kids and the kids' places among the nodes, for each node in a row.
+    links: Vec<(SerialOp, usize), A>,
+}
+
+impl<A: Allocator> Model for Table<A> {
+    ghost use Rattle.std.specs.Prelude.{List, []};
+    ghost use Rattle.lu_history.specs.declared.serial.SerialOp.{SerialOp};
+    ghost use Rattle.lu_trie.specs.Packed.{table_from, ArePacked};
+
+    ghost Value = { List (List (List SerialOp)) };
+
+    ghost view = { λ t. table_from t.links.items [] t.nodes.items };
+
+    ghost invariant = { λ t. ArePacked t.links.items [] t.nodes.items };
+}
+
+impl<B: Allocator> Trie<B> {
+    /// Adds the trie's nodes to a table, and answers the place of its root. It may have added some where memory is refused.
+    fn add_to<A: Allocator + Clone>(&self, table: &mut Table<A>) -> Result<usize, AllocError>
+        ensures grows { (more : List (List (List SerialOp))) × (table.new ≡ table.old ++ more) }
+        ensures place { IfOk result (λ place. place < length table.new) }
+        ensures members { IfOk result (λ place. slice_index_or table.new place [] ≡ self.now) }
+    {
+        let mut links = Vec::new(table.links.allocator().clone()?);
+        for (label, below) in &self.kids {
+            let place = below.add_to(table)?;
+            links.push((*label, place))?;
+        }
+        let first = table.links.len();
+        table.links.extend_from_slice(&links)?;
+        let place = table.nodes.len();
+        table.nodes.push(Node {
+            ends: self.ends,
+            first,
+            count: links.len(),
+        })?;
+        Ok(place)
+    }
+}
+
+/// A set of serial histories in flat vectors, made from a trie and only read. A step down the tree reads one node and one
+/// link, and takes no memory. In clauses it is the sets below its places and the place of its root.
+#[derive(Drop)]
+pub struct PackedTrie<A: Allocator> {
+    table: Table<A>,
+    root: usize,
+}
+
+impl<A: Allocator> Model for PackedTrie<A> {
+    ghost use Rattle.std.specs.Prelude.{ℕ, ◌<◌, List, length};
+    ghost use Rattle.lu_history.specs.declared.serial.SerialOp.{SerialOp};
+
+    ghost Value = { List (List (List SerialOp)) × ℕ };
+
+    ghost view = { λ p. (p.table, p.root) };
+
+    ghost invariant = { λ p. p.root < length p.table };
+}
+
+impl<A: Allocator + Clone> PackedTrie<A> {
+    /// The same set as the trie's, under an allocator of its own.
+    pub fn pack<B: Allocator>(alloc: A, trie: &Trie<B>) -> Result<PackedTrie<A>, AllocError>
+        ensures { IfOk result (λ packed. members_of packed ≡ trie.now) }
+    {
+        let mut table = Table {
+            nodes: Vec::new(alloc.clone()?),
+            links: Vec::new(alloc),
+        };
+        let root = trie.add_to(&mut table)?;
+        Ok(PackedTrie { table, root })
+    }
+}
+
+/// A place is the number of a node.
+impl<'a, A: Allocator> SerialTree for &'a PackedTrie<A> {
+    type Place = usize;
+
+    ghost members = { λ tree. members_of tree.now };
+
+    ghost below = { λ tree place. slice_index_or tree.now.0 place [] };
+
+    ghost is_place = { λ tree place. (place < length tree.now.0) × IsBranching (slice_index_or tree.now.0 place []) };
+
+    ghost branching = { λ tree place is. is.1 };
+
+    fn root(&self) -> usize {
+        let packed: &'a PackedTrie<A> = *self;
+        let table = &packed.table;
+        let _ = table.nodes[packed.root];
+        packed.root
+    }
+
+    fn ends(&self, place: usize) -> bool {
+        let packed: &'a PackedTrie<A> = *self;
+        let table = &packed.table;
+        table.nodes[place].ends
+    }
+
+    fn kid_count(&self, place: usize) -> usize {
+        let packed: &'a PackedTrie<A> = *self;
+        let table = &packed.table;
+        table.nodes[place].count
+    }
+
+    fn kid(&self, place: usize, i: usize) -> (SerialOp, usize) {
+        let packed: &'a PackedTrie<A> = *self;
+        let table = &packed.table;
+        let (label, below) = table.links[table.nodes[place].first + i];
+        let _ = table.nodes[below];
+        (label, below)
+    }
+}

@@ -1,0 +1,90 @@
+//! Sets of serial histories, read as trees.
+
+ghost use Rattle.std.specs.Prelude.{◌≡◌, ◌<◌, List, [], length, Some, slice_get};
+ghost use Rattle.lu_history.specs.declared.serial.SerialOp.{SerialOp};
+ghost use Rattle.lu_trie.specs.Members.{contains};
+ghost use Rattle.lu_trie.specs.Branches.{branches_of, IsBranching};
+
+use crate::trie::Trie;
+use lu_history::SerialOp;
+use std::alloc::Allocator;
+
+/// A set of serial histories as a tree, whose places stand for the beginnings of its members.
+///
+/// The members below a place are the empty history, where the place ends one, and those below its kids, each behind the
+/// kid's label. The labels rise strictly, by thread and then by outcome, and below each kid there is a member. Places are
+/// cheap to copy. They are asked to come from `root` or `kid` of the same tree.
+///
+/// To read a tree from several threads ask for `T: SerialTree + Sync` where `T::Place: Send + Sync`.
+pub trait SerialTree {
+    /// A place in the tree.
+    type Place: Copy;
+
+    /// The members.
+    ghost members: { Self → List (List SerialOp) };
+
+    /// The members below a place: what follows, in the members, the operations that lead to the place.
+    ghost below: { Self → Self.Place → List (List SerialOp) };
+
+    /// The place is one of the tree.
+    ghost is_place: { Self → Self.Place → Type 0 };
+
+    /// The place of the empty history, below which are all members.
+    fn root(&self) -> Self::Place
+        ensures place { is_place self.now result }
+        ensures all { below self.now result ≡ members self.now };
+
+    /// Whether the operations that lead to the place are a member.
+    fn ends(&self, place: Self::Place) -> bool
+        requires { is_place self.now place }
+        ensures { result ≡ contains (below self.now place) [] };
+
+    /// The number of kids of a place.
+    fn kid_count(&self, place: Self::Place) -> usize
+        requires { is_place self.now place }
+        ensures { result ≡ length (branches_of (below self.now place)) };
+
+    /// Kid number i of a place, from 0: its label, which is the next operation, and its place.
+    fn kid(&self, place: Self::Place, i: usize) -> (SerialOp, Self::Place)
+        requires place { is_place self.now place }
+        requires in_range { i < length (branches_of (below self.now place)) }
+        ensures place { is_place self.now result.1 }
+        ensures kid { slice_get (branches_of (below self.now place)) i ≡ Some (result.0, below self.now result.1) };
+
+    /// The law: what is below a place is the empty history, where the place ends one, and what is below its kids, each behind
+    /// its label.
+    ghost branching: { (tree : Self) (place : Self.Place) → is_place tree place → IsBranching (below tree place) };
+}
+
+/// A reference to a trie lends its nodes: nothing is copied.
+impl<'a, A: Allocator> SerialTree for &'a Trie<A> {
+    type Place = &'a Trie<A>;
+
+    ghost members = { λ tree. tree.now };
+
+    ghost below = { λ tree place. place.now };
+
+    ghost is_place = { λ tree place. IsBranching place.now };
+
+    ghost branching = { λ tree place is. is };
+
+    fn root(&self) -> &'a Trie<A> {
+        let trie: &'a Trie<A> = *self;
+        let _ = &trie.kids;
+        trie
+    }
+
+    fn ends(&self, place: &'a Trie<A>) -> bool {
+        place.ends
+    }
+
+    fn kid_count(&self, place: &'a Trie<A>) -> usize {
+        place.kids.len()
+    }
+
+    fn kid(&self, place: &'a Trie<A>, i: usize) -> (SerialOp, &'a Trie<A>) {
+        let (label, below) = &place.kids[i];
+        let _ = &below.kids;
+        (*label, below)
+    }
+}

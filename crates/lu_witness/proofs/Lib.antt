@@ -1,0 +1,6 @@
+pub mod Entries
+pub mod Beginnings
+pub mod Finding
+pub mod Nexts
+pub mod Keeping
+pub mod Verdicts

@@ -1,0 +1,25 @@
+-- Beginnings of witnesses.
+use Rattle.std.specs.Prelude.{◌≡◌, ℕ, ◌≤◌, List, length, take, get_or, Some, slice_get}
+use Rattle.lu_machine.specs.declared.event.Event.{Event}
+use Rattle.lu_history.specs.declared.operation.OpId.{OpId}
+use Rattle.lu_history.specs.declared.serial.SerialOp.{SerialOp}
+use Rattle.lu_history.specs.Histories.{IsCallAt, outcomes}
+use Rattle.lu_history.specs.Parts.{part}
+use Rattle.lu_witness.specs.Witnesses.{entries}
+
+-- the next operation of the thread of op, after p
+abbrev pub next_of : List SerialOp → SerialOp → OpId
+next_of p op = record { t = op.thread; k = length (entries op.thread p) }
+
+-- op ended as the next operation of its thread, and all operations that precede that one are in p
+pub record IsNext (h : List Event) (p : List SerialOp) (op : SerialOp) : Type 0 where
+  pub outcome : slice_get (part op.thread h) (length (entries op.thread p)) ≡ Some op.outcome
+  pub before : (j u : ℕ) → IsCallAt h j (next_of p op) → length (outcomes u (take j h)) ≤ length (entries u p)
+
+-- each operation is next after those before it
+abbrev pub IsBeginning : List Event → List SerialOp → Type 0
+IsBeginning h p = (i : ℕ) (op : SerialOp) → slice_get p i ≡ Some op → IsNext h (take i p) op
+
+-- how many operations of each thread are in p
+abbrev pub AreTaken : List SerialOp → List ℕ → Type 0
+AreTaken p taken = (t : ℕ) → get_or taken t 0 ≡ length (entries t p)

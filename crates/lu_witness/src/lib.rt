@@ -1,0 +1,26 @@
+//! Serial witnesses of histories (Burckhardt, Dern, Musuvathi and Tan, 2010).
+//!
+//! A serial history is a witness of a history where each thread has the same outcomes in both, in order, and where an
+//! operation that precedes another one in the history stands before it. [`has_witness`] searches a set of serial histories for
+//! one; [`verdict`] says whether a history has all the witnesses that it needs.
+//!
+//! ```text
+//! match verdict(&&set, &history) {
+//!     Verdict::Good => {}
+//!     Verdict::NoWitness => {}
+//!     Verdict::NoWitnessFor(thread) => {}
+//! }
+//! ```
+#![tactic(auto)]
+
+mod judge;
+mod judgement;
+mod kept;
+mod search;
+
+pub use judge::verdict;
+pub use judgement::{Verdict, Why};
+pub use search::has_witness;
+
+#[cfg(test)]
+mod tests;
