@@ -7,16 +7,16 @@ use Rattle.lu_test.specs.declared.matrix.Call.{Call}
 use Rattle.lu_test.specs.declared.schedule.Move.{Move}
 use Rattle.lu_test.specs.Matrix.{calls_of}
 use Rattle.lu_machine.specs.declared.event.Event.{Event}
-use Rattle.lu_machine.specs.declared.event.Event.TheVariants.{Call as Called, Return as Returned}
+use Rattle.lu_machine.specs.declared.event.Event.TheVariants.{Call as Called}
 use Rattle.lu_machine.specs.declared.event.Outcome.TheVariants.{Trap}
 use Rattle.lu_machine.specs.declared.thread.Frame.{Frame}
 use Rattle.lu_machine.specs.declared.thread.Activity.{Activity}
 use Rattle.lu_machine.specs.declared.thread.Activity.TheVariants.{Idle, Open}
 use Rattle.lu_machine.specs.declared.thread.Effect.{Effect}
-use Rattle.lu_machine.specs.declared.thread.Effect.TheVariants.{GoesOn, Ends}
+use Rattle.lu_machine.specs.declared.thread.Effect.TheVariants.{Ends}
 use Rattle.lu_machine.specs.declared.thread.Thread.{Thread}
 use Rattle.lu_machine.specs.Effects.{value_of, onward, onward_with}
-use Rattle.lu_machine.specs.States.{State, cell_at, value_at, with_cell, with_owner, with_thread}
+use Rattle.lu_machine.specs.States.{State, cell_at, value_at, with_cell, with_owner}
 use Rattle.lu_machine.specs.Steps.{Carries, ByActivity, Step, event_after, opened, owns, thread_after}
 
 -- cells and locks may differ, and nothing else

@@ -1,5 +1,5 @@
 -- How a thread's progress goes with the event of its move.
-use Rattle.std.proofs.Common.{◌≡◌, ℕ, ◌+◌, ◌<◌, Bool, true, false, List, Option, Some, None, map, slice_get, slice_set, get_or, length, refl, sym, ◌∙◌, ap}
+use Rattle.std.proofs.Common.{◌≡◌, ℕ, ◌+◌, ◌<◌, Bool, true, false, Option, Some, None, map, slice_get, slice_set, get_or, length, refl, ◌∙◌, ap}
 use Rattle.std.proofs.lemmas.List.{map-set}
 use Rattle.std.proofs.lemmas.Option.{get_or_from_slice_get, slice_get-map, slice_get_within}
 use Rattle.std.specs.Option.{option_map}

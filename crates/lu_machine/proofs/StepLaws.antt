@@ -1,5 +1,5 @@
 -- A move leads to at most one state, and somewhere exactly where it is feasible.
-use Rattle.std.proofs.Common.{◌≡◌, ◌≢◌, ℕ, ◌<◌, ◌==◌, eqb, nat_lt, Bool, true, false, not, if◌then◌else◌, List, [], ◌∷◌, Option, Some, None, is_some, MatchOption, MatchBool, slice_get, get_or, length, refl, sym, ◌∙◌, ap, arith}
+use Rattle.std.proofs.Common.{◌≡◌, ◌≢◌, ℕ, ◌<◌, ◌==◌, nat_lt, Bool, true, false, not, if◌then◌else◌, List, [], ◌∷◌, Option, Some, None, is_some, MatchOption, MatchBool, slice_get, get_or, length, refl, sym, ◌∙◌, ap, arith}
 use Rattle.std.proofs.lemmas.Bool.{lt-ltb}
 use Rattle.std.proofs.lemmas.Option.{same_Some, slice_get-get_or, slice_get_within}
 use Rattle.std.proofs.lemmas.Bool.Decides.{nat_tests}
@@ -16,11 +16,11 @@ use Rattle.lu_machine.specs.declared.thread.Frame.{Frame}
 use Rattle.lu_machine.specs.declared.thread.Activity.{Activity}
 use Rattle.lu_machine.specs.declared.thread.Activity.TheVariants.{Idle, Open}
 use Rattle.lu_machine.specs.declared.thread.Effect.{Effect}
-use Rattle.lu_machine.specs.declared.thread.Effect.TheVariants.{GoesOn, Ends}
+use Rattle.lu_machine.specs.declared.thread.Effect.TheVariants.{Ends}
 use Rattle.lu_machine.specs.declared.thread.Thread.{Thread}
 use Rattle.lu_machine.specs.Effects.{value_of, computed, onward, onward_at, onward_with}
 use Rattle.lu_machine.specs.States.{State, cell_at, instr_at, call_count, value_at, owner_of, with_cell, with_owner, with_thread}
-use Rattle.lu_machine.specs.Steps.{Carries, ByActivity, Step, IsFeasible, activity_picks, choices, event_after, instr_picks, is_blocked, opened, owns, picks_of, thread_after}
+use Rattle.lu_machine.specs.Steps.{Carries, ByActivity, Step, IsFeasible, activity_picks, choices, event_after, instr_picks, is_blocked, opened, owns, thread_after}
 
 match_same : {A : Type 0} (o : Option ℕ) (x : A) (g : ℕ → A) (e f : A) → MatchOption o (e ≡ x) (λ p. e ≡ g p) → MatchOption o (f ≡ x) (λ p. f ≡ g p) → e ≡ f
 match_same None x g e f h k = h ∙ sym k

@@ -1,5 +1,5 @@
 -- The moves of a state: what each leads to, and how many picks a thread has.
-use Rattle.std.specs.Prelude.{◌≡◌, ◌≢◌, ℕ, ◌+◌, ◌-◌, ◌<◌, ◌==◌, nat_lt, not, if◌then◌else◌, List, [], ◌++◌, length, replicate, Bool, false, MatchBool, Option, Some, None, is_some, slice_get, MatchOption}
+use Rattle.std.specs.Prelude.{◌≡◌, ◌≢◌, ℕ, ◌+◌, ◌-◌, ◌<◌, ◌==◌, nat_lt, not, if◌then◌else◌, ◌++◌, length, replicate, Bool, false, MatchBool, Option, Some, None, is_some, slice_get, MatchOption}
 use Rattle.std.specs.Option.{option_map_or}
 use Rattle.lu_lang.specs.declared.instr.Instr.{Instr}
 use Rattle.lu_lang.specs.declared.instr.Instr.TheVariants.{Set, Compute, Load, Store, Cas, Lock, Unlock, Await, AwaitNot, Pick, Jump, JumpIfZero, Return}

@@ -1,5 +1,5 @@
 -- How a move is taken back.
-use Rattle.std.specs.Prelude.{ℕ, ◌<◌, length}
+use Rattle.std.specs.Prelude.{◌<◌, length}
 use Rattle.lu_machine.specs.declared.undo.Overwritten.{Overwritten}
 use Rattle.lu_machine.specs.declared.undo.Overwritten.TheVariants.{Nothing, Cell, Owner}
 use Rattle.lu_machine.specs.declared.undo.Undo.{Undo}

@@ -6,8 +6,17 @@ use lu_test::{Move, read_matrix};
 use std::process::Abort;
 use std::test::Fail;
 
-/// Makes the moves of these threads, each with pick 0, and answers the last event.
-fn play(rt: &impl Abort, machine: &mut Machine, threads: &[u8]) -> Option<Event> {
+/// Makes the moves of these threads from the start, each with pick 0, and answers the last event and
+/// how the state then stands.
+fn played(
+    rt: &(impl AllocGlobal + Abort),
+    component: &[u8],
+    matrix: &[u8],
+    threads: &[u8],
+) -> Result<(Option<Event>, Status), Fail> {
+    let component = read_component(rt.alloc(), component)?;
+    let matrix = read_matrix(rt.alloc(), &component, matrix)?;
+    let mut machine = Machine::start(rt.alloc(), &component, &matrix)?;
     let mut last = None;
     for thread in threads {
         let next = Move {
@@ -17,167 +26,245 @@ fn play(rt: &impl Abort, machine: &mut Machine, threads: &[u8]) -> Option<Event>
         assert!(rt; machine.feasible(next), "{next:?}");
         last = machine.step(next);
     }
-    last
+    Ok((last, machine.status()))
+}
+
+fn called(t: u8, k: u8) -> Option<Event> {
+    Some(Event::Call { t, k })
 }
 
 fn returned(t: u8, k: u8, value: u32) -> Option<Event> {
-    Some(Event::Return {
-        t,
-        k,
-        outcome: Outcome::Ret(value),
-    })
+    let outcome = Outcome::Ret(value);
+    Some(Event::Return { t, k, outcome })
 }
 
 fn trapped(t: u8, k: u8) -> Option<Event> {
-    Some(Event::Return {
-        t,
-        k,
-        outcome: Outcome::Trap,
-    })
+    let outcome = Outcome::Trap;
+    Some(Event::Return { t, k, outcome })
 }
+
+const COUNTER: &[u8] = b"component c
+word x 1 0
+op inc 0
+load r0 x 0
+add r0 r0 1
+store x 0 r0
+return r0
+end
+";
 
 /// Two increments that read the counter before either writes it.
 #[test]
 fn an_update_is_lost(rt: HostRuntime) -> Result<(), Fail> {
-    let alloc = rt.alloc();
-    let text =
-        b"component c\nword x 1 0\nop inc 0\nload r0 x 0\nadd r0 r0 1\nstore x 0 r0\nreturn r0\nend\n";
-    let component = read_component(alloc, text)?;
-    let matrix = read_matrix(alloc, &component, b"thread inc\nthread inc\n")?;
-    let mut machine = Machine::start(alloc, &component, &matrix)?;
-    assert_eq!(rt; machine.threads(), 2);
-    assert_eq!(rt; machine.status(), Status::Running);
-    assert_eq!(rt;
-        play(&rt, &mut machine, &[0]),
-        Some(Event::Call { t: 0, k: 0 })
-    );
-    assert_eq!(rt; play(&rt, &mut machine, &[0, 1, 1]), None);
-    assert_eq!(rt; play(&rt, &mut machine, &[0, 0, 0]), returned(0, 0, 1));
-    assert!(rt; !machine.enabled(0));
-    assert_eq!(rt; machine.status(), Status::Running);
-    assert_eq!(rt; play(&rt, &mut machine, &[1, 1, 1]), returned(1, 0, 1));
-    assert_eq!(rt; machine.status(), Status::Complete);
+    let matrix = b"thread inc\nthread inc\n";
+    let start = played(&rt, COUNTER, matrix, &[])?;
+    assert_eq!(rt; start, (None, Status::Running));
+    let first = played(&rt, COUNTER, matrix, &[0])?;
+    assert_eq!(rt; first, (called(0, 0), Status::Running));
+    let half = played(&rt, COUNTER, matrix, &[0, 0, 1, 1, 0, 0, 0])?;
+    assert_eq!(rt; half, (returned(0, 0, 1), Status::Running));
+    let all = played(&rt, COUNTER, matrix, &[0, 0, 1, 1, 0, 0, 0, 1, 1, 1])?;
+    assert_eq!(rt; all, (returned(1, 0, 1), Status::Complete));
     Ok(())
 }
 
-/// A move that is taken back, and made again.
+const SLOT: &[u8] = b"component c
+word x 2 5
+lock l
+op f 1
+lock l
+cas r1 x r0 5 9
+load r2 x r0
+unlock l
+return r2
+end
+";
+
+/// Each move of a run is taken back and made again.
 #[test]
 fn a_move_is_taken_back(rt: HostRuntime) -> Result<(), Fail> {
-    let alloc = rt.alloc();
-    let text =
-        b"component c\nword x 2 5\nlock l\nop f 1\nlock l\ncas r1 x r0 5 9\nload r2 x r0\nunlock l\nreturn r2\nend\n";
-    let component = read_component(alloc, text)?;
-    let matrix = read_matrix(alloc, &component, b"thread f 1; f 0\n")?;
-    let mut machine = Machine::start(alloc, &component, &matrix)?;
+    let component = read_component(rt.alloc(), SLOT)?;
+    let matrix = read_matrix(rt.alloc(), &component, b"thread f 1\n")?;
+    let mut machine = Machine::start(rt.alloc(), &component, &matrix)?;
     let next = Move { thread: 0, pick: 0 };
+    let mut last = None;
     for _turn in 0..6 {
         assert!(rt; machine.feasible(next));
         let undo = machine.apply(next);
         let event = undo.event();
         machine.undo(undo);
         assert!(rt; machine.feasible(next));
-        assert_eq!(rt; machine.step(next), event);
+        last = machine.step(next);
+        assert_eq!(rt; last, event);
     }
-    assert_eq!(rt; machine.status(), Status::Running);
-    assert_eq!(rt;
-        play(&rt, &mut machine, &[0, 0, 0, 0, 0, 0]),
-        returned(0, 1, 9)
-    );
-    assert_eq!(rt; machine.status(), Status::Complete);
+    assert_eq!(rt; last, returned(0, 0, 9));
+    assert_eq!(rt; machine.threads(), 1);
+    assert!(rt; !machine.enabled(0));
     Ok(())
 }
+
+const LOCKS: &[u8] = b"component c
+lock l
+op take 0
+lock l
+return 0
+end
+op free 0
+unlock l
+return 1
+end
+";
 
 /// A lock blocks its own owner too, and only its owner may free it.
 #[test]
 fn locks(rt: HostRuntime) -> Result<(), Fail> {
-    let alloc = rt.alloc();
-    let text =
-        b"component c\nlock l\nop take 0\nlock l\nreturn 0\nend\nop free 0\nunlock l\nreturn 1\nend\n";
-    let component = read_component(alloc, text)?;
-    let matrix = read_matrix(alloc, &component, b"thread take; take\nthread free\n")?;
-    let mut machine = Machine::start(alloc, &component, &matrix)?;
-    assert_eq!(rt; play(&rt, &mut machine, &[0, 0, 0]), returned(0, 0, 0));
-    assert_eq!(rt;
-        play(&rt, &mut machine, &[0, 1]),
-        Some(Event::Call { t: 1, k: 0 })
-    );
-    assert_eq!(rt; machine.picks(0), 0);
-    assert_eq!(rt; play(&rt, &mut machine, &[1]), trapped(1, 0));
-    assert_eq!(rt; machine.status(), Status::Stuck);
+    let matrix = b"thread take; take\nthread free\n";
+    let stuck = played(&rt, LOCKS, matrix, &[0, 0, 0, 0, 1, 1])?;
+    assert_eq!(rt; stuck, (trapped(1, 0), Status::Stuck));
+    let freed = played(
+        &rt,
+        LOCKS,
+        b"thread take; free; take\n",
+        &[0, 0, 0, 0, 0, 0, 0, 0, 0],
+    )?;
+    assert_eq!(rt; freed, (returned(0, 2, 0), Status::Complete));
     Ok(())
 }
+
+const INDICES: &[u8] = b"component c
+word x 2 7
+word y 1 3
+op get 1
+load r0 x r0
+return r0
+end
+op wait 2
+await x r0 r1
+return 0
+end
+op pass 2
+awaitne x r0 r1
+return 0
+end
+";
 
 /// An index past the end traps, also where it is awaited.
 #[test]
 fn indices(rt: HostRuntime) -> Result<(), Fail> {
-    let alloc = rt.alloc();
-    let text =
-        b"component c\nword x 2 7\nword y 1 3\nop get 1\nload r0 x r0\nreturn r0\nend\nop wait 2\nawait x r0 r1\nreturn 0\nend\nop pass 2\nawaitne x r0 r1\nreturn 0\nend\n";
-    let component = read_component(alloc, text)?;
-    let matrix = read_matrix(
-        alloc,
-        &component,
-        b"thread get 1; get 2; wait 2 3; pass 2 3; pass 0 7\nthread wait 0 7; wait 0 8\n",
-    )?;
-    let mut machine = Machine::start(alloc, &component, &matrix)?;
-    assert_eq!(rt; play(&rt, &mut machine, &[0, 0, 0]), returned(0, 0, 7));
-    assert_eq!(rt; play(&rt, &mut machine, &[0, 0]), trapped(0, 1));
-    assert_eq!(rt; play(&rt, &mut machine, &[0, 0]), trapped(0, 2));
-    assert_eq!(rt; play(&rt, &mut machine, &[0, 0]), trapped(0, 3));
-    assert_eq!(rt; play(&rt, &mut machine, &[1, 1, 1]), returned(1, 0, 0));
-    assert_eq!(rt;
-        play(&rt, &mut machine, &[0, 1]),
-        Some(Event::Call { t: 1, k: 1 })
-    );
-    assert_eq!(rt; machine.status(), Status::Stuck);
+    let last = played(&rt, INDICES, b"thread get 1\n", &[0, 0, 0])?;
+    assert_eq!(rt; last, (returned(0, 0, 7), Status::Complete));
+    let past = played(&rt, INDICES, b"thread get 2\n", &[0, 0])?;
+    assert_eq!(rt; past, (trapped(0, 0), Status::Complete));
+    let past = played(&rt, INDICES, b"thread wait 2 3\n", &[0, 0])?;
+    assert_eq!(rt; past, (trapped(0, 0), Status::Complete));
+    let past = played(&rt, INDICES, b"thread pass 2 3\n", &[0, 0])?;
+    assert_eq!(rt; past, (trapped(0, 0), Status::Complete));
     Ok(())
 }
 
-/// Arithmetic is modulo 2^32, values are compared as unsigned numbers, and `jz` jumps at 0 alone.
+/// `await` is blocked at another value, and `awaitne` at the value.
 #[test]
-fn arithmetic(rt: HostRuntime) -> Result<(), Fail> {
-    let alloc = rt.alloc();
-    let text =
-        b"component c\nop add 2\nadd r0 r0 r1\nreturn r0\nend\nop sub 2\nsub r0 r0 r1\nreturn r0\nend\nop mul 2\nmul r0 r0 r1\nreturn r0\nend\nop lt 2\nlt r0 r0 r1\nreturn r0\nend\nop eq 2\neq r0 r0 r1\njz r0 L3\nreturn 10\nL3: return r7\nend\n";
-    let component = read_component(alloc, text)?;
-    let matrix = read_matrix(
-        alloc,
-        &component,
-        b"thread add 4294967295 2; sub 2 3; mul 65536 65537; lt 2147483648 1; lt 1 2147483648; eq 5 5; eq 5 6\n",
-    )?;
-    let mut machine = Machine::start(alloc, &component, &matrix)?;
-    assert_eq!(rt; play(&rt, &mut machine, &[0, 0, 0]), returned(0, 0, 1));
-    assert_eq!(rt;
-        play(&rt, &mut machine, &[0, 0, 0]),
-        returned(0, 1, 4294967295)
-    );
-    assert_eq!(rt; play(&rt, &mut machine, &[0, 0, 0]), returned(0, 2, 65536));
-    assert_eq!(rt; play(&rt, &mut machine, &[0, 0, 0]), returned(0, 3, 0));
-    assert_eq!(rt; play(&rt, &mut machine, &[0, 0, 0]), returned(0, 4, 1));
-    assert_eq!(rt; play(&rt, &mut machine, &[0, 0, 0, 0]), returned(0, 5, 10));
-    assert_eq!(rt; play(&rt, &mut machine, &[0, 0, 0, 0]), returned(0, 6, 0));
+fn awaits(rt: HostRuntime) -> Result<(), Fail> {
+    let goes_on = played(&rt, INDICES, b"thread wait 0 7\n", &[0, 0, 0])?;
+    assert_eq!(rt; goes_on, (returned(0, 0, 0), Status::Complete));
+    let blocked = played(&rt, INDICES, b"thread wait 0 8\n", &[0])?;
+    assert_eq!(rt; blocked, (called(0, 0), Status::Stuck));
+    let goes_on = played(&rt, INDICES, b"thread pass 0 8\n", &[0, 0, 0])?;
+    assert_eq!(rt; goes_on, (returned(0, 0, 0), Status::Complete));
+    let blocked = played(&rt, INDICES, b"thread pass 0 7\n", &[0])?;
+    assert_eq!(rt; blocked, (called(0, 0), Status::Stuck));
     Ok(())
 }
+
+const NUMBERS: &[u8] = b"component c
+op sum 2
+add r0 r0 r1
+return r0
+end
+op difference 2
+sub r0 r0 r1
+return r0
+end
+op product 2
+mul r0 r0 r1
+return r0
+end
+op below 2
+lt r0 r0 r1
+return r0
+end
+op differs 2
+eq r0 r0 r1
+jz r0 L3
+return 0
+L3: return 1
+end
+";
+
+/// The value of an operation's only instruction but for its `return`.
+fn value(rt: &(impl AllocGlobal + Abort), call: &[u8]) -> Result<Option<Event>, Fail> {
+    Ok(played(rt, NUMBERS, call, &[0, 0, 0])?.0)
+}
+
+/// Arithmetic is modulo 2^32, and values are compared as unsigned numbers.
+#[test]
+fn arithmetic(rt: HostRuntime) -> Result<(), Fail> {
+    assert_eq!(rt;
+        value(&rt, b"thread sum 4294967295 2\n")?,
+        returned(0, 0, 1)
+    );
+    assert_eq!(rt;
+        value(&rt, b"thread difference 2 3\n")?,
+        returned(0, 0, 4294967295)
+    );
+    assert_eq!(rt;
+        value(&rt, b"thread product 65536 65537\n")?,
+        returned(0, 0, 65536)
+    );
+    assert_eq!(rt;
+        value(&rt, b"thread below 2147483648 1\n")?,
+        returned(0, 0, 0)
+    );
+    assert_eq!(rt;
+        value(&rt, b"thread below 1 2147483648\n")?,
+        returned(0, 0, 1)
+    );
+    Ok(())
+}
+
+/// `jz` jumps at 0 alone.
+#[test]
+fn jumps(rt: HostRuntime) -> Result<(), Fail> {
+    let same = played(&rt, NUMBERS, b"thread differs 5 5\n", &[0, 0, 0, 0])?;
+    assert_eq!(rt; same, (returned(0, 0, 0), Status::Complete));
+    let apart = played(&rt, NUMBERS, b"thread differs 5 6\n", &[0, 0, 0, 0])?;
+    assert_eq!(rt; apart, (returned(0, 0, 1), Status::Complete));
+    Ok(())
+}
+
+const PICKS: &[u8] = b"component c
+op choose 0
+pick r3 3
+return r3
+end
+";
 
 /// A pick is one of its choices.
 #[test]
 fn picks(rt: HostRuntime) -> Result<(), Fail> {
-    let alloc = rt.alloc();
-    let text = b"component c\nop flip 0\npick r3 3\nreturn r3\nend\n";
-    let component = read_component(alloc, text)?;
-    let matrix = read_matrix(alloc, &component, b"thread flip\n")?;
-    let mut machine = Machine::start(alloc, &component, &matrix)?;
-    assert_eq!(rt; machine.picks(0), 1);
-    assert_eq!(rt; machine.picks(1), 0);
-    assert_eq!(rt;
-        play(&rt, &mut machine, &[0]),
-        Some(Event::Call { t: 0, k: 0 })
-    );
+    let component = read_component(rt.alloc(), PICKS)?;
+    let matrix = read_matrix(rt.alloc(), &component, b"thread choose\n")?;
+    let mut machine = Machine::start(rt.alloc(), &component, &matrix)?;
+    assert_eq!(rt; (machine.picks(0), machine.picks(1)), (1, 0));
+    let first = Move { thread: 0, pick: 0 };
+    assert!(rt; machine.feasible(first));
+    assert_eq!(rt; machine.step(first), called(0, 0));
     assert_eq!(rt; machine.picks(0), 3);
     assert!(rt; !machine.feasible(Move { thread: 0, pick: 3 }));
     let last = Move { thread: 0, pick: 2 };
     assert!(rt; machine.feasible(last));
     assert_eq!(rt; machine.step(last), None);
-    assert_eq!(rt; play(&rt, &mut machine, &[0]), returned(0, 0, 2));
+    assert!(rt; machine.feasible(first));
+    assert_eq!(rt; machine.step(first), returned(0, 0, 2));
     Ok(())
 }

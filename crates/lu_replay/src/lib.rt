@@ -17,3 +17,6 @@ pub use laws::replay_laws;
 pub use player::replay;
 pub use shown::Replay;
 pub use text::write_replay;
+
+#[cfg(test)]
+mod tests;

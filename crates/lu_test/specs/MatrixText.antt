@@ -96,14 +96,28 @@ matrix_grammar c = record { nothing = []; line = line_of c; finish = finished }
 abbrev pub operation_name : Declarations → ℕ → Word
 operation_name c i = unwrap_or (option_map (λ o. o.name) (slice_get c.operations i)) []
 
--- a call: the operation's name, and each argument behind a space
+-- an argument behind a space
+abbrev pub argument_text : ℕ → List ℕ
+argument_text n = 32 ∷ decimal n
+
+abbrev pub arguments_text : List ℕ → List ℕ
+arguments_text arguments = flat_map argument_text arguments
+
+-- a call: the operation's name and the arguments
 abbrev pub call_text : Declarations → Call → List ℕ
-call_text c call = operation_name c call.op ++ flat_map (λ argument. 32 ∷ decimal argument) call.args
+call_text c call = operation_name c call.op ++ arguments_text call.args
+
+-- a call behind `;`
+abbrev pub other_text : Declarations → Call → List ℕ
+other_text c call = 59 ∷ call_text c call
+
+abbrev pub others_text : Declarations → List Call → List ℕ
+others_text c calls = flat_map (other_text c) calls
 
 -- behind `thread` nothing, or a space and the calls with `;` between them
 abbrev pub calls_text : Declarations → List Call → List ℕ
 calls_text c [] = []
-calls_text c (call ∷ calls) = 32 ∷ call_text c call ++ flat_map (λ other. 59 ∷ call_text c other) calls
+calls_text c (call ∷ calls) = 32 ∷ call_text c call ++ others_text c calls
 
 abbrev pub thread_text : Declarations → List Call → List ℕ
 thread_text c calls = codes "thread" ++ calls_text c calls ++ 10 ∷ []

@@ -1,6 +1,6 @@
 use crate::{
     Matrix, MatrixFaultKind, Move, Schedule, ScheduleFault, cut_to, read_matrix, read_schedule,
-    remove, write_schedule,
+    remove, write_matrix, write_schedule,
 };
 use lu_lang::{Component, read_component};
 use lu_text::Fault;
@@ -11,16 +11,20 @@ const COMPONENT: &[u8] =
     b"component c\nop inc 0\nreturn 0\nend\nop add 2\nadd r0 r0 r1\nreturn r0\nend\n";
 
 fn component<X: AllocGlobal>(rt: &X) -> Result<Component, Fail> {
-    Ok(read_component(rt.alloc(), COMPONENT)
-        .ok()
-        .ok_or("a component")?)
+    Ok(
+        read_component(rt.alloc(), COMPONENT)
+            .ok()
+            .ok_or("a component")?,
+    )
 }
 
 fn matrix<X: AllocGlobal>(rt: &X, text: &[u8]) -> Result<Matrix, Fail> {
     let component = component(rt)?;
-    Ok(read_matrix(rt.alloc(), &component, text)
-        .ok()
-        .ok_or("a matrix")?)
+    Ok(
+        read_matrix(rt.alloc(), &component, text)
+            .ok()
+            .ok_or("a matrix")?,
+    )
 }
 
 /// The operations' numbers that a thread calls.
@@ -83,18 +87,29 @@ fn faults_of_matrices(rt: HostRuntime) -> Result<(), Fail> {
         (b"thread ;inc".as_slice(), MatrixFaultKind::Form, 1),
         (b"thread inc;".as_slice(), MatrixFaultKind::Form, 1),
         (b"; thread".as_slice(), MatrixFaultKind::Form, 1),
-        (b"thread inc;dec;add".as_slice(), MatrixFaultKind::UnknownOp, 1),
-        (b"thread add x 1;inc 1".as_slice(), MatrixFaultKind::Arguments, 1),
+        (
+            b"thread inc;dec;add".as_slice(),
+            MatrixFaultKind::UnknownOp,
+            1,
+        ),
+        (
+            b"thread add x 1;inc 1".as_slice(),
+            MatrixFaultKind::Arguments,
+            1,
+        ),
         (b"thread add 1 00".as_slice(), MatrixFaultKind::Number, 1),
-        (b"thread add 1 4294967296".as_slice(), MatrixFaultKind::Number, 1),
+        (
+            b"thread add 1 4294967296".as_slice(),
+            MatrixFaultKind::Number,
+            1,
+        ),
         (
             b"thread inc;inc;inc;inc;inc;inc;inc;inc;inc".as_slice(),
             MatrixFaultKind::Limit,
             1,
         ),
         (
-            b"thread inc;inc;inc;inc;inc;inc;inc;inc\nthread inc;inc;inc;inc;inc;inc;inc;inc\nthread inc"
-                .as_slice(),
+            b"thread inc;inc;inc;inc;inc;inc;inc;inc\nthread inc;inc;inc;inc;inc;inc;inc;inc\nthread inc".as_slice(),
             MatrixFaultKind::Limit,
             3,
         ),
@@ -147,7 +162,10 @@ fn faults_of_schedules(rt: HostRuntime) -> Result<(), Fail> {
         (b"schedule 9:0\n".as_slice(), ScheduleFault::Number),
         (b"schedule 8\n".as_slice(), ScheduleFault::Limit),
         (b"schedule 0:8\n".as_slice(), ScheduleFault::Limit),
-        (b"schedule 99999999999999999999\n".as_slice(), ScheduleFault::Limit),
+        (
+            b"schedule 99999999999999999999\n".as_slice(),
+            ScheduleFault::Limit,
+        ),
     ] {
         let fault = read_schedule(rt.alloc(), text).err().ok_or("a fault")?;
         assert_eq!(rt; fault, wanted);
@@ -192,5 +210,20 @@ fn a_matrix_is_cut_to_first_calls(rt: HostRuntime) -> Result<(), Fail> {
     assert_eq!(rt; whole.calls(0), 2);
     let first = cut_to(rt.alloc(), &whole, &[1])?;
     assert_eq!(rt; numbers(&rt, &first, 0)?.as_slice(), [1].as_slice());
+    Ok(())
+}
+
+#[test]
+fn matrices_are_written(rt: HostRuntime) -> Result<(), Fail> {
+    let component = component(&rt)?;
+    let read = read_matrix(
+        rt.alloc(),
+        &component,
+        b"\tthread  inc ; add 1  20 # two\n\nthread\n",
+    )
+    .ok()
+    .ok_or("a matrix")?;
+    let written = write_matrix(rt.alloc(), &component, &read)?;
+    assert_eq!(rt; written.as_str(), "thread inc;add 1 20\nthread\n");
     Ok(())
 }

@@ -1,4 +1,4 @@
-use Rattle.std.proofs.Common.{◌≡◌, rules, refl, get_or}
+use Rattle.std.proofs.Common.{rules, refl, get_or}
 use Rattle.std.proofs.lemmas.List.{get_or_default}
 use Rattle.lu_test.specs.declared.schedule.Move.{Move}
 use Rattle.lu_machine.specs.Steps.{IsFeasible}

@@ -1,4 +1,3 @@
-use Rattle.std.proofs.Common.{rules}
 use Rattle.lu_machine.specs.Layout.{IsStanding}
 use Rattle.lu_machine.proofs.Undoing.{move_back, can_take}
 use Rattle.lu_machine.proofs.machine.Machine.go_on.Goals as goal

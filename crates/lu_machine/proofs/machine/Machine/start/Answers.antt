@@ -1,4 +1,4 @@
-use Rattle.std.proofs.Common.{arith, rules, ◌≡◌, ap, ◌∙◌, length, replicate, List, Option, None, ℕ}
+use Rattle.std.proofs.Common.{rules, ◌≡◌, ap, ◌∙◌, length, replicate, List, Option, None, ℕ}
 use Rattle.std.proofs.lemmas.List.{length-replicate}
 use Rattle.std.proofs.lemmas.List.Elements.{All-replicate}
 use Rattle.lu_lang.specs.declared.component.Array.{Array}

@@ -1,0 +1,98 @@
+//! Writing of matrices.
+
+ghost use Rattle.std.specs.Prelude.{◌≡◌, ◌++◌, IfOk, OnOk, string_bytes};
+ghost use Rattle.lu_test.specs.Matrix.{IsOf};
+ghost use Rattle.lu_test.specs.MatrixText as spec;
+
+use crate::matrix::{Call, Matrix};
+use lu_lang::Component;
+use std::alloc::{AllocError, Global};
+
+/// Adds the name of operation number `number` at the end of a text.
+fn put_name(text: &mut String, component: &Component, number: u8) -> Result<(), AllocError>
+    ensures { OnOk result (string_bytes text.new ≡ string_bytes text.old ++ spec.operation_name component.now number) }
+{
+    match component.operation(number) {
+        None => Ok(()),
+        Some(op) => text.push_str(op.name.as_str()),
+    }
+}
+
+fn put_argument(text: &mut String, argument: u32) -> Result<(), AllocError>
+    ensures { OnOk result (string_bytes text.new ≡ string_bytes text.old ++ spec.argument_text argument) }
+{
+    write!(text, " {argument}")?;
+    Ok(())
+}
+
+fn put_arguments(text: &mut String, arguments: &[u32]) -> Result<(), AllocError>
+    ensures { OnOk result (string_bytes text.new ≡ string_bytes text.old ++ spec.arguments_text arguments.now) }
+{
+    for argument in arguments {
+        put_argument(text, *argument)?;
+    }
+    Ok(())
+}
+
+fn put_call(text: &mut String, component: &Component, call: &Call) -> Result<(), AllocError>
+    ensures { OnOk result (string_bytes text.new ≡ string_bytes text.old ++ spec.call_text component.now call.now) }
+{
+    put_name(text, component, call.op)?;
+    put_arguments(text, call.args.as_slice())
+}
+
+/// Adds a call behind `;`.
+fn put_other(text: &mut String, component: &Component, call: &Call) -> Result<(), AllocError>
+    ensures { OnOk result (string_bytes text.new ≡ string_bytes text.old ++ spec.other_text component.now call.now) }
+{
+    text.push(';')?;
+    put_call(text, component, call)
+}
+
+fn put_others(text: &mut String, component: &Component, calls: &[Call]) -> Result<(), AllocError>
+    ensures { OnOk result (string_bytes text.new ≡ string_bytes text.old ++ spec.others_text component.now calls.now) }
+{
+    for call in calls {
+        put_other(text, component, call)?;
+    }
+    Ok(())
+}
+
+fn put_calls(text: &mut String, component: &Component, calls: &[Call]) -> Result<(), AllocError>
+    ensures { OnOk result (string_bytes text.new ≡ string_bytes text.old ++ spec.calls_text component.now calls.now) }
+{
+    match calls {
+        [] => Ok(()),
+        [first, others @ ..] => {
+            text.push(' ')?;
+            put_call(text, component, first)?;
+            put_others(text, component, others)
+        }
+    }
+}
+
+fn put_thread(text: &mut String, component: &Component, calls: &[Call]) -> Result<(), AllocError>
+    ensures { OnOk result (string_bytes text.new ≡ string_bytes text.old ++ spec.thread_text component.now calls.now) }
+{
+    text.push_str("thread")?;
+    put_calls(text, component, calls)?;
+    text.push('\n')?;
+    Ok(())
+}
+
+/// The canonical text of a matrix: `thread`, and where there are calls a space and the calls, parted by
+/// `;` without blanks; one space before each argument; each line ends with LF.
+pub fn write_matrix(
+    alloc: Global,
+    component: &Component,
+    matrix: &Matrix,
+) -> Result<String, AllocError>
+    requires { IsOf matrix.now component.now }
+    ensures { IfOk result (λ text. string_bytes text ≡ spec.matrix_text component.now matrix.now) }
+{
+    let mut text = String::new(alloc);
+    for calls in matrix.as_slice() {
+        put_thread(&mut text, component, calls.as_slice())?;
+    }
+    Ok(text)
+}
