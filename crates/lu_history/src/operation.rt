@@ -1,6 +1,6 @@
 //! The names of operations.
 
-ghost use Rattle.std.specs.Prelude.{◌≡◌, ◌+◌, ◌*◌, ◌<◌};
+ghost use Rattle.std.specs.Prelude.{◌≡◌, ◌+◌, ◌*◌};
 
 /// The number of threads of a history, at most, and that of the calls of one thread.
 pub(crate) const LIMIT: usize = 8;

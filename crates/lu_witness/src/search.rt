@@ -7,7 +7,6 @@ ghost use Rattle.std.specs.Prelude.{◌≡◌, ◌↔◌, ◌<◌, ◌≤◌, �
 ghost use Rattle.lu_history.specs.declared.serial.SerialOp.{SerialOp};
 ghost use Rattle.lu_history.specs.Histories.{IsWellFormed};
 ghost use Rattle.lu_history.specs.Parts.{part};
-ghost use Rattle.lu_trie.specs.Members.{contains};
 ghost use Rattle.lu_witness.specs.Witnesses.{IsMember, HasWitness, IsWitness};
 ghost use Rattle.lu_witness.specs.Search.{AreTaken, IsBeginning, IsNext};
 
