@@ -227,3 +227,37 @@ fn matrices_are_written(rt: HostRuntime) -> Result<(), Fail> {
     assert_eq!(rt; written.as_str(), "thread inc;add 1 20\nthread\n");
     Ok(())
 }
+
+/// Each call gives its answer, or want of memory: also where one of its allocations is made to fail.
+#[test]
+fn want_of_memory_is_told(rt: HostRuntime) {
+    let component = match read_component(rt.alloc(), COMPONENT) {
+        Ok(component) => component,
+        Err(fault) => {
+            assert_eq!(rt; fault, Fault::Memory);
+            return;
+        }
+    };
+    match read_matrix(rt.alloc(), &component, b"thread inc;add 1 2\nthread\n") {
+        Ok(matrix) => {
+            if let Ok(text) = write_matrix(rt.alloc(), &component, &matrix) {
+                assert_eq!(rt; text.as_str(), "thread inc;add 1 2\nthread\n");
+            }
+        }
+        Err(fault) => assert_eq!(rt; fault, Fault::Memory),
+    }
+    if let Err(fault) = read_matrix(rt.alloc(), &component, b"thread inc;\n") {
+        assert!(rt; fault == Fault::Memory || fault == Fault::At(MatrixFaultKind::Form, 1));
+    }
+    match read_schedule(rt.alloc(), b"schedule 0 1:2\n") {
+        Ok(schedule) => {
+            if let Ok(text) = write_schedule(rt.alloc(), &schedule) {
+                assert_eq!(rt; text.as_str(), "schedule 0 1:2\n");
+            }
+        }
+        Err(fault) => assert_eq!(rt; fault, ScheduleFault::Memory),
+    }
+    if let Err(fault) = read_schedule(rt.alloc(), b"schedule 0:0\n") {
+        assert!(rt; fault == ScheduleFault::Memory || fault == ScheduleFault::Number);
+    }
+}
