@@ -8,6 +8,10 @@ mod instr;
 mod instructions;
 mod keyword;
 mod reading;
+#[cfg(test)]
+mod rows;
+#[cfg(test)]
+mod tests;
 
 pub use component::{
     Array, Code, Component, MOST_ARGUMENTS, MOST_ARRAYS, MOST_CELLS, MOST_INSTRS, MOST_LOCKS,

@@ -4,6 +4,8 @@
 //! crate has the parts that they share.
 #![tactic(auto)]
 
+#[cfg(test)]
+mod examples;
 mod fault;
 mod line;
 mod name;

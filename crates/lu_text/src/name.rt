@@ -58,7 +58,7 @@ impl Name {
     pub fn is(&self, word: &[u8]) -> bool
         ensures { result ≡ bytes_eq self.now word.now }
     {
-        self.text.as_bytes() == word
+        self.as_bytes() == word
     }
 }
 
