@@ -16,13 +16,13 @@ pub(crate) type Registers = [u32; 8];
 /// An open operation.
 #[derive(Clone, Copy, Debug)]
 pub(crate) struct Frame {
+    pub(crate) registers: Registers,
+
     /// The number of the operation in its component.
     pub(crate) op: u8,
 
     /// The place of its next instruction.
     pub(crate) place: u8,
-
-    pub(crate) registers: Registers,
 }
 
 /// What a thread is at.
