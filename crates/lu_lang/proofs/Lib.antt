@@ -1,3 +1,4 @@
 pub mod Placing
 pub mod Statements
 pub mod Drafts
+pub mod Lines

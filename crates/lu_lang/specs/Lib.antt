@@ -4,3 +4,4 @@ pub mod Draft
 pub mod Words
 pub mod Grammar
 pub mod Sound
+pub mod ComponentText

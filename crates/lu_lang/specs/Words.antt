@@ -1,5 +1,5 @@
 -- Keywords of instructions, registers and operands.
-use Rattle.std.specs.Prelude.{ℕ, ◌-◌, List, [], ◌∷◌, Option, Some, None, codes, ◌==◌, ◌&&◌, nat_le, if◌then◌else◌}
+use Rattle.std.specs.Prelude.{find, ℕ, ◌-◌, List, [], ◌∷◌, Option, Some, None, codes, ◌==◌, ◌&&◌, nat_le, if◌then◌else◌}
 use Rattle.std.specs.Str.{bytes_eq}
 use Rattle.lu_text.specs.Numbers.{value_in}
 use Rattle.lu_lang.specs.declared.instr.Operand.{Operand}
@@ -9,51 +9,41 @@ use Rattle.lu_lang.specs.declared.instr.Arithmetic.TheVariants.{Add, Sub, Mul, E
 use Rattle.lu_lang.specs.declared.keyword.Keyword.{Keyword}
 use Rattle.lu_lang.specs.declared.keyword.Keyword.TheVariants.{Set, Compute, Load, Store, Cas, Lock, Unlock, Await, AwaitNot, Pick, Jump, JumpIfZero, Return}
 
-abbrev pub arithmetic_in : List ℕ → Option Arithmetic
-arithmetic_in word =
-    if bytes_eq word (codes "add") then Some Add
-    else (if bytes_eq word (codes "sub") then Some Sub
-    else (if bytes_eq word (codes "mul") then Some Mul
-    else (if bytes_eq word (codes "eq") then Some Eq
-    else (if bytes_eq word (codes "lt") then Some Lt
-    else None))))
+-- ---- keywords
 
-abbrev pub memory_in : List ℕ → Option Keyword
-memory_in word =
-    if bytes_eq word (codes "set") then Some Set
-    else (if bytes_eq word (codes "load") then Some Load
-    else (if bytes_eq word (codes "store") then Some Store
-    else (if bytes_eq word (codes "cas") then Some Cas
-    else None)))
+abbrev pub arithmetic_word : Arithmetic → List ℕ
+arithmetic_word Add = codes "add"
+arithmetic_word Sub = codes "sub"
+arithmetic_word Mul = codes "mul"
+arithmetic_word Eq = codes "eq"
+arithmetic_word Lt = codes "lt"
 
-abbrev pub waiting_in : List ℕ → Option Keyword
-waiting_in word =
-    if bytes_eq word (codes "lock") then Some Lock
-    else (if bytes_eq word (codes "unlock") then Some Unlock
-    else (if bytes_eq word (codes "await") then Some Await
-    else (if bytes_eq word (codes "awaitne") then Some AwaitNot
-    else (if bytes_eq word (codes "pick") then Some Pick
-    else None))))
+abbrev pub keyword_word : Keyword → List ℕ
+keyword_word Set = codes "set"
+keyword_word (Compute arithmetic) = arithmetic_word arithmetic
+keyword_word Load = codes "load"
+keyword_word Store = codes "store"
+keyword_word Cas = codes "cas"
+keyword_word Lock = codes "lock"
+keyword_word Unlock = codes "unlock"
+keyword_word Await = codes "await"
+keyword_word AwaitNot = codes "awaitne"
+keyword_word Pick = codes "pick"
+keyword_word Jump = codes "jump"
+keyword_word JumpIfZero = codes "jz"
+keyword_word Return = codes "return"
 
-abbrev pub flow_in : List ℕ → Option Keyword
-flow_in word =
-    if bytes_eq word (codes "jump") then Some Jump
-    else (if bytes_eq word (codes "jz") then Some JumpIfZero
-    else (if bytes_eq word (codes "return") then Some Return
-    else None))
-
-abbrev pub or_keyword : Option Keyword → Option Keyword → Option Keyword
-or_keyword None other = other
-or_keyword (Some keyword) other = Some keyword
-
-abbrev pub computes : Option Arithmetic → Option Keyword
-computes None = None
-computes (Some arithmetic) = Some (Compute arithmetic)
+abbrev pub keywords : List Keyword
+keywords =
+    Set ∷ Compute Add ∷ Compute Sub ∷ Compute Mul ∷ Compute Eq ∷ Compute Lt
+    ∷ Load ∷ Store ∷ Cas ∷ Lock ∷ Unlock ∷ Await ∷ AwaitNot ∷ Pick
+    ∷ Jump ∷ JumpIfZero ∷ Return ∷ []
 
 -- the keyword that a word is, where it is one
 abbrev pub keyword_in : List ℕ → Option Keyword
-keyword_in word =
-    or_keyword (computes (arithmetic_in word)) (or_keyword (memory_in word) (or_keyword (waiting_in word) (flow_in word)))
+keyword_in word = find (λ k. bytes_eq word (keyword_word k)) keywords
+
+-- ---- registers and operands
 
 -- `r0` to `r7`
 abbrev pub register_in : List ℕ → Option ℕ

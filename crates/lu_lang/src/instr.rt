@@ -1,5 +1,7 @@
 //! Instructions.
 
+use std::fmt;
+
 /// The number of registers of an operation, `r0` to `r7`.
 pub const REGISTERS: u8 = 8;
 
@@ -14,6 +16,21 @@ pub enum Operand {
 
     /// This number.
     Num(u32),
+}
+
+/// As it stands in a text: `r0` to `r7`, or the number.
+impl fmt::Display for Operand {
+    ghost use Rattle.std.specs.Prelude.{Some};
+    ghost use Rattle.lu_lang.specs.ComponentText.{operand_word};
+
+    ghost output = { λ o. Some (operand_word o) };
+
+    fn fmt<W: fmt::Write>(&self, f: &mut fmt::Formatter<W>) -> fmt::Result {
+        match *self {
+            Operand::Reg(register) => write!(f, "r{register}"),
+            Operand::Num(number) => write!(f, "{number}"),
+        }
+    }
 }
 
 /// What an arithmetic instruction computes of two values. Arithmetic is modulo 2^32, and values are

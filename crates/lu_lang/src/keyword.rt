@@ -24,28 +24,44 @@ pub enum Keyword {
     Return,
 }
 
-fn arithmetic_in(word: &[u8]) -> Option<Arithmetic>
-    ensures { result ≡ spec.arithmetic_in word.now }
-{
-    if word == b"add".as_slice() {
-        Some(Arithmetic::Add)
-    } else if word == b"sub".as_slice() {
-        Some(Arithmetic::Sub)
-    } else if word == b"mul".as_slice() {
-        Some(Arithmetic::Mul)
-    } else if word == b"eq".as_slice() {
-        Some(Arithmetic::Eq)
-    } else if word == b"lt".as_slice() {
-        Some(Arithmetic::Lt)
-    } else {
-        None
+impl Arithmetic {
+    /// The keyword of the instruction that computes it.
+    pub fn word(self) -> &'static str
+        ensures { result.now ≡ spec.arithmetic_word self }
+    {
+        match self {
+            Arithmetic::Add => "add",
+            Arithmetic::Sub => "sub",
+            Arithmetic::Mul => "mul",
+            Arithmetic::Eq => "eq",
+            Arithmetic::Lt => "lt",
+        }
     }
 }
 
-fn waiting_in(word: &[u8]) -> Option<Keyword>
-    ensures { result ≡ spec.waiting_in word.now }
+/// The keyword that a word is, where it is one.
+pub fn keyword_in(word: &[u8]) -> Option<Keyword>
+    ensures { result ≡ spec.keyword_in word.now }
 {
-    if word == b"lock".as_slice() {
+    if word == b"set".as_slice() {
+        Some(Keyword::Set)
+    } else if word == b"add".as_slice() {
+        Some(Keyword::Compute(Arithmetic::Add))
+    } else if word == b"sub".as_slice() {
+        Some(Keyword::Compute(Arithmetic::Sub))
+    } else if word == b"mul".as_slice() {
+        Some(Keyword::Compute(Arithmetic::Mul))
+    } else if word == b"eq".as_slice() {
+        Some(Keyword::Compute(Arithmetic::Eq))
+    } else if word == b"lt".as_slice() {
+        Some(Keyword::Compute(Arithmetic::Lt))
+    } else if word == b"load".as_slice() {
+        Some(Keyword::Load)
+    } else if word == b"store".as_slice() {
+        Some(Keyword::Store)
+    } else if word == b"cas".as_slice() {
+        Some(Keyword::Cas)
+    } else if word == b"lock".as_slice() {
         Some(Keyword::Lock)
     } else if word == b"unlock".as_slice() {
         Some(Keyword::Unlock)
@@ -55,31 +71,7 @@ fn waiting_in(word: &[u8]) -> Option<Keyword>
         Some(Keyword::AwaitNot)
     } else if word == b"pick".as_slice() {
         Some(Keyword::Pick)
-    } else {
-        None
-    }
-}
-
-fn memory_in(word: &[u8]) -> Option<Keyword>
-    ensures { result ≡ spec.memory_in word.now }
-{
-    if word == b"set".as_slice() {
-        Some(Keyword::Set)
-    } else if word == b"load".as_slice() {
-        Some(Keyword::Load)
-    } else if word == b"store".as_slice() {
-        Some(Keyword::Store)
-    } else if word == b"cas".as_slice() {
-        Some(Keyword::Cas)
-    } else {
-        None
-    }
-}
-
-fn flow_in(word: &[u8]) -> Option<Keyword>
-    ensures { result ≡ spec.flow_in word.now }
-{
-    if word == b"jump".as_slice() {
+    } else if word == b"jump".as_slice() {
         Some(Keyword::Jump)
     } else if word == b"jz".as_slice() {
         Some(Keyword::JumpIfZero)
@@ -88,22 +80,6 @@ fn flow_in(word: &[u8]) -> Option<Keyword>
     } else {
         None
     }
-}
-
-/// The keyword that a word is, where it is one.
-pub fn keyword_in(word: &[u8]) -> Option<Keyword>
-    ensures { result ≡ spec.keyword_in word.now }
-{
-    if let Some(arithmetic) = arithmetic_in(word) {
-        return Some(Keyword::Compute(arithmetic));
-    }
-    if let Some(keyword) = memory_in(word) {
-        return Some(keyword);
-    }
-    if let Some(keyword) = waiting_in(word) {
-        return Some(keyword);
-    }
-    flow_in(word)
 }
 
 /// The register that a word is: `r0` to `r7`.

@@ -12,6 +12,7 @@ mod reading;
 mod rows;
 #[cfg(test)]
 mod tests;
+mod writing;
 
 pub use component::{
     Array, Code, Component, MOST_ARGUMENTS, MOST_ARRAYS, MOST_CELLS, MOST_INSTRS, MOST_LOCKS,
@@ -20,3 +21,4 @@ pub use component::{
 pub use fault::{LangFault, LangFaultKind};
 pub use instr::{Arithmetic, Instr, MOST_PICKS, Operand, REGISTERS};
 pub use reading::read_component;
+pub use writing::write_component;

@@ -1,7 +1,10 @@
 //! Which component a text is, and which fault a text has.
 
 use crate::rows::ROWS;
-use crate::{Arithmetic, Component, Instr, LangFault, LangFaultKind, Operand, read_component};
+use crate::{
+    Arithmetic, Component, Instr, LangFault, LangFaultKind, Operand, read_component,
+    write_component,
+};
 use lu_text::Fault;
 use std::alloc::{AllocError, Global};
 use std::process::Abort;
@@ -519,5 +522,43 @@ fn shows_faults(rt: HostRuntime) -> Result<(), Fail> {
         let fault: LangFault = Fault::At(kind, 3);
         assert_eq!(rt; format!(in alloc; "{fault}")?.as_str(), shown);
     }
+    Ok(())
+}
+
+/// Passes too where any one allocation fails (`rt try --test --fail-alloc N`): then memory is wanted,
+/// and nothing else is answered.
+#[test]
+fn answers_or_wants_memory(rt: HostRuntime) {
+    match read(rt.alloc(), ROWS) {
+        Ok(component) => assert_eq!(rt; component.operations().len(), 16),
+        Err(fault) => assert_eq!(rt; fault, Fault::Memory),
+    }
+    let text = "component c\nword x 1 0\nlock m\nop f 0\nA: jz r0 B\njump A\nend\n";
+    match read(rt.alloc(), text) {
+        Ok(_) => assert!(rt; false, "B is no label"),
+        Err(Fault::At(kind, line)) => assert_eq!(rt; (kind, line), (LangFaultKind::Name, 7)),
+        Err(Fault::Memory) => {}
+    }
+}
+
+#[test]
+fn writes_sixteen_operations(rt: HostRuntime) -> Result<(), Fail> {
+    let component = read(rt.alloc(), ROWS)?;
+    assert_eq!(rt; write_component(rt.alloc(), &component)?.as_str(), ROWS);
+    Ok(())
+}
+
+/// What reads the same is written the same: declarations go to the front, labels go by their places.
+#[test]
+fn writes_the_canonical_text(rt: HostRuntime) -> Result<(), Fail> {
+    let text =
+        "component c # none\n\nop f 1\nstart: mul r1 r0 r0\nunused:\teq r7 r1 4294967295\n jz r7 out\njump start\nout: return 0\nend\nlock m\nword x 64 7\nop g 0\nawaitne x r0 1\nunlock m\nreturn r0\nend";
+    let canonical =
+        "component c\nword x 64 7\nlock m\nop f 1\nL0: mul r1 r0 r0\neq r7 r1 4294967295\njz r7 L4\njump L0\nL4: return 0\nend\nop g 0\nawaitne x r0 1\nunlock m\nreturn r0\nend\n";
+    let component = read(rt.alloc(), text)?;
+    assert_eq!(rt;
+        write_component(rt.alloc(), &component)?.as_str(),
+        canonical
+    );
     Ok(())
 }

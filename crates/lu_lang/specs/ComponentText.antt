@@ -1,0 +1,99 @@
+-- The canonical text of a component: no comments, no empty lines, one space between words, and labels
+-- only where a jump leads.
+use Rattle.std.specs.Prelude.{ℕ, List, [], ◌∷◌, ◌++◌, Bool, false, slice_get, codes, ◌==◌, if◌then◌else◌}
+use Rattle.std.specs.List.{flat_map, join_with_byte, list_any, enumerate_from}
+use Rattle.std.specs.Option.{unwrap_or, option_map}
+use Rattle.std.specs.Fmt.{decimal}
+use Rattle.lu_text.specs.Words.{Word}
+use Rattle.lu_lang.specs.declared.instr.Operand.{Operand}
+use Rattle.lu_lang.specs.declared.instr.Operand.TheVariants.{Reg, Num}
+use Rattle.lu_lang.specs.declared.instr.Instr.{Instr}
+use Rattle.lu_lang.specs.declared.instr.Instr.TheVariants.{Set, Compute, Load, Store, Cas, Lock, Unlock, Await, AwaitNot, Pick, Jump, JumpIfZero, Return}
+use Rattle.lu_lang.specs.declared.keyword.Keyword.TheVariants as keyword
+use Rattle.lu_lang.specs.declared.component.Array.{Array}
+use Rattle.lu_lang.specs.declared.component.Op.{Op}
+use Rattle.lu_lang.specs.Component.{Declarations}
+use Rattle.lu_lang.specs.Words.{keyword_word}
+
+-- ---- words
+
+abbrev pub register_word : ℕ → Word
+register_word r = codes "r" ++ decimal r
+
+abbrev pub operand_word : Operand → Word
+operand_word (Reg r) = register_word r
+operand_word (Num n) = decimal n
+
+abbrev pub array_word : Declarations → ℕ → Word
+array_word c array = unwrap_or (option_map (λ a. a.name) (slice_get c.arrays array)) []
+
+abbrev pub lock_word : Declarations → ℕ → Word
+lock_word c lock = unwrap_or (slice_get c.locks lock) []
+
+-- the name of the label at this place
+abbrev pub label_word : ℕ → Word
+label_word place = codes "L" ++ decimal place
+
+-- ---- instructions
+
+abbrev pub instr_words : Declarations → Instr → List Word
+instr_words c (Set to v) = keyword_word keyword.Set ∷ register_word to ∷ operand_word v ∷ []
+instr_words c (Compute by to a b) =
+    keyword_word (keyword.Compute by) ∷ register_word to ∷ operand_word a ∷ operand_word b ∷ []
+instr_words c (Load to array i) =
+    keyword_word keyword.Load ∷ register_word to ∷ array_word c array ∷ operand_word i ∷ []
+instr_words c (Store array i v) =
+    keyword_word keyword.Store ∷ array_word c array ∷ operand_word i ∷ operand_word v ∷ []
+instr_words c (Cas to array i old new) =
+    keyword_word keyword.Cas ∷ register_word to ∷ array_word c array ∷ operand_word i ∷ operand_word old ∷ operand_word new ∷ []
+instr_words c (Lock lock) = keyword_word keyword.Lock ∷ lock_word c lock ∷ []
+instr_words c (Unlock lock) = keyword_word keyword.Unlock ∷ lock_word c lock ∷ []
+instr_words c (Await array i v) =
+    keyword_word keyword.Await ∷ array_word c array ∷ operand_word i ∷ operand_word v ∷ []
+instr_words c (AwaitNot array i v) =
+    keyword_word keyword.AwaitNot ∷ array_word c array ∷ operand_word i ∷ operand_word v ∷ []
+instr_words c (Pick to count) = keyword_word keyword.Pick ∷ register_word to ∷ decimal count ∷ []
+instr_words c (Jump target) = keyword_word keyword.Jump ∷ label_word target ∷ []
+instr_words c (JumpIfZero v target) = keyword_word keyword.JumpIfZero ∷ operand_word v ∷ label_word target ∷ []
+instr_words c (Return v) = keyword_word keyword.Return ∷ operand_word v ∷ []
+
+abbrev pub leads_to : ℕ → Instr → Bool
+leads_to place (Jump target) = target == place
+leads_to place (JumpIfZero v target) = target == place
+leads_to place _ = false
+
+-- ---- lines
+
+-- one space between words
+abbrev pub line_text : List Word → List ℕ
+line_text words = join_with_byte 32 words ++ 10 ∷ []
+
+-- a label and a space, where some jump leads to the place
+abbrev pub label_text : List Instr → ℕ → List ℕ
+label_text code place = if list_any (leads_to place) code then label_word place ++ codes ": " else []
+
+abbrev pub array_text : Array → List ℕ
+array_text array = line_text (codes "word" ∷ array.name ∷ decimal array.len ∷ decimal array.init ∷ [])
+
+abbrev pub lock_text : List ℕ → List ℕ
+lock_text name = line_text (codes "lock" ∷ name ∷ [])
+
+-- the line of the instruction at a place, behind its label
+abbrev pub instr_line : Declarations → List Instr → ℕ × Instr → List ℕ
+instr_line c code (place, instr) = label_text code place ++ line_text (instr_words c instr)
+
+abbrev pub code_text : Declarations → List Instr → List ℕ
+code_text c code = flat_map (instr_line c code) (enumerate_from 0 code)
+
+abbrev pub op_text : Declarations → Op → List ℕ
+op_text c op =
+    line_text (codes "op" ∷ op.name ∷ decimal op.args ∷ [])
+    ++ code_text c op.code
+    ++ line_text (codes "end" ∷ [])
+
+abbrev pub component_text : Declarations → List ℕ
+component_text c =
+    line_text (codes "component" ∷ c.name ∷ [])
+    ++ flat_map array_text c.arrays
+    ++ flat_map lock_text c.locks
+    ++ flat_map (op_text c) c.operations

@@ -1,0 +1,213 @@
+//! Writing of components: their canonical text.
+
+ghost use Rattle.std.specs.Prelude.{◌≡◌, ◌++◌, IfOk, OnOk, string_bytes};
+ghost use Rattle.std.specs.List.{list_any, join_with_byte, flat_map};
+ghost use Rattle.lu_lang.specs.ComponentText as spec;
+
+use crate::component::{Array, Component, Op};
+use crate::instr::Instr;
+use lu_text::Name;
+use std::alloc::{AllocError, Global};
+
+/// The name of an array, by its number. No instruction of a component names one that is not there.
+fn array_name(component: &Component, number: u8) -> &str
+    ensures { result.now ≡ spec.array_word component.now number }
+{
+    match component.arrays().get(usize::from(number)) {
+        None => "",
+        Some(array) => array.name.as_str(),
+    }
+}
+
+/// The name of a lock, by its number. No instruction of a component names one that is not there.
+fn lock_name(component: &Component, number: u8) -> &str
+    ensures { result.now ≡ spec.lock_word component.now number }
+{
+    match component.locks().get(usize::from(number)) {
+        None => "",
+        Some(name) => name.as_str(),
+    }
+}
+
+/// Adds an instruction's words at the end of a text.
+fn write_instr(text: &mut String, component: &Component, instr: Instr) -> Result<(), AllocError>
+    ensures { OnOk result (string_bytes text.new ≡ string_bytes text.old ++ join_with_byte 32 (spec.instr_words component.now instr)) }
+{
+    match instr {
+        Instr::Set { to, value } => write!(text, "set r{to} {value}")?,
+        Instr::Compute {
+            arithmetic,
+            to,
+            left,
+            right,
+        } => write!(text, "{} r{to} {left} {right}", arithmetic.word())?,
+        Instr::Load { to, array, index } => {
+            write!(text, "load r{to} {} {index}", array_name(component, array))?
+        }
+        Instr::Store {
+            array,
+            index,
+            value,
+        } => write!(
+            text,
+            "store {} {index} {value}",
+            array_name(component, array)
+        )?,
+        Instr::Cas {
+            to,
+            array,
+            index,
+            expected,
+            desired,
+        } => write!(
+            text,
+            "cas r{to} {} {index} {expected} {desired}",
+            array_name(component, array)
+        )?,
+        Instr::Lock(lock) => write!(text, "lock {}", lock_name(component, lock))?,
+        Instr::Unlock(lock) => write!(text, "unlock {}", lock_name(component, lock))?,
+        Instr::Await {
+            array,
+            index,
+            value,
+        } => write!(
+            text,
+            "await {} {index} {value}",
+            array_name(component, array)
+        )?,
+        Instr::AwaitNot {
+            array,
+            index,
+            value,
+        } => write!(
+            text,
+            "awaitne {} {index} {value}",
+            array_name(component, array)
+        )?,
+        Instr::Pick { to, count } => write!(text, "pick r{to} {count}")?,
+        Instr::Jump(target) => write!(text, "jump L{target}")?,
+        Instr::JumpIfZero { value, target } => write!(text, "jz {value} L{target}")?,
+        Instr::Return(value) => write!(text, "return {value}")?,
+    }
+    Ok(())
+}
+
+/// Whether an instruction is a jump to this place.
+fn leads_to(place: usize, instr: Instr) -> bool
+    ensures { result ≡ spec.leads_to place instr }
+{
+    match instr {
+        Instr::Jump(target) => usize::from(target) == place,
+        Instr::JumpIfZero { target, .. } => usize::from(target) == place,
+        _ => false,
+    }
+}
+
+fn has_label(code: &[Instr], place: usize) -> bool
+    ensures { result ≡ list_any (spec.leads_to place) code.now }
+{
+    code.iter().any(|instr| leads_to(place, *instr))
+}
+
+/// Adds the label of a place at the end of a text, where some jump leads to the place.
+fn write_label(text: &mut String, code: &[Instr], place: usize) -> Result<(), AllocError>
+    ensures { OnOk result (string_bytes text.new ≡ string_bytes text.old ++ spec.label_text code.now place) }
+{
+    if has_label(code, place) {
+        write!(text, "L{place}: ")?;
+    }
+    Ok(())
+}
+
+/// Adds the line of the instruction at a place at the end of a text.
+fn write_line(
+    text: &mut String,
+    component: &Component,
+    code: &[Instr],
+    place: usize,
+    instr: Instr,
+) -> Result<(), AllocError>
+    ensures { OnOk result (string_bytes text.new ≡ string_bytes text.old ++ spec.instr_line component.now code.now (place, instr)) }
+{
+    write_label(text, code, place)?;
+    write_instr(text, component, instr)?;
+    text.push('\n')
+}
+
+/// Adds the lines of an operation's instructions at the end of a text.
+#[tactic(auto, using(crate::proofs::Lines::all_taken))]
+fn write_code(text: &mut String, component: &Component, code: &[Instr]) -> Result<(), AllocError>
+    ensures { OnOk result (string_bytes text.new ≡ string_bytes text.old ++ spec.code_text component.now code.now) }
+{
+    for (place, instr) in code.iter().enumerate() {
+        write_line(text, component, code, place, *instr)?;
+    }
+    Ok(())
+}
+
+fn write_array(text: &mut String, array: &Array) -> Result<(), AllocError>
+    ensures { OnOk result (string_bytes text.new ≡ string_bytes text.old ++ spec.array_text array.now) }
+{
+    let Array { name, len, init } = array;
+    writeln!(text, "word {} {len} {init}", name.as_str())
+}
+
+fn write_lock(text: &mut String, name: &Name) -> Result<(), AllocError>
+    ensures { OnOk result (string_bytes text.new ≡ string_bytes text.old ++ spec.lock_text name.now) }
+{
+    writeln!(text, "lock {}", name.as_str())
+}
+
+fn write_op(text: &mut String, component: &Component, op: &Op) -> Result<(), AllocError>
+    ensures { OnOk result (string_bytes text.new ≡ string_bytes text.old ++ spec.op_text component.now op.now) }
+{
+    let args = op.args;
+    writeln!(text, "op {} {args}", op.name.as_str())?;
+    write_code(text, component, op.code.instrs())?;
+    writeln!(text, "end")
+}
+
+fn write_arrays(text: &mut String, arrays: &[Array]) -> Result<(), AllocError>
+    ensures { OnOk result (string_bytes text.new ≡ string_bytes text.old ++ flat_map spec.array_text arrays.now) }
+{
+    for array in arrays {
+        write_array(text, array)?;
+    }
+    Ok(())
+}
+
+fn write_locks(text: &mut String, locks: &[Name]) -> Result<(), AllocError>
+    ensures { OnOk result (string_bytes text.new ≡ string_bytes text.old ++ flat_map spec.lock_text locks.now) }
+{
+    for name in locks {
+        write_lock(text, name)?;
+    }
+    Ok(())
+}
+
+fn write_operations(text: &mut String, component: &Component) -> Result<(), AllocError>
+    ensures { OnOk result (string_bytes text.new ≡ string_bytes text.old ++ flat_map (spec.op_text component.now) component.now.operations) }
+{
+    for op in component.operations() {
+        write_op(text, component, op)?;
+    }
+    Ok(())
+}
+
+/// The canonical text of a component.
+///
+/// It has no comments and no empty lines. The line `component` comes first, then arrays, locks and
+/// operations, each kind in its order. One space stands between two words, and a label `Lk:` exactly at
+/// the places k, from 0, that some jump of the operation leads to. Each line ends with LF.
+///
+/// The error is want of memory.
+pub fn write_component(alloc: Global, component: &Component) -> Result<String, AllocError>
+    ensures { IfOk result (λ text. string_bytes text ≡ spec.component_text component.now) }
+{
+    let mut text = String::new(alloc);
+    writeln!(text, "component {}", component.name().as_str())?;
+    write_arrays(&mut text, component.arrays())?;
+    write_locks(&mut text, component.locks())?;
+    write_operations(&mut text, component)?;
+    Ok(text)
+}
