@@ -1,6 +1,9 @@
+pub mod Ahead
 pub mod Ended
 pub mod Keeping
 pub mod Layouts
+pub mod Numbers
+pub mod Orders
 pub mod Paths
 pub mod Progress
 pub mod StepLaws

@@ -9,3 +9,5 @@ pub mod Order
 pub mod Undoes
 pub mod Layout
 pub mod Laws
+pub mod Schedules
+pub mod Sums

@@ -18,6 +18,7 @@
 //! ```
 #![tactic(auto)]
 
+mod counts;
 mod event;
 mod instructions;
 mod laws;
@@ -26,6 +27,7 @@ mod span;
 mod thread;
 mod undo;
 
+pub use counts::Counts;
 pub use event::{Event, Outcome, Status};
 pub use laws::step_laws;
 pub use machine::Machine;

@@ -1,6 +1,6 @@
 //! Runs of small components, with the events that the step language asks for.
 
-use crate::{Event, Machine, Outcome, Status};
+use crate::{Counts, Event, Machine, Outcome, Status};
 use lu_lang::read_component;
 use lu_test::{Move, read_matrix};
 use std::process::Abort;
@@ -267,4 +267,18 @@ fn picks(rt: HostRuntime) -> Result<(), Fail> {
     assert!(rt; machine.feasible(first));
     assert_eq!(rt; machine.step(first), returned(0, 0, 2));
     Ok(())
+}
+
+/// Sums stop at the last number.
+#[test]
+fn counts_are_added(rt: HostRuntime) {
+    let counts = Counts {
+        complete: u64::MAX,
+        stuck: 2,
+        cut: 3,
+    };
+    let sum = counts.plus(counts).plus(Counts::NONE);
+    assert_eq!(rt; sum.complete, u64::MAX);
+    assert_eq!(rt; sum.stuck, 4);
+    assert_eq!(rt; sum.cut, 6);
 }

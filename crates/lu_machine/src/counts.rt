@@ -1,0 +1,32 @@
+//! How many schedules there are of each end.
+
+ghost use Rattle.std.specs.Prelude.{◌≡◌};
+ghost use Rattle.lu_machine.specs.Sums.{plus};
+
+/// How many schedules are complete, stuck and cut: each number up to 2^64 - 1, which stands for that or more.
+#[derive(Clone, Copy, Debug, PartialEq, Eq)]
+pub struct Counts {
+    pub complete: u64,
+    pub stuck: u64,
+    pub cut: u64,
+}
+
+impl Counts {
+    /// No schedule.
+    pub const NONE: Counts = Counts {
+        complete: 0,
+        stuck: 0,
+        cut: 0,
+    };
+
+    /// The sums of both, each at most 2^64 - 1.
+    pub fn plus(self, other: Counts) -> Counts
+        ensures { result ≡ plus self other }
+    {
+        Counts {
+            complete: self.complete.saturating_add(other.complete),
+            stuck: self.stuck.saturating_add(other.stuck),
+            cut: self.cut.saturating_add(other.cut),
+        }
+    }
+}
