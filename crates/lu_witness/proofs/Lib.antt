@@ -4,3 +4,4 @@ pub mod Finding
 pub mod Nexts
 pub mod Keeping
 pub mod Verdicts
+pub mod Endings

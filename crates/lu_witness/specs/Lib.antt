@@ -1,3 +1,4 @@
 pub mod Kept
 pub mod Search
 pub mod Witnesses
+pub mod Goodness
