@@ -1,0 +1,3 @@
+pub mod Serial
+pub mod Offences
+pub mod Walks

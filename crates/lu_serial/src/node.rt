@@ -1,0 +1,154 @@
+//! A node of the tree of serial schedules.
+
+ghost use Rattle.std.specs.Prelude.{◌≡◌, ◌↔◌, ◌++◌, [], IsTrue, IfOk, List};
+ghost use Rattle.lu_lang.specs.Component.{IsComponent};
+ghost use Rattle.lu_test.specs.Matrix.{IsMatrix, IsOf};
+ghost use Rattle.lu_machine.specs.Ends.{HasMove};
+ghost use Rattle.lu_machine.specs.Starts.{IsStart};
+ghost use Rattle.lu_machine.specs.Steps.{IsFeasible, Step};
+ghost use Rattle.lu_machine.specs.Undoes.{CanTake, restored};
+ghost use Rattle.lu_history.specs.declared.serial.SerialOp.{SerialOp};
+ghost use Rattle.lu_serial.specs.Walks.{AreTurns, HasRoom, HasSerialMove, IsFull, IsOpenIn, entry_if, open_after};
+
+use lu_history::{SerialOp, SerialOutcome};
+use lu_lang::Component;
+use lu_machine::{Event, Machine, Status, Undo};
+use lu_test::{Matrix, Move};
+use std::alloc::{AllocError, Global};
+
+/// The open operation: its thread, and how many moves it has taken after its call.
+#[derive(Clone, Copy, Debug)]
+pub(crate) struct OpenCall {
+    pub(crate) thread: u8,
+    pub(crate) taken: u16,
+}
+
+/// A machine, with the serial operations of the path that led to its state.
+#[derive(Debug, Drop)]
+pub(crate) struct Node<'a> {
+    pub(crate) machine: Machine<'a>,
+    pub(crate) entries: Vec<SerialOp>,
+}
+
+impl<'a> Node<'a> {
+    /// The start of a run.
+    pub(crate) fn start(
+        alloc: Global,
+        component: &'a Component,
+        matrix: &'a Matrix,
+    ) -> Result<Node<'a>, AllocError>
+        requires { IsOf matrix.now component.now }
+        ensures machine { IfOk result (λ node. IsStart component.now matrix.now node.machine) }
+        ensures entries { IfOk result (λ node. node.entries.items ≡ []) }
+    {
+        Ok(Node {
+            machine: Machine::start(alloc, component, matrix)?,
+            entries: Vec::new(alloc),
+        })
+    }
+
+    /// Makes the move here.
+    pub(crate) fn enter(&mut self, next: Move) -> Result<Undo, AllocError>
+        requires { IsFeasible self.old.machine next }
+        ensures step { IfOk result (λ undo. Step self.old.machine next self.new.machine undo.event) }
+        ensures entries { IfOk result (λ undo. self.new.entries.items ≡ self.old.entries.items ++ entry_if undo.event) }
+        ensures back { IfOk result (λ undo. restored undo self.new.machine ≡ self.old.machine) }
+        ensures fits { IfOk result (λ undo. CanTake self.new.machine undo) }
+    {
+        let undo = self.machine.apply(next);
+        if let Some(Event::Return { t, outcome, k: _ }) = undo.event() {
+            self.entries.push(SerialOp {
+                thread: t,
+                outcome: SerialOutcome::from(outcome),
+            })?;
+        }
+        Ok(undo)
+    }
+
+    /// Takes back the move that was made last.
+    pub(crate) fn leave(&mut self, undo: Undo)
+        requires { CanTake self.old.machine undo }
+        ensures machine { self.new.machine ≡ restored undo self.old.machine }
+        ensures entries { (entries : List SerialOp) → self.old.entries.items ≡ entries ++ entry_if undo.event → self.new.entries.items ≡ entries }
+    {
+        if let Some(Event::Return { .. }) = undo.event() {
+            self.entries.pop();
+        }
+        self.machine.undo(undo);
+    }
+}
+
+/// The limits of both hold. It does nothing.
+pub(crate) fn limits(component: &Component, matrix: &Matrix)
+    ensures component { IsComponent component.now }
+    ensures matrix { IsMatrix matrix.now }
+{
+    component.operations();
+    matrix.threads();
+}
+
+/// The operation that is open after a move of the thread with this event.
+pub(crate) fn open_after(
+    current: Option<OpenCall>,
+    thread: u8,
+    event: Option<Event>,
+) -> Option<OpenCall>
+    requires { HasRoom current }
+    ensures { result ≡ open_after current thread event }
+{
+    match event {
+        Some(Event::Call { .. }) => Some(OpenCall { thread, taken: 0 }),
+        Some(Event::Return { .. }) => None,
+        None => match current {
+            None => None,
+            Some(current) => Some(OpenCall {
+                thread: current.thread,
+                taken: current.taken + 1,
+            }),
+        },
+    }
+}
+
+/// Whether the open operation has taken as many moves as it may.
+pub(crate) fn is_full(current: Option<OpenCall>, bound: u16) -> bool
+    ensures { IsTrue result ↔ IsFull current bound }
+{
+    match current {
+        None => false,
+        Some(current) => current.taken == bound,
+    }
+}
+
+/// Whether some thread is enabled.
+fn is_running(machine: &Machine) -> bool
+    ensures { IsTrue result ↔ HasMove machine.now }
+{
+    match machine.status() {
+        Status::Running => true,
+        Status::Complete => false,
+        Status::Stuck => false,
+    }
+}
+
+/// Whether some move goes on serially.
+pub(crate) fn goes_on(machine: &Machine, current: Option<OpenCall>) -> bool
+    requires { IsOpenIn machine.now current }
+    ensures { IsTrue result ↔ HasSerialMove machine.now }
+{
+    match current {
+        None => is_running(machine),
+        Some(current) => machine.enabled(current.thread),
+    }
+}
+
+/// The threads whose moves may go on serially: from the first to before the second.
+pub(crate) fn turns(machine: &Machine, current: Option<OpenCall>) -> (u8, u8)
+    requires { IsOpenIn machine.now current }
+    ensures { AreTurns machine.now result.0 result.1 }
+{
+    let threads = machine.threads();
+    match current {
+        None => (0, threads),
+        Some(current) => (current.thread, current.thread + 1),
+    }
+}
