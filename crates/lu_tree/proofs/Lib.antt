@@ -1,0 +1,6 @@
+pub mod Covers
+mod Kids
+mod Limits
+mod Making
+mod PieceLists
+mod Walking

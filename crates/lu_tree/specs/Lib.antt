@@ -1,0 +1,4 @@
+pub mod Trees
+pub mod Covers
+pub mod Walks
+pub mod Pieces

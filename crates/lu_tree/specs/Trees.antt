@@ -1,0 +1,31 @@
+-- What is found below a schedule, and the frontier of a tree of schedules.
+use Rattle.std.specs.Prelude.{◌≡◌, ℕ, ◌<◌, ◌≤◌, ◌⊎◌, List, length}
+use Rattle.lu_test.specs.declared.schedule.Move.{Move}
+use Rattle.lu_machine.specs.States.{State}
+use Rattle.lu_machine.specs.Ends.{IsEnded}
+use Rattle.lu_machine.specs.Schedules.{BeginsWith, Reaches, IsSchedule, AreAll}
+use Rattle.lu_history.specs.declared.serial.SerialOp.{SerialOp}
+use Rattle.lu_witness.specs.Goodness.{IsFirstBad, AreAllGood}
+use Rattle.lu_tree.specs.declared.found.Found.{Found}
+use Rattle.lu_tree.specs.declared.found.Found.TheVariants.{Clean, Bad}
+
+-- the schedules that begin with this one
+abbrev pub Below : List Move → List Move → Type 0
+Below from u = BeginsWith u from
+
+-- the least bad schedule of the part, and why; or, where none is bad, the numbers
+abbrev pub IsFound : (List SerialOp → Type 0) → State → ℕ → (List Move → Type 0) → Found → Type 0
+IsFound Set s bound Part (Clean counts) = AreAllGood Set s bound Part counts
+IsFound Set s bound Part (Bad schedule why) = IsFirstBad Set s bound Part schedule why
+
+-- u has d moves, or fewer and is ended
+abbrev pub IsPieceAt : State → ℕ → List Move → Type 0
+IsPieceAt s d u = ((length u ≡ d) × IsSchedule s u) ⊎ ((length u < d) × Reaches s u (λ end _. IsEnded end))
+
+-- all pieces at the greatest depth, up to `most`, at which there are at most 65,536
+pub record IsFrontier (s : State) (most : ℕ) (pieces : List (List Move)) : Type 0 where
+  pub depth : ℕ
+  pub within : depth ≤ most
+  pub all : AreAll (IsPieceAt s depth) pieces
+  pub few : length pieces ≤ 65536
+  pub greatest : (d : ℕ) (list : List (List Move)) → depth < d → d ≤ most → AreAll (IsPieceAt s d) list → 65536 < length list

@@ -1,0 +1,15 @@
+//! What a search answers.
+
+use lu_machine::Counts;
+use lu_test::Schedule;
+use lu_witness::Why;
+
+/// What is found among the schedules that begin with a given one.
+#[derive(Debug, Drop)]
+pub enum Found {
+    /// No schedule that ends within the bound is bad: how many are complete, stuck and cut.
+    Clean(Counts),
+
+    /// The least schedule that ends within the bound and is not good, and why it is not.
+    Bad { schedule: Schedule, why: Why },
+}

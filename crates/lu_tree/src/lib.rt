@@ -1,0 +1,28 @@
+//! The tree of the schedules of a component and a matrix.
+//!
+//! A schedule is ended where no thread is enabled, and cut where it has as many moves as the bound and a thread is enabled.
+//! [`search`] walks the schedules that begin with a given one, in order, and judges each ended one: it answers the least that
+//! is not good, or how many schedules are complete, stuck and cut (Burckhardt, Dern, Musuvathi and Tan, 2010). [`frontier`]
+//! cuts the tree into pieces, each of which can be searched by itself.
+//!
+//! ```text
+//! match search(alloc, &component, &matrix, &&set, &from, 40)? {
+//!     Found::Clean(counts) => ..,
+//!     Found::Bad { schedule, why } => ..,
+//! }
+//! ```
+#![tactic(auto)]
+
+mod below;
+mod found;
+mod node;
+mod pieces;
+
+pub use below::search;
+pub use found::Found;
+pub use pieces::frontier;
+
+#[cfg(test)]
+mod rows;
+#[cfg(test)]
+mod tests;
