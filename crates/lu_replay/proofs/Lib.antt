@@ -1,1 +1,12 @@
 pub mod Playing
+pub mod Sets
+pub mod Determined
+pub mod Texts
+pub mod RunsAnew
+pub mod Alike
+pub mod Lines
+pub mod Numbers
+pub mod Outcomes
+pub mod Faulty
+pub mod Exits
+pub mod OneText

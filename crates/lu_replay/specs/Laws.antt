@@ -1,11 +1,17 @@
--- Laws of replays.
+-- Laws of replays and reports.
 use Rattle.std.specs.Prelude.{◌≡◌, ℕ, List}
 use Rattle.lu_lang.specs.Component.{Declarations}
 use Rattle.lu_test.specs.declared.matrix.Call.{Call}
 use Rattle.lu_test.specs.declared.schedule.Move.{Move}
 use Rattle.lu_machine.specs.declared.event.Event.{Event}
 use Rattle.lu_machine.specs.declared.event.Status.{Status}
+use Rattle.lu_machine.specs.States.{State}
+use Rattle.lu_machine.specs.Ends.{IsEnded}
+use Rattle.lu_machine.specs.Schedules.{BeginsWith, Reaches, IsSchedule}
+use Rattle.lu_replay.specs.declared.report.Report.{Report}
 use Rattle.lu_replay.specs.Replays.{Shows, IsInfeasibleAt}
+use Rattle.lu_replay.specs.Reports.{IsReport}
+use Rattle.lu_replay.specs.Confirmed.{IsConfirmed, IsPass}
 
 -- a schedule shows one history and one status
 abbrev pub OneReplay : Type 0
@@ -24,3 +30,20 @@ abbrev pub OneFault : Type 0
 OneFault =
     (c : Declarations) (matrix : List (List Call)) (u : List Move) (i j : ℕ) →
     IsInfeasibleAt c matrix u i → IsInfeasibleAt c matrix u j → i ≡ j
+
+-- no ended schedule is a beginning of another
+abbrev pub EndedApart : Type 0
+EndedApart =
+    (s : State) (u v : List Move) → Reaches s u (λ end _. IsEnded end) → IsSchedule s v → BeginsWith v u → v ≡ u
+
+-- a component and a matrix have one report with these bounds
+abbrev pub OneReport : Type 0
+OneReport =
+    (c : Declarations) (matrix : List (List Call)) (bound serial : ℕ) (r other : Report) →
+    IsReport c matrix bound serial r → IsReport c matrix bound serial other → r ≡ other
+
+-- a report that is no pass is confirmed
+abbrev pub AllConfirmed : Type 0
+AllConfirmed =
+    (c : Declarations) (matrix : List (List Call)) (bound serial : ℕ) (r : Report) →
+    IsReport c matrix bound serial r → (IsPass r.finding → ⊥) → IsConfirmed c matrix r

@@ -1,0 +1,132 @@
+-- A component and a matrix have one report.
+use Rattle.std.proofs.Common.{◌≡◌, ℕ, ◌<◌, List, [], ◌∷◌, Option, refl, sym, ◌∙◌, ap, subst, inl, inr, arith}
+use Rattle.lu_lang.specs.Component.{Declarations}
+use Rattle.lu_test.specs.declared.matrix.Call.{Call as ACall}
+use Rattle.lu_test.specs.declared.schedule.Move.{Move}
+use Rattle.lu_machine.specs.declared.event.Event.{Event}
+use Rattle.lu_machine.specs.States.{State}
+use Rattle.lu_machine.specs.Steps.{Step, picks_of}
+use Rattle.lu_machine.specs.Starts.{IsStart, start_of}
+use Rattle.lu_machine.specs.Runs.{Leads}
+use Rattle.lu_machine.specs.Ends.{IsComplete, IsStuck}
+use Rattle.lu_machine.proofs.Paths.{leads_same}
+use Rattle.lu_machine.proofs.Numbers.{least_same, numbers_same}
+use Rattle.lu_history.specs.declared.serial.SerialOutcome.{SerialOutcome}
+use Rattle.lu_history.specs.declared.serial.SerialOp.{SerialOp}
+use Rattle.lu_serial.specs.Serial.{HasOpen, IsByOpen, IsSerialFrom, EndsAs, IsSeriallyEnded, IsSeriallyCut, IsSerialHistory}
+use Rattle.lu_serial.specs.Offences.{IsOffence, IsConflict, IsFirstConflict, IsFirstCut}
+use Rattle.lu_serial.proofs.Opening.{step_turned, others, same_or_not, complete_not_open}
+use Rattle.lu_serial.proofs.CallsLeft.{none_at_start}
+use Rattle.lu_serial.proofs.Single.{one_learnt}
+use Rattle.lu_witness.specs.declared.judgement.Why.{Why}
+use Rattle.lu_witness.specs.declared.judgement.Why.TheVariants.{Complete, Stuck}
+use Rattle.lu_witness.specs.declared.judgement.Verdict.TheVariants.{NoWitnessFor}
+use Rattle.lu_witness.specs.Witnesses.{IsLeastWithout}
+use Rattle.lu_witness.specs.Goodness.{IsBad, IsWhy, Any}
+use Rattle.lu_witness.proofs.Verdicts.{one_verdict}
+use Rattle.lu_replay.specs.declared.report.Finding.{Finding}
+use Rattle.lu_replay.specs.declared.report.Finding.TheVariants.{SerialCut, Nondeterministic, Fail, Pass}
+use Rattle.lu_replay.specs.declared.report.Report.{Report}
+use Rattle.lu_replay.specs.Parts.{Parts}
+use Rattle.lu_replay.specs.Reports.{IsFinding, IsReport}
+
+-- ---- a serial schedule is not both cut and ended
+
+-- at most one operation is open
+abbrev AtMostOne : State → Type 0
+AtMostOne s = (t i : ℕ) → HasOpen s t → HasOpen s i → t ≡ i
+
+mover : (s : State) (m : Move) (new : State) (event : Option Event) → Step s m new event → IsByOpen s m → (t : ℕ) → HasOpen new t → t ≡ m.thread
+mover s m new event step by t h =
+    elim (same_or_not t m.thread) [
+      | inl e ↦ e
+      | inr e ↦ sym (by t (others s m new event (step_turned s m new event step) t e h))
+    ]
+
+one_along : (s : State) (u : List Move) (end : State) (h : List Event) → AtMostOne s → IsSerialFrom s u → Leads s u end h → AtMostOne end
+one_along s [] end h one f p = subst AtMostOne (sym p.0) one
+one_along s (m ∷ u) end h one f p =
+    one_along p.0 u end p.2 (λ t i a b. mover s m p.0 p.1 p.3 f.0 t a ∙ sym (mover s m p.0 p.1 p.3 f.0 i b)) (f.1 p.0 p.1 p.3) p.4
+
+not_ended : (end : State) (h : List Event) (q : List SerialOp) (t : ℕ) → AtMostOne end → HasOpen end t → 0 < picks_of end t → EndsAs end h q → ⊥
+not_ended end h q t one opened able (inl over) = complete_not_open end over.0 t opened
+not_ended end h q t one opened able (inr over) =
+    let same : picks_of end t ≡ picks_of end over.0 = ap (picks_of end) (one t over.0 opened over.1) in
+    let none : picks_of end over.0 ≡ 0 = over.2 in
+    omega arith
+
+module _ (c : Declarations) (matrix : List (List ACall)) (s : State) (is : IsStart c matrix s) where
+  one_at_start : AtMostOne s
+  one_at_start t i a b = absurd (none_at_start c matrix t (subst (λ x. HasOpen x t) is a))
+
+  pub cut_not_ended : (most : ℕ) (u : List Move) (q : List SerialOp) → IsSeriallyCut s most u → IsSeriallyEnded s u q → ⊥
+  cut_not_ended most u q cut ended =
+      let same = leads_same s u ended.end cut.end ended.history cut.history ended.leads cut.leads in
+      let over : EndsAs cut.end ended.history q = subst (λ x. EndsAs x ended.history q) same.0 ended.holds in
+      let open_one = cut.holds in
+      not_ended cut.end ended.history q open_one.0 (one_along s u cut.end cut.history one_at_start cut.serial cut.leads) open_one.1 open_one.2 over
+
+  pub cut_no_conflict : (most : ℕ) (u v : List Move) (i : ℕ) (o : SerialOutcome) → IsFirstCut s most u → IsFirstConflict s most v i o → ⊥
+  cut_no_conflict most u v i o cut conflict =
+      let same : v ≡ u = least_same (IsOffence s most) v u conflict.0 cut.0 in
+      let clash : IsConflict s u i o = subst (λ (x : List Move). IsConflict s x i o) same conflict.1 in
+      cut_not_ended most u clash.history cut.1 clash.ended
+
+  pub conflict_same : (most : ℕ) (u v : List Move) (i j : ℕ) (o p : SerialOutcome) → IsFirstConflict s most u i o → IsFirstConflict s most v j p → (u ≡ v) × (i ≡ j) × (o ≡ p)
+  conflict_same most u v i j o p x y =
+      let same : v ≡ u = least_same (IsOffence s most) v u y.0 x.0 in
+      let y' : IsFirstConflict s most u j p = subst (λ (w : List Move). IsFirstConflict s most w j p) same y in
+      let rest = one_learnt c matrix s most u i j o p is x y' in
+      (sym same, rest.0, rest.1)
+
+  -- ---- why a schedule is bad
+
+  not_complete : (a b : State) → a ≡ b → IsComplete a → IsStuck b → ⊥
+  not_complete a b same complete stuck = stuck.0 (subst IsComplete same complete)
+
+  pub why_same : (Set : List SerialOp → Type 0) (u : List Move) (w x : Why) → IsWhy Set s u w → IsWhy Set s u x → w ≡ x
+  why_same Set u Complete Complete p q = refl
+  why_same Set u Complete (Stuck i) p q = absurd (not_complete p.end q.end (leads_same s u p.end q.end p.history q.history p.leads q.leads).0 p.holds q.holds.0)
+  why_same Set u (Stuck t) Complete p q = absurd (not_complete q.end p.end (leads_same s u q.end p.end q.history p.history q.leads p.leads).0 q.holds p.holds.0)
+  why_same Set u (Stuck t) (Stuck i) p q =
+      let same : q.history ≡ p.history = (leads_same s u q.end p.end q.history p.history q.leads p.leads).1 in
+      let other : IsLeastWithout Set p.history i = subst (λ h. IsLeastWithout Set h i) same q.holds.1 in
+      let verdict : NoWitnessFor t ≡ NoWitnessFor i = one_verdict Set p.history (NoWitnessFor t) (NoWitnessFor i) p.holds.1 other in
+      let e : t ≡ i = cc in
+      ap (λ (x : ℕ). Stuck x) e
+
+  -- ---- what is found is one
+
+  pub one_finding : (bound most : ℕ) (f g : Finding) → IsFinding s bound most f → IsFinding s bound most g → f ≡ g
+  one_finding bound most (SerialCut u) (SerialCut v) x y = ap SerialCut (least_same (IsOffence s most) u v x.0 y.0)
+  one_finding bound most (SerialCut u) (Nondeterministic v j p) x y = absurd (cut_no_conflict most u v j p x y)
+  one_finding bound most (SerialCut u) (Fail v why) x y = absurd (y.0 u x.0.kind)
+  one_finding bound most (SerialCut u) (Pass counts) x y = absurd (y.0 u x.0.kind)
+  one_finding bound most (Nondeterministic u i o) (SerialCut v) x y = absurd (cut_no_conflict most v u i o y x)
+  one_finding bound most (Nondeterministic u i o) (Nondeterministic v j p) x y = let same = conflict_same most u v i j o p x y in let a = same.0 in let b = same.1 in let d = same.2 in cc
+  one_finding bound most (Nondeterministic u i o) (Fail v why) x y = absurd (y.0 u x.0.kind)
+  one_finding bound most (Nondeterministic u i o) (Pass counts) x y = absurd (y.0 u x.0.kind)
+  one_finding bound most (Fail u why) (SerialCut v) x y = absurd (x.0 v y.0.kind)
+  one_finding bound most (Fail u why) (Nondeterministic v j p) x y = absurd (x.0 v y.0.kind)
+  one_finding bound most (Fail u why) (Fail v other) x y =
+      let same : v ≡ u = least_same (λ w. Any w × IsBad (IsSerialHistory s) s bound w) v u y.1.0 x.1.0 in
+      let reason : IsWhy (IsSerialHistory s) s u other = subst (λ (w : List Move). IsWhy (IsSerialHistory s) s w other) same y.1.1 in
+      let e : why ≡ other = why_same (IsSerialHistory s) u why other x.1.1 reason in
+      cc
+  one_finding bound most (Fail u why) (Pass counts) x y = absurd (y.1.none u tt x.1.0.kind.1)
+  one_finding bound most (Pass counts) (SerialCut v) x y = absurd (x.0 v y.0.kind)
+  one_finding bound most (Pass counts) (Nondeterministic v j p) x y = absurd (x.0 v y.0.kind)
+  one_finding bound most (Pass counts) (Fail v why) x y = absurd (x.1.none v tt y.1.0.kind.1)
+  one_finding bound most (Pass counts) (Pass others) x y = ap Pass (numbers_same s bound Any counts others x.1.numbers y.1.numbers)
+
+pub same_parts : (a b : Parts) → a.bound ≡ b.bound → a.serial ≡ b.serial → a.finding ≡ b.finding → a ≡ b
+same_parts a b e f g =
+    ap (λ (x : ℕ). let y : Parts = record { bound = x; serial = a.serial; finding = a.finding } in y) e
+    ∙ (ap (λ (x : ℕ). let y : Parts = record { bound = b.bound; serial = x; finding = a.finding } in y) f
+    ∙ ap (λ (x : Finding). let y : Parts = record { bound = b.bound; serial = b.serial; finding = x } in y) g)
+
+pub one_report : (c : Declarations) (matrix : List (List ACall)) (bound serial : ℕ) (r other : Report) → IsReport c matrix bound serial r → IsReport c matrix bound serial other → r ≡ other
+one_report c matrix bound serial r other x y =
+    let s : State = start_of c matrix in
+    let found : r.finding ≡ other.finding = one_finding c matrix s refl bound serial r.finding other.finding (x.2 s refl) (y.2 s refl) in
+    same_parts r other (x.0 ∙ sym y.0) (x.1 ∙ sym y.1) found

@@ -1,0 +1,198 @@
+-- Each report has one text, and no two have the same.
+use Rattle.std.proofs.Common.{◌≡◌, ℕ, zero, suc, ◌+◌, ◌<◌, ◌≤◌, ◌^◌, Bool, true, false, List, [], ◌∷◌, ◌++◌, take, drop, get_or, All, Result, Ok, Err, refl, sym, ◌∙◌, ap, append_assoc, arith}
+use Rattle.std.specs.Prelude.{codes, ◌==◌, not, nat_le, IfOk, IfErr}
+use Rattle.std.specs.Char.{is_ascii_digit}
+use Rattle.std.specs.Fmt.{decimal}
+use Rattle.std.specs.List.{concat, flat_map, list_all, AllByRecursion}
+use Rattle.std.specs.Str.{all_ascii_digits}
+use Rattle.std.proofs.lemmas.Bool.{and_parts, leb-true, ne_eqb}
+use Rattle.std.proofs.lemmas.List.Folds.{list_all-append}
+use Rattle.lu_test.specs.declared.schedule.Move.{Move}
+use Rattle.lu_test.specs.Schedule.{IsMove, AreMoves}
+use Rattle.lu_test.specs.ScheduleText.{move_text, schedule_of, schedule_text}
+use Rattle.lu_test.proofs.RoundTrip.{schedule_again}
+use Rattle.lu_test.proofs.Words.{lacks}
+use Rattle.lu_text.specs.Numbers.{is_number, read_on}
+use Rattle.lu_text.proofs.NumberText.{number_again, some_if}
+use Rattle.lu_machine.specs.declared.counts.Counts.{Counts}
+use Rattle.lu_history.specs.declared.serial.SerialOutcome.{SerialOutcome}
+use Rattle.lu_history.specs.declared.serial.SerialOutcome.TheVariants as serial
+use Rattle.lu_witness.specs.declared.judgement.Why.{Why}
+use Rattle.lu_witness.specs.declared.judgement.Why.TheVariants.{Complete, Stuck}
+use Rattle.lu_replay.specs.declared.report.Finding.{Finding}
+use Rattle.lu_replay.specs.declared.report.Finding.TheVariants.{SerialCut, Nondeterministic, Fail, Pass}
+use Rattle.lu_replay.specs.declared.report.Report.{Report}
+use Rattle.lu_replay.specs.declared.report_fault.ReportFault.{ReportFault}
+use Rattle.lu_replay.specs.declared.report_fault.ReportFault.TheVariants.{Form, Memory}
+use Rattle.lu_replay.specs.Parts.{AreLimits, IsThreadOf}
+use Rattle.lu_replay.specs.ReportText.{number_line, earlier_line, fail_line, finding_lines, report_lines, report_text}
+use Rattle.lu_replay.specs.ReportForms.{kept_lines, IsOutcome, IsSound, IsFault, Gives}
+use Rattle.lu_replay.proofs.Determined.{same_parts}
+use Rattle.lu_replay.proofs.Exits.{byte_at, clash, fail_byte, same_number}
+
+-- ---- the lines of a report's text are its lines
+
+abbrev no_lf : List ℕ → Bool
+no_lf bytes = list_all (λ b. not (b == 10)) bytes
+
+record IsLine (line : List ℕ) : Type 0 where
+  front : List ℕ
+  plain : no_lf front ≡ true
+  whole : line ≡ front ++ 10 ∷ []
+
+not_true : (b : Bool) → not b ≡ true → b ≡ false
+not_true true e = absurd cc
+not_true false e = refl
+
+line_kept : (front rest : List ℕ) → no_lf front ≡ true → kept_lines (front ++ 10 ∷ rest) ≡ (front ++ 10 ∷ []) ∷ kept_lines rest
+line_kept [] rest e = refl
+line_kept (b ∷ bs) rest e =
+    let p = and_parts (not (b == 10)) (no_lf bs) e in
+    let other : (b == 10) ≡ false = not_true (b == 10) p.0 in
+    rw (other, line_kept bs rest p.1) refl
+
+lines_again : (lines : List (List ℕ)) → AllByRecursion IsLine lines → kept_lines (concat lines) ≡ lines
+lines_again [] h = refl
+lines_again (line ∷ lines) h =
+    let is = h.0 in
+    let text : concat (line ∷ lines) ≡ is.front ++ 10 ∷ concat lines = ap (λ x. x ++ concat lines) is.whole ∙ append_assoc is.front (10 ∷ []) (concat lines) in
+    ap kept_lines text ∙ (line_kept is.front (concat lines) is.plain ∙ (ap (λ (x : List ℕ). x ∷ kept_lines (concat lines)) (sym is.whole) ∙ ap (λ (x : List (List ℕ)). line ∷ x) (lines_again lines h.1)))
+
+digits_plain : (ds : List ℕ) → all_ascii_digits ds ≡ true → no_lf ds ≡ true
+digits_plain [] e = refl
+digits_plain (c ∷ cs) e =
+    let p = and_parts (is_ascii_digit c) (all_ascii_digits cs) e in
+    let low : 48 ≤ c = leb-true 48 c (and_parts (nat_le 48 c) (nat_le c 57) p.0).0 in
+    let other : (c == 10) ≡ false = ne_eqb c 10 (λ z. omega arith) in
+    rw (other, digits_plain cs p.1) refl
+
+number_digits : (word : List ℕ) → is_number word ≡ true → all_ascii_digits word ≡ true
+number_digits [] e = absurd cc
+number_digits (c ∷ cs) e = (and_parts (all_ascii_digits (c ∷ cs)) _ e).0
+
+decimal_plain : (n : ℕ) → n < 2 ^ 64 → no_lf (decimal n) ≡ true
+decimal_plain n small = digits_plain (decimal n) (number_digits (decimal n) (some_if (is_number (decimal n)) (read_on 0 (decimal n)) n (number_again n small)).0)
+
+joined_plain : (a b : List ℕ) → no_lf a ≡ true → no_lf b ≡ true → no_lf (a ++ b) ≡ true
+joined_plain a b e f = list_all-append (λ b. not (b == 10)) a b ∙ rw (e, f) refl
+
+number_is_line : (front : List ℕ) (n : ℕ) → no_lf front ≡ true → n < 2 ^ 64 → IsLine (number_line front n)
+number_is_line front n plain small = record { front = front ++ decimal n; plain = joined_plain front (decimal n) plain (decimal_plain n small); whole = refl }
+
+plain_from : (bytes : List ℕ) → AllByRecursion (λ b. (b == 10) ≡ false) bytes → no_lf bytes ≡ true
+plain_from [] h = refl
+plain_from (b ∷ bs) h = rw (h.0, plain_from bs h.1) refl
+
+moves_plain : (u : List Move) → All IsMove u → no_lf (flat_map (λ m. 32 ∷ move_text m) u) ≡ true
+moves_plain [] all = refl
+moves_plain (m ∷ u) all =
+    joined_plain (32 ∷ move_text m) (flat_map (λ m. 32 ∷ move_text m) u) (plain_from (move_text m) (lacks 10 m (omega arith) (all zero m (omega arith)))) (moves_plain u (λ k d h. all (suc k) d (omega arith)))
+
+schedule_is_line : (u : List Move) → AreMoves u → IsLine (schedule_text u)
+schedule_is_line u moves = record { front = codes "schedule" ++ flat_map (λ m. 32 ∷ move_text m) u; plain = joined_plain (codes "schedule") (flat_map (λ m. 32 ∷ move_text m) u) refl (moves_plain u moves.1); whole = refl }
+
+earlier_is_line : (o : SerialOutcome) → IsOutcome o → IsLine (earlier_line o)
+earlier_is_line (serial.Ret n) is = number_is_line (codes "earlier ret ") n refl (omega arith)
+earlier_is_line serial.Trap is = record { front = codes "earlier trap"; plain = refl; whole = refl }
+earlier_is_line serial.Stuck is = record { front = codes "earlier stuck"; plain = refl; whole = refl }
+
+fail_is_line : (why : Why) → IsThreadOf why → IsLine (fail_line why)
+fail_is_line Complete is = record { front = codes "fail complete"; plain = refl; whole = refl }
+fail_is_line (Stuck t) is = number_is_line (codes "fail stuck ") t refl (omega arith)
+
+finding_are_lines : (f : Finding) → IsSound f → AllByRecursion IsLine (finding_lines f)
+finding_are_lines (SerialCut u) is = (record { front = codes "serial-cut"; plain = refl; whole = refl }, (schedule_is_line u is.1, tt))
+finding_are_lines (Nondeterministic u before earlier) is =
+    let few = is.0 in
+    (record { front = codes "nondeterministic"; plain = refl; whole = refl }, (schedule_is_line u is.1.0, (number_is_line (codes "before ") before refl (omega arith), (earlier_is_line earlier is.1.1, tt))))
+finding_are_lines (Fail u why) is = (fail_is_line why is.0, (schedule_is_line u is.1, tt))
+finding_are_lines (Pass counts) is =
+    (record { front = codes "pass"; plain = refl; whole = refl }, (number_is_line (codes "complete ") counts.complete refl is.1.complete, (number_is_line (codes "stuck ") counts.stuck refl is.1.stuck, (number_is_line (codes "cut ") counts.cut refl is.1.cut, tt))))
+
+pub report_again : (r : Report) → AreLimits r → IsSound r.finding → kept_lines (report_text r) ≡ report_lines r
+report_again r limits is =
+    let most = limits.most in
+    let few = limits.few in
+    lines_again (report_lines r) (record { front = codes "lineup report 1"; plain = refl; whole = refl }, (number_is_line (codes "bound ") r.bound refl (omega arith), (number_is_line (codes "serial ") r.serial refl (omega arith), finding_are_lines r.finding is)))
+
+-- ---- reports with the same lines are the same
+
+-- line k
+abbrev line_at : ℕ → List (List ℕ) → List ℕ
+line_at k lines = get_or lines k []
+
+schedule_same : (u v : List Move) → AreMoves u → AreMoves v → schedule_text u ≡ schedule_text v → u ≡ v
+schedule_same u v moves others e = let f = sym (schedule_again u moves) ∙ (ap schedule_of e ∙ schedule_again v others) in cc
+
+earlier_same : (o p : SerialOutcome) → IsOutcome o → IsOutcome p → earlier_line o ≡ earlier_line p → o ≡ p
+earlier_same (serial.Ret m) (serial.Ret n) is also e = ap (λ (x : ℕ). serial.Ret x) (same_number (codes "earlier ret ") m n (omega arith) (omega arith) e)
+earlier_same (serial.Ret m) serial.Trap is also e = absurd (clash 114 116 refl (ap (λ x. get_or x 8 0) e))
+earlier_same (serial.Ret m) serial.Stuck is also e = absurd (clash 114 115 refl (ap (λ x. get_or x 8 0) e))
+earlier_same serial.Trap (serial.Ret n) is also e = absurd (clash 116 114 refl (ap (λ x. get_or x 8 0) e))
+earlier_same serial.Trap serial.Trap is also e = refl
+earlier_same serial.Trap serial.Stuck is also e = absurd (clash 116 115 refl (ap (λ x. get_or x 8 0) e))
+earlier_same serial.Stuck (serial.Ret n) is also e = absurd (clash 115 114 refl (ap (λ x. get_or x 8 0) e))
+earlier_same serial.Stuck serial.Trap is also e = absurd (clash 115 116 refl (ap (λ x. get_or x 8 0) e))
+earlier_same serial.Stuck serial.Stuck is also e = refl
+
+reason_same : (w x : Why) → IsThreadOf w → IsThreadOf x → fail_line w ≡ fail_line x → w ≡ x
+reason_same Complete Complete is also e = refl
+reason_same Complete (Stuck t) is also e = absurd (clash 99 115 refl (ap (λ x. get_or x 5 0) e))
+reason_same (Stuck t) Complete is also e = absurd (clash 115 99 refl (ap (λ x. get_or x 5 0) e))
+reason_same (Stuck t) (Stuck i) is also e = ap (λ (x : ℕ). Stuck x) (same_number (codes "fail stuck ") t i (omega arith) (omega arith) e)
+
+counts_same : (a b : Counts) → a.complete ≡ b.complete → a.stuck ≡ b.stuck → a.cut ≡ b.cut → a ≡ b
+counts_same a b e f g =
+    ap (λ (x : ℕ). let y : Counts = record { complete = x; stuck = a.stuck; cut = a.cut } in y) e
+    ∙ (ap (λ (x : ℕ). let y : Counts = record { complete = b.complete; stuck = x; cut = a.cut } in y) f
+    ∙ ap (λ (x : ℕ). let y : Counts = record { complete = b.complete; stuck = b.stuck; cut = x } in y) g)
+
+finding_same : (f g : Finding) → IsSound f → IsSound g → finding_lines f ≡ finding_lines g → f ≡ g
+finding_same (SerialCut u) (SerialCut v) is also e = ap SerialCut (schedule_same u v is.1 also.1 (ap (line_at 1) e))
+finding_same (SerialCut u) (Nondeterministic v j p) is also e = absurd (clash 115 110 refl (ap (byte_at 0) e))
+finding_same (SerialCut u) (Fail v x) is also e = absurd (clash 115 102 refl (ap (byte_at 0) e ∙ fail_byte x (schedule_text v ∷ [])))
+finding_same (SerialCut u) (Pass b) is also e = absurd (clash 115 112 refl (ap (byte_at 0) e))
+finding_same (Nondeterministic u i o) (SerialCut v) is also e = absurd (clash 110 115 refl (ap (byte_at 0) e))
+finding_same (Nondeterministic u i o) (Nondeterministic v j p) is also e =
+    let few = is.0 in
+    let less = also.0 in
+    let a : u ≡ v = schedule_same u v is.1.0 also.1.0 (ap (line_at 1) e) in
+    let b : i ≡ j = same_number (codes "before ") i j (omega arith) (omega arith) (ap (line_at 2) e) in
+    let d : o ≡ p = earlier_same o p is.1.1 also.1.1 (ap (line_at 3) e) in
+    ap (λ (x : List Move). Nondeterministic x i o) a ∙ (ap (λ (x : ℕ). Nondeterministic v x o) b ∙ ap (λ (x : SerialOutcome). Nondeterministic v j x) d)
+finding_same (Nondeterministic u i o) (Fail v x) is also e = absurd (clash 110 102 refl (ap (byte_at 0) e ∙ fail_byte x (schedule_text v ∷ [])))
+finding_same (Nondeterministic u i o) (Pass b) is also e = absurd (clash 110 112 refl (ap (byte_at 0) e))
+finding_same (Fail u w) (SerialCut v) is also e = absurd (clash 102 115 refl (sym (fail_byte w (schedule_text u ∷ [])) ∙ ap (byte_at 0) e))
+finding_same (Fail u w) (Nondeterministic v j p) is also e = absurd (clash 102 110 refl (sym (fail_byte w (schedule_text u ∷ [])) ∙ ap (byte_at 0) e))
+finding_same (Fail u w) (Fail v x) is also e =
+    let a : u ≡ v = schedule_same u v is.1 also.1 (ap (line_at 1) e) in
+    let b : w ≡ x = reason_same w x is.0 also.0 (ap (line_at 0) e) in
+    ap (λ (y : List Move). Fail y w) a ∙ ap (λ (y : Why). Fail v y) b
+finding_same (Fail u w) (Pass b) is also e = absurd (clash 102 112 refl (sym (fail_byte w (schedule_text u ∷ [])) ∙ ap (byte_at 0) e))
+finding_same (Pass a) (SerialCut v) is also e = absurd (clash 112 115 refl (ap (byte_at 0) e))
+finding_same (Pass a) (Nondeterministic v j p) is also e = absurd (clash 112 110 refl (ap (byte_at 0) e))
+finding_same (Pass a) (Fail v x) is also e = absurd (clash 112 102 refl (ap (byte_at 0) e ∙ fail_byte x (schedule_text v ∷ [])))
+finding_same (Pass a) (Pass b) is also e =
+    ap Pass (counts_same a b
+    (same_number (codes "complete ") a.complete b.complete is.1.complete also.1.complete (ap (line_at 1) e))
+    (same_number (codes "stuck ") a.stuck b.stuck is.1.stuck also.1.stuck (ap (line_at 2) e))
+    (same_number (codes "cut ") a.cut b.cut is.1.cut also.1.cut (ap (line_at 3) e)))
+
+pub report_same : (r s : Report) → AreLimits r → IsSound r.finding → AreLimits s → IsSound s.finding → report_lines r ≡ report_lines s → r ≡ s
+report_same r s limits is others also e =
+    let most = limits.most in
+    let few = limits.few in
+    let most' = others.most in
+    let few' = others.few in
+    same_parts r s
+    (same_number (codes "bound ") r.bound s.bound (omega arith) (omega arith) (ap (line_at 1) e))
+    (same_number (codes "serial ") r.serial s.serial (omega arith) (omega arith) (ap (line_at 2) e))
+    (finding_same r.finding s.finding is also (ap (λ (x : List (List ℕ)). drop 3 x) e))
+
+-- a report's text is read as the report
+pub text_read : (text : List ℕ) (result : Result Report ReportFault) → IfOk result (λ r. AreLimits r × IsSound r.finding × (text ≡ report_text r)) → IfErr result (IsFault text) → (r : Report) → AreLimits r → IsSound r.finding → text ≡ report_text r → Gives result r
+text_read text (Ok x) found fault r limits is e =
+    report_same x r found.0 found.1 limits is (sym (report_again x found.0 found.1) ∙ (ap kept_lines (sym found.2 ∙ e) ∙ report_again r limits is))
+text_read text (Err Memory) found fault r limits is e = refl
+text_read text (Err (Form line)) found fault r limits is e =
+    absurd (fault.2.there (report_lines r) (r, limits, is, refl) (ap (take (fault.0 + 1)) (sym (ap kept_lines e ∙ report_again r limits is))))

@@ -1,0 +1,46 @@
+-- Reports that a run confirms.
+use Rattle.std.specs.Prelude.{◌≡◌, ℕ, List}
+use Rattle.lu_lang.specs.Component.{Declarations}
+use Rattle.lu_test.specs.declared.matrix.Call.{Call}
+use Rattle.lu_test.specs.declared.schedule.Move.{Move}
+use Rattle.lu_machine.specs.declared.event.Status.{Status}
+use Rattle.lu_machine.specs.declared.event.Status.TheVariants as status
+use Rattle.lu_machine.specs.States.{State}
+use Rattle.lu_machine.specs.Starts.{IsStart}
+use Rattle.lu_history.specs.declared.serial.SerialOp.{SerialOp}
+use Rattle.lu_serial.specs.Serial.{IsSerialHistory}
+use Rattle.lu_serial.specs.Offences.{NoOffence, IsFirstCut, IsFirstConflict}
+use Rattle.lu_witness.specs.declared.judgement.Verdict.{Verdict}
+use Rattle.lu_witness.specs.declared.judgement.Verdict.TheVariants.{NoWitness, NoWitnessFor}
+use Rattle.lu_witness.specs.declared.judgement.Why.{Why}
+use Rattle.lu_witness.specs.declared.judgement.Why.TheVariants.{Complete, Stuck}
+use Rattle.lu_witness.specs.Goodness.{IsBad, IsWhy}
+use Rattle.lu_replay.specs.declared.report.Finding.{Finding}
+use Rattle.lu_replay.specs.declared.report.Finding.TheVariants.{SerialCut, Nondeterministic, Fail, Pass}
+use Rattle.lu_replay.specs.declared.report.Report.{Report}
+
+-- u is bad, and this is why
+abbrev pub IsBadFor : (List SerialOp → Type 0) → State → ℕ → List Move → Why → Type 0
+IsBadFor Set s bound u why = IsBad Set s bound u × IsWhy Set s u why
+
+-- The least serial offence is as it is said, or there is none and the schedule is bad as it is said; it need not be the least. A pass shows nothing.
+abbrev pub IsShown : State → ℕ → ℕ → Finding → Type 0
+IsShown s bound serial (SerialCut u) = IsFirstCut s serial u
+IsShown s bound serial (Nondeterministic u before earlier) = IsFirstConflict s serial u before earlier
+IsShown s bound serial (Fail u why) = NoOffence s serial × IsBadFor (IsSerialHistory s) s bound u why
+IsShown s bound serial (Pass counts) = ⊥
+
+-- what the report says is shown, with its own bounds
+abbrev pub IsConfirmed : Declarations → List (List Call) → Report → Type 0
+IsConfirmed c matrix r = (s : State) → IsStart c matrix s → IsShown s r.bound r.serial r.finding
+
+abbrev pub IsPass : Finding → Type 0
+IsPass (SerialCut u) = ⊥
+IsPass (Nondeterministic u before earlier) = ⊥
+IsPass (Fail u why) = ⊥
+IsPass (Pass counts) = Unit {0}
+
+-- a run that ended so, with this verdict, fails for this reason
+abbrev pub IsReason : Status → Verdict → Why → Type 0
+IsReason end verdict Complete = (end ≡ status.Complete) × (verdict ≡ NoWitness)
+IsReason end verdict (Stuck t) = (end ≡ status.Stuck) × (verdict ≡ NoWitnessFor t)

@@ -1,0 +1,31 @@
+-- What a report holds, and its limits.
+use Rattle.std.specs.Prelude.{ℕ, ◌≤◌}
+use Rattle.lu_witness.specs.declared.judgement.Why.{Why}
+use Rattle.lu_witness.specs.declared.judgement.Why.TheVariants.{Complete, Stuck}
+use Rattle.lu_replay.specs.declared.report.Finding.{Finding}
+use Rattle.lu_replay.specs.declared.report.Finding.TheVariants.{SerialCut, Nondeterministic, Fail, Pass}
+
+-- the bounds, and what is found with them
+pub record Parts : Type 0 where
+  pub bound : ℕ
+  pub serial : ℕ
+  pub finding : Finding
+
+-- a thread is 0 to 7
+abbrev pub IsThreadOf : Why → Type 0
+IsThreadOf Complete = Unit {0}
+IsThreadOf (Stuck t) = t ≤ 7
+
+-- a thread is 0 to 7, and at most 15 operations agree
+abbrev pub IsWithin : Finding → Type 0
+IsWithin (SerialCut u) = Unit {0}
+IsWithin (Nondeterministic u before earlier) = before ≤ 15
+IsWithin (Fail u why) = IsThreadOf why
+IsWithin (Pass counts) = Unit {0}
+
+-- the limits of a report
+pub record AreLimits (r : Parts) : Type 0 where
+  pub most : r.bound ≤ 256
+  pub some : 1 ≤ r.serial
+  pub few : r.serial ≤ 256
+  pub within : IsWithin r.finding

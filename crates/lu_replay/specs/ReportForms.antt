@@ -1,0 +1,118 @@
+-- The texts that are reports, and what is wrong with one that is none.
+use Rattle.std.specs.Prelude.{◌≡◌, ℕ, ◌+◌, ◌<◌, ◌≤◌, ◌^◌, suc, List, [], ◌∷◌, take, codes, ◌==◌, if◌then◌else◌, Result, Ok, Err}
+use Rattle.lu_test.specs.declared.schedule.Move.{Move}
+use Rattle.lu_test.specs.Schedule.{AreMoves}
+use Rattle.lu_test.specs.ScheduleText.{schedule_text}
+use Rattle.lu_machine.specs.declared.counts.Counts.{Counts}
+use Rattle.lu_history.specs.declared.serial.SerialOutcome.{SerialOutcome}
+use Rattle.lu_history.specs.declared.serial.SerialOutcome.TheVariants as serial
+use Rattle.lu_replay.specs.declared.report.Finding.{Finding}
+use Rattle.lu_replay.specs.declared.report.Finding.TheVariants.{SerialCut, Nondeterministic, Fail, Pass}
+use Rattle.lu_replay.specs.declared.report.Report.{Report}
+use Rattle.lu_replay.specs.declared.report_fault.ReportFault.{ReportFault}
+use Rattle.lu_replay.specs.declared.report_fault.ReportFault.TheVariants.{Form, Memory}
+use Rattle.lu_replay.specs.Parts.{AreLimits, IsWithin}
+use Rattle.lu_replay.specs.ReportText.{number_line, earlier_line, finding_lines, report_lines}
+
+-- ---- the lines of a text
+
+-- a byte before the first line
+abbrev pub onto_line : ℕ → List (List ℕ) → List (List ℕ)
+onto_line b [] = (b ∷ []) ∷ []
+onto_line b (line ∷ lines) = (b ∷ line) ∷ lines
+
+-- the lines, each with its LF; the last may lack it
+abbrev pub kept_lines : List ℕ → List (List ℕ)
+kept_lines [] = []
+kept_lines (b ∷ bs) = if b == 10 then (b ∷ []) ∷ kept_lines bs else onto_line b (kept_lines bs)
+
+-- how many bytes the first line has, with its LF
+abbrev pub first_len : List ℕ → ℕ
+first_len [] = 0
+first_len (b ∷ bs) = if b == 10 then 1 else suc (first_len bs)
+
+-- ---- reports
+
+-- an outcome's number is one of 32 bits
+abbrev pub IsOutcome : SerialOutcome → Type 0
+IsOutcome (serial.Ret n) = n < 2 ^ 32
+IsOutcome serial.Trap = Unit {0}
+IsOutcome serial.Stuck = Unit {0}
+
+-- numbers of 64 bits
+pub record AreCounts (counts : Counts) : Type 0 where
+  pub complete : counts.complete < 2 ^ 64
+  pub stuck : counts.stuck < 2 ^ 64
+  pub cut : counts.cut < 2 ^ 64
+
+-- the schedule and the numbers are such as the types hold
+abbrev pub HasParts : Finding → Type 0
+HasParts (SerialCut u) = AreMoves u
+HasParts (Nondeterministic u before earlier) = AreMoves u × IsOutcome earlier
+HasParts (Fail u why) = AreMoves u
+HasParts (Pass counts) = AreCounts counts
+
+-- what a finding in a report is
+abbrev pub IsSound : Finding → Type 0
+IsSound f = IsWithin f × HasParts f
+
+-- these are the lines of a finding
+abbrev pub AreFinding : List (List ℕ) → Type 0
+AreFinding lines = (f : Finding) × IsSound f × (lines ≡ finding_lines f)
+
+-- these are the lines of a report
+abbrev pub AreReport : List (List ℕ) → Type 0
+AreReport lines = (r : Report) × AreLimits r × IsSound r.finding × (lines ≡ report_lines r)
+
+-- ---- faults
+
+-- Some lines of this form begin with the same n lines as these, and none with the same n + 1; where these are n, the missing line is the one that differs.
+pub record DiffersAt (Texts : List (List ℕ) → Type 0) (lines : List (List ℕ)) (n : ℕ) : Type 0 where
+  pub before : (other : List (List ℕ)) × Texts other × (take n other ≡ take n lines)
+  pub there : (other : List (List ℕ)) → Texts other → take (n + 1) other ≡ take (n + 1) lines → ⊥
+
+-- The fault of a text whose first line has this number: the number of the first line at which all texts of the form differ, after the same lines before it. Want of memory can come with any text.
+abbrev pub IsFaultFrom : (List (List ℕ) → Type 0) → ℕ → List ℕ → ReportFault → Type 0
+IsFaultFrom Texts first text (Form line) = (n : ℕ) × (line ≡ first + n) × DiffersAt Texts (kept_lines text) n
+IsFaultFrom Texts first text Memory = Unit {0}
+
+abbrev pub IsFault : List ℕ → ReportFault → Type 0
+IsFault text fault = IsFaultFrom AreReport 1 text fault
+
+-- What a reader returned is the report, unless memory ran out.
+abbrev pub Gives : Result Report ReportFault → Report → Type 0
+Gives (Ok read) r = read ≡ r
+Gives (Err fault) r = fault ≡ Memory
+
+-- the code of the refusal
+abbrev pub report_code_of : ReportFault → List ℕ
+report_code_of (Form line) = codes "E1"
+report_code_of Memory = codes "memory"
+
+-- ---- parts of reports
+
+-- the line of a schedule alone
+abbrev pub AreRun : List (List ℕ) → Type 0
+AreRun lines = (u : List Move) × AreMoves u × (lines ≡ schedule_text u ∷ [])
+
+-- the lines of a conflict: the schedule, where it is, and the earlier outcome
+abbrev pub AreConflict : List (List ℕ) → Type 0
+AreConflict lines =
+    (u : List Move) × (before : ℕ) × (earlier : SerialOutcome)
+    × AreMoves u × (before ≤ 15) × IsOutcome earlier
+    × (lines ≡ schedule_text u ∷ number_line (codes "before ") before ∷ earlier_line earlier ∷ [])
+
+-- the lines of the counts
+abbrev pub AreCountLines : List (List ℕ) → Type 0
+AreCountLines lines =
+    (counts : Counts) × AreCounts counts
+    × (lines ≡ number_line (codes "complete ") counts.complete ∷ number_line (codes "stuck ") counts.stuck ∷ number_line (codes "cut ") counts.cut ∷ [])
+
+-- the text begins with this line
+abbrev pub IsFirst : List ℕ → List ℕ → Type 0
+IsFirst text line = take 1 (kept_lines text) ≡ line ∷ []
+
+-- the text begins with no line of a schedule, which is the fifth of a report
+abbrev pub HasNoSchedule : List ℕ → ReportFault → Type 0
+HasNoSchedule text (Form line) = (line ≡ 5) × ((u : List Move) → AreMoves u → IsFirst text (schedule_text u) → ⊥)
+HasNoSchedule text Memory = Unit {0}

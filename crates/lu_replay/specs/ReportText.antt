@@ -1,0 +1,40 @@
+-- The text of a report.
+use Rattle.std.specs.Prelude.{ℕ, List, [], ◌∷◌, ◌++◌, codes}
+use Rattle.std.specs.Fmt.{decimal}
+use Rattle.std.specs.List.{concat}
+use Rattle.lu_test.specs.ScheduleText.{schedule_text}
+use Rattle.lu_history.specs.declared.serial.SerialOutcome.{SerialOutcome}
+use Rattle.lu_history.specs.declared.serial.SerialOutcome.TheVariants as serial
+use Rattle.lu_witness.specs.declared.judgement.Why.{Why}
+use Rattle.lu_witness.specs.declared.judgement.Why.TheVariants.{Complete, Stuck}
+use Rattle.lu_replay.specs.declared.report.Finding.{Finding}
+use Rattle.lu_replay.specs.declared.report.Finding.TheVariants.{SerialCut, Nondeterministic, Fail, Pass}
+use Rattle.lu_replay.specs.declared.report.Report.{Report}
+
+-- a number behind these bytes
+abbrev pub number_line : List ℕ → ℕ → List ℕ
+number_line front n = front ++ decimal n ++ codes "\n"
+
+abbrev pub earlier_line : SerialOutcome → List ℕ
+earlier_line (serial.Ret n) = number_line (codes "earlier ret ") n
+earlier_line serial.Trap = codes "earlier trap\n"
+earlier_line serial.Stuck = codes "earlier stuck\n"
+
+abbrev pub fail_line : Why → List ℕ
+fail_line Complete = codes "fail complete\n"
+fail_line (Stuck t) = number_line (codes "fail stuck ") t
+
+-- the lines of what is found, each with its LF
+abbrev pub finding_lines : Finding → List (List ℕ)
+finding_lines (SerialCut u) = codes "serial-cut\n" ∷ schedule_text u ∷ []
+finding_lines (Nondeterministic u before earlier) = codes "nondeterministic\n" ∷ schedule_text u ∷ number_line (codes "before ") before ∷ earlier_line earlier ∷ []
+finding_lines (Fail u why) = fail_line why ∷ schedule_text u ∷ []
+finding_lines (Pass counts) =
+    codes "pass\n" ∷ number_line (codes "complete ") counts.complete ∷ number_line (codes "stuck ") counts.stuck ∷ number_line (codes "cut ") counts.cut ∷ []
+
+-- the lines of a report, each with its LF
+abbrev pub report_lines : Report → List (List ℕ)
+report_lines r = codes "lineup report 1\n" ∷ number_line (codes "bound ") r.bound ∷ number_line (codes "serial ") r.serial ∷ finding_lines r.finding
+
+abbrev pub report_text : Report → List ℕ
+report_text r = concat (report_lines r)

@@ -1,0 +1,147 @@
+//! Whether reports hold.
+
+ghost use Rattle.std.specs.Prelude.{◌≡◌, ◌↔◌, ◌≤◌, ℕ, IsTrue, IfOk};
+ghost use Rattle.lu_test.specs.Matrix.{IsOf};
+ghost use Rattle.lu_machine.specs.States.{State};
+ghost use Rattle.lu_machine.specs.Starts.{IsStart};
+ghost use Rattle.lu_serial.specs.declared.learning.Learnt.TheVariants.{Cut, Conflict};
+ghost use Rattle.lu_serial.specs.Offences.{IsLearnt};
+ghost use Rattle.lu_witness.specs.Witnesses.{IsMember};
+ghost use Rattle.lu_replay.specs.Confirmed.{IsBadFor, IsConfirmed, IsReason, IsShown};
+
+use crate::fault::ReplayFault;
+use crate::player::replay;
+use crate::report::{Finding, Report};
+use lu_history::SerialOutcome;
+use lu_lang::Component;
+use lu_machine::Status;
+use lu_serial::{Learnt, learn};
+use lu_test::{Matrix, Schedule};
+use lu_trie::Trie;
+use lu_witness::{Verdict, Why, verdict};
+use std::alloc::{AllocError, Global};
+
+fn is_same(schedule: &Schedule, other: &Schedule) -> bool
+    ensures { IsTrue result ↔ (schedule.now ≡ other.now) }
+{
+    schedule.moves() == other.moves()
+}
+
+/// Whether the least serial offence is this schedule, which is cut.
+fn is_cut(learnt: &Learnt<Global>, schedule: &Schedule) -> bool
+    ensures { IsTrue result ↔ (learnt.now ≡ Cut schedule.now) }
+{
+    match learnt {
+        Learnt::Set(_) => false,
+        Learnt::Cut(least) => is_same(least, schedule),
+        Learnt::Conflict { .. } => false,
+    }
+}
+
+/// Whether the least serial offence is this schedule, with this conflict.
+fn is_conflict(
+    learnt: &Learnt<Global>,
+    schedule: &Schedule,
+    before: usize,
+    earlier: SerialOutcome,
+) -> bool
+    ensures { IsTrue result ↔ (learnt.now ≡ Conflict schedule.now before earlier) }
+{
+    match learnt {
+        Learnt::Set(_) => false,
+        Learnt::Cut(_) => false,
+        Learnt::Conflict {
+            schedule: least,
+            before: agreed,
+            earlier: outcome,
+        } => is_same(least, schedule) && *agreed == before && *outcome == earlier,
+    }
+}
+
+/// Whether a run that ended so, with this verdict, fails for this reason.
+fn is_reason(status: Status, verdict: Verdict, why: Why) -> bool
+    ensures { IsTrue result ↔ IsReason status verdict why }
+{
+    match why {
+        Why::Complete => status == Status::Complete && verdict == Verdict::NoWitness,
+        Why::Stuck(thread) => {
+            status == Status::Stuck && verdict == Verdict::NoWitnessFor(thread)
+        }
+    }
+}
+
+/// Whether the schedule ends within the bound without its witnesses in the set, for this reason.
+fn fails(
+    alloc: Global,
+    component: &Component,
+    matrix: &Matrix,
+    bound: u16,
+    set: &Trie<Global>,
+    schedule: &Schedule,
+    why: Why,
+) -> Result<bool, AllocError>
+    requires { IsOf matrix.now component.now }
+    ensures { (s : State) → IsStart component.now matrix.now s → IfOk result (λ yes. IsTrue yes ↔ IsBadFor (IsMember set.now) s bound schedule.now why) }
+{
+    if schedule.moves().len() > usize::from(bound) {
+        return Ok(false);
+    }
+    match replay(alloc, component, matrix, schedule) {
+        Ok(shown) => {
+            let _events = shown.history.events();
+            let verdict = verdict(&set, &shown.history);
+            Ok(is_reason(shown.status, verdict, why))
+        }
+        Err(ReplayFault::Infeasible(_)) => Ok(false),
+        Err(ReplayFault::Memory) => Err(AllocError),
+    }
+}
+
+/// Whether what was found is shown by what the serial runs show, and by a run of its schedule.
+fn is_shown(
+    alloc: Global,
+    component: &Component,
+    matrix: &Matrix,
+    bound: u16,
+    learnt: &Learnt<Global>,
+    finding: &Finding,
+) -> Result<bool, AllocError>
+    requires { IsOf matrix.now component.now }
+    ensures { (s : State) (serial : ℕ) → IsStart component.now matrix.now s → IsLearnt s serial learnt.now → IfOk result (λ yes. IsTrue yes ↔ IsShown s bound serial finding.now) }
+{
+    match finding {
+        Finding::SerialCut(schedule) => Ok(is_cut(learnt, schedule)),
+        Finding::Nondeterministic {
+            schedule,
+            before,
+            earlier,
+        } => Ok(is_conflict(learnt, schedule, *before, *earlier)),
+        Finding::Fail { schedule, why } => match learnt {
+            Learnt::Set(set) => fails(alloc, component, matrix, bound, set, schedule, *why),
+            Learnt::Cut(_) => Ok(false),
+            Learnt::Conflict { .. } => Ok(false),
+        },
+        Finding::Pass(_) => Ok(false),
+    }
+}
+
+/// Whether the report holds of the component and the matrix, with its own bounds. A serial offence is confirmed where the
+/// serial runs show the same one; a failure where there is no serial offence and its schedule, run anew, ends within the
+/// bound without its serial witnesses, for the same reason. That it is the least such schedule is not asked. A pass is
+/// never confirmed, since no single run shows it.
+pub fn confirm(
+    alloc: Global,
+    component: &Component,
+    matrix: &Matrix,
+    report: &Report,
+) -> Result<bool, AllocError>
+    requires { IsOf matrix.now component.now }
+    ensures { IfOk result (λ yes. IsTrue yes ↔ IsConfirmed component.now matrix.now report.now) }
+{
+    if let Finding::Pass(_) = report.finding() {
+        return Ok(false);
+    }
+    let learnt = learn(alloc, alloc, component, matrix, report.serial())?;
+    let bound = report.bound();
+    is_shown(alloc, component, matrix, bound, &learnt, report.finding())
+}

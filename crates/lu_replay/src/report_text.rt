@@ -1,0 +1,100 @@
+//! Reports as text.
+
+ghost use Rattle.std.specs.Prelude.{◌≡◌, ◌++◌, IfOk, OnOk, string_bytes};
+ghost use Rattle.std.specs.List.{concat};
+ghost use Rattle.lu_test.specs.ScheduleText.{schedule_text};
+ghost use Rattle.lu_replay.specs.ReportText.{finding_lines, report_text};
+ghost use Rattle.lu_replay.specs.ReportText as spec;
+
+use crate::report::{Finding, Report};
+use lu_history::SerialOutcome;
+use lu_test::{Schedule, write_schedule};
+use lu_witness::Why;
+use std::alloc::{AllocError, Global};
+
+fn put_schedule(alloc: Global, text: &mut String, schedule: &Schedule) -> Result<(), AllocError>
+    ensures { OnOk result (string_bytes text.new ≡ string_bytes text.old ++ schedule_text schedule.now) }
+{
+    let line = write_schedule(alloc, schedule)?;
+    text.push_str(line.as_str())
+}
+
+/// Adds a line with a number behind a front.
+fn put_number(text: &mut String, front: &str, number: u64) -> Result<(), AllocError>
+    ensures { OnOk result (string_bytes text.new ≡ string_bytes text.old ++ spec.number_line front.now number) }
+{
+    writeln!(text, "{front}{number}")?;
+    Ok(())
+}
+
+fn put_earlier(text: &mut String, earlier: SerialOutcome) -> Result<(), AllocError>
+    ensures { OnOk result (string_bytes text.new ≡ string_bytes text.old ++ spec.earlier_line earlier) }
+{
+    match earlier {
+        SerialOutcome::Ret(number) => put_number(text, "earlier ret ", u64::from(number))?,
+        SerialOutcome::Trap => text.push_str("earlier trap\n")?,
+        SerialOutcome::Stuck => text.push_str("earlier stuck\n")?,
+    }
+    Ok(())
+}
+
+fn put_fail(text: &mut String, why: Why) -> Result<(), AllocError>
+    ensures { OnOk result (string_bytes text.new ≡ string_bytes text.old ++ spec.fail_line why) }
+{
+    match why {
+        Why::Complete => text.push_str("fail complete\n"),
+        Why::Stuck(thread) => put_number(text, "fail stuck ", u64::from(thread)),
+    }
+}
+
+/// Adds the lines of what was found.
+fn put_finding(alloc: Global, text: &mut String, finding: &Finding) -> Result<(), AllocError>
+    ensures { OnOk result (string_bytes text.new ≡ string_bytes text.old ++ concat (finding_lines finding.now)) }
+{
+    match finding {
+        Finding::SerialCut(schedule) => {
+            text.push_str("serial-cut\n")?;
+            put_schedule(alloc, text, schedule)?;
+        }
+        Finding::Nondeterministic {
+            schedule,
+            before,
+            earlier,
+        } => {
+            text.push_str("nondeterministic\n")?;
+            put_schedule(alloc, text, schedule)?;
+            put_number(text, "before ", *before as u64)?;
+            put_earlier(text, *earlier)?;
+        }
+        Finding::Fail { schedule, why } => {
+            put_fail(text, *why)?;
+            put_schedule(alloc, text, schedule)?;
+        }
+        Finding::Pass(counts) => {
+            text.push_str("pass\n")?;
+            put_number(text, "complete ", counts.complete)?;
+            put_number(text, "stuck ", counts.stuck)?;
+            put_number(text, "cut ", counts.cut)?;
+        }
+    }
+    Ok(())
+}
+
+/// The text of a report. Each line ends with LF:
+///
+/// ```text
+/// lineup report 1
+/// bound 40
+/// serial 40
+/// fail complete
+/// schedule 0 0 0 1 1 0 0 1 1 1
+/// ```
+pub fn write_report(alloc: Global, report: &Report) -> Result<String, AllocError>
+    ensures { IfOk result (λ text. string_bytes text ≡ report_text report.now) }
+{
+    let mut text = String::from_str(alloc, "lineup report 1\n")?;
+    put_number(&mut text, "bound ", u64::from(report.bound()))?;
+    put_number(&mut text, "serial ", u64::from(report.serial()))?;
+    put_finding(alloc, &mut text, report.finding())?;
+    Ok(text)
+}
