@@ -1,0 +1,58 @@
+-- From a set of serial histories and what a search finds over it to a finding.
+use Rattle.std.proofs.Common.{◌≡◌, ℕ, List, [], true, refl, sym, ◌∙◌, subst}
+use Rattle.std.specs.Prelude.{◌↔◌, IsTrue}
+use Rattle.lu_test.specs.declared.schedule.Move.{Move}
+use Rattle.lu_machine.specs.States.{State}
+use Rattle.lu_machine.specs.Schedules.{BeginsWith, IsSchedule, IsLeast, IsNumber, AreNumbers, AreAll}
+use Rattle.lu_history.specs.declared.serial.SerialOp.{SerialOp}
+use Rattle.lu_serial.specs.Serial.{IsSerialHistory}
+use Rattle.lu_serial.specs.Offences.{IsSetOf}
+use Rattle.lu_witness.specs.Goodness.{IsFirstBad, AreAllGood, Any}
+use Rattle.lu_witness.specs.Witnesses.{IsMember}
+use Rattle.lu_tree.specs.declared.found.Found.{Found}
+use Rattle.lu_tree.specs.declared.found.Found.TheVariants.{Clean, Bad}
+use Rattle.lu_tree.specs.Trees.{Below, IsFound}
+use Rattle.lu_replay.specs.Reports.{IsFinding}
+use Rattle.lu_replay.proofs.Sets.{first_bad_alike, all_good_alike}
+use Rattle.lu_parallel.specs.Findings.{finding_of}
+
+-- the empty schedule leads nowhere else
+pub empty_leads : (s : State) → IsSchedule s []
+empty_leads s = record { end = s; history = []; leads = (refl, refl); holds = tt }
+
+-- each schedule begins with the empty one
+pub below_empty : (u : List Move) → Below [] u
+below_empty u = (u, refl)
+
+-- what is found over the set of all serial histories is what the check finds
+pub found_finding : (members : List (List SerialOp)) (s : State) (bound serial : ℕ) (found : Found) → IsSetOf s serial members → IsFound (IsMember members) s bound Any found → IsFinding s bound serial (finding_of found)
+found_finding members s bound serial (Clean counts) set is =
+    (set.none, all_good_alike (IsMember members) (IsSerialHistory s) set.are s bound Any counts is)
+found_finding members s bound serial (Bad schedule why) set is =
+    (set.none, first_bad_alike (IsMember members) (IsSerialHistory s) set.are s bound Any schedule why is)
+
+number_of : (P Q : List Move → Type 0) (n : ℕ) → ((u : List Move) → P u → Q u) → ((u : List Move) → Q u → P u) → IsNumber P n → IsNumber Q n
+number_of P Q n into back is = record {
+  list = is.list;
+  all = record { rising = is.all.rising; only = λ u listed. into u (is.all.only u listed); each = λ u q. is.all.each u (back u q) };
+  number = is.number;
+}
+
+-- what is found below the empty schedule is what is found among all
+pub all_below : (Set : List SerialOp → Type 0) (s : State) (bound : ℕ) (found : Found) → IsFound Set s bound (Below []) found → IsFound Set s bound Any found
+all_below Set s bound (Clean counts) is = record {
+  none = λ u any bad. is.none u (below_empty u) bad;
+  numbers = record {
+    complete = number_of _ _ counts.complete (λ u p. (tt, p.1)) (λ u p. (below_empty u, p.1)) is.numbers.complete;
+    stuck = number_of _ _ counts.stuck (λ u p. (tt, p.1)) (λ u p. (below_empty u, p.1)) is.numbers.stuck;
+    cut = number_of _ _ counts.cut (λ u p. (tt, p.1)) (λ u p. (below_empty u, p.1)) is.numbers.cut;
+  };
+}
+all_below Set s bound (Bad schedule why) is = (
+  record { kind = (tt, is.0.kind.1); least = λ v less bad. is.0.least v less (below_empty v, bad.1) },
+  is.1,
+)
+
+-- what is found below the empty schedule, over the set of all serial histories
+pub whole_finding : (members : List (List SerialOp)) (s : State) (bound serial : ℕ) (found : Found) → IsSetOf s serial members → IsFound (IsMember members) s bound (Below []) found → IsFinding s bound serial (finding_of found)
+whole_finding members s bound serial found set is = found_finding members s bound serial found set (all_below (IsMember members) s bound found is)

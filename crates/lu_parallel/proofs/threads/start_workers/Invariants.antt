@@ -1,0 +1,13 @@
+use Rattle.std.proofs.Common.{◌≡◌, ◌≢◌, ℕ, ◌+◌, ◌<◌, ◌≤◌, vec_len, length}
+use Rattle.std.specs.Prelude.{All, vec_capacity}
+use Rattle.std.specs.Vec.Iter.{into_iter_items, into_iter_len}
+use Rattle.lu_parallel.specs.Works.{IsFresh}
+use Rattle.lu_parallel.proofs.threads.start_workers.Given as goal
+
+abbrev pub invariant-loop-seat : goal.invariant-loop-seat
+invariant-loop-seat g l =
+    All (IsFresh l.board.board (length l.pieces)) (into_iter_items l.seat-iterator)
+    × (vec_len l.children + into_iter_len l.seat-iterator ≡ vec_len l.fn.seats)
+    × (l.worker ≡ vec_len l.children)
+    × (vec_len l.fn.seats ≤ vec_capacity l.children)
+    × All (λ h. (h.promise.component.now ≡ l.component) × (h.promise.matrix.now ≡ l.matrix) × (h.promise.tree.now ≡ l.tree) × (h.promise.pieces.now ≡ l.pieces) × (h.promise.bound ≡ l.bound) × (h.promise.board.now ≡ l.board)) l.children.items

@@ -1,0 +1,51 @@
+use Rattle.std.proofs.Common.{◌≡◌, ◌∙◌, ◌++◌, ◌∷◌, [], ℕ, List, length, refl, sym, ap, subst}
+use Rattle.lu_board.specs.declared.view.View.{View}
+use Rattle.lu_board.specs.Events.{with_held, with_spent}
+use Rattle.lu_board.specs.Pieces.{without}
+use Rattle.lu_machine.specs.Starts.{start_of}
+use Rattle.lu_witness.specs.Witnesses.{IsMember}
+use Rattle.lu_parallel.specs.Works.{Holds}
+use Rattle.lu_parallel.proofs.Tallies.{holds_nothing, holds_same, without_one}
+use Rattle.lu_parallel.proofs.worker.work.Goals as goal
+
+pub loop-piece-init : goal.loop-piece-init
+loop-piece-init g c =
+    let fresh = c.requires.fresh.1 in
+    record {
+      board = c.requires.fresh.0;
+      pieces = ap (λ (v : View). v.pieces) fresh;
+      held = ap (λ (v : View). v.held) fresh;
+      holds = λ s is. holds_nothing (IsMember (g.T.SerialTree.members c.args.tree.now)) s c.args.bound c.args.pieces.now c.args.seat.view (length c.args.pieces.now) c.new-tally.result.counts c.new-tally.result.found.items fresh c.new-tally.ensures.counts c.new-tally.ensures.found;
+    }
+
+pub loop-piece-preserved : goal.loop-piece-preserved
+loop-piece-preserved g c =
+    let i = c.loop-piece.invariant in
+    let was = c.loop-piece.seat.view in
+    let piece = c.in-Some.piece in
+    let claimed : c.claim.new.seat.view ≡ with_held piece was = c.in-Some.ensures.held in
+    let away = c.serve.ensures.away in
+    record {
+      board = c.serve.ensures.board ∙ c.claim.ensures.board ∙ i.board;
+      pieces = away.pieces ∙ ap (λ (v : View). v.pieces) claimed ∙ i.pieces;
+      held = away.held ∙ ap (λ (v : View). without piece v.held) claimed ∙ without_one piece was.held i.held;
+      holds = λ s is. c.serve.ensures.holds s is
+          (holds_same (IsMember (g.T.SerialTree.members c.args.tree.now)) s c.args.bound c.args.pieces.now was c.claim.new.seat.view c.loop-piece.tally.counts c.loop-piece.tally.found.items
+          (ap (λ (v : View). v.clean) claimed) (ap (λ (v : View). v.found) claimed) (i.holds s is));
+    }
+
+pub returns : goal.returns
+returns g c =
+    let i = c.loop-piece.invariant in
+    let was = c.loop-piece.seat.view in
+    let start = start_of c.args.component.now c.args.matrix.now in
+    let spent : c.claim.new.seat.view ≡ with_spent was = c.in_default.ensures.none in
+    record {
+      over = record {
+        board_is = c.claim.ensures.board ∙ i.board;
+        done = (ap (λ (v : View). v.spent) spent, ap (λ (v : View). v.held) spent ∙ i.held);
+        listed = (i.holds start refl).listed ∙ sym (ap (λ (v : View). v.found) spent);
+      };
+      holds = λ s is. holds_same (IsMember (g.T.SerialTree.members c.args.tree.now)) s c.args.bound c.args.pieces.now was c.claim.new.seat.view c.loop-piece.tally.counts c.loop-piece.tally.found.items
+          (ap (λ (v : View). v.clean) spent) (ap (λ (v : View). v.found) spent) (i.holds s is);
+    }

@@ -1,0 +1,26 @@
+-- What works over the pieces of a cover come to.
+use Rattle.std.specs.Prelude.{ℕ, List, length, Some, All}
+use Rattle.atomic_table.specs.Seated.{TableId}
+use Rattle.lu_lang.specs.Component.{Declarations}
+use Rattle.lu_test.specs.declared.matrix.Call.{Call}
+use Rattle.lu_test.specs.declared.schedule.Move.{Move}
+use Rattle.lu_machine.specs.States.{State}
+use Rattle.lu_machine.specs.Starts.{IsStart}
+use Rattle.lu_machine.specs.Schedules.{IsCover}
+use Rattle.lu_history.specs.declared.serial.SerialOp.{SerialOp}
+use Rattle.lu_witness.specs.Goodness.{Any}
+use Rattle.lu_witness.specs.Witnesses.{IsMember}
+use Rattle.lu_tree.specs.declared.found.Found.{Found}
+use Rattle.lu_tree.specs.Trees.{IsFound}
+use Rattle.lu_board.specs.Close.{SharesOut}
+use Rattle.lu_parallel.specs.declared.parts.Work.{Work}
+use Rattle.lu_parallel.specs.Works.{IsWork}
+use Rattle.lu_parallel.specs.Conclusions.{IsConclusion, SkipsAbove, seats_of}
+
+-- What the works over a cover conclude is what a search of all schedules finds.
+abbrev pub Concludes : Type 0
+Concludes =
+    (c : Declarations) (matrix : List (List Call)) (members : List (List SerialOp)) (s : State) (bound : ℕ) (pieces : List (List Move)) (board : TableId) (works : List Work) (found : Found) →
+    IsStart c matrix s → IsCover s bound pieces → All (IsWork c matrix members bound pieces board) works →
+    SharesOut (length pieces) (seats_of works) → SkipsAbove works → IsConclusion works (Some found) →
+    IsFound (IsMember members) s bound Any found

@@ -1,0 +1,20 @@
+//! Gates that workers pass.
+
+/// What a worker tells as it goes from piece to piece. Workers and pieces are numbered from 0.
+pub trait Gate: Sync {
+    /// The worker has claimed the piece, and goes on when the call returns.
+    fn pass(&self, worker: u8, piece: u64);
+
+    /// The worker is done with the piece: it was skipped, found bad, found clean or given up.
+    fn done(&self, worker: u8, piece: u64);
+}
+
+/// A gate that returns at once.
+#[derive(Clone, Copy, Debug, Drop)]
+pub struct OpenGate;
+
+impl Gate for OpenGate {
+    fn pass(&self, _worker: u8, _piece: u64) {}
+
+    fn done(&self, _worker: u8, _piece: u64) {}
+}
