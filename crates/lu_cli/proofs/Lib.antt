@@ -2,3 +2,5 @@ pub mod Known
 pub mod Lines
 pub mod Orders
 pub mod Sayings
+pub mod SpecTexts
+pub mod Reported

@@ -1,27 +1,91 @@
 -- The commands of the program, and what words ask for.
-use Rattle.std.specs.Prelude.{true, List, [], ◌∷◌, Option, Some, None, option_and_then, codes, if◌then◌else◌}
+use Rattle.std.specs.Prelude.{ℕ, ◌^◌, ◌&&◌, true, pos, List, [], ◌∷◌, length, Option, Some, None, option_and_then, codes, nat_lt, if◌then◌else◌}
+use Rattle.std.specs.List.{list_all}
+use Rattle.std.specs.Option.{option_map}
 use Rattle.std.specs.Str.{bytes_eq}
-use Rattle.clap.specs.Words.{App, Row, Text, new_app, with_subcommand, subcommand_of, fault_of}
+use Rattle.std.specs.Char.{digit_value}
+use Rattle.std.specs.Str.Parse.{digits_value, without_leading_plus}
+use Rattle.clap.specs.Words.{App, Row, Rule, Text, new_app, new_rule, with_rule, with_subcommand, subcommand_of, fault_of}
+pub use Rattle.clap.specs.Words.{one_of}
+use Rattle.clap.specs.declared.builder.value_parser.ValueParser.TheVariants as vp
 use Rattle.clap.specs.declared.error.kind.ErrorKind.{ErrorKind}
 use Rattle.lu_cli.specs.declared.order.Order.{Order}
-use Rattle.lu_cli.specs.declared.order.Order.TheVariants.{Replay}
+use Rattle.lu_cli.specs.declared.order.Order.TheVariants.{Replay, Serial, Check}
+use Rattle.lu_cli.specs.Orders.{Limits, limits_of, choice_of}
+use Rattle.lu_parallel.specs.Ranges.{Choice}
 
 -- ---- the commands
 
+-- an option `--NAME N`
+abbrev pub number_option : Text → ℕ → ℕ → Text → Rule
+number_option name least most default = record (new_rule name) {
+  long = Some name;
+  parser = Some (vp.Signed (pos least) (pos most));
+  defaults = default ∷ [];
+}
+
+-- a command with the options `--bound` and `--serial`
+abbrev pub bounded : Text → App
+bounded name =
+    with_rule (with_rule (new_app name) (number_option (codes "bound") 0 256 (codes "40")))
+    (number_option (codes "serial") 1 256 (codes "40"))
+
 abbrev pub replay_command : App
 replay_command = new_app (codes "replay")
+
+abbrev pub serial_command : App
+serial_command = bounded (codes "serial")
+
+abbrev pub check_command : App
+check_command =
+    with_rule (with_rule (bounded (codes "check")) (number_option (codes "workers") 1 16 (codes "1")))
+    (number_option (codes "depth") 0 8 (codes "4"))
 
 -- the program, which takes the words behind its name, and wants a command
 abbrev pub program : App
 program = record (new_app (codes "lineup")) { top = record ((new_app (codes "lineup")).top) { no_binary_name = true; subcommand_required = true } }
 
 abbrev pub lineup : App
-lineup = with_subcommand program replay_command.top
+lineup = with_subcommand (with_subcommand (with_subcommand program replay_command.top) serial_command.top) check_command.top
 
 -- ---- what words ask for
 
+-- the number of 16 bits that a word says, where it says one
+abbrev pub number_by : Text → Option ℕ
+number_by digits =
+    if nat_lt 0 (length digits) && (list_all (λ d. nat_lt (digit_value d) 10) digits && nat_lt (digits_value 10 digits) (2 ^ 16))
+    then Some (digits_value 10 digits)
+    else None
+
+abbrev pub number_said : Option Text → Option ℕ
+number_said word = option_and_then (λ text. number_by (without_leading_plus text)) word
+
+abbrev pub number_in : Text → List Row → Option ℕ
+number_in name rows = number_said (one_of name rows)
+
+abbrev pub limits_with : Option ℕ → Option ℕ → Option Limits
+limits_with (Some bound) (Some serial) = limits_of bound serial
+limits_with (Some bound) None = None
+limits_with None serial = None
+
+abbrev pub limits_in : List Row → Option Limits
+limits_in rows = limits_with (number_in (codes "bound") rows) (number_in (codes "serial") rows)
+
+abbrev pub choice_with : Option ℕ → Option ℕ → Option ℕ → Option ℕ → Option Choice
+choice_with (Some bound) (Some serial) (Some workers) (Some depth) =
+    choice_of (record { bound = bound; serial = serial; workers = workers; depth = depth })
+choice_with _ _ _ _ = None
+
+abbrev pub choice_in : List Row → Option Choice
+choice_in rows =
+    choice_with (number_in (codes "bound") rows) (number_in (codes "serial") rows) (number_in (codes "workers") rows)
+    (number_in (codes "depth") rows)
+
 abbrev pub order_by : Text → List Row → Option Order
-order_by name rows = if bytes_eq name (codes "replay") then Some Replay else None
+order_by name rows =
+    if bytes_eq name (codes "replay") then Some Replay
+    else (if bytes_eq name (codes "serial") then option_map Serial (limits_in rows)
+    else (if bytes_eq name (codes "check") then option_map Check (choice_in rows) else None))
 
 abbrev pub order_in : Option (Text × List Row) → Option Order
 order_in entered = option_and_then (λ e. order_by e.0 e.1) entered

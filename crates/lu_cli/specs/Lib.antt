@@ -1,5 +1,9 @@
 pub mod Args
 pub mod Bundle
 pub mod Counted
+pub mod Orders
 pub mod Outcomes
 pub mod Replies
+pub mod SpecText
+pub mod Tasks
+pub mod Texts

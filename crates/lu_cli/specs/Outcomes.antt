@@ -24,5 +24,9 @@ no_command = record { text = codes "refused command line\n"; status = 2 }
 abbrev pub no_device : Answer
 no_device = record { text = codes "refused device\n"; status = 4 }
 
+-- the start of a worker's thread was refused
+abbrev pub no_worker : Answer
+no_worker = record { text = codes "refused K2\n"; status = 4 }
+
 abbrev pub infeasible : ℕ → Answer
 infeasible i = record { text = codes "infeasible " ++ decimal i ++ 10 ∷ []; status = 1 }

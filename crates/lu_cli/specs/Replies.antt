@@ -1,5 +1,5 @@
 -- What the program writes, and its status.
-use Rattle.std.specs.Prelude.{◌≡◌, ◌⊎◌, ℕ, List, [], ◌∷◌, ◌++◌, length, Option, Result, Ok, Err, MatchBool, codes, nat_lt}
+use Rattle.std.specs.Prelude.{◌≡◌, ◌≢◌, ◌⊎◌, ℕ, List, [], ◌∷◌, ◌++◌, length, Option, Result, Ok, Err, MatchBool, codes, nat_lt}
 use Rattle.std.specs.Io.KnownBytes.{Appends}
 use Rattle.lu_text.specs.declared.fault.Fault.{Fault}
 use Rattle.lu_text.specs.declared.fault.Fault.TheVariants.{At, Memory}
@@ -15,12 +15,25 @@ use Rattle.lu_test.specs.MatrixText.{matrix_grammar}
 use Rattle.lu_test.specs.ScheduleText.{schedule_of}
 use Rattle.lu_machine.specs.declared.event.Event.{Event}
 use Rattle.lu_machine.specs.declared.event.Status.{Status}
+use Rattle.lu_machine.specs.States.{State}
+use Rattle.lu_machine.specs.Starts.{IsStart}
+use Rattle.lu_history.specs.declared.serial.SerialOp.{SerialOp}
+use Rattle.lu_serial.specs.Serial.{IsSerialHistory}
+use Rattle.lu_serial.specs.Offences.{NoOffence}
+use Rattle.lu_replay.specs.declared.report.Finding.{Finding}
+use Rattle.lu_replay.specs.declared.report.Finding.TheVariants.{SerialCut, Nondeterministic, Fail, Pass}
+use Rattle.lu_replay.specs.Parts.{Parts}
+use Rattle.lu_replay.specs.Reports.{IsReport}
+use Rattle.lu_replay.specs.ReportText.{report_text}
 use Rattle.lu_replay.specs.Replays.{Shows, IsInfeasibleAt}
 use Rattle.lu_replay.specs.Text.{replay_text}
+use Rattle.lu_parallel.specs.Ranges.{Choice}
 use Rattle.lu_cli.specs.declared.order.Order.{Order}
-use Rattle.lu_cli.specs.declared.order.Order.TheVariants.{Replay}
+use Rattle.lu_cli.specs.declared.order.Order.TheVariants.{Replay, Serial, Check}
 use Rattle.lu_cli.specs.Bundle.{parts_of}
-pub use Rattle.lu_cli.specs.Outcomes.{Answer, refused, refused_on_line, infeasible, no_memory, no_command, no_device}
+use Rattle.lu_cli.specs.Orders.{Limits}
+use Rattle.lu_cli.specs.SpecText.{IsListOf, spec_text}
+pub use Rattle.lu_cli.specs.Outcomes.{Answer, refused, refused_on_line, infeasible, no_memory, no_command, no_device, no_worker}
 
 -- the answer to a text: its refusal, by a code and a line, or what is answered to its value
 abbrev pub ToValue : {Kind A : Type 0} → (Kind → List ℕ) → Result A (Fault Kind) → (A → Answer → Type 0) → Answer → Type 0
@@ -42,21 +55,73 @@ IsReplayed c matrix u answer =
     ⊎ ((i : ℕ) × IsInfeasibleAt c matrix u i
     × (answer ≡ infeasible i))
 
-abbrev pub IsReplayIn : Declarations → List ℕ → List ℕ → Answer → Type 0
-IsReplayIn c matrix schedule =
-    ToValue matrix_code_of (value_of (matrix_grammar c) matrix) (λ m. ToSchedule (schedule_of schedule) (IsReplayed c m))
+-- ---- reports
 
--- the component is read first, then the matrix, then the schedule
-abbrev pub IsReplayOf : List ℕ → List ℕ → List ℕ → Answer → Type 0
-IsReplayOf component matrix schedule =
-    ToValue code_of (value_of component_grammar component) (λ c. IsReplayIn c matrix schedule)
+abbrev pub status_of : Finding → ℕ
+status_of (Pass counts) = 0
+status_of (Fail u why) = 1
+status_of (Nondeterministic u before earlier) = 1
+status_of (SerialCut u) = 3
+
+abbrev pub reported : Parts → Answer
+reported r = record { text = report_text r; status = status_of r.finding }
+
+-- what is found is a serial offence
+abbrev pub IsOfOffence : Finding → Type 0
+IsOfOffence (SerialCut u) = Unit {0}
+IsOfOffence (Nondeterministic u before earlier) = Unit {0}
+IsOfOffence (Fail u why) = ⊥
+IsOfOffence (Pass counts) = ⊥
+
+-- ---- `serial`
+
+-- a set of serial histories, its members in order
+abbrev pub shown : List (List SerialOp) → Answer
+shown histories = record { text = spec_text histories; status = 0 }
+
+-- where there is no serial offence, the text of the set of serial histories; else the report of the least offence
+abbrev pub IsRunSerially : Declarations → List (List Call) → Limits → Answer → Type 0
+IsRunSerially c matrix limits answer =
+    ((s : State) × IsStart c matrix s × NoOffence s limits.serial
+    × ((histories : List (List SerialOp)) × IsListOf (IsSerialHistory s) histories × (answer ≡ shown histories)))
+    ⊎ ((r : Parts) × IsReport c matrix limits.bound limits.serial r × IsOfOffence r.finding × (answer ≡ reported r))
+
+-- ---- `check`
+
+-- the report, whatever the number of workers and the depth; or, with more than one worker, that a thread could not start
+abbrev pub IsChecked : Declarations → List (List Call) → Choice → Answer → Type 0
+IsChecked c matrix choice answer =
+    ((r : Parts) × IsReport c matrix choice.bound choice.serial r × (answer ≡ reported r))
+    ⊎ ((choice.workers ≢ 1) × (answer ≡ no_worker))
+
+-- ---- texts of components and matrices
+
+-- the answer to a matrix text of the component
+abbrev pub ToMatrix : Declarations → List ℕ → (List (List Call) → Answer → Type 0) → Answer → Type 0
+ToMatrix c matrix IsAnswer = ToValue matrix_code_of (value_of (matrix_grammar c) matrix) IsAnswer
+
+-- the component is read first, and then the matrix
+abbrev pub ToTexts : List ℕ → List ℕ → (Declarations → List (List Call) → Answer → Type 0) → Answer → Type 0
+ToTexts component matrix IsAnswer =
+    ToValue code_of (value_of component_grammar component) (λ c. ToMatrix c matrix (IsAnswer c))
 
 -- ---- the whole program
 
+-- the answer to a bundle of a component and a matrix
+abbrev pub ToParts : List (List ℕ) → (Declarations → List (List Call) → Answer → Type 0) → Answer → Type 0
+ToParts (component ∷ matrix ∷ []) IsAnswer = ToTexts component matrix IsAnswer
+ToParts _ IsAnswer = λ answer. answer ≡ refused (codes "B1")
+
+-- the answer to a bundle of a component, a matrix and a schedule
+abbrev pub IsReplayOf : List (List ℕ) → Answer → Type 0
+IsReplayOf (component ∷ matrix ∷ schedule ∷ []) = ToTexts component matrix (λ c m. ToSchedule (schedule_of schedule) (IsReplayed c m))
+IsReplayOf _ = λ answer. answer ≡ refused (codes "B1")
+
 -- the answer to an order and the parts of the bundle
 abbrev pub IsAnswerTo : Order → List (List ℕ) → Answer → Type 0
-IsAnswerTo Replay (component ∷ matrix ∷ schedule ∷ []) answer = IsReplayOf component matrix schedule answer
-IsAnswerTo Replay _ answer = answer ≡ refused (codes "B1")
+IsAnswerTo Replay parts = IsReplayOf parts
+IsAnswerTo (Serial limits) parts = ToParts parts (λ c m. IsRunSerially c m limits)
+IsAnswerTo (Check choice) parts = ToParts parts (λ c m. IsChecked c m choice)
 
 -- the answer to an order and the whole input
 abbrev pub IsAnswerOf : Order → List ℕ → Answer → Type 0

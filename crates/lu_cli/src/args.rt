@@ -1,16 +1,55 @@
 //! What the command line asks for.
 
-ghost use Rattle.std.specs.Prelude.{◌≡◌, false, IfOk, IsErrOf, Some, None, map};
-ghost use Rattle.clap.specs.Words.{app_of, subcommand_rows_of};
+ghost use Rattle.std.specs.Prelude.{◌≡◌, ◌≤◌, false, IfOk, IsErrOf, Some, None, map};
+ghost use Rattle.clap.specs.Words.{app_of, found_of, rows_of, rule_of, subcommand_rows_of};
 ghost use Rattle.clap.specs.declared.builder.command.Command.TheViews.{out-Command};
 ghost use Rattle.lu_cli.specs.Args as spec;
 ghost use Rattle.lu_cli.specs.Args.{lineup, order_of};
 
-use crate::order::{ArgsFault, Order};
+use crate::order::{ArgsFault, Bounds, Order};
+use clap::builder::ValueParserFactory;
 use clap::error::ErrorKind;
-use clap::{ArgMatches, Command};
+use clap::{Arg, ArgMatches, Command};
+use lu_parallel::Options;
 use std::alloc::{AllocError, Global};
 use std::convert::AsStr;
+
+/// An option `--NAME N`.
+fn number_option<'a>(
+    alloc: Global,
+    name: &'a str,
+    least: u8,
+    most: u16,
+    default: &'a str,
+) -> Arg<'a>
+    requires { least ≤ most }
+    ensures rule { rule_of result ≡ spec.number_option name.entry.now least most default.entry.now }
+    ensures local { result.global ≡ false }
+{
+    Arg::new(alloc, name)
+        .long(name)
+        .value_parser(clap::value_parser!(u16).range(least as i64..=most as i64))
+        .default_value(default)
+}
+
+/// A command with the options `--bound` and `--serial`.
+fn bounded<'a>(alloc: Global, name: &'a str) -> Result<Command<'a>, AllocError>
+    ensures app { IfOk result (λ command. app_of command ≡ spec.bounded name.entry.now) }
+    ensures local { IfOk result (λ command. (out-Command command).has_globals ≡ false) }
+{
+    Command::new(alloc, name)
+        .arg(number_option(alloc, "bound", 0, 256, "40"))?
+        .arg(number_option(alloc, "serial", 1, 256, "40"))
+}
+
+fn check_command<'a>(alloc: Global) -> Result<Command<'a>, AllocError>
+    ensures app { IfOk result (λ command. app_of command ≡ spec.check_command) }
+    ensures local { IfOk result (λ command. (out-Command command).has_globals ≡ false) }
+{
+    bounded(alloc, "check")?
+        .arg(number_option(alloc, "workers", 1, 16, "1"))?
+        .arg(number_option(alloc, "depth", 0, 8, "4"))
+}
 
 fn replay_command<'a>(alloc: Global) -> Command<'a>
     ensures app { app_of result ≡ spec.replay_command }
@@ -25,19 +64,52 @@ fn lineup_command<'a>(alloc: Global) -> Result<Command<'a>, AllocError>
     Command::new(alloc, "lineup")
         .no_binary_name(true)
         .subcommand_required(true)
-        .subcommand(replay_command(alloc))
+        .subcommand(replay_command(alloc))?
+        .subcommand(bounded(alloc, "serial")?)?
+        .subcommand(check_command(alloc)?)
+}
+
+fn number_in(given: &ArgMatches<'_>, name: &str) -> Option<u16>
+    ensures { result ≡ spec.number_in name.now (rows_of (found_of given.now)) }
+{
+    given.get_one::<u16>(name)
+}
+
+fn bounds_in(given: &ArgMatches<'_>) -> Option<Bounds>
+    ensures { result ≡ spec.limits_in (rows_of (found_of given.now)) }
+{
+    let bound = number_in(given, "bound")?;
+    let serial = number_in(given, "serial")?;
+    Bounds::new(bound, serial)
+}
+
+fn options_in(given: &ArgMatches<'_>) -> Option<Options>
+    ensures { result ≡ spec.choice_in (rows_of (found_of given.now)) }
+{
+    let bound = number_in(given, "bound")?;
+    let serial = number_in(given, "serial")?;
+    let workers = number_in(given, "workers")?;
+    let depth = number_in(given, "depth")?;
+    let workers = u8::try_from(workers).ok()?;
+    let depth = u8::try_from(depth).ok()?;
+    Options::new(bound, serial, workers, depth)
 }
 
 /// The order of a parse.
 fn order_in(matches: &ArgMatches<'_>) -> Option<Order>
     ensures { result ≡ spec.order_in (subcommand_rows_of matches.now) }
 {
-    let (name, _) = matches.subcommand()?;
+    let (name, given) = matches.subcommand()?;
     if name == "replay" {
-        Some(Order::Replay)
-    } else {
-        None
+        return Some(Order::Replay);
     }
+    if name == "serial" {
+        return Some(Order::Serial(bounds_in(given)?));
+    }
+    if name == "check" {
+        return Some(Order::Check(options_in(given)?));
+    }
+    None
 }
 
 /// What the words behind the program's name ask for. The definitions of the command line are those of

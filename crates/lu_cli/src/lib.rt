@@ -9,9 +9,12 @@ mod input;
 mod order;
 mod output;
 mod program;
+mod spec_text;
+mod texts;
 
 pub use counted::Counted;
 pub use program::run;
+pub use texts::{Fault, check_texts};
 
 #[cfg(test)]
 mod tests;

@@ -17,6 +17,8 @@ use crate::output::write_text;
 use std::alloc::{AllocError, Global};
 use std::convert::AsStr;
 use std::io::{Read, Write};
+use std::sync::Wait;
+use std::thread::Threads;
 use thiserror::Error;
 
 /// Why there is no answer.
@@ -36,8 +38,8 @@ impl From<AllocError> for Failure {
     }
 }
 
-fn answer_in<R: Read>(
-    alloc: Global,
+fn answer_in<X: AllocGlobal + Threads + Wait, R: Read>(
+    rt: &X,
     order: Order,
     input: &mut Counted<R>,
 ) -> Result<Answer, Failure>
@@ -46,19 +48,19 @@ fn answer_in<R: Read>(
     ensures device { IsErrOf result Failure.Device → input.old.failures < input.new.failures }
     ensures unfailed { IsErrOf result Failure.Device ⊎ (input.new.failures ≡ input.old.failures) }
 {
-    match read_input(alloc, input) {
+    match read_input(rt.alloc(), input) {
         Ok(bytes) => {
-            let parts = parts_in(alloc, &bytes)?;
-            Ok(answer_to(alloc, order, &parts)?)
+            let parts = parts_in(rt.alloc(), &bytes)?;
+            Ok(answer_to(rt, order, &parts)?)
         }
-        Err(InputFault::TooLong) => Ok(refused(alloc, "B2")?),
+        Err(InputFault::TooLong) => Ok(refused(rt.alloc(), "B2")?),
         Err(InputFault::Device) => Err(Failure::Device),
         Err(InputFault::Memory) => Err(Failure::Memory),
     }
 }
 
-fn answer_for<S: AsStr, R: Read>(
-    alloc: Global,
+fn answer_for<X: AllocGlobal + Threads + Wait, S: AsStr, R: Read>(
+    rt: &X,
     words: &[S],
     input: &mut Counted<R>,
 ) -> Result<Answer, Failure>
@@ -69,9 +71,9 @@ fn answer_for<S: AsStr, R: Read>(
     ensures device { IsErrOf result Failure.Device → input.old.failures < input.new.failures }
     ensures unfailed { IsErrOf result Failure.Device ⊎ (input.new.failures ≡ input.old.failures) }
 {
-    match read_order(alloc, words) {
-        Ok(order) => answer_in(alloc, order, input),
-        Err(ArgsFault::Refused) => Ok(command_refused(alloc)?),
+    match read_order(rt.alloc(), words) {
+        Ok(order) => answer_in(rt, order, input),
+        Err(ArgsFault::Refused) => Ok(command_refused(rt.alloc())?),
         Err(ArgsFault::Memory) => Err(Failure::Memory),
     }
 }
@@ -83,7 +85,7 @@ fn command_refused(alloc: Global) -> Result<Answer, AllocError>
 }
 
 /// Runs the program on the words behind its name, and answers its exit status.
-pub fn run<X: AllocGlobal, S: AsStr, R: Read, W: Write>(
+pub fn run<X: AllocGlobal + Threads + Wait, S: AsStr, R: Read, W: Write>(
     rt: &X,
     words: &[S],
     input: &mut Counted<R>,
@@ -103,7 +105,7 @@ pub fn run<X: AllocGlobal, S: AsStr, R: Read, W: Write>(
     // A device is blamed only where a read failed.
     ensures unread { output.new.failures ≡ output.old.failures → input.new.failures ≡ input.old.failures ⊎ Tells no_device (W.contents output.old.inner) (W.contents output.new.inner) result }
 {
-    match answer_for(rt.alloc(), words, input) {
+    match answer_for(rt, words, input) {
         Ok(answer) => say(output, answer.text.as_str(), answer.status),
         Err(Failure::Memory) => say(output, "refused memory\n", 4),
         Err(Failure::Device) => say(output, "refused device\n", 4),

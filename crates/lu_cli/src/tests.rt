@@ -1,8 +1,13 @@
-use crate::{Counted, run};
+use crate::{Counted, Fault, check_texts, run};
+use lu_lang::{LangFault, LangFaultKind};
+use lu_parallel::Options;
+use lu_test::{MatrixFault, MatrixFaultKind};
 use std::io;
 use std::io::{Read, Write};
 use std::process::Abort;
+use std::sync::Wait;
 use std::test::Fail;
+use std::thread::Threads;
 
 const BUNDLE: &[u8] = b"component c\nop f 0\nreturn 7\nend\n---\nthread f\n---\nschedule 0 0\n";
 
@@ -53,7 +58,7 @@ impl Write for FailingWriter {
     }
 }
 
-fn ran<X: AllocGlobal + Abort>(
+fn ran<X: AllocGlobal + Abort + Threads + Wait>(
     rt: &X,
     reads: u32,
     writes: u32,
@@ -98,6 +103,35 @@ fn a_failing_write_shows_in_the_status(rt: HostRuntime) -> Result<(), Fail> {
             assert_eq!(rt; taken.as_slice(), SHOWN);
             assert_eq!(rt; status, 0);
         }
+    }
+    Ok(())
+}
+
+const COUNTER: &[u8] =
+    b"component c\nword x 1 0\nop inc 0\nload r0 x 0\nadd r0 r0 1\nstore x 0 r0\nreturn r0\nend\n";
+
+/// The text of a check's report, and the faults of texts: the component's before the matrix's.
+#[test]
+fn texts_are_checked(rt: HostRuntime) -> Result<(), Fail> {
+    let Some(options) = Options::new(40, 40, 2, 4) else {
+        panic!(rt; "options");
+    };
+    let text = check_texts(&rt, COUNTER, b"thread inc\nthread inc\n", options)?;
+    assert_eq!(rt;
+        text.as_str(),
+        "lineup report 1\nbound 40\nserial 40\nfail complete\nschedule 0 0 0 1 1 0 0 1 1 1\n"
+    );
+    match check_texts(&rt, b"", b"", options) {
+        Err(Fault::Component(fault)) => assert!(rt;
+            fault == LangFault::At(LangFaultKind::Missing, 1)
+        ),
+        _ => panic!(rt; "the component is refused first"),
+    }
+    match check_texts(&rt, COUNTER, b"", options) {
+        Err(Fault::Matrix(fault)) => assert!(rt;
+            fault == MatrixFault::At(MatrixFaultKind::Limit, 1)
+        ),
+        _ => panic!(rt; "the matrix is refused"),
     }
     Ok(())
 }

@@ -90,7 +90,7 @@ op twice 0\n\
 lock m\n\
 lock m\n\
 return 0\n\
-end\n\n\
+end\n\
 ";
 
 /// A counter that loads, adds and stores: two calls at once can lose an increment.
@@ -106,4 +106,8 @@ end\n\
 ";
 
 #[cfg(test)]
+mod beginnings;
+#[cfg(test)]
 mod tests;
+#[cfg(test)]
+mod verdicts;

@@ -1,10 +1,12 @@
 use crate::{ROWS, SMALL};
 use lu_cli::{Counted, run};
 use std::process::Abort;
+use std::sync::Wait;
 use std::test::Fail;
+use std::thread::Threads;
 
 /// Runs the program on words and an input, and compares what it writes and its status.
-fn ran<X: AllocGlobal + Abort>(
+fn ran<X: AllocGlobal + Abort + Threads + Wait>(
     rt: &X,
     words: &[&str],
     given: &[u8],
@@ -20,7 +22,7 @@ fn ran<X: AllocGlobal + Abort>(
     Ok(())
 }
 
-fn replays<X: AllocGlobal + Abort>(
+fn replays<X: AllocGlobal + Abort + Threads + Wait>(
     rt: &X,
     component: &str,
     matrix: &str,
@@ -127,6 +129,206 @@ fn locks_waiting_and_picks_are_replayed(rt: HostRuntime) -> Result<(), Fail> {
     Ok(())
 }
 
+/// Runs a command on the component of the examples and a matrix.
+fn answers<X: AllocGlobal + Abort + Threads + Wait>(
+    rt: &X,
+    words: &[&str],
+    matrix: &str,
+    wanted: &str,
+    status: u8,
+) -> Result<(), Fail> {
+    let bundle = format!(in rt.alloc(); "{ROWS}---\n{matrix}")?;
+    ran(rt, words, bundle.as_bytes(), wanted, status)
+}
+
+/// The serial histories of a matrix, as a specification.
+#[test]
+fn serial_histories_are_shown(rt: HostRuntime) -> Result<(), Fail> {
+    for (matrix, wanted) in [
+        (
+            "thread inc\nthread inc\n",
+            "lineup spec 1\nhistory 0=1 1=2\nhistory 1=1 0=2\n",
+        ),
+        (
+            "thread acquire\nthread acquire\n",
+            "lineup spec 1\nhistory 0=0 1=stuck\nhistory 1=0 0=stuck\n",
+        ),
+        ("thread\nthread\n", "lineup spec 1\n"),
+        ("thread past\n", "lineup spec 1\nhistory 0=trap\n"),
+    ] {
+        answers(&rt, &["serial"], matrix, wanted, 0)?;
+    }
+    Ok(())
+}
+
+/// Serial runs that offend, with the bounds that show it.
+#[test]
+fn serial_offences_are_reported(rt: HostRuntime) -> Result<(), Fail> {
+    for (serial, matrix, wanted, status) in [
+        (
+            "40",
+            "thread flip\n",
+            "nondeterministic\nschedule 0 0:1 0\nbefore 0\nearlier ret 0\n",
+            1,
+        ),
+        (
+            "40",
+            "thread maybe\n",
+            "nondeterministic\nschedule 0 0:1 0\nbefore 0\nearlier ret 0\n",
+            1,
+        ),
+        (
+            "40",
+            "thread flip;get\n",
+            "nondeterministic\nschedule 0 0:1 0 0 0 0\nbefore 0\nearlier ret 0\n",
+            1,
+        ),
+        ("3", "thread spin\n", "serial-cut\nschedule 0 0 0 0\n", 3),
+        ("1", "thread get\n", "serial-cut\nschedule 0 0\n", 3),
+    ] {
+        let wanted = format!(in rt.alloc();
+            "lineup report 1\nbound 40\nserial {serial}\n{wanted}"
+        )?;
+        for command in ["serial", "check"] {
+            let words = [command, "--serial", serial];
+            answers(&rt, &words, matrix, wanted.as_str(), status)?;
+        }
+    }
+    Ok(())
+}
+
+/// What a check reports of a matrix with these bounds, below the lines of the bounds.
+fn reports<X: AllocGlobal + Abort + Threads + Wait>(
+    rt: &X,
+    bounds: (&str, &str),
+    matrix: &str,
+    wanted: &str,
+    status: u8,
+) -> Result<(), Fail> {
+    let (bound, serial) = bounds;
+    let words = ["check", "--bound", bound, "--serial", serial];
+    let wanted = format!(in rt.alloc();
+        "lineup report 1\nbound {bound}\nserial {serial}\n{wanted}"
+    )?;
+    answers(rt, &words, matrix, wanted.as_str(), status)
+}
+
+#[test]
+fn passes_are_counted(rt: HostRuntime) -> Result<(), Fail> {
+    for (bounds, matrix, wanted) in [
+        (
+            ("40", "40"),
+            "thread\nthread\n",
+            "pass\ncomplete 1\nstuck 0\ncut 0\n",
+        ),
+        (
+            ("40", "40"),
+            "thread get\nthread get\n",
+            "pass\ncomplete 20\nstuck 0\ncut 0\n",
+        ),
+        (
+            ("6", "40"),
+            "thread get\nthread get\n",
+            "pass\ncomplete 20\nstuck 0\ncut 0\n",
+        ),
+        (
+            ("5", "40"),
+            "thread get\nthread get\n",
+            "pass\ncomplete 0\nstuck 0\ncut 20\n",
+        ),
+        (
+            ("0", "40"),
+            "thread get\nthread get\n",
+            "pass\ncomplete 0\nstuck 0\ncut 1\n",
+        ),
+        (
+            ("40", "40"),
+            "thread take\n",
+            "pass\ncomplete 0\nstuck 1\ncut 0\n",
+        ),
+        (
+            ("40", "40"),
+            "thread acquire\nthread acquire\n",
+            "pass\ncomplete 0\nstuck 8\ncut 0\n",
+        ),
+        (
+            ("40", "40"),
+            "thread past\n",
+            "pass\ncomplete 1\nstuck 0\ncut 0\n",
+        ),
+        (
+            ("40", "40"),
+            "thread drop\n",
+            "pass\ncomplete 1\nstuck 0\ncut 0\n",
+        ),
+        (
+            ("40", "40"),
+            "thread cinc\nthread cinc\n",
+            "pass\ncomplete 2564\nstuck 0\ncut 0\n",
+        ),
+        (
+            ("40", "40"),
+            "thread twice\n",
+            "pass\ncomplete 0\nstuck 1\ncut 0\n",
+        ),
+        (
+            ("40", "2"),
+            "thread get\n",
+            "pass\ncomplete 1\nstuck 0\ncut 0\n",
+        ),
+    ] {
+        reports(&rt, bounds, matrix, wanted, 0)?;
+    }
+    Ok(())
+}
+
+#[test]
+fn failures_are_reported(rt: HostRuntime) -> Result<(), Fail> {
+    for (matrix, wanted) in [
+        (
+            "thread inc\nthread inc\n",
+            "fail complete\nschedule 0 0 0 1 1 0 0 1 1 1\n",
+        ),
+        ("thread mn\nthread nm\n", "fail stuck 0\nschedule 0 0 1 1\n"),
+        (
+            "thread hold\nthread put\nthread get\n",
+            "fail complete\nschedule 0 0 1 1 0 0 1 1 2 2 2\n",
+        ),
+        (
+            "thread take\nthread mn\nthread nm\n",
+            "fail stuck 1\nschedule 0 1 1 2 2\n",
+        ),
+    ] {
+        reports(&rt, ("40", "40"), matrix, wanted, 1)?;
+    }
+    Ok(())
+}
+
+/// The report of a failure and of a pass, with the numbers of workers and of the moves of their pieces.
+#[test]
+fn workers_and_depth_change_no_report(rt: HostRuntime) -> Result<(), Fail> {
+    for workers in ["1", "2", "16"] {
+        for depth in ["0", "4", "8"] {
+            let words = ["check", "--workers", workers, "--depth", depth];
+            answers(
+                &rt,
+                &words,
+                "thread inc\nthread inc\n",
+                "lineup report 1\nbound 40\nserial 40\nfail complete\nschedule 0 0 0 1 1 0 0 1 1 1\n",
+                1,
+            )?;
+            answers(
+                &rt,
+                &words,
+                "thread get\nthread get\n",
+                "lineup report 1\nbound 40\nserial 40\npass\ncomplete 20\nstuck 0\ncut 0\n",
+                0,
+            )?;
+        }
+    }
+    Ok(())
+}
+
 #[test]
 fn components_are_refused(rt: HostRuntime) -> Result<(), Fail> {
     for (component, wanted) in [
@@ -192,7 +394,44 @@ fn other_inputs_are_refused(rt: HostRuntime) -> Result<(), Fail> {
     )?;
     ran(&rt, &["replay"], b"\n--- \n\n--- \n", "refused B1\n", 2)?;
     ran(&rt, &["judge"], b"", "refused command line\n", 2)?;
-    ran(&rt, &["check"], b"", "refused command line\n", 2)?;
+    ran(
+        &rt,
+        &["check", "--bound", "257"],
+        b"",
+        "refused command line\n",
+        2,
+    )?;
+    ran(&rt, &["check", "--bound"], b"", "refused command line\n", 2)?;
+    ran(
+        &rt,
+        &["serial", "--serial", "0"],
+        b"",
+        "refused command line\n",
+        2,
+    )?;
+    ran(
+        &rt,
+        &["check", "--workers", "0"],
+        b"",
+        "refused command line\n",
+        2,
+    )?;
+    ran(
+        &rt,
+        &["serial", "--workers", "2"],
+        b"",
+        "refused command line\n",
+        2,
+    )?;
+    ran(
+        &rt,
+        &["replay", "--bound", "3"],
+        b"",
+        "refused command line\n",
+        2,
+    )?;
+    ran(&rt, &["check"], b"\n---\n\n---\n", "refused B1\n", 2)?;
+    ran(&rt, &["serial"], b"", "refused B1\n", 2)?;
     ran(&rt, &["--help"], b"", "refused command line\n", 2)?;
     ran(&rt, &[], b"", "refused command line\n", 2)?;
     let large = vec![in rt.alloc(); b'\n'; 1_048_577]?;

@@ -1,0 +1,64 @@
+//! Verdicts on the histories of schedules, over the serial histories of their matrix.
+
+use crate::ROWS;
+use lu_lang::read_component;
+use lu_replay::replay;
+use lu_serial::{Learnt, learn};
+use lu_test::{read_matrix, read_schedule};
+use lu_trie::PackedTrie;
+use lu_witness::{Verdict, has_witness, verdict};
+use std::process::Abort;
+use std::test::Fail;
+
+/// The verdict on what the schedule shows; and whether its history has a witness, with its pending call as stuck.
+fn judged<X: AllocGlobal + Abort>(
+    rt: &X,
+    matrix: &str,
+    schedule: &str,
+) -> Result<(Verdict, bool), Fail> {
+    let alloc = rt.alloc();
+    let component = read_component(alloc, ROWS.as_bytes())?;
+    let matrix = read_matrix(alloc, &component, matrix.as_bytes())?;
+    let schedule = read_schedule(alloc, schedule.as_bytes())?;
+    let shown = replay(alloc, &component, &matrix, &schedule)?;
+    let Learnt::Set(set) = learn(alloc, alloc, &component, &matrix, 40)? else {
+        panic!(rt; "a serial run offends");
+    };
+    let (tree, history) = (&set, &shown.history);
+    let found = (verdict(&tree, history), has_witness(&tree, history));
+    let packed = PackedTrie::pack(alloc, &set)?;
+    let tree = &packed;
+    assert!(rt; verdict(&tree, history) == found.0);
+    assert_eq!(rt; has_witness(&tree, history), found.1);
+    Ok(found)
+}
+
+#[test]
+fn histories_have_their_verdicts(rt: HostRuntime) -> Result<(), Fail> {
+    for (matrix, schedule, wanted) in [
+        (
+            "thread hold\nthread put\nthread get\n",
+            "schedule 0 0 1 1 0 0 1 1 2 2 2\n",
+            (Verdict::NoWitness, false),
+        ),
+        (
+            "thread take\nthread mn\nthread nm\n",
+            "schedule 0 1 1 2 2\n",
+            (Verdict::NoWitnessFor(1), false),
+        ),
+        (
+            "thread acquire\nthread acquire\n",
+            "schedule 0 0 0 1\n",
+            (Verdict::Good, true),
+        ),
+        (
+            "thread inc\nthread inc\n",
+            "schedule 0 0 0 0 0 1 1 1 1 1\n",
+            (Verdict::Good, true),
+        ),
+    ] {
+        let found = judged(&rt, matrix, schedule)?;
+        assert!(rt; found == wanted, "{matrix}");
+    }
+    Ok(())
+}
