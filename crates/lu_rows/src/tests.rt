@@ -155,6 +155,10 @@ fn serial_histories_are_shown(rt: HostRuntime) -> Result<(), Fail> {
         ),
         ("thread\nthread\n", "lineup spec 1\n"),
         ("thread past\n", "lineup spec 1\nhistory 0=trap\n"),
+        (
+            "thread take\nthread put\n",
+            "lineup spec 1\nhistory 0=stuck\nhistory 1=0 0=0\n",
+        ),
     ] {
         answers(&rt, &["serial"], matrix, wanted, 0)?;
     }
@@ -195,6 +199,23 @@ fn serial_offences_are_reported(rt: HostRuntime) -> Result<(), Fail> {
         }
     }
     Ok(())
+}
+
+/// An operation of three picks: two return different values, and the third goes on forever.
+const THREE_PICKS: &str =
+    "component c\nop f 0\npick r0 3\nlt r1 r0 2\njz r1 L4\nreturn r0\nL4: jump L4\nend\n";
+
+/// The conflict of the first two picks comes before the third's cut.
+#[test]
+fn the_least_offence_is_reported(rt: HostRuntime) -> Result<(), Fail> {
+    let bundle = format!(in rt.alloc(); "{THREE_PICKS}---\nthread f\n")?;
+    ran(
+        &rt,
+        &["serial", "--serial", "4"],
+        bundle.as_bytes(),
+        "lineup report 1\nbound 40\nserial 4\nnondeterministic\nschedule 0 0:1 0 0 0\nbefore 0\nearlier ret 0\n",
+        1,
+    )
 }
 
 /// What a check reports of a matrix with these bounds, below the lines of the bounds.
