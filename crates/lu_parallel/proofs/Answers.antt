@@ -1,13 +1,12 @@
 -- From a set of serial histories and what a search finds over it to a finding.
-use Rattle.std.proofs.Common.{◌≡◌, ℕ, List, [], true, refl, sym, ◌∙◌, subst}
-use Rattle.std.specs.Prelude.{◌↔◌, IsTrue}
+use Rattle.std.proofs.Common.{ℕ, List, [], refl}
 use Rattle.lu_test.specs.declared.schedule.Move.{Move}
 use Rattle.lu_machine.specs.States.{State}
-use Rattle.lu_machine.specs.Schedules.{BeginsWith, IsSchedule, IsLeast, IsNumber, AreNumbers, AreAll}
+use Rattle.lu_machine.specs.Schedules.{IsSchedule, IsNumber}
 use Rattle.lu_history.specs.declared.serial.SerialOp.{SerialOp}
 use Rattle.lu_serial.specs.Serial.{IsSerialHistory}
 use Rattle.lu_serial.specs.Offences.{IsSetOf}
-use Rattle.lu_witness.specs.Goodness.{IsFirstBad, AreAllGood, Any}
+use Rattle.lu_witness.specs.Goodness.{Any}
 use Rattle.lu_witness.specs.Witnesses.{IsMember}
 use Rattle.lu_tree.specs.declared.found.Found.{Found}
 use Rattle.lu_tree.specs.declared.found.Found.TheVariants.{Clean, Bad}

@@ -1,6 +1,6 @@
 -- From the works over a cover to what is found among all schedules.
-use Rattle.std.proofs.Common.{◌≡◌, ◌≢◌, ℕ, zero, suc, ◌+◌, ◌<◌, ◌≤◌, ◌⊎◌, Bool, true, false, if◌then◌else◌, nat_eq, eqb, eqb-true, cond, List, [], ◌∷◌, ◌++◌, All, Contains, Option, Some, None, map, length, sum_by, refl, sym, ◌∙◌, ap, subst, inl, inr, arith, slice_index_or, lt-ltb}
-use Rattle.std.specs.List.{AllZip, flat_map}
+use Rattle.std.proofs.Common.{◌≡◌, ℕ, zero, suc, ◌+◌, ◌<◌, ◌≤◌, Bool, true, false, eqb, eqb-true, cond, List, [], ◌∷◌, ◌++◌, All, Contains, length, sum_by, refl, sym, ◌∙◌, ap, subst, inl, inr, arith, slice_index_or, lt-ltb}
+use Rattle.std.specs.List.{AllZip}
 use Rattle.std.proofs.lemmas.Bool.{cases_lt}
 use Rattle.std.proofs.lemmas.List.Concat.{flat_map-cons}
 use Rattle.std.proofs.lemmas.List.Elements.{Contains-append_cases}
@@ -21,7 +21,6 @@ use Rattle.lu_history.specs.declared.serial.SerialOp.{SerialOp}
 use Rattle.lu_witness.specs.declared.judgement.Why.{Why}
 use Rattle.lu_witness.specs.Goodness.{IsBad, IsFirstBad, AreAllGood, Any}
 use Rattle.lu_witness.specs.Witnesses.{IsMember}
-use Rattle.lu_tree.specs.declared.found.Found.{Found}
 use Rattle.lu_tree.specs.declared.found.Found.TheVariants.{Clean, Bad}
 use Rattle.lu_tree.specs.Trees.{Below}
 use Rattle.lu_tree.proofs.Covers.{least_of_cover, sums_of_cover}

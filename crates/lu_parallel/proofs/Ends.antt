@@ -1,19 +1,17 @@
 -- What works say together, taken apart and put together.
-use Rattle.std.proofs.Common.{◌≡◌, ◌≢◌, ℕ, zero, suc, ◌+◌, ◌<◌, ◌≤◌, ◌⊎◌, Bool, true, false, List, [], ◌∷◌, ◌++◌, All, Contains, Option, Some, None, map, length, refl, sym, ◌∙◌, ap, subst, arith, ◌↔◌, true≢false, slice_index_or}
-use Rattle.std.specs.List.{flat_map}
+use Rattle.std.proofs.Common.{◌≡◌, ◌≢◌, ℕ, zero, suc, ◌<◌, Bool, true, false, List, [], ◌∷◌, ◌++◌, All, Contains, length, refl, sym, ◌∙◌, ap, subst, arith, ◌↔◌, true≢false, slice_index_or}
 use Rattle.std.proofs.lemmas.List.{map-append, append_assoc}
 use Rattle.std.proofs.lemmas.List.Concat.{flat_map-cons}
 use Rattle.std.proofs.lemmas.List.Elements.{All-map}
 use Rattle.atomic_table.specs.Seated.{TableId}
 use Rattle.lu_machine.specs.declared.counts.Counts.{Counts}
 use Rattle.lu_machine.specs.Sums.{plus, total}
-use Rattle.lu_board.specs.Close.{found_by, skipped_by, given_by}
-use Rattle.lu_board.specs.Pieces.{IsLeast, AllAbove}
+use Rattle.lu_board.specs.Close.{found_by}
 use Rattle.lu_board.specs.Seats.{SeatModel, IsOf, IsDone}
 use Rattle.lu_parallel.specs.declared.parts.FoundPiece.{FoundPiece}
 use Rattle.lu_parallel.specs.declared.parts.Work.{Work}
 use Rattle.lu_parallel.specs.Works.{pieces_of, IsOver}
-use Rattle.lu_parallel.specs.Conclusions.{seats_of, counts_of, founds_of, SkipsAbove}
+use Rattle.lu_parallel.specs.Conclusions.{seats_of, counts_of, founds_of}
 use Rattle.lu_parallel.proofs.Tallies.{total_push}
 
 -- ---- lists, one element after another
@@ -21,9 +19,6 @@ use Rattle.lu_parallel.proofs.Tallies.{total_push}
 pub one_then : {X : Type 0} (xs ys : List X) (x : X) → (xs ++ x ∷ []) ++ ys ≡ xs ++ (x ∷ ys)
 one_then [] ys x = refl
 one_then (y ∷ xs) ys x = ap (λ zs. y ∷ zs) (one_then xs ys x)
-
-pub has_here : {X : Type 0} (x : X) (xs : List X) → Contains (x ∷ xs) x
-has_here x xs = (0, omega arith, refl)
 
 pub has_later : {X : Type 0} (x y : X) (xs : List X) → Contains xs y → Contains (x ∷ xs) y
 has_later x y xs has = (suc has.0, (let h = has.1 in omega arith), has.2)
@@ -73,11 +68,6 @@ founds_pieces board (w ∷ ws) over =
 pub none_given : (b : Bool) (given : List ℕ) → ((b ≡ true) ↔ (0 < length given)) → b ≡ false → given ≡ []
 none_given b [] d e = refl
 none_given b (x ∷ xs) d e = absurd (true≢false (sym (d.1 (omega arith)) ∙ e))
-
-pub skips : (best : Option ℕ) (works : List Work) → IsLeast (found_by (seats_of works)) best → AllAbove best (skipped_by (seats_of works)) → SkipsAbove works
-skips None works least above i has = absurd (let none : Contains [] i = subst (λ (x : List ℕ). Contains x i) above has in let h = none.1 in omega arith)
-skips (Some b) works least above i has =
-    (b, (let at = above has.0 i has.1 in let is = has.2 in subst (λ x. b < x) is at), least.0)
 
 -- ---- seats and threads, one after another
 

@@ -1,5 +1,5 @@
 -- The pieces of a frontier.
-use Rattle.std.proofs.Common.{◌≡◌, ℕ, zero, suc, ◌+◌, ◌<◌, ◌≤◌, ◌⊎◌, List, [], ◌∷◌, All, length, min, refl, inl, inr, arith, slice_index_or}
+use Rattle.std.proofs.Common.{ℕ, zero, suc, ◌≤◌, List, [], ◌∷◌, All, min, refl, inl, inr, arith}
 use Rattle.lu_test.specs.declared.schedule.Move.{Move}
 use Rattle.lu_machine.specs.States.{State}
 use Rattle.lu_machine.specs.Schedules.{Lists}

@@ -1,5 +1,5 @@
 -- What is found is within the limits of reports: threads are at most 7, and a serial history has at most 16 operations.
-use Rattle.std.proofs.Common.{◌≡◌, ◌≢◌, ◌<◌, ◌≤◌, ◌+◌, ◌-◌, ◌⊎◌, ℕ, zero, suc, List, [], ◌∷◌, ◌++◌, Bool, true, false, if◌then◌else◌, sum_by, replicate, length, slice_get, slice_set, Option, Some, None, refl, sym, ◌∙◌, ap, subst, inl, inr, arith, length-append}
+use Rattle.std.proofs.Common.{◌≡◌, ◌≢◌, ◌<◌, ◌≤◌, ◌+◌, ◌-◌, ℕ, zero, suc, List, [], ◌∷◌, ◌++◌, if◌then◌else◌, sum_by, replicate, length, slice_get, slice_set, Option, Some, None, refl, sym, ◌∙◌, ap, subst, inl, inr, arith, length-append}
 use Rattle.std.proofs.lemmas.Option.{slice_get_within, same_Some, none-some}
 use Rattle.std.proofs.lemmas.List.{length-set, length-replicate}
 use Rattle.std.proofs.lemmas.List.Sums.{sum_by-cons}
@@ -17,9 +17,8 @@ use Rattle.lu_machine.specs.Starts.{IsStart}
 use Rattle.lu_machine.specs.Steps.{Step}
 use Rattle.lu_machine.specs.Runs.{Leads, with_event}
 use Rattle.lu_history.specs.declared.serial.SerialOp.{SerialOp}
-use Rattle.lu_serial.specs.Serial.{HasOpen, EndsAs, entries_of, entry_of, stuck_of}
-use Rattle.lu_serial.specs.Offences.{IsConflict}
-use Rattle.lu_serial.proofs.Opening.{Turned, How, step_turned}
+use Rattle.lu_serial.specs.Serial.{EndsAs, entries_of, stuck_of}
+use Rattle.lu_serial.proofs.Opening.{step_turned}
 use Rattle.lu_witness.specs.declared.judgement.Why.{Why}
 use Rattle.lu_witness.specs.declared.judgement.Why.TheVariants.{Complete, Stuck}
 use Rattle.lu_witness.specs.Goodness.{IsWhy}

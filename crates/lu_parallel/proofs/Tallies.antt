@@ -1,5 +1,5 @@
 -- How a worker's tally goes with its seat's view.
-use Rattle.std.proofs.Common.{◌≡◌, ℕ, zero, suc, ◌+◌, ◌<◌, ◌≤◌, List, [], ◌∷◌, ◌++◌, All, map, length, sum_by, min, refl, sym, ◌∙◌, ap, subst, arith, Bool, if◌then◌else◌, eq-eqb}
+use Rattle.std.proofs.Common.{◌≡◌, ℕ, zero, suc, ◌+◌, ◌<◌, List, [], ◌∷◌, ◌++◌, length, sum_by, refl, sym, ◌∙◌, ap, subst, arith, Bool, if◌then◌else◌, eq-eqb}
 use Rattle.std.specs.List.{AllZip, slice_index_or}
 use Rattle.std.proofs.lemmas.List.{map-append}
 use Rattle.std.proofs.lemmas.List.Elements.{All-nil, All-push}
@@ -18,7 +18,7 @@ use Rattle.lu_board.specs.Events.{with_settled, with_found}
 use Rattle.lu_board.specs.Pieces.{without}
 use Rattle.lu_board.specs.Views.{newcomer}
 use Rattle.lu_parallel.specs.declared.parts.FoundPiece.{FoundPiece}
-use Rattle.lu_parallel.specs.Works.{piece_at, pieces_of, IsClean, IsFound, Holds}
+use Rattle.lu_parallel.specs.Works.{piece_at, IsClean, IsFound, Holds}
 
 pub zip_push : {A B : Type 0} (R : A → B → Type 0) (xs : List A) (ys : List B) (x : A) (y : B) → AllZip R xs ys → R x y → AllZip R (xs ++ x ∷ []) (ys ++ y ∷ [])
 zip_push R [] [] x y all one = (one, tt)

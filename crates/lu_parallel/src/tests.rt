@@ -1,14 +1,25 @@
 //! Checks of one component by one worker and by many, some of which are held at a gate.
 
-ghost use Rattle.std.specs.Prelude.{◌≡◌, ◌≤◌, IfOk};
+ghost use Rattle.std.specs.Prelude.{◌≡◌, ◌≤◌, IfOk, IfSome, All, length, vec_len};
+ghost use Rattle.lu_test.specs.Matrix.{IsOf};
+ghost use Rattle.lu_machine.specs.States.{State};
+ghost use Rattle.lu_machine.specs.Starts.{IsStart};
+ghost use Rattle.lu_parallel.specs.Works.{IsFresh, IsOver, IsPiece};
 
+use crate::laws::{cover_sums, works_conclude};
 use crate::rows::ROWS;
-use crate::{CheckFault, Gate, OpenGate, Options, check, check_one};
-use lu_lang::read_component;
+use crate::{CheckFault, Gate, OpenGate, Options, Work, check, check_one, conclude, work};
+use lu_board::board::{Board, Seat};
+use lu_board::view::Kind;
+use lu_lang::{Component, read_component};
 use lu_machine::Counts;
 use lu_replay::{Finding, Report};
-use lu_test::{Schedule, read_matrix, write_schedule};
+use lu_serial::{Learnt, learn};
+use lu_test::{Matrix, Schedule, read_matrix, write_schedule};
+use lu_tree::{Found, frontier};
+use lu_trie::{SerialTree, Trie};
 use lu_witness::Why;
+use std::alloc::Global;
 use std::process::Abort;
 use std::sync::Wait;
 use std::sync::atomic::{AtomicU64, Ordering};
@@ -249,10 +260,15 @@ struct Meeting {
     wanted: u64,
     came: AtomicU64,
     met: AtomicU64,
+
+    /// A bit for the number of each worker that came.
+    workers: AtomicU64,
 }
 
 impl Gate for Meeting {
-    fn pass(&self, _worker: u8, _piece: u64) {
+    fn pass(&self, worker: u8, _piece: u64) {
+        let bit = 1u64.wrapping_shl(u32::from(worker));
+        self.workers.fetch_or(bit, Ordering::SeqCst);
         let before = self.came.fetch_add(1, Ordering::SeqCst);
         if before >= self.wanted {
             return;
@@ -276,9 +292,197 @@ fn sixteen_workers_meet(rt: HostRuntime) -> Result<(), Fail> {
         wanted: 16,
         came: AtomicU64::new(0),
         met: AtomicU64::new(0),
+        workers: AtomicU64::new(0),
     };
     let reads = report(&rt, TWO_READS, &gate, 16, 8)?;
     assert!(rt; is_pass(&reads, 20));
     assert_eq!(rt; gate.met.load(Ordering::SeqCst), 16);
+    assert_eq!(rt; gate.workers.load(Ordering::SeqCst), 0xffff);
     Ok(())
+}
+
+/// The pieces of a matrix: the schedules of four moves, and the ended ones of fewer.
+fn four_moves(
+    rt: &impl AllocGlobal,
+    component: &Component,
+    matrix: &Matrix,
+) -> Result<Vec<Schedule>, Fail>
+    requires { IsOf matrix.now component.now }
+    ensures few { IfOk result (λ pieces. vec_len pieces ≤ 65536) }
+    ensures pieces { (s : State) → IsStart component.now matrix.now s → IfOk result (λ pieces. All (IsPiece s 40) pieces.items) }
+{
+    Ok(frontier(rt.alloc(), component, matrix, 40, 4)?)
+}
+
+/// The works of the seats, one after another on this thread.
+fn work_in_turn<R: AllocGlobal, T: SerialTree>(
+    rt: &R,
+    component: &Component,
+    matrix: &Matrix,
+    tree: &T,
+    pieces: &[Schedule],
+    board: &Board,
+    seats: Vec<Seat>,
+) -> Result<Vec<Work>, Fail>
+    requires of { IsOf matrix.now component.now }
+    requires pieces { (s : State) → IsStart component.now matrix.now s → All (IsPiece s 40) pieces.now }
+    requires board { board.now.pieces ≡ length pieces.now }
+    requires fresh { All (IsFresh board.now.board (length pieces.now)) seats.items }
+    ensures all { IfOk result (λ works. length works.items ≡ length seats.items) }
+    ensures over { IfOk result (λ works. All (IsOver board.now.board) works.items) }
+{
+    let mut works = Vec::new(rt.alloc());
+    for seat in seats {
+        works.push(work(
+            rt.alloc(),
+            component,
+            matrix,
+            tree,
+            pieces,
+            40,
+            board,
+            seat,
+            &OpenGate,
+            0,
+        ))?;
+    }
+    Ok(works)
+}
+
+/// One of the seats.
+fn take_seat(seats: &mut Vec<Seat>, board: &Board, pieces: &[Schedule]) -> Option<Seat>
+    requires { All (IsFresh board.now.board (length pieces.now)) seats.old.items }
+    ensures seat { IfSome result (λ seat. IsFresh board.now.board (length pieces.now) seat) }
+    ensures rest { All (IsFresh board.now.board (length pieces.now)) seats.new.items }
+{
+    seats.pop()
+}
+
+/// The seat claims a piece and settles it clean, and claims the next one and says that it is bad.
+fn settle_and_lower(rt: &impl Abort, board: &Board, seat: &mut Seat)
+    requires { seat.old.board ≡ board.now.board }
+{
+    match board.claim(seat) {
+        Some(first) => board.settle(seat, first, Kind::Clean),
+        None => panic!(rt; "no piece"),
+    }
+    match board.claim(seat) {
+        Some(second) => board.lower(seat, second),
+        None => panic!(rt; "no second piece"),
+    }
+}
+
+/// The works of the other seat, after one seat settled the first piece clean and lowered the second.
+fn works_above<R: AllocGlobal + Abort, T: SerialTree>(
+    rt: &R,
+    component: &Component,
+    matrix: &Matrix,
+    tree: &T,
+    pieces: &[Schedule],
+) -> Result<Vec<Work>, Fail>
+    requires of { IsOf matrix.now component.now }
+    requires few { length pieces.now ≤ 65536 }
+    requires pieces { (s : State) → IsStart component.now matrix.now s → All (IsPiece s 40) pieces.now }
+{
+    let (board, mut seats) = Board::new(rt.alloc(), pieces.len() as u64, 2)?;
+    match take_seat(&mut seats, &board, pieces) {
+        Some(mut seat) => settle_and_lower(rt, &board, &mut seat),
+        None => panic!(rt; "no seat"),
+    }
+    work_in_turn(rt, component, matrix, tree, pieces, &board, seats)
+}
+
+/// What two workers conclude that work one after the other on this thread.
+fn concluded_in_turn<R: AllocGlobal, T: SerialTree>(
+    rt: &R,
+    component: &Component,
+    matrix: &Matrix,
+    tree: &T,
+    pieces: &[Schedule],
+) -> Result<Option<Found>, Fail>
+    requires of { IsOf matrix.now component.now }
+    requires few { length pieces.now ≤ 65536 }
+    requires pieces { (s : State) → IsStart component.now matrix.now s → All (IsPiece s 40) pieces.now }
+{
+    let (board, seats) = Board::new(rt.alloc(), pieces.len() as u64, 2)?;
+    let works = work_in_turn(rt, component, matrix, tree, pieces, &board, seats)?;
+    Ok(conclude(rt.alloc(), board, works)?)
+}
+
+fn is_bad(rt: &impl AllocGlobal, found: &Option<Found>, text: &str) -> Result<bool, Fail> {
+    match found {
+        Some(Found::Bad { schedule, why }) => {
+            Ok(*why == Why::Complete && is_text(rt, schedule, text)?)
+        }
+        _ => Ok(false),
+    }
+}
+
+/// There is one work, which has searched nothing.
+fn is_idle(works: &[Work]) -> bool {
+    works.len() == 1
+        && works.iter().all(|work| work.counts == Counts::NONE && work.found.is_empty())
+}
+
+/// The serial histories of the matrix.
+fn serial_histories(
+    rt: &(impl AllocGlobal + Abort),
+    component: &Component,
+    matrix: &Matrix,
+) -> Result<Trie<Global>, Fail>
+    requires { IsOf matrix.now component.now }
+{
+    match learn(rt.alloc(), rt.alloc(), component, matrix, 40)? {
+        Learnt::Set(set) => Ok(set),
+        Learnt::Cut(_) => panic!(rt; "a serial cut"),
+        Learnt::Conflict { .. } => panic!(rt; "a serial conflict"),
+    }
+}
+
+/// A worker above a lesser failure searches nothing, and two workers in turn find the least failure.
+fn assert_worked_in_turn<R: AllocGlobal + Abort>(
+    rt: &R,
+    component: &Component,
+    matrix: &Matrix,
+    set: &Trie<Global>,
+    pieces: &[Schedule],
+) -> Result<(), Fail>
+    requires of { IsOf matrix.now component.now }
+    requires few { length pieces.now ≤ 65536 }
+    requires pieces { (s : State) → IsStart component.now matrix.now s → All (IsPiece s 40) pieces.now }
+{
+    assert_eq!(rt; pieces.len(), 16);
+    let above = works_above(rt, component, matrix, &set, pieces)?;
+    assert!(rt; is_idle(&above));
+    let found = concluded_in_turn(rt, component, matrix, &set, pieces)?;
+    assert!(rt; is_bad(rt, &found, LOST_INCREMENT)?);
+    Ok(())
+}
+
+/// The same for the pieces of a matrix.
+fn assert_turns<R: AllocGlobal + Abort>(
+    rt: &R,
+    component: &Component,
+    matrix: &Matrix,
+) -> Result<(), Fail>
+    requires { IsOf matrix.now component.now }
+{
+    let set = serial_histories(rt, component, matrix)?;
+    let pieces = four_moves(rt, component, matrix)?;
+    assert_worked_in_turn(rt, component, matrix, &set, &pieces)
+}
+
+#[test]
+fn workers_take_turns(rt: HostRuntime) -> Result<(), Fail> {
+    let component = read_component(rt.alloc(), ROWS.as_bytes())?;
+    let matrix = read_matrix(rt.alloc(), &component, TWO_INCREMENTS)?;
+    assert!(rt; matrix.of(&component));
+    assert_turns(&rt, &component, &matrix)
+}
+
+/// The laws can be called.
+#[test]
+fn laws_are_called() {
+    cover_sums();
+    works_conclude();
 }

@@ -1,7 +1,6 @@
-use Rattle.std.proofs.Common.{◌≡◌, ℕ, sym, subst}
+use Rattle.std.proofs.Common.{ℕ, subst}
 use Rattle.std.proofs.lemmas.Result.{IfOk-weaker}
-use Rattle.lu_machine.specs.States.{State}
-use Rattle.lu_serial.specs.Offences.{IsSetOf, IsFirstCut, IsFirstConflict, IsLearnt}
+use Rattle.lu_serial.specs.Offences.{IsSetOf, IsFirstCut, IsFirstConflict}
 use Rattle.lu_replay.specs.Reports.{IsFinding}
 use Rattle.lu_parallel.proofs.checks.find_by_workers.Goals as goal
 

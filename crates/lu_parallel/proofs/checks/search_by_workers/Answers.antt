@@ -1,4 +1,4 @@
-use Rattle.std.proofs.Common.{◌≡◌, ℕ, List, IfOk, refl, sym, subst}
+use Rattle.std.proofs.Common.{ℕ, List, IfOk, refl, subst}
 use Rattle.lu_history.specs.declared.serial.SerialOp.{SerialOp}
 use Rattle.lu_serial.specs.Offences.{IsSetOf}
 use Rattle.lu_replay.specs.Reports.{IsFinding}

@@ -1,11 +1,11 @@
-use Rattle.std.proofs.Common.{◌≡◌, ◌∙◌, [], ℕ, List, Contains, refl, sym, ap, subst}
-use Rattle.lu_board.specs.Close.{found_by, given_by, skipped_by}
-use Rattle.lu_board.specs.Pieces.{IsLeast, AllAbove}
+use Rattle.std.proofs.Common.{◌≡◌, ◌∙◌, [], ℕ, List, Contains, sym, ap, subst}
+use Rattle.lu_board.specs.Close.{found_by, given_by}
+use Rattle.lu_board.specs.Pieces.{IsLeast}
 use Rattle.lu_board.specs.Seats.{SeatModel, IsOf, IsDone}
 use Rattle.std.proofs.Common.{All, Some}
 use Rattle.lu_parallel.specs.declared.parts.FoundPiece.{FoundPiece}
 use Rattle.lu_parallel.specs.Works.{pieces_of}
-use Rattle.lu_parallel.specs.Conclusions.{seats_of, founds_of}
+use Rattle.lu_parallel.specs.Conclusions.{founds_of}
 use Rattle.lu_parallel.proofs.Ends.{seats_own, seats_done, founds_pieces, none_given}
 use Rattle.lu_parallel.proofs.conclusion.conclude.Goals as goal
 

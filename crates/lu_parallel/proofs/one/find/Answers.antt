@@ -1,4 +1,4 @@
-use Rattle.std.proofs.Common.{◌≡◌, ℕ, IfOk}
+use Rattle.std.proofs.Common.{ℕ}
 use Rattle.std.proofs.lemmas.Result.{IfOk-weaker}
 use Rattle.lu_serial.specs.Offences.{IsSetOf, IsFirstCut, IsFirstConflict}
 use Rattle.lu_replay.specs.Reports.{IsFinding}

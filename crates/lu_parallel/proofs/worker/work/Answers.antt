@@ -1,10 +1,9 @@
-use Rattle.std.proofs.Common.{◌≡◌, ◌∙◌, ◌++◌, ◌∷◌, [], ℕ, List, length, refl, sym, ap, subst}
+use Rattle.std.proofs.Common.{◌≡◌, ◌∙◌, length, refl, sym, ap}
 use Rattle.lu_board.specs.declared.view.View.{View}
 use Rattle.lu_board.specs.Events.{with_held, with_spent}
 use Rattle.lu_board.specs.Pieces.{without}
 use Rattle.lu_machine.specs.Starts.{start_of}
 use Rattle.lu_witness.specs.Witnesses.{IsMember}
-use Rattle.lu_parallel.specs.Works.{Holds}
 use Rattle.lu_parallel.proofs.Tallies.{holds_nothing, holds_same, without_one}
 use Rattle.lu_parallel.proofs.worker.work.Goals as goal
 

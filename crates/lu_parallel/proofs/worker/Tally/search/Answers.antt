@@ -1,10 +1,9 @@
-use Rattle.std.proofs.Common.{◌≡◌, ◌∙◌, ℕ, ◌≤◌, List, length, refl, sym, subst}
+use Rattle.std.proofs.Common.{◌≤◌, List, length, refl, sym, subst}
 use Rattle.lu_test.specs.declared.schedule.Move.{Move}
 use Rattle.lu_machine.specs.Starts.{start_of}
 use Rattle.lu_witness.specs.Goodness.{IsFirstBad, AreAllGood}
 use Rattle.lu_witness.specs.Witnesses.{IsMember}
 use Rattle.lu_tree.specs.Trees.{Below}
-use Rattle.lu_parallel.specs.Works.{IsPiece}
 use Rattle.lu_parallel.proofs.Tallies.{piece_is, holds_clean, holds_found}
 use Rattle.lu_parallel.proofs.worker.Tally.search.Goals as goal
 
