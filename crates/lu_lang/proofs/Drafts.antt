@@ -26,7 +26,7 @@ use Rattle.lu_lang.specs.Grammar.{value, is_value, array_place, lock_place, oper
 use Rattle.lu_lang.specs.Words.{keyword_in}
 use Rattle.lu_lang.specs.Sound.{IsStatement, IsBegun, IsDraft}
 use Rattle.lu_text.proofs.Tests.{NoneHold, said}
-use Rattle.lu_lang.proofs.Statements.{statement_sound}
+use Rattle.lu_lang.proofs.Statements.{statement_sound, value_small}
 use Rattle.lu_lang.proofs.Placing.{has_room}
 
 -- ---- lists
@@ -166,7 +166,7 @@ array_keeps d h none (Some (name, len, init)) = kept
     record {
       name = h.name;
       arrays_few = omega arith;
-      arrays = All-last IsArray d.arrays new h.arrays (record { name = name_from name n.0 long.0; some = ltb-false (value len) 1 size.0; few = ltb-false 64 (value len) size.1 });
+      arrays = All-last IsArray d.arrays new h.arrays (record { name = name_from name n.0 long.0; some = ltb-false (value len) 1 size.0; few = ltb-false 64 (value len) size.1; init = value_small init });
       arrays_apart = distinct_more (λ a. a.name) d.arrays new h.arrays_apart n.1.1.1.0;
       locks_few = h.locks_few;
       locks = h.locks;

@@ -2,3 +2,9 @@ pub mod Placing
 pub mod Statements
 pub mod Drafts
 pub mod Lines
+pub mod Named
+pub mod WrittenWords
+pub mod WrittenLines
+pub mod WrittenInstrs
+pub mod WrittenCode
+pub mod RoundTrip

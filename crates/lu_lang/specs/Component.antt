@@ -66,6 +66,7 @@ pub record IsArray (array : Array) : Type 0 where
   pub name : IsName array.name
   pub some : 1 ≤ array.len
   pub few : array.len ≤ 64
+  pub init : array.init < 2 ^ 32
 
 -- no name stands twice
 abbrev pub AreDistinct : List (List ℕ) → Type 0

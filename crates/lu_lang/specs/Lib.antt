@@ -5,3 +5,4 @@ pub mod Words
 pub mod Grammar
 pub mod Sound
 pub mod ComponentText
+pub mod Laws

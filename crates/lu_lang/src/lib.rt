@@ -7,6 +7,7 @@ mod fault;
 mod instr;
 mod instructions;
 mod keyword;
+mod laws;
 mod reading;
 #[cfg(test)]
 mod rows;
@@ -20,5 +21,6 @@ pub use component::{
 };
 pub use fault::{LangFault, LangFaultKind};
 pub use instr::{Arithmetic, Instr, MOST_PICKS, Operand, REGISTERS};
+pub use laws::round_trip;
 pub use reading::read_component;
 pub use writing::write_component;

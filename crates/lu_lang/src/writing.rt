@@ -1,8 +1,10 @@
 //! Writing of components: their canonical text.
 
-ghost use Rattle.std.specs.Prelude.{◌≡◌, ◌++◌, IfOk, OnOk, string_bytes};
+ghost use Rattle.std.specs.Prelude.{◌≡◌, ◌++◌, Ok, IfOk, OnOk, string_bytes};
 ghost use Rattle.std.specs.List.{list_any, join_with_byte, flat_map};
+ghost use Rattle.lu_text.specs.Faults.{value_of};
 ghost use Rattle.lu_lang.specs.ComponentText as spec;
+ghost use Rattle.lu_lang.specs.Grammar.{component_grammar};
 
 use crate::component::{Array, Component, Op};
 use crate::instr::Instr;
@@ -198,11 +200,13 @@ fn write_operations(text: &mut String, component: &Component) -> Result<(), Allo
 ///
 /// It has no comments and no empty lines. The line `component` comes first, then arrays, locks and
 /// operations, each kind in its order. One space stands between two words, and a label `Lk:` exactly at
-/// the places k, from 0, that some jump of the operation leads to. Each line ends with LF.
+/// the places k, from 0, that some jump of the operation leads to. Each line ends with LF. Read again it
+/// is the same component.
 ///
 /// The error is want of memory.
 pub fn write_component(alloc: Global, component: &Component) -> Result<String, AllocError>
-    ensures { IfOk result (λ text. string_bytes text ≡ spec.component_text component.now) }
+    ensures text { IfOk result (λ text. string_bytes text ≡ spec.component_text component.now) }
+    ensures again { IfOk result (λ text. value_of component_grammar (string_bytes text) ≡ Ok component.now) }
 {
     let mut text = String::new(alloc);
     writeln!(text, "component {}", component.name().as_str())?;

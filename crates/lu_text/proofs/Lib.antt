@@ -4,3 +4,5 @@ pub mod Arity
 pub mod Reading
 pub mod NumberText
 pub mod Tests
+pub mod Written
+pub mod WordText
