@@ -1,17 +1,17 @@
 -- An operation is read as it was written: a label stands exactly at the places to which a jump leads, and
 -- at `end` each target is the place of its label again.
-use Rattle.std.proofs.Common.{◌≡◌, ℕ, suc, ◌+◌, ◌-◌, ◌^◌, ◌<◌, ◌≤◌, ◌⊎◌, Bool, true, false, cond, List, [], ◌∷◌, ◌++◌, length, Option, Some, None, Ok, refl, sym, ap, subst, ◌∙◌, append_assoc, inl, inr, arith}
-use Rattle.std.specs.Prelude.{codes, map, find, ◌==◌, ◌||◌, is_some, slice_get, nat_le}
+use Rattle.std.proofs.Common.{◌≡◌, ℕ, ◌+◌, ◌-◌, ◌^◌, ◌<◌, ◌≤◌, Bool, true, false, List, [], ◌∷◌, ◌++◌, length, Option, Some, None, Ok, refl, sym, ap, ◌∙◌, append_assoc, inl, inr, arith}
+use Rattle.std.specs.Prelude.{codes, map, find, is_some, slice_get, nat_le}
 use Rattle.std.specs.List.{flat_map, join_with_byte, list_any, list_all, enumerate_from, AllByRecursion}
 use Rattle.std.specs.Str.{bytes_eq}
 use Rattle.std.specs.Option.{option_map}
-use Rattle.std.proofs.lemmas.Bool.{cases_lt, lt-leb, ne_eqb, eq-eqb, or_left, or_right}
+use Rattle.std.proofs.lemmas.Bool.{cases_lt, lt-leb, eq-eqb, or_left, or_right}
 use Rattle.std.proofs.lemmas.List.{append-nil, length-append, length-map, length_push, map_push}
 use Rattle.std.proofs.lemmas.Option.{slice_get-map}
 use Rattle.std.proofs.lemmas.List.Elements.{recursion_from_All}
 use Rattle.lu_text.specs.Words.{Word}
 use Rattle.lu_text.proofs.NumberText.{bytes_self}
-use Rattle.lu_text.proofs.Written.{IsText, AreText, Reads, reads_nothing, reads_on, each_weaker}
+use Rattle.lu_text.proofs.Written.{Reads, reads_nothing, reads_on, each_weaker}
 use Rattle.lu_text.proofs.WordText.{literal_text}
 use Rattle.lu_lang.specs.declared.instr.Instr.{Instr}
 use Rattle.lu_lang.specs.declared.instr.Instr.TheVariants as instr
@@ -20,8 +20,8 @@ use Rattle.lu_lang.specs.declared.draft.Statement.{Statement}
 use Rattle.lu_lang.specs.Component.{Declarations, IsComponent, IsInstr, EndsWell, IsOp}
 use Rattle.lu_lang.specs.Draft.{Begun, Drafted}
 use Rattle.lu_lang.specs.Words.{keyword_word}
-use Rattle.lu_lang.specs.Grammar.{by_words, component_grammar, label_place, label_used, is_there, are_there, is_last, ends_well, target, resolved, op_of}
-use Rattle.lu_lang.specs.ComponentText.{label_word, label_text, leads_to, instr_words, instr_line, code_text, line_text}
+use Rattle.lu_lang.specs.Grammar.{component_grammar, label_place, label_used, is_there, are_there, is_last, ends_well, target, resolved, op_of}
+use Rattle.lu_lang.specs.ComponentText.{label_word, leads_to, instr_words, instr_line, code_text, line_text}
 use Rattle.lu_lang.proofs.Named.{is_found, find_first, find_later}
 use Rattle.lu_lang.proofs.WrittenWords.{is_keyword_word, is_name_word, label_name, labels_apart, label_text_is, label_again}
 use Rattle.lu_lang.proofs.WrittenLines.{so_far, line_reads}

@@ -1,16 +1,16 @@
 -- Instructions are read as they were written, but for their targets, which are labels until `end`.
-use Rattle.std.proofs.Common.{◌≡◌, ℕ, ◌+◌, ◌^◌, ◌<◌, ◌≤◌, Bool, true, false, List, [], ◌∷◌, ◌++◌, length, All, Option, Some, None, Result, Ok, refl, sym, ap, ◌∙◌, arith}
-use Rattle.std.specs.Prelude.{codes, map, slice_get, is_some}
-use Rattle.std.specs.List.{position, AllByRecursion}
+use Rattle.std.proofs.Common.{◌≡◌, ℕ, ◌<◌, ◌≤◌, List, [], ◌∷◌, length, Option, Some, None, Ok, refl, ap, arith}
+use Rattle.std.specs.Prelude.{map, slice_get}
+use Rattle.std.specs.List.{position}
 use Rattle.std.specs.Str.{bytes_eq}
 use Rattle.std.specs.Fmt.{decimal}
 use Rattle.std.specs.Option.{unwrap_or, option_map}
 use Rattle.std.proofs.lemmas.Bool.{le-ltb}
 use Rattle.std.proofs.lemmas.List.Elements.{recursion_from_All}
-use Rattle.lu_text.specs.Names.{has_name_form, is_long, IsName}
+use Rattle.lu_text.specs.Names.{IsName}
 use Rattle.lu_text.specs.Numbers.{value_in}
 use Rattle.lu_text.specs.Words.{Word}
-use Rattle.lu_text.proofs.Written.{IsText, AreText, each_weaker}
+use Rattle.lu_text.proofs.Written.{AreText, each_weaker}
 use Rattle.lu_text.proofs.WordText.{number_text, value_again}
 use Rattle.lu_lang.specs.declared.instr.Operand.{Operand}
 use Rattle.lu_lang.specs.declared.instr.Arithmetic.{Arithmetic}
@@ -28,7 +28,7 @@ use Rattle.lu_lang.specs.Words.{keyword_word, register_in, operand_in}
 use Rattle.lu_lang.specs.Grammar.{set_line, compute_line, load_line, store_line, cas_line, locked, awaited, pick_line, jump_line, jump_if_zero_line, return_line, statement}
 use Rattle.lu_lang.specs.ComponentText.{register_word, operand_word, array_word, lock_word, label_word, instr_words}
 use Rattle.lu_lang.proofs.Named.{name_at, name_has, place_at}
-use Rattle.lu_lang.proofs.WrittenWords.{IsRegisterWord, is_register_word, IsOperandWord, is_operand_word, IsNameWord, is_name_word, label_name}
+use Rattle.lu_lang.proofs.WrittenWords.{is_register_word, is_operand_word, IsNameWord, is_name_word, label_name}
 use Rattle.lu_lang.proofs.WrittenLines.{so_far}
 
 -- ---- lines

@@ -1,5 +1,5 @@
 -- The lines of a component's declarations are read as they were written.
-use Rattle.std.proofs.Common.{◌≡◌, ℕ, ◌+◌, ◌^◌, ◌<◌, ◌≤◌, Bool, true, false, List, [], ◌∷◌, ◌++◌, length, Option, Some, None, Ok, refl, sym, ap, ◌∙◌, append_assoc, arith}
+use Rattle.std.proofs.Common.{◌≡◌, ℕ, ◌+◌, ◌<◌, ◌≤◌, true, false, List, [], ◌∷◌, ◌++◌, length, Option, Some, None, Ok, refl, sym, ap, ◌∙◌, append_assoc, arith}
 use Rattle.std.specs.Prelude.{codes, map}
 use Rattle.std.specs.List.{flat_map, position, AllByRecursion}
 use Rattle.std.specs.Str.{bytes_eq}
@@ -9,7 +9,7 @@ use Rattle.std.proofs.lemmas.List.{append-nil, length-append}
 use Rattle.lu_text.specs.Names.{has_name_form, is_long, IsName}
 use Rattle.lu_text.specs.Numbers.{value_in}
 use Rattle.lu_text.specs.Words.{Word}
-use Rattle.lu_text.proofs.Written.{IsText, AreText, Reads, reads_nothing, reads_line, reads_on, allowed_line, one_line, words_line, words_again}
+use Rattle.lu_text.proofs.Written.{AreText, Reads, reads_nothing, reads_line, reads_on, allowed_line, one_line, words_line, words_again}
 use Rattle.lu_text.proofs.WordText.{literal_text, number_text, value_again}
 use Rattle.lu_lang.specs.declared.component.Array.{Array}
 use Rattle.lu_lang.specs.declared.component.Op.{Op}

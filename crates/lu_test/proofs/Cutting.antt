@@ -6,7 +6,7 @@ use Rattle.std.proofs.lemmas.List.{take_more, take_all, length-take-le}
 use Rattle.std.proofs.lemmas.List.Elements.{All-take}
 use Rattle.std.proofs.lemmas.List.Sums.{sum_by-cons}
 use Rattle.lu_test.specs.declared.matrix.Call.{Call}
-use Rattle.lu_test.specs.Matrix.{IsMatrix, IsDraft, call_count, cut}
+use Rattle.lu_test.specs.Matrix.{AreArguments, IsMatrix, IsDraft, call_count, cut}
 
 abbrev pub Fits : List (List Call) → List ℕ → Type 0
 Fits matrix lengths = AllZip (λ calls n. n ≤ length calls) matrix lengths
@@ -61,7 +61,7 @@ cut_limits matrix lengths fits h = record {
     threads = omega (arith, h.limits.threads, length-cut matrix lengths fits);
     each = each_cut (λ calls. length calls ≤ 8) (λ calls n le few. omega (arith, length-take-le n calls le)) matrix lengths fits h.limits.each;
     calls = omega (arith, h.limits.calls, count_less matrix lengths fits);
-    arguments = each_cut (λ calls. All (λ call. length call.args ≤ 4) calls) (λ calls n le all. All-take (λ call. length call.args ≤ 4) n calls all) matrix lengths fits h.limits.arguments;
+    arguments = each_cut (λ calls. All (λ call. AreArguments call.args) calls) (λ calls n le all. All-take (λ call. AreArguments call.args) n calls all) matrix lengths fits h.limits.arguments;
   };
 }
 

@@ -8,7 +8,7 @@ use Rattle.std.proofs.lemmas.List.Elements.{All-set, All-append, All-take, All-d
 use Rattle.std.proofs.lemmas.List.Sums.{sum_by-set}
 use Rattle.std.proofs.Math.ListN.{length-set}
 use Rattle.lu_test.specs.declared.matrix.Call.{Call}
-use Rattle.lu_test.specs.Matrix.{IsMatrix, IsDraft, calls_of, call_count, without, cut}
+use Rattle.lu_test.specs.Matrix.{AreArguments, IsMatrix, IsDraft, calls_of, call_count, without, cut}
 
 -- there is a thread where there is a call
 pub is_thread : (m : List (List Call)) (t k : ℕ) → k < length (calls_of m t) → t < length m
@@ -47,8 +47,8 @@ keeps_limits m t k h within =
         threads = omega (arith, h.limits.threads, same);
         each = All-set (λ calls. length calls ≤ 8) m t new (omega (arith, few, shorter, ap length old)) h.limits.each;
         calls = omega (arith, h.limits.calls, count, shorter, ap length old);
-        arguments = All-set (λ calls. All (λ call. length call.args ≤ 4) calls) m t new
-            (All-remove (λ call. length call.args ≤ 4) (calls_of m t) k (at_thread (λ call. length call.args ≤ 4) m t there h.limits.arguments))
+        arguments = All-set (λ calls. All (λ call. AreArguments call.args) calls) m t new
+            (All-remove (λ call. AreArguments call.args) (calls_of m t) k (at_thread (λ call. AreArguments call.args) m t there h.limits.arguments))
             h.limits.arguments;
       };
     }

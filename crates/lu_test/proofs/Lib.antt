@@ -7,3 +7,4 @@ pub mod Parts
 pub mod Threads
 pub mod FewerCalls
 pub mod Cutting
+pub mod MatrixRoundTrip

@@ -1,5 +1,5 @@
 -- Each line of a matrix without a fault keeps the limits, and its calls are the component's.
-use Rattle.std.proofs.Common.{◌≡◌, ℕ, zero, suc, ◌+◌, ◌<◌, ◌≤◌, Bool, true, false, cond, List, [], ◌∷◌, ◌++◌, length, get_or, Some, Result, Ok, Err, subst, sym, inl, inr, arith}
+use Rattle.std.proofs.Common.{◌≡◌, ℕ, zero, suc, ◌+◌, ◌^◌, ◌<◌, ◌≤◌, Bool, true, false, cond, List, [], ◌∷◌, ◌++◌, length, get_or, Some, Result, Ok, Err, subst, sym, inl, inr, arith}
 use Rattle.std.specs.Prelude.{◌==◌, ◌||◌, not, nat_le, nat_lt, map, drop, All, IfOk, slice_get, codes}
 use Rattle.std.specs.List.{list_all}
 use Rattle.std.specs.Str.{bytes_eq}
@@ -17,11 +17,11 @@ use Rattle.lu_text.specs.Faults.{on_line, Gives}
 use Rattle.lu_text.proofs.Tests.{said}
 use Rattle.lu_lang.specs.declared.component.Op.{Op}
 use Rattle.lu_lang.specs.Component.{Declarations, IsComponent, IsOp}
-use Rattle.lu_lang.proofs.Statements.{place_small}
+use Rattle.lu_lang.proofs.Statements.{place_small, value_small}
 use Rattle.lu_test.specs.declared.matrix.Call.{Call}
 use Rattle.lu_test.specs.declared.matrix_fault.MatrixFaultKind.{MatrixFaultKind}
 use Rattle.lu_test.specs.declared.matrix_fault.MatrixFaultKind.TheVariants.{Byte, Form, UnknownOp, Arguments, Number, Limit}
-use Rattle.lu_test.specs.Matrix.{IsDraft, IsOf, IsCallOf, call_count}
+use Rattle.lu_test.specs.Matrix.{AreArguments, IsDraft, IsOf, IsCallOf, call_count}
 use Rattle.lu_test.specs.MatrixText.{name_in, operation_place, has_name, has_operation, has_arguments, has_values, call_of, with_calls, calls_after, by_parts, parts_in, line_of, finished}
 
 -- ---- a call
@@ -61,6 +61,12 @@ call_small c h words there count =
     let same : length (map (λ word. unwrap_or (value_in word) 0) (drop 1 words)) ≡ length (drop 1 words) = simp length-map in
     let op : IsOp (length c.arrays) (length c.locks) n.op = subst (IsOp (length c.arrays) (length c.locks)) n.read (h.operations (unwrap_or (operation_place c words) 0) n.op n.within) in
     omega (arith, op.args, n.arguments, same)
+
+call_arguments : (c : Declarations) → IsComponent c → (words : List Word) → has_operation c words ≡ true → has_arguments c words ≡ true → AreArguments (call_of c words).args
+call_arguments c h words there count = (
+  call_small c h words there count,
+  All-map (λ n. n < 2 ^ 32) (λ word. unwrap_or (value_in word) 0) (drop 1 words) (λ k d within. value_small (get_or (drop 1 words) k d)),
+)
 
 -- ---- a line
 
@@ -113,7 +119,7 @@ calls_keep c is matrix h calls next e =
         threads = omega (arith, room, longer);
         each = All-last (λ calls. length calls ≤ 8) matrix more h.limits.each (omega (arith, few, same));
         calls = omega (arith, all, same, count_more matrix more);
-        arguments = All-last (λ calls. All (λ call. length call.args ≤ 4) calls) matrix more h.limits.arguments (each_call c (λ call. length call.args ≤ 4) (call_small c is) calls there count);
+        arguments = All-last (λ calls. All (λ call. AreArguments call.args) calls) matrix more h.limits.arguments (each_call c (λ call. AreArguments call.args) (call_arguments c is) calls there count);
       };
       fits = All-last (λ calls. All (IsCallOf c) calls) matrix more h.fits (each_call c (IsCallOf c) (call_fits c) calls there count);
     })
@@ -149,7 +155,7 @@ line_fits c is matrix limits fits line next e = (line_keeps c is matrix (record 
 
 -- no line is read yet
 pub no_threads : IsDraft []
-no_threads = record { threads = omega arith; each = All-nil (λ calls. length calls ≤ 8); calls = omega arith; arguments = All-nil (λ calls. All (λ call. length call.args ≤ 4) calls) }
+no_threads = record { threads = omega arith; each = All-nil (λ calls. length calls ≤ 8); calls = omega arith; arguments = All-nil (λ calls. All (λ call. AreArguments call.args) calls) }
 
 pub no_calls : (c : Declarations) → IsOf [] c
 no_calls c = All-nil (λ calls. All (IsCallOf c) calls)

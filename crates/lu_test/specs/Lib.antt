@@ -3,3 +3,4 @@ pub mod Matrix
 pub mod Codes
 pub mod ScheduleText
 pub mod MatrixText
+pub mod Laws

@@ -1,5 +1,5 @@
 -- Matrices: for each thread the calls that it makes.
-use Rattle.std.specs.Prelude.{◌≡◌, ℕ, ◌≤◌, List, [], ◌∷◌, length, take, remove, slice_set, All, slice_get, sum_by, unwrap_or, IsSomeAnd}
+use Rattle.std.specs.Prelude.{◌≡◌, ℕ, ◌<◌, ◌≤◌, ◌^◌, List, [], ◌∷◌, length, take, remove, slice_set, All, slice_get, sum_by, unwrap_or, IsSomeAnd}
 use Rattle.lu_lang.specs.Component.{Declarations}
 use Rattle.lu_test.specs.declared.matrix.Call.{Call}
 
@@ -11,12 +11,16 @@ calls_of matrix t = unwrap_or (slice_get matrix t) []
 abbrev pub call_count : List (List Call) → ℕ
 call_count matrix = sum_by length matrix
 
+-- at most 4 numbers of 32 bits
+abbrev pub AreArguments : List ℕ → Type 0
+AreArguments arguments = (length arguments ≤ 4) × All (λ n. n < 2 ^ 32) arguments
+
 -- the limits hold, but for that of one thread
 pub record IsDraft (matrix : List (List Call)) : Type 0 where
   pub threads : length matrix ≤ 8
   pub each : All (λ calls. length calls ≤ 8) matrix
   pub calls : call_count matrix ≤ 16
-  pub arguments : All (λ calls. All (λ call. length call.args ≤ 4) calls) matrix
+  pub arguments : All (λ calls. All (λ call. AreArguments call.args) calls) matrix
 
 -- the limits hold: 1 to 8 threads, at most 8 calls of each and 16 in all, at most 4 arguments of each
 pub record IsMatrix (matrix : List (List Call)) : Type 0 where

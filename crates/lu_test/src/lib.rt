@@ -2,6 +2,7 @@
 #![tactic(auto)]
 
 mod edits;
+mod laws;
 mod matrix;
 mod matrix_fault;
 mod matrix_text;
@@ -11,6 +12,7 @@ mod schedule_fault;
 mod schedule_text;
 
 pub use edits::{cut_to, remove};
+pub use laws::round_trip;
 pub use matrix::{Arguments, Call, Calls, MOST_CALLS, MOST_CALLS_OF_THREAD, MOST_THREADS, Matrix};
 pub use matrix_fault::{MatrixFault, MatrixFaultKind};
 pub use matrix_text::read_matrix;

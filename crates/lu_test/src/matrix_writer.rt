@@ -1,6 +1,7 @@
 //! Writing of matrices.
 
-ghost use Rattle.std.specs.Prelude.{◌≡◌, ◌++◌, IfOk, OnOk, string_bytes};
+ghost use Rattle.std.specs.Prelude.{◌≡◌, ◌++◌, Ok, IfOk, OnOk, string_bytes};
+ghost use Rattle.lu_text.specs.Faults.{value_of};
 ghost use Rattle.lu_test.specs.Matrix.{IsOf};
 ghost use Rattle.lu_test.specs.MatrixText as spec;
 
@@ -81,15 +82,18 @@ fn put_thread(text: &mut String, component: &Component, calls: &[Call]) -> Resul
 }
 
 /// The canonical text of a matrix: `thread`, and where there are calls a space and the calls, parted by
-/// `;` without blanks; one space before each argument; each line ends with LF.
+/// `;` without blanks; one space before each argument; each line ends with LF. Read again it is the
+/// same matrix.
 pub fn write_matrix(
     alloc: Global,
     component: &Component,
     matrix: &Matrix,
 ) -> Result<String, AllocError>
     requires { IsOf matrix.now component.now }
-    ensures { IfOk result (λ text. string_bytes text ≡ spec.matrix_text component.now matrix.now) }
+    ensures text { IfOk result (λ text. string_bytes text ≡ spec.matrix_text component.now matrix.now) }
+    ensures again { IfOk result (λ text. value_of (spec.matrix_grammar component.now) (string_bytes text) ≡ Ok matrix.now) }
 {
+    let _operations = component.operations();
     let mut text = String::new(alloc);
     for calls in matrix.as_slice() {
         put_thread(&mut text, component, calls.as_slice())?;

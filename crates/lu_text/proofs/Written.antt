@@ -1,15 +1,14 @@
 -- Texts that are written by lines and words are read as they were written.
-use Rattle.std.proofs.Common.{◌≡◌, ℕ, ◌+◌, ◌-◌, ◌<◌, ◌≤◌, Bool, true, false, List, [], ◌∷◌, ◌++◌, length, get_or, take, Option, None, Result, Ok, refl, sym, ap, subst, ◌∙◌, append_assoc, arith}
-use Rattle.std.specs.Prelude.{◌==◌, ◌&&◌, ◌||◌, not, nat_le, nat_lt, filter, slice_index}
-use Rattle.std.specs.List.{flat_map, join_with_byte, list_all, position, position_or_len, slice_split, AllByRecursion}
+use Rattle.std.proofs.Common.{◌≡◌, ℕ, ◌+◌, ◌-◌, ◌<◌, ◌≤◌, Bool, true, false, List, [], ◌∷◌, ◌++◌, length, Ok, refl, sym, ap, ◌∙◌, append_assoc, arith}
+use Rattle.std.specs.Prelude.{◌==◌, not, filter, slice_index}
+use Rattle.std.specs.List.{flat_map, join_with_byte, list_all, position_or_len, slice_split, AllByRecursion}
 use Rattle.std.proofs.lemmas.Bool.{ne_eqb, le-leb, le-ltb}
 use Rattle.std.proofs.lemmas.List.{append-nil, length-append, take_at, get_or_push}
 use Rattle.std.proofs.lemmas.List.Elements.{All-from_recursion}
 use Rattle.std.proofs.lemmas.List.Splits.{slice_split_at, slice_split_none}
-use Rattle.lu_text.specs.declared.fault.Fault.{Fault}
-use Rattle.lu_text.specs.Lines.{lines_of, is_allowed, is_blank, before_comment, cut_at, words_of}
+use Rattle.lu_text.specs.Lines.{lines_of, is_allowed, is_blank, before_comment, words_of}
 use Rattle.lu_text.specs.Words.{Word}
-use Rattle.lu_text.specs.Faults.{Grammar, on_line, then_lines, lines_after, value_of, LeadsTo}
+use Rattle.lu_text.specs.Faults.{Grammar, lines_after, value_of, LeadsTo}
 
 -- ---- lists
 
