@@ -18,12 +18,12 @@ fn comes_back<X: AllocGlobal + Abort>(rt: &X, text: &str) -> Result<(), Fail> {
 fn each_beginning_is_a_component_or_is_refused(rt: HostRuntime) -> Result<(), Fail> {
     comes_back(&rt, ROWS)?;
     let text = ROWS.as_bytes();
-    let mut components = 0;
+    let mut components: u32 = 0;
     for end in 0..text.len() {
         match read_component(rt.alloc(), &text[..end]) {
             Ok(component) => {
                 comes_back(&rt, write_component(rt.alloc(), &component)?.as_str())?;
-                components += 1;
+                components = components.saturating_add(1);
             }
             Err(LangFault::At(_, line)) => assert!(rt; line >= 1),
             Err(LangFault::Memory) => panic!(rt; "memory"),

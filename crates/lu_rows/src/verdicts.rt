@@ -10,12 +10,13 @@ use lu_witness::{Verdict, has_witness, verdict};
 use std::process::Abort;
 use std::test::Fail;
 
-/// The verdict on what the schedule shows; and whether its history has a witness, with its pending call as stuck.
+/// The verdict on what the schedule shows, and whether its history has a witness, with its pending call as stuck: over the
+/// set of serial histories, and over the packed set.
 fn judged<X: AllocGlobal + Abort>(
     rt: &X,
     matrix: &str,
     schedule: &str,
-) -> Result<(Verdict, bool), Fail> {
+) -> Result<[(Verdict, bool); 2], Fail> {
     let alloc = rt.alloc();
     let component = read_component(alloc, ROWS.as_bytes())?;
     let matrix = read_matrix(alloc, &component, matrix.as_bytes())?;
@@ -24,13 +25,13 @@ fn judged<X: AllocGlobal + Abort>(
     let Learnt::Set(set) = learn(alloc, alloc, &component, &matrix, 40)? else {
         panic!(rt; "a serial run offends");
     };
-    let (tree, history) = (&set, &shown.history);
-    let found = (verdict(&tree, history), has_witness(&tree, history));
+    let history = &shown.history;
     let packed = PackedTrie::pack(alloc, &set)?;
-    let tree = &packed;
-    assert!(rt; verdict(&tree, history) == found.0);
-    assert_eq!(rt; has_witness(&tree, history), found.1);
-    Ok(found)
+    let (tree, flat) = (&set, &packed);
+    Ok([
+        (verdict(&tree, history), has_witness(&tree, history)),
+        (verdict(&flat, history), has_witness(&flat, history)),
+    ])
 }
 
 #[test]
@@ -57,8 +58,9 @@ fn histories_have_their_verdicts(rt: HostRuntime) -> Result<(), Fail> {
             (Verdict::Good, true),
         ),
     ] {
-        let found = judged(&rt, matrix, schedule)?;
-        assert!(rt; found == wanted, "{matrix}");
+        for found in judged(&rt, matrix, schedule)? {
+            assert!(rt; found == wanted, "{matrix}");
+        }
     }
     Ok(())
 }
