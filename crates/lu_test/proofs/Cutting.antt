@@ -1,12 +1,12 @@
 -- A matrix of each thread's first calls is a matrix.
 use Rattle.std.proofs.Common.{◌≡◌, ℕ, zero, suc, ◌+◌, ◌<◌, ◌≤◌, List, [], ◌∷◌, ◌++◌, length, get_or, take, refl, sym, ap, ◌∙◌, arith}
-use Rattle.std.specs.Prelude.{All, sum_by}
+use Rattle.std.specs.Prelude.{All}
 use Rattle.std.specs.List.{AllZip}
 use Rattle.std.proofs.lemmas.List.{take_more, take_all, length-take-le}
 use Rattle.std.proofs.lemmas.List.Elements.{All-take}
 use Rattle.std.proofs.lemmas.List.Sums.{sum_by-cons}
 use Rattle.lu_test.specs.declared.matrix.Call.{Call}
-use Rattle.lu_test.specs.Matrix.{AreArguments, IsMatrix, IsDraft, call_count, cut}
+use Rattle.lu_test.specs.Matrix.{AreArguments, IsMatrix, call_count, cut}
 
 abbrev pub Fits : List (List Call) → List ℕ → Type 0
 Fits matrix lengths = AllZip (λ calls n. n ≤ length calls) matrix lengths

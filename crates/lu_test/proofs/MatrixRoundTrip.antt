@@ -1,29 +1,28 @@
 -- What is written of a component's matrix is read as it was.
-use Rattle.std.proofs.Common.{◌≡◌, ℕ, ◌+◌, ◌^◌, ◌<◌, ◌≤◌, Bool, true, false, List, [], ◌∷◌, ◌++◌, length, get_or, Option, Some, None, Ok, refl, sym, ap, subst, ◌∙◌, append_assoc, inl, inr, arith}
-use Rattle.std.specs.Prelude.{codes, map, ◌==◌, ◌&&◌, not, is_some, slice_get, All}
-use Rattle.std.specs.List.{flat_map, join_with_byte, list_all, position, slice_split, AllByRecursion}
+use Rattle.std.proofs.Common.{◌≡◌, ℕ, ◌+◌, ◌^◌, ◌<◌, ◌≤◌, true, false, List, [], ◌∷◌, ◌++◌, length, Some, Ok, refl, sym, ap, subst, ◌∙◌, append_assoc, inl, inr, arith}
+use Rattle.std.specs.Prelude.{codes, map, ◌==◌, is_some, slice_get, All}
+use Rattle.std.specs.List.{join_with_byte, list_all, position, slice_split, AllByRecursion}
 use Rattle.std.specs.Str.{bytes_eq}
 use Rattle.std.specs.Fmt.{decimal}
-use Rattle.std.specs.Option.{unwrap_or, option_map, IsSomeAnd}
+use Rattle.std.specs.Option.{unwrap_or}
 use Rattle.std.proofs.lemmas.Bool.{and_parts, false_from_ne_true, eqb-true, eq-eqb, ne_eqb, le-ltb, lt-leb}
-use Rattle.std.proofs.lemmas.Fmt.{decimal_nonempty}
 use Rattle.std.proofs.lemmas.List.{append-nil, length-append, length-map}
 use Rattle.std.proofs.lemmas.List.Elements.{recursion_from_All}
 use Rattle.std.proofs.lemmas.List.Sums.{sum_by-append, sum_by-cons}
 use Rattle.std.proofs.lemmas.Option.{slice_get_cases}
 use Rattle.lu_text.specs.Names.{is_name_start, is_name_part, has_name_form, IsName}
 use Rattle.lu_text.specs.Numbers.{value_in}
-use Rattle.lu_text.specs.Lines.{before_comment, is_allowed, words_of}
+use Rattle.lu_text.specs.Lines.{before_comment, words_of}
 use Rattle.lu_text.specs.Words.{Word}
 use Rattle.lu_text.specs.Faults.{value_of}
-use Rattle.lu_text.proofs.Written.{IsText, IsLineByte, IsWordByte, Reads, reads_nothing, reads_line, reads_on, reads_value, allowed_line, one_line, words_line, words_again, no_comment, split_joined, each_joined, each_weaker}
+use Rattle.lu_text.proofs.Written.{IsText, IsLineByte, Reads, reads_nothing, reads_line, reads_on, reads_value, allowed_line, one_line, words_line, words_again, no_comment, split_joined, each_joined, each_weaker}
 use Rattle.lu_text.proofs.WordText.{IsDigit, digits_each, literal_text, name_text, number_text, value_again}
 use Rattle.lu_lang.specs.declared.component.Op.{Op}
 use Rattle.lu_lang.specs.Component.{Declarations, IsComponent, IsOp}
 use Rattle.lu_lang.proofs.Named.{name_has, place_at}
 use Rattle.lu_test.specs.declared.matrix.Call.{Call}
 use Rattle.lu_test.specs.Matrix.{AreArguments, IsMatrix, IsOf, IsCallOf, call_count}
-use Rattle.lu_test.specs.MatrixText.{operation_place, wanted, has_name, has_operation, has_arguments, has_values, call_of, calls_after, with_calls, by_parts, parts_in, line_of, matrix_grammar, operation_name, arguments_text, call_text, others_text, calls_text, thread_text, matrix_text}
+use Rattle.lu_test.specs.MatrixText.{has_name, has_operation, has_arguments, has_values, call_of, calls_after, with_calls, by_parts, parts_in, line_of, matrix_grammar, operation_name, arguments_text, call_text, others_text, calls_text, thread_text, matrix_text}
 
 -- ---- bytes that part no calls
 

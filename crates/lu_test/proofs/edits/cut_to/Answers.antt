@@ -1,7 +1,6 @@
-use Rattle.std.proofs.Common.{◌≡◌, ◌<◌, ◌≤◌, ◌∙◌, length, get_or, take, sym, ap, arith}
+use Rattle.std.proofs.Common.{◌∙◌, length, sym, ap, arith}
 use Rattle.std.proofs.lemmas.List.{length-take-le}
-use Rattle.lu_test.specs.Matrix.{IsMatrix, cut}
-use Rattle.lu_test.proofs.Cutting.{lengths_all, length_at, cut_more, cut_limits, cut_whole, first_calls, grows}
+use Rattle.lu_test.proofs.Cutting.{lengths_all, cut_limits, cut_whole, first_calls, grows}
 use Rattle.lu_test.proofs.edits.cut_to.Goals as goal
 
 pub bounds-lengths-t : goal.bounds-lengths-t

@@ -1,5 +1,5 @@
-use Rattle.std.proofs.Common.{◌≡◌, ◌∙◌, sym, subst}
-use Rattle.lu_test.specs.Matrix.{IsMatrix, without}
+use Rattle.std.proofs.Common.{◌∙◌, sym, subst}
+use Rattle.lu_test.specs.Matrix.{IsMatrix}
 use Rattle.lu_test.proofs.FewerCalls.{removed, keeps_limits}
 use Rattle.lu_test.proofs.edits.remove.Goals as goal
 
