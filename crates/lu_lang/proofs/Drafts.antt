@@ -25,7 +25,7 @@ use Rattle.lu_lang.specs.Draft.{Begun, Drafted, nothing}
 use Rattle.lu_lang.specs.Grammar.{value, is_value, array_place, lock_place, operation_place, component_line, array_line, lock_line, op_line, declaration, statement, sooner, place_fault, with_label, with_statement, placed, instr_line, labelled, are_there, is_last, ends_well, target, resolved, op_of, end_line, inside, by_state, closed, by_words, line_of, label_in}
 use Rattle.lu_lang.specs.Words.{keyword_in}
 use Rattle.lu_lang.specs.Sound.{IsStatement, IsBegun, IsDraft}
-use Rattle.lu_text.proofs.Tests.{NoneHold, said}
+use Rattle.lu_text.proofs.Says.{NoneHold, said}
 use Rattle.lu_lang.proofs.Statements.{statement_sound, value_small}
 use Rattle.lu_lang.proofs.Placing.{has_room}
 

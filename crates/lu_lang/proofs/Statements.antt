@@ -9,7 +9,7 @@ use Rattle.lu_text.specs.Names.{has_name_form, is_long}
 use Rattle.lu_text.specs.Numbers.{number_in, value_in, below}
 use Rattle.lu_text.specs.Words.{Word, one, two, three, five}
 use Rattle.lu_text.specs.Faults.{Tests, says}
-use Rattle.lu_text.proofs.Tests.{NoneHold, said}
+use Rattle.lu_text.proofs.Says.{NoneHold, said}
 use Rattle.lu_lang.specs.declared.instr.Operand.{Operand}
 use Rattle.lu_lang.specs.declared.instr.Operand.TheVariants.{Num}
 use Rattle.lu_lang.specs.declared.instr.Arithmetic.{Arithmetic}

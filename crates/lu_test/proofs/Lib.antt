@@ -1,5 +1,4 @@
 pub mod Form
-pub mod Capped
 pub mod Loop
 pub mod Words
 pub mod RoundTrip

@@ -176,3 +176,7 @@ is_found text (Err f) e = tt
 
 pub made : (words : List (List ℕ)) (ms : List Move) → moves_of 0 words ≡ Ok ms → AreMoves ms
 made words ms e = let s = moves_take 0 words ms (omega arith) e in (omega (arith, s.few), All-from_recursion IsMove ms s.each)
+
+-- what is written of moves is read as they were
+pub written_again : (ms : List Move) → AreMoves ms → (text : List ℕ) → text ≡ schedule_text ms → schedule_of text ≡ Ok ms
+written_again ms h text e = rw e (schedule_again ms h)

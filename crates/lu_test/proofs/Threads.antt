@@ -14,7 +14,7 @@ use Rattle.lu_text.specs.Numbers.{value_in}
 use Rattle.lu_text.specs.Words.{Word}
 use Rattle.lu_text.specs.declared.fault.Fault.{Fault}
 use Rattle.lu_text.specs.Faults.{on_line, Gives}
-use Rattle.lu_text.proofs.Tests.{said}
+use Rattle.lu_text.proofs.Says.{said}
 use Rattle.lu_lang.specs.declared.component.Op.{Op}
 use Rattle.lu_lang.specs.Component.{Declarations, IsComponent, IsOp}
 use Rattle.lu_lang.proofs.Statements.{place_small, value_small}

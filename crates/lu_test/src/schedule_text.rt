@@ -2,44 +2,46 @@
 
 ghost use Rattle.std.specs.Prelude.{◌≡◌, ◌==◌, ◌++◌, ◌∷◌, List, IfOk, OnOk, Ok, not, length, string_bytes};
 ghost use Rattle.std.specs.Option.{option_map};
-ghost use Rattle.std.specs.List.{position, slice_split, list_all};
+ghost use Rattle.std.specs.List.{position, list_all};
 ghost use Rattle.lu_text.specs.Lines.{texts};
+ghost use Rattle.lu_text.specs.Numbers.{number_in};
 ghost use Rattle.lu_test.specs.Schedule.{AreMoves};
 ghost use Rattle.lu_test.specs.ScheduleText.{Gives, schedule_text, move_text, schedule_of, move_of, one_line};
 ghost use Rattle.lu_test.specs.ScheduleText as spec;
 
 use crate::schedule::{MOST_MOVES, Move, Schedule};
 use crate::schedule_fault::ScheduleFault;
-use lu_text::{number_of, place_of};
+use lu_text::{is_number, number_up_to, parts_of, place_of};
 use std::alloc::{AllocError, Global};
 
-fn move_with(thread: Option<u64>, pick: Option<u64>) -> Result<Move, ScheduleFault>
-    ensures { result ≡ spec.move_with thread pick }
+/// The move of a thread and a pick, which these words say.
+fn move_with(thread: &[u8], pick: &[u8]) -> Result<Move, ScheduleFault>
+    ensures { result ≡ spec.move_with (number_in thread.now) (number_in pick.now) }
 {
-    let (Some(thread), Some(pick)) = (thread, pick) else {
+    if !is_number(thread) || !is_number(pick) {
         return Err(ScheduleFault::Number);
-    };
-    if thread > 7 || pick > 7 {
-        return Err(ScheduleFault::Limit);
     }
+    let (Some(thread), Some(pick)) = (number_up_to(thread, 7), number_up_to(pick, 7)) else {
+        return Err(ScheduleFault::Limit);
+    };
     Ok(Move {
         thread: thread as u8,
         pick: pick as u8,
     })
 }
 
-#[tactic(auto, using(crate::proofs::Capped::same_move), unfolding(crate::specs::ScheduleText::move_of))]
+#[tactic(auto, unfolding(crate::specs::ScheduleText::move_of))]
 fn move_in(word: &[u8]) -> Result<Move, ScheduleFault>
     ensures { result ≡ move_of word.now }
 {
     match place_of(b':', word) {
-        None => move_with(number_of(word), Some(0)),
+        None => move_with(word, b"0"),
         Some(colon) => {
             let (thread, pick) = (&word[..colon], &word[colon + 1..]);
             if pick == b"0".as_slice() {
                 return Err(ScheduleFault::Number);
             }
-            move_with(number_of(thread), number_of(pick))
+            move_with(thread, pick)
         }
     }
 }
@@ -51,12 +53,6 @@ fn line_in(text: &[u8]) -> Option<&[u8]>
         Some(end) if end + 1 == text.len() => Some(&text[..end]),
         _ => None,
     }
-}
-
-fn words_of(alloc: Global, line: &[u8]) -> Result<Vec<&[u8]>, AllocError>
-    ensures { IfOk result (λ words. texts words.items ≡ slice_split (λ b. b == 32) line.now) }
-{
-    line.split(|byte| *byte == b' ').collect(alloc)
 }
 
 fn are_words(words: &[&[u8]]) -> bool
@@ -94,7 +90,7 @@ fn schedule_in(alloc: Global, text: &[u8]) -> Result<Schedule, ScheduleFault>
     let Some(line) = line_in(text) else {
         return Err(ScheduleFault::Form);
     };
-    let words = words_of(alloc, line)?;
+    let words = parts_of(alloc, b' ', line)?;
     if !has_form(&words) {
         return Err(ScheduleFault::Form);
     }
@@ -129,9 +125,14 @@ fn put_move(text: &mut String, next: &Move) -> Result<(), AllocError>
     Ok(())
 }
 
-/// The text of a schedule, which reads back as it.
+/// The text of a schedule. Read again it is the same schedule.
+///
+/// # Errors
+///
+/// There is no memory for the text.
 pub fn write_schedule(alloc: Global, schedule: &Schedule) -> Result<String, AllocError>
-    ensures { IfOk result (λ text. string_bytes text ≡ schedule_text schedule.now) }
+    ensures text { IfOk result (λ text. string_bytes text ≡ schedule_text schedule.now) }
+    ensures again { IfOk result (λ text. schedule_of (string_bytes text) ≡ Ok schedule.now) }
 {
     let mut text = String::from_str(alloc, "schedule")?;
     for next in schedule.moves() {

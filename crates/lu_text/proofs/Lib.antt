@@ -1,8 +1,9 @@
 pub mod NameText
-pub mod Capped
+pub mod Grown
 pub mod Arity
 pub mod Reading
 pub mod NumberText
-pub mod Tests
+pub mod Says
 pub mod Written
 pub mod WordText
+pub mod KeptLines

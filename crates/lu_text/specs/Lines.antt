@@ -1,5 +1,5 @@
 -- Lines and words of a text.
-use Rattle.std.specs.Prelude.{ℕ, ◌-◌, Bool, List, [], length, map, take, slice_index, Option, Some, None, ◌==◌, ◌&&◌, ◌||◌, not, nat_le, filter, if◌then◌else◌}
+use Rattle.std.specs.Prelude.{ℕ, suc, ◌-◌, Bool, List, [], ◌∷◌, length, map, take, slice_index, Option, Some, None, ◌==◌, ◌&&◌, ◌||◌, not, nat_le, filter, if◌then◌else◌}
 use Rattle.std.specs.List.{slice_split, position}
 use denote.Ref.{Bor}
 
@@ -13,6 +13,21 @@ without_last_lf text = if slice_index text (length text - 1) == 10 then take (le
 
 abbrev pub lines_of : List ℕ → List (List ℕ)
 lines_of text = if length text == 0 then [] else slice_split (λ b. b == 10) (without_last_lf text)
+
+-- a byte before the first line
+abbrev pub onto_line : ℕ → List (List ℕ) → List (List ℕ)
+onto_line b [] = (b ∷ []) ∷ []
+onto_line b (line ∷ lines) = (b ∷ line) ∷ lines
+
+-- the lines, each with its LF; the last may lack it
+abbrev pub kept_lines : List ℕ → List (List ℕ)
+kept_lines [] = []
+kept_lines (b ∷ bs) = if b == 10 then (b ∷ []) ∷ kept_lines bs else onto_line b (kept_lines bs)
+
+-- how many bytes the first line has, with its LF
+abbrev pub first_len : List ℕ → ℕ
+first_len [] = 0
+first_len (b ∷ bs) = if b == 10 then 1 else suc (first_len bs)
 
 -- what may stand in a text of words: 32 to 126, tab and CR
 abbrev pub is_allowed : ℕ → Bool

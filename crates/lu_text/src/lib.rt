@@ -4,16 +4,16 @@
 //! crate has the parts that they share.
 #![tactic(auto)]
 
-#[cfg(test)]
-mod examples;
 mod fault;
 mod line;
 mod name;
 mod number;
+#[cfg(test)]
+mod tests;
 mod words;
 
 pub use fault::Fault;
-pub use line::{are_allowed, before_comment, lines_of, parts_of, words_of};
+pub use line::{are_allowed, before_comment, cut_line, lines_of, parts_of, words_of};
 pub use name::{MOST_NAME, Name, has_name_form, is_long};
-pub use number::{number_of, value_in};
+pub use number::{is_number, number_up_to, value_in};
 pub use words::{five, four, one, place_of, three, two};

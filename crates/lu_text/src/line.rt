@@ -1,9 +1,9 @@
 //! Lines and their words.
 
-ghost use Rattle.std.specs.Prelude.{◌≡◌, ◌==◌, IfOk};
+ghost use Rattle.std.specs.Prelude.{◌≡◌, ◌<◌, ◌==◌, ◌∷◌, ◌++◌, length, IfOk};
 ghost use Rattle.std.specs.List.{list_all, slice_split};
 ghost use Rattle.lu_text.specs.Lines as spec;
-ghost use Rattle.lu_text.specs.Lines.{texts};
+ghost use Rattle.lu_text.specs.Lines.{texts, first_len, kept_lines};
 
 use crate::words::place_of;
 use std::alloc::{AllocError, Global};
@@ -33,6 +33,10 @@ pub fn before_comment(line: &[u8]) -> &[u8]
 }
 
 /// The words of a line, up to a comment: what blanks part.
+///
+/// # Errors
+///
+/// There is no memory for the list of the words.
 pub fn words_of(alloc: Global, line: &[u8]) -> Result<Vec<&[u8]>, AllocError>
     ensures { IfOk result (λ words. texts words.items ≡ spec.words_of line.now) }
 {
@@ -52,6 +56,10 @@ fn without_last_lf(text: &[u8]) -> &[u8]
 }
 
 /// What a separator parts a text into.
+///
+/// # Errors
+///
+/// There is no memory for the list of the parts.
 pub fn parts_of(alloc: Global, separator: u8, text: &[u8]) -> Result<Vec<&[u8]>, AllocError>
     ensures { IfOk result (λ parts. texts parts.items ≡ slice_split (λ b. b == separator) text.now) }
 {
@@ -60,6 +68,10 @@ pub fn parts_of(alloc: Global, separator: u8, text: &[u8]) -> Result<Vec<&[u8]>,
 
 /// The lines of a text, without their LFs. A last LF begins no further line, and the empty text has
 /// no lines.
+///
+/// # Errors
+///
+/// There is no memory for the list of the lines.
 pub fn lines_of(alloc: Global, text: &[u8]) -> Result<Vec<&[u8]>, AllocError>
     ensures { IfOk result (λ lines. texts lines.items ≡ spec.lines_of text.now) }
 {
@@ -67,4 +79,26 @@ pub fn lines_of(alloc: Global, text: &[u8]) -> Result<Vec<&[u8]>, AllocError>
         return Ok(Vec::new(alloc));
     }
     parts_of(alloc, b'\n', without_last_lf(text))
+}
+
+/// How many bytes the first line has, with its LF.
+fn line_len(text: &[u8]) -> usize
+    ensures { result ≡ first_len text.now }
+{
+    for (i, byte) in text.iter().enumerate() {
+        if *byte == b'\n' {
+            return i + 1;
+        }
+    }
+    text.len()
+}
+
+/// The first line, with its LF, and what follows it. Where no text is left both are empty.
+#[tactic(auto, using(crate::proofs::KeptLines::first_line, crate::proofs::KeptLines::first_len_le, crate::proofs::KeptLines::first_len_some))]
+pub fn cut_line(text: &[u8]) -> (&[u8], &[u8])
+    ensures line { 0 < length text.now → kept_lines text.now ≡ result.0.now ∷ kept_lines result.1.now }
+    ensures whole { text.now ≡ result.0.now ++ result.1.now }
+    ensures some { 0 < length text.now → 0 < length result.0.now }
+{
+    text.split_at(line_len(text))
 }

@@ -31,6 +31,12 @@ impl Model for Name {
 
 impl Name {
     /// The name that these bytes spell.
+    ///
+    /// Asks for a name: a letter or `_`, followed by letters, digits or `_`, at most 32 bytes in all.
+    ///
+    /// # Errors
+    ///
+    /// There is no memory for the text.
     pub fn new(alloc: Global, word: &[u8]) -> Result<Name, AllocError>
         requires { spec.IsName word.now }
         ensures { IfOk result (λ name. name ≡ word.now) }

@@ -1,39 +1,48 @@
 //! Numbers as they are written.
 
-ghost use Rattle.std.specs.Prelude.{◌≡◌, ◌^◌, min};
-ghost use Rattle.std.specs.Option.{option_map};
-ghost use Rattle.lu_text.specs.Numbers.{number_in};
+ghost use Rattle.std.specs.Prelude.{◌≡◌, ◌+◌};
+ghost use Rattle.std.specs.List.{list_all};
+ghost use Rattle.std.specs.Char.{is_ascii_digit};
+ghost use Rattle.lu_text.specs.Numbers.{below, number_in};
 ghost use Rattle.lu_text.specs.Numbers as spec;
 
-/// One more than the greatest value of a shared word.
-const TOO_LARGE: u64 = 1 << 32;
-
-/// The number that a word is, or 2^32 where it is that or more; `None` where it is no number.
-///
-/// A number is `0`, or a digit 1 to 9 followed by digits.
-pub fn number_of(word: &[u8]) -> Option<u64>
-    ensures { result ≡ option_map (λ n. min n (2 ^ 32)) (number_in word.now) }
+fn are_digits(bytes: &[u8]) -> bool
+    ensures { result ≡ list_all is_ascii_digit bytes.now }
 {
-    if word.is_empty() || (word[0] == b'0' && word.len() > 1) {
+    bytes.iter().all(|byte| byte.is_ascii_digit())
+}
+
+/// Whether a word is a number: `0`, or a digit 1 to 9 followed by digits.
+#[tactic(auto, using(crate::proofs::Grown::digit_each))]
+pub fn is_number(word: &[u8]) -> bool
+    ensures { result ≡ spec.is_number word.now }
+{
+    match word {
+        [] => false,
+        [first, rest @ ..] => are_digits(word) && (*first != b'0' || rest.is_empty()),
+    }
+}
+
+/// The number that the word is, where it is one and at most `most`.
+pub fn number_up_to(word: &[u8], most: u64) -> Option<u64>
+    ensures { result ≡ below (most + 1) (number_in word.now) }
+{
+    if !is_number(word) {
         return None;
     }
-    let mut number: u64 = 0;
+    let mut number: u128 = 0;
     for digit in word {
-        if !digit.is_ascii_digit() {
+        number = 10 * number + (*digit - b'0') as u128;
+        if number > most as u128 {
             return None;
         }
-        number = (10 * number + (*digit - b'0') as u64).min(TOO_LARGE);
     }
-    Some(number)
+    Some(number as u64)
 }
 
 /// The number that a word is, where it is one of at most 4294967295.
-#[tactic(auto, using(crate::proofs::Capped::below_cut))]
 pub fn value_in(word: &[u8]) -> Option<u32>
     ensures { result ≡ spec.value_in word.now }
 {
-    match number_of(word) {
-        Some(number) if number < TOO_LARGE => Some(number as u32),
-        _ => None,
-    }
+    Some(number_up_to(word, u32::MAX as u64)? as u32)
 }

@@ -1,8 +1,8 @@
 //! One use of each public function, and texts at the edges.
 
 use crate::{
-    Fault, Name, are_allowed, before_comment, five, four, has_name_form, is_long, lines_of,
-    number_of, one, parts_of, place_of, three, two, value_in, words_of,
+    Fault, Name, are_allowed, before_comment, cut_line, five, four, has_name_form, is_long,
+    is_number, lines_of, number_up_to, one, parts_of, place_of, three, two, value_in, words_of,
 };
 use std::test::Fail;
 
@@ -22,6 +22,16 @@ fn lines(rt: HostRuntime) -> Result<(), Fail> {
     let parts = parts_of(rt.alloc(), b';', b"a;;b\n")?;
     assert_eq!(rt; parts.len(), 3);
     assert_eq!(rt; parts.last().copied(), Some(b"b\n".as_slice()));
+    for (text, first, rest) in [
+        ("", "", ""),
+        ("\n\na", "\n", "\na"),
+        ("a\nb", "a\n", "b"),
+        ("b", "b", ""),
+    ] {
+        let (line, after) = cut_line(text.as_bytes());
+        assert_eq!(rt; line, first.as_bytes());
+        assert_eq!(rt; after, rest.as_bytes());
+    }
     assert!(rt; are_allowed(b"\t ~\r"));
     assert!(rt; !are_allowed(b"\x7f"));
     Ok(())
@@ -91,7 +101,15 @@ fn numbers(rt: HostRuntime) {
     ] {
         assert_eq!(rt; value_in(word.as_bytes()), number, "{word}");
     }
-    assert_eq!(rt; number_of(b"18446744073709551616"), Some(1 << 32));
+    assert_eq!(rt; number_up_to(b"7", 7), Some(7));
+    assert_eq!(rt; number_up_to(b"8", 7), None);
+    assert_eq!(rt;
+        number_up_to(b"18446744073709551615", u64::MAX),
+        Some(u64::MAX)
+    );
+    assert_eq!(rt; number_up_to(b"18446744073709551616", u64::MAX), None);
+    assert!(rt; is_number(b"18446744073709551616"));
+    assert!(rt; !is_number(b"7:"));
 }
 
 #[test]
