@@ -7,7 +7,7 @@ use Rattle.std.specs.Option.{unwrap_or, option_map}
 use Rattle.std.proofs.lemmas.Bool.{or_parts, leb-false, ltb-false, not-false}
 use Rattle.std.proofs.lemmas.List.{length-append, length-map}
 use Rattle.std.proofs.lemmas.Option.{slice_get-map}
-use Rattle.std.proofs.lemmas.List.Elements.{All-append, All-nil, All-map}
+use Rattle.std.proofs.lemmas.List.Elements.{All-nil, All-map}
 use Rattle.lu_text.specs.Names.{has_name_form, is_long, IsName}
 use Rattle.lu_text.specs.Lines.{is_allowed, words_of}
 use Rattle.lu_text.specs.Words.{Word, one, two, three}
@@ -20,23 +20,18 @@ use Rattle.lu_lang.specs.declared.draft.Statement.{Statement}
 use Rattle.lu_lang.specs.declared.draft.Statement.TheVariants.{Plain, Jump, JumpIfZero}
 use Rattle.lu_lang.specs.declared.fault.LangFaultKind.{LangFaultKind}
 use Rattle.lu_lang.specs.declared.fault.LangFaultKind.TheVariants.{Byte, Missing, Form, Number, Limit, Flow, Name}
-use Rattle.lu_lang.specs.Component.{AreDistinct, EndsWell, IsArray, IsComponent, IsInstr, IsOp}
+use Rattle.lu_lang.specs.Component.{operation_place, AreDistinct, EndsWell, IsArray, IsComponent, IsInstr, IsOp}
 use Rattle.lu_lang.specs.Draft.{Begun, Drafted, nothing}
-use Rattle.lu_lang.specs.Grammar.{value, is_value, array_place, lock_place, operation_place, component_line, array_line, lock_line, op_line, declaration, statement, sooner, place_fault, with_label, with_statement, placed, instr_line, labelled, are_there, is_last, ends_well, target, resolved, op_of, end_line, inside, by_state, closed, by_words, line_of, label_in}
+use Rattle.lu_lang.specs.Grammar.{value, is_value, array_place, lock_place, component_line, array_line, lock_line, op_line, declaration, statement, sooner, place_fault, with_label, with_statement, placed, instr_line, labelled, are_there, is_last, ends_well, target, resolved, op_of, end_line, inside, by_state, closed, by_words, line_of, label_in}
 use Rattle.lu_lang.specs.Words.{keyword_in}
 use Rattle.lu_lang.specs.Sound.{IsStatement, IsBegun, IsDraft}
 use Rattle.lu_text.proofs.Says.{NoneHold, said}
+use Rattle.lu_text.proofs.NameText.{name_from}
+use Rattle.lu_text.proofs.Written.{All-last}
 use Rattle.lu_lang.proofs.Statements.{statement_sound, value_small}
 use Rattle.lu_lang.proofs.Placing.{has_room}
 
 -- ---- lists
-
-All-one : {X : Type 0} (P : X → Type 0) (x : X) → P x → All P (x ∷ [])
-All-one P x h zero d within = h
-All-one P x h (suc k) d within = absurd (omega arith)
-
-All-last : {X : Type 0} (P : X → Type 0) (xs : List X) (x : X) → All P xs → P x → All P (xs ++ x ∷ [])
-All-last P xs x all last = All-append P xs (x ∷ []) all (All-one P x last)
 
 All-weaker : {X : Type 0} (P Q : X → Type 0) → ((x : X) → P x → Q x) → (xs : List X) → All P xs → All Q xs
 All-weaker P Q h xs all k d within = h (get_or xs k d) (all k d within)
@@ -89,9 +84,6 @@ map-same (x ∷ xs) = ap (λ ys. x ∷ ys) (map-same xs)
 
 distinct_name : (names : List (List ℕ)) (name : List ℕ) → AreDistinct names → is_some (position (λ y. bytes_eq y name) names) ≡ false → AreDistinct (names ++ name ∷ [])
 distinct_name names name h e = distinct_last names name h (absent (λ y. bytes_eq y name) names e)
-
-name_from : (name : Word) → not (has_name_form name) ≡ false → is_long name ≡ false → IsName name
-name_from name form short = (not-false (has_name_form name) form, ltb-false 32 (length name) short)
 
 -- ---- more arrays and locks
 
@@ -208,7 +200,7 @@ op_keeps d h (Some (name, args)) = kept
     ((not (has_name_form name), Form)
     ∷ (not (is_value args), Number)
     ∷ (is_long name || (nat_le 16 (length d.operations) || nat_lt 4 (value args)), Limit)
-    ∷ (is_some (operation_place d name), Name) ∷ [])
+    ∷ (is_some (operation_place d.operations name), Name) ∷ [])
     (record d { begun = Some (record { name = name; args = value args; statements = []; labels = [] }) })
     (λ n.
     let long = or_parts (is_long name) (nat_le 16 (length d.operations) || nat_lt 4 (value args)) n.1.1.0 in

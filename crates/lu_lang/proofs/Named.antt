@@ -7,13 +7,10 @@ use Rattle.std.specs.Option.{unwrap_or, option_map}
 use Rattle.std.proofs.lemmas.Bool.{cases_lt, le-ltb, lt-ltb}
 use Rattle.lu_text.specs.Words.{Word}
 use Rattle.lu_text.proofs.NumberText.{bytes_self}
+use Rattle.lu_text.proofs.Written.{none_before}
 use Rattle.lu_lang.specs.Component.{AreDistinct}
 
 -- ---- places
-
-none_before : {X : Type 0} (p : X → Bool) (xs : List X) → AllByRecursion (λ x. p x ≡ false) xs → position_or_len p xs ≡ length xs
-none_before p [] h = refl
-none_before p (x ∷ xs) h = rw (h.0, none_before p xs h.1) (omega arith)
 
 pub nowhere : {X : Type 0} (p : X → Bool) (xs : List X) → AllByRecursion (λ x. p x ≡ false) xs → position p xs ≡ None
 nowhere p xs h = rw (none_before p xs h, le-ltb (length xs) (length xs) (omega arith)) refl

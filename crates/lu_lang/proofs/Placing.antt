@@ -1,9 +1,10 @@
 -- What holds of a label and of an operation where nothing is wrong with one more instruction.
 use Rattle.std.proofs.Common.{◌≡◌, ◌<◌, Bool, true, false, cond, length, Option, Some, None, refl, arith}
 use Rattle.std.specs.Prelude.{◌||◌, not, nat_le, is_some}
-use Rattle.std.proofs.lemmas.Bool.{or_parts, leb-false, ltb-false, not-false}
+use Rattle.std.proofs.lemmas.Bool.{or_parts, leb-false}
 use Rattle.lu_text.specs.Names.{has_name_form, is_long, IsName}
 use Rattle.lu_text.specs.Words.{Word}
+use Rattle.lu_text.proofs.NameText.{name_from}
 use Rattle.lu_lang.specs.declared.fault.LangFaultKind.{LangFaultKind}
 use Rattle.lu_lang.specs.declared.fault.LangFaultKind.TheVariants.{Form, Limit, Name}
 use Rattle.lu_lang.specs.Draft.{Begun}
@@ -12,9 +13,6 @@ use Rattle.lu_lang.specs.Grammar.{place_fault, label_place}
 pub no_fault : (b : Bool) (kind : LangFaultKind) (rest : Option LangFaultKind) → cond b (Some kind) rest ≡ None → (b ≡ false) × (rest ≡ None)
 no_fault true kind rest e = absurd cc
 no_fault false kind rest e = (refl, e)
-
-name_from : (label : Word) → not (has_name_form label) ≡ false → is_long label ≡ false → IsName label
-name_from label form short = (not-false (has_name_form label) form, ltb-false 32 (length label) short)
 
 record Placeable (b : Begun) (label : Word) : Type 0 where
   name : IsName label

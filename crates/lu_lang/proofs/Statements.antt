@@ -24,7 +24,7 @@ use Rattle.lu_lang.specs.declared.fault.LangFaultKind.TheVariants.{Form, Number,
 use Rattle.lu_lang.specs.Component.{IsRegister, IsOperand, IsInstr}
 use Rattle.lu_lang.specs.Draft.{Drafted}
 use Rattle.lu_lang.specs.Words.{register_in, or_number, as_number}
-use Rattle.lu_lang.specs.Grammar.{value, is_value, register, is_register, operand, is_operand, array_place, lock_place, array_number, lock_number, set_line, compute_line, load_line, store_line, cas_line, locked, awaited, as_plain, pick_line, jump_line, jump_if_zero_line, return_line, statement}
+use Rattle.lu_lang.specs.Grammar.{value, is_value, register, is_register, operand, is_operand, array_place, lock_place, array_number, lock_number, set_line, compute_line, load_line, cas_line, locked, cell_and_value, as_plain, pick_line, jump_line, jump_if_zero_line, return_line, statement}
 use Rattle.lu_lang.specs.Sound.{IsStatement}
 
 -- ---- words
@@ -118,13 +118,6 @@ load_sound d (Some (dst, array, i)) = sound d
     (Plain (instr.Load (register dst) (array_number d array) (operand i)))
     (λ n places. (register_small dst, array_there d array n.1.1.1.0, operand_sound i))
 
-store_sound : (d : Drafted) (o : Option (Word × Word × Word)) → IsSound d (store_line d o)
-store_sound d None = none_said d _
-store_sound d (Some (array, i, v)) = sound d
-    ((not (has_name_form array), Form) ∷ (not (is_operand i) || not (is_operand v), Number) ∷ (is_long array, Limit) ∷ (not (is_some (array_place d array)), Name) ∷ [])
-    (Plain (instr.Store (array_number d array) (operand i) (operand v)))
-    (λ n places. (array_there d array n.1.1.1.0, operand_sound i, operand_sound v))
-
 cas_sound : (d : Drafted) (o : Option (Word × Word × Word × Word × Word)) → IsSound d (cas_line d o)
 cas_sound d None = none_said d _
 cas_sound d (Some (dst, array, i, old, new)) = sound d
@@ -147,22 +140,22 @@ locking_sound d locking each (Some lock) = λ s e. go (locked d (Some lock)) (λ
     go (Ok l) small s e = let same : Plain (locking l) ≡ s = cc in subst (IsStatement (length d.arrays) (length d.locks)) same (each l (small l refl))
     go (Err kind) small s e = absurd cc
 
-waiting_sound : (d : Drafted) (waiting : ℕ × Operand × Operand → Instr) → ((array : ℕ) (i v : Operand) → array < length d.arrays → IsOperand i → IsOperand v → (places : ℕ) → IsInstr (length d.arrays) (length d.locks) places (waiting (array, i, v))) → (o : Option (Word × Word × Word)) → IsSound d (as_plain waiting (awaited d o))
-waiting_sound d waiting each None = none_said d _
-waiting_sound d waiting each (Some (array, i, v)) = λ s e. go (awaited d (Some (array, i, v))) (λ w f. said_array (awaited d (Some (array, i, v))) w refl f) s e
+cell_sound : (d : Drafted) (access : ℕ × Operand × Operand → Instr) → ((array : ℕ) (i v : Operand) → array < length d.arrays → IsOperand i → IsOperand v → (places : ℕ) → IsInstr (length d.arrays) (length d.locks) places (access (array, i, v))) → (o : Option (Word × Word × Word)) → IsSound d (as_plain access (cell_and_value d o))
+cell_sound d access each None = none_said d _
+cell_sound d access each (Some (array, i, v)) = λ s e. go (cell_and_value d (Some (array, i, v))) (λ w f. said_array (cell_and_value d (Some (array, i, v))) w refl f) s e
   where
     Fits : ℕ × Operand × Operand → Type 0
     Fits w = (w.0 < length d.arrays) × IsOperand w.1 × IsOperand w.2
 
-    said_array : (r : Result (ℕ × Operand × Operand) LangFaultKind) (w : ℕ × Operand × Operand) → awaited d (Some (array, i, v)) ≡ r → r ≡ Ok w → Fits w
+    said_array : (r : Result (ℕ × Operand × Operand) LangFaultKind) (w : ℕ × Operand × Operand) → cell_and_value d (Some (array, i, v)) ≡ r → r ≡ Ok w → Fits w
     said_array r w is f =
         let x = said
         ((not (has_name_form array), Form) ∷ (not (is_operand i) || not (is_operand v), Number) ∷ (is_long array, Limit) ∷ (not (is_some (array_place d array)), Name) ∷ [])
         (array_number d array, operand i, operand v) w (is ∙ f) in
         subst Fits x.same (array_there d array x.none.1.1.1.0, operand_sound i, operand_sound v)
 
-    go : (r : Result (ℕ × Operand × Operand) LangFaultKind) → ((w : ℕ × Operand × Operand) → r ≡ Ok w → Fits w) → (s : Statement) → as_plain waiting r ≡ Ok s → IsStatement (length d.arrays) (length d.locks) s
-    go (Ok w) small s e = let same : Plain (waiting w) ≡ s = cc in let f = small w refl in subst (IsStatement (length d.arrays) (length d.locks)) same (each w.0 w.1 w.2 f.0 f.1 f.2)
+    go : (r : Result (ℕ × Operand × Operand) LangFaultKind) → ((w : ℕ × Operand × Operand) → r ≡ Ok w → Fits w) → (s : Statement) → as_plain access r ≡ Ok s → IsStatement (length d.arrays) (length d.locks) s
+    go (Ok w) small s e = let same : Plain (access w) ≡ s = cc in let f = small w refl in subst (IsStatement (length d.arrays) (length d.locks)) same (each w.0 w.1 w.2 f.0 f.1 f.2)
     go (Err kind) small s e = absurd cc
 
 pick_sound : (d : Drafted) (o : Option (Word × Word)) → IsSound d (pick_line o)
@@ -200,12 +193,12 @@ statement_sound d None words = none_said d _
 statement_sound d (Some keyword.Set) words = set_sound d (two words)
 statement_sound d (Some (keyword.Compute by)) words = compute_sound d by (three words)
 statement_sound d (Some keyword.Load) words = load_sound d (three words)
-statement_sound d (Some keyword.Store) words = store_sound d (three words)
+statement_sound d (Some keyword.Store) words = cell_sound d (λ (array, i, v). instr.Store array i v) (λ a i v h x y places. (h, x, y)) (three words)
 statement_sound d (Some keyword.Cas) words = cas_sound d (five words)
 statement_sound d (Some keyword.Lock) words = locking_sound d (λ lock. instr.Lock lock) (λ lock h places. h) (one words)
 statement_sound d (Some keyword.Unlock) words = locking_sound d (λ lock. instr.Unlock lock) (λ lock h places. h) (one words)
-statement_sound d (Some keyword.Await) words = waiting_sound d (λ (array, i, v). instr.Await array i v) (λ a i v h x y places. (h, x, y)) (three words)
-statement_sound d (Some keyword.AwaitNot) words = waiting_sound d (λ (array, i, v). instr.AwaitNot array i v) (λ a i v h x y places. (h, x, y)) (three words)
+statement_sound d (Some keyword.Await) words = cell_sound d (λ (array, i, v). instr.Await array i v) (λ a i v h x y places. (h, x, y)) (three words)
+statement_sound d (Some keyword.AwaitNot) words = cell_sound d (λ (array, i, v). instr.AwaitNot array i v) (λ a i v h x y places. (h, x, y)) (three words)
 statement_sound d (Some keyword.Pick) words = pick_sound d (two words)
 statement_sound d (Some keyword.Jump) words = jump_sound d (one words)
 statement_sound d (Some keyword.JumpIfZero) words = jump_if_zero_sound d (two words)

@@ -25,7 +25,7 @@ use Rattle.lu_lang.specs.declared.keyword.Keyword.TheVariants as keyword
 use Rattle.lu_lang.specs.Component.{Declarations, IsComponent, IsArray, IsInstr}
 use Rattle.lu_lang.specs.Draft.{Drafted}
 use Rattle.lu_lang.specs.Words.{keyword_word, register_in, operand_in}
-use Rattle.lu_lang.specs.Grammar.{set_line, compute_line, load_line, store_line, cas_line, locked, awaited, pick_line, jump_line, jump_if_zero_line, return_line, statement}
+use Rattle.lu_lang.specs.Grammar.{set_line, compute_line, load_line, cas_line, locked, cell_and_value, pick_line, jump_line, jump_if_zero_line, return_line, statement}
 use Rattle.lu_lang.specs.ComponentText.{register_word, operand_word, array_word, lock_word, label_word, instr_words}
 use Rattle.lu_lang.proofs.Named.{name_at, name_has, place_at}
 use Rattle.lu_lang.proofs.WrittenWords.{is_register_word, is_operand_word, IsNameWord, is_name_word, label_name}
@@ -51,17 +51,14 @@ record IsLockWord (locks : List Word) (word : Word) (k : ℕ) : Type 0 where
 load_says : (d : Drafted) (dst array i : Word) (to k : ℕ) (o : Operand) → register_in dst ≡ Some to → IsArrayWord d.arrays array k → operand_in i ≡ Some o → load_line d (Some (dst, array, i)) ≡ Ok (Plain (instr.Load to k o))
 load_says d dst array i to k o r a x = rw (r, a.name.form, a.name.short, a.place, x) refl
 
-store_says : (d : Drafted) (array i v : Word) (k : ℕ) (o q : Operand) → IsArrayWord d.arrays array k → operand_in i ≡ Some o → operand_in v ≡ Some q → store_line d (Some (array, i, v)) ≡ Ok (Plain (instr.Store k o q))
-store_says d array i v k o q a x y = rw (a.name.form, a.name.short, a.place, x, y) refl
-
 cas_says : (d : Drafted) (dst array i old new : Word) (to k : ℕ) (o p q : Operand) → register_in dst ≡ Some to → IsArrayWord d.arrays array k → operand_in i ≡ Some o → operand_in old ≡ Some p → operand_in new ≡ Some q → cas_line d (Some (dst, array, i, old, new)) ≡ Ok (Plain (instr.Cas to k o p q))
 cas_says d dst array i old new to k o p q r a x y z = rw (r, a.name.form, a.name.short, a.place, x, y, z) refl
 
 lock_says : (d : Drafted) (lock : Word) (k : ℕ) → IsLockWord d.locks lock k → locked d (Some lock) ≡ Ok k
 lock_says d lock k l = rw (l.name.form, l.name.short, l.place) refl
 
-await_says : (d : Drafted) (array i v : Word) (k : ℕ) (o q : Operand) → IsArrayWord d.arrays array k → operand_in i ≡ Some o → operand_in v ≡ Some q → awaited d (Some (array, i, v)) ≡ Ok (k, o, q)
-await_says d array i v k o q a x y = rw (a.name.form, a.name.short, a.place, x, y) refl
+cell_says : (d : Drafted) (array i v : Word) (k : ℕ) (o q : Operand) → IsArrayWord d.arrays array k → operand_in i ≡ Some o → operand_in v ≡ Some q → cell_and_value d (Some (array, i, v)) ≡ Ok (k, o, q)
+cell_says d array i v k o q a x y = rw (a.name.form, a.name.short, a.place, x, y) refl
 
 pick_says : (dst count : Word) (to n : ℕ) → register_in dst ≡ Some to → value_in count ≡ Some n → 1 ≤ n → n ≤ 8 → pick_line (Some (dst, count)) ≡ Ok (Plain (instr.Pick to n))
 pick_says dst count to n r x some few = rw (r, x, le-ltb n 1 some, le-ltb 8 n few) refl
@@ -175,7 +172,7 @@ is_said c is operations places few (instr.Store array i v) (k, p, q) =
     let a = is_array_word c is array k in
     let x = is_operand_word i p in
     let y = is_operand_word v q in
-    record { words = refl; text = (a.name.text, (x.text, (y.text, tt))); says = store_says (so_far c.name c.arrays c.locks operations None) (array_word c array) (operand_word i) (operand_word v) array i v a x.again y.again }
+    record { words = refl; text = (a.name.text, (x.text, (y.text, tt))); says = rw (cell_says (so_far c.name c.arrays c.locks operations None) (array_word c array) (operand_word i) (operand_word v) array i v a x.again y.again) refl }
 is_said c is operations places few (instr.Cas to array i old new) (h, k, p, q, s) =
     let r = is_register_word to h in
     let a = is_array_word c is array k in
@@ -193,12 +190,12 @@ is_said c is operations places few (instr.Await array i v) (k, p, q) =
     let a = is_array_word c is array k in
     let x = is_operand_word i p in
     let y = is_operand_word v q in
-    record { words = refl; text = (a.name.text, (x.text, (y.text, tt))); says = rw (await_says (so_far c.name c.arrays c.locks operations None) (array_word c array) (operand_word i) (operand_word v) array i v a x.again y.again) refl }
+    record { words = refl; text = (a.name.text, (x.text, (y.text, tt))); says = rw (cell_says (so_far c.name c.arrays c.locks operations None) (array_word c array) (operand_word i) (operand_word v) array i v a x.again y.again) refl }
 is_said c is operations places few (instr.AwaitNot array i v) (k, p, q) =
     let a = is_array_word c is array k in
     let x = is_operand_word i p in
     let y = is_operand_word v q in
-    record { words = refl; text = (a.name.text, (x.text, (y.text, tt))); says = rw (await_says (so_far c.name c.arrays c.locks operations None) (array_word c array) (operand_word i) (operand_word v) array i v a x.again y.again) refl }
+    record { words = refl; text = (a.name.text, (x.text, (y.text, tt))); says = rw (cell_says (so_far c.name c.arrays c.locks operations None) (array_word c array) (operand_word i) (operand_word v) array i v a x.again y.again) refl }
 is_said c is operations places few (instr.Pick to count) (h, some, most) =
     let r = is_register_word to h in
     record { words = refl; text = (r.text, (number_text count (omega arith), tt)); says = pick_says (register_word to) (decimal count) to count r.again (value_again count (omega arith)) some most }

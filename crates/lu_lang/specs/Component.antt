@@ -1,6 +1,6 @@
 -- What a component declares, and the rules that each component meets.
 use Rattle.std.specs.Prelude.{ℕ, ◌-◌, ◌^◌, ◌<◌, ◌≤◌, List, length, map, All, Option, Some, None, slice_get}
-use Rattle.std.specs.List.{IsDistinct}
+use Rattle.std.specs.List.{position, IsDistinct}
 use Rattle.std.specs.Str.{bytes_eq}
 use Rattle.lu_text.specs.Names.{IsName}
 use Rattle.lu_lang.specs.declared.instr.Operand.{Operand}
@@ -16,6 +16,10 @@ pub record Declarations : Type 0 where
   pub arrays : List Array
   pub locks : List (List ℕ)
   pub operations : List Op
+
+-- the number of the operation of this name
+abbrev pub operation_place : List Op → List ℕ → Option ℕ
+operation_place operations name = position (λ o. bytes_eq o.name name) operations
 
 abbrev pub IsRegister : ℕ → Type 0
 IsRegister r = r < 8

@@ -21,7 +21,7 @@ use Rattle.lu_lang.specs.declared.keyword.Keyword.TheVariants as keyword
 use Rattle.lu_lang.specs.declared.fault.LangFaultKind.{LangFaultKind}
 use Rattle.lu_lang.specs.declared.fault.LangFaultKind.TheVariants.{Byte, Missing, Form, Number, Limit, Flow, Name}
 use Rattle.lu_lang.specs.Kinds.{rank}
-use Rattle.lu_lang.specs.Component.{Declarations}
+use Rattle.lu_lang.specs.Component.{Declarations, operation_place}
 use Rattle.lu_lang.specs.Draft.{Begun, Drafted, nothing}
 use Rattle.lu_lang.specs.Words.{keyword_in, register_in, operand_in}
 
@@ -53,9 +53,6 @@ array_place d name = position (λ a. bytes_eq a.name name) d.arrays
 
 abbrev pub lock_place : Drafted → Word → Option ℕ
 lock_place d name = position (λ l. bytes_eq l name) d.locks
-
-abbrev pub operation_place : Drafted → Word → Option ℕ
-operation_place d name = position (λ o. bytes_eq o.name name) d.operations
 
 abbrev pub label_place : List (List ℕ × ℕ) → Word → Option ℕ
 label_place labels name = position (λ l. bytes_eq l.0 name) labels
@@ -101,7 +98,7 @@ op_line d (Some (name, args)) =
     says ((not (has_name_form name), Form)
     ∷ (not (is_value args), Number)
     ∷ (is_long name || (nat_le 16 (length d.operations) || nat_lt 4 (value args)), Limit)
-    ∷ (is_some (operation_place d name), Name) ∷ [])
+    ∷ (is_some (operation_place d.operations name), Name) ∷ [])
     (record d { begun = Some (record { name = name; args = value args; statements = []; labels = [] }) })
 
 abbrev pub declaration : Drafted → Word → List Word → Result Drafted LangFaultKind
@@ -137,16 +134,6 @@ load_line d (Some (dst, array, i)) =
     ∷ (not (is_some (array_place d array)), Name) ∷ [])
     (Plain (instr.Load (register dst) (array_number d array) (operand i)))
 
--- `store W i v`
-abbrev pub store_line : Drafted → Option (Word × Word × Word) → Result Statement LangFaultKind
-store_line d None = Err Form
-store_line d (Some (array, i, v)) =
-    says ((not (has_name_form array), Form)
-    ∷ (not (is_operand i) || not (is_operand v), Number)
-    ∷ (is_long array, Limit)
-    ∷ (not (is_some (array_place d array)), Name) ∷ [])
-    (Plain (instr.Store (array_number d array) (operand i) (operand v)))
-
 -- `cas rD W i old new`
 abbrev pub cas_line : Drafted → Option (Word × Word × Word × Word × Word) → Result Statement LangFaultKind
 cas_line d None = Err Form
@@ -170,10 +157,10 @@ locked d (Some lock) =
     ∷ (not (is_some (lock_place d lock)), Name) ∷ [])
     (lock_number d lock)
 
--- the array, the index and the value of `await W i v` and `awaitne W i v`
-abbrev pub awaited : Drafted → Option (Word × Word × Word) → Result (ℕ × Operand × Operand) LangFaultKind
-awaited d None = Err Form
-awaited d (Some (array, i, v)) =
+-- the array, the index and the value of `store W i v`, `await W i v` and `awaitne W i v`
+abbrev pub cell_and_value : Drafted → Option (Word × Word × Word) → Result (ℕ × Operand × Operand) LangFaultKind
+cell_and_value d None = Err Form
+cell_and_value d (Some (array, i, v)) =
     says ((not (has_name_form array), Form)
     ∷ (not (is_operand i) || not (is_operand v), Number)
     ∷ (is_long array, Limit)
@@ -214,12 +201,12 @@ statement d None words = Err Form
 statement d (Some keyword.Set) words = set_line (two words)
 statement d (Some (keyword.Compute arithmetic)) words = compute_line arithmetic (three words)
 statement d (Some keyword.Load) words = load_line d (three words)
-statement d (Some keyword.Store) words = store_line d (three words)
+statement d (Some keyword.Store) words = as_plain (λ (array, i, v). instr.Store array i v) (cell_and_value d (three words))
 statement d (Some keyword.Cas) words = cas_line d (five words)
 statement d (Some keyword.Lock) words = as_plain (λ lock. instr.Lock lock) (locked d (one words))
 statement d (Some keyword.Unlock) words = as_plain (λ lock. instr.Unlock lock) (locked d (one words))
-statement d (Some keyword.Await) words = as_plain (λ (array, i, v). instr.Await array i v) (awaited d (three words))
-statement d (Some keyword.AwaitNot) words = as_plain (λ (array, i, v). instr.AwaitNot array i v) (awaited d (three words))
+statement d (Some keyword.Await) words = as_plain (λ (array, i, v). instr.Await array i v) (cell_and_value d (three words))
+statement d (Some keyword.AwaitNot) words = as_plain (λ (array, i, v). instr.AwaitNot array i v) (cell_and_value d (three words))
 statement d (Some keyword.Pick) words = pick_line (two words)
 statement d (Some keyword.Jump) words = jump_line (one words)
 statement d (Some keyword.JumpIfZero) words = jump_if_zero_line (two words)

@@ -3,6 +3,7 @@
 ghost use Rattle.std.specs.Prelude.{◌≡◌, slice_get};
 ghost use Rattle.std.specs.Option.{option_copied};
 ghost use Rattle.lu_lang.specs.Component.{IsComponent};
+ghost use Rattle.lu_lang.specs.Component as spec;
 
 use crate::instr::Instr;
 use lu_text::Name;
@@ -81,6 +82,13 @@ pub struct Op {
     pub code: Code,
 }
 
+/// The place of the operation of this name.
+pub(crate) fn operation_place(operations: &[Op], name: &[u8]) -> Option<usize>
+    ensures { result ≡ spec.operation_place operations.now name.now }
+{
+    operations.iter().position(|op| op.name.is(name))
+}
+
 /// A component: arrays of shared words, locks, and the operations that threads may call.
 ///
 /// It is always one that some text of the language declares: all limits hold, names are distinct
@@ -105,6 +113,9 @@ impl Model for Component {
 
 impl Component {
     /// The component that declares these, for readers of its text.
+    ///
+    /// Asks for what each component obeys: the limits of its arrays, locks and operations hold, names
+    /// are distinct within their kind, and what an instruction names is there.
     pub fn new(name: Name, arrays: Vec<Array>, locks: Vec<Name>, operations: Vec<Op>) -> Component
         requires { IsComponent (record { name = name; arrays = arrays.items; locks = locks.items; operations = operations.items }) }
         ensures { result ≡ record { name = name; arrays = arrays.items; locks = locks.items; operations = operations.items } }
@@ -153,5 +164,12 @@ impl Component {
         ensures { option_copied result ≡ slice_get self.now.operations number }
     {
         self.operations.get(usize::from(number))
+    }
+
+    /// The number of the operation of this name, from 0, where there is one.
+    pub fn operation_place(&self, name: &[u8]) -> Option<u8>
+        ensures { result ≡ spec.operation_place self.now.operations name.now }
+    {
+        Some(operation_place(self.operations(), name)? as u8)
     }
 }

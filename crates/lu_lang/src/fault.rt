@@ -57,7 +57,7 @@ impl LangFaultKind {
     }
 
     /// Where the kind stands in the order in which faults are looked for.
-    pub fn rank(self) -> u8
+    pub(crate) fn rank(self) -> u8
         ensures { result ≡ rank self }
     {
         match self {
@@ -72,5 +72,5 @@ impl LangFaultKind {
     }
 }
 
-/// Why a text is no component: the first fault by line, or want of memory (`L8`).
+/// Why a text is no component: the first fault by line, or want of memory, which is shown as `memory`.
 pub type LangFault = Fault<LangFaultKind>;

@@ -2,9 +2,6 @@
 
 use std::fmt;
 
-/// The number of registers of an operation, `r0` to `r7`.
-pub const REGISTERS: u8 = 8;
-
 /// The most choices that a `pick` has.
 pub const MOST_PICKS: u32 = 8;
 

@@ -1,10 +1,13 @@
 //! Reading of instructions.
 
-ghost use Rattle.std.specs.Prelude.{◌≡◌, ◌==◌, IfOk, Some};
+ghost use Rattle.std.specs.Prelude.{◌≡◌, ◌==◌, ◌∷◌, [], IfOk, Some, is_some, not};
 ghost use Rattle.std.specs.List.{position};
 ghost use Rattle.std.specs.Str.{bytes_eq};
 ghost use Rattle.lu_text.specs.Lines.{texts};
 ghost use Rattle.lu_text.specs.Words.{one, two, three, five};
+ghost use Rattle.lu_text.specs.Names.{is_long};
+ghost use Rattle.lu_text.specs.Faults.{says};
+ghost use Rattle.lu_lang.specs.declared.fault.LangFaultKind.TheVariants.{Limit, Name as FaultName};
 ghost use Rattle.lu_lang.specs.Grammar as spec;
 
 use crate::component::Array;
@@ -39,6 +42,19 @@ pub fn lock_number(draft: &Draft, name: &[u8]) -> Option<u8>
     ensures { result ≡ spec.lock_place draft.now name.now }
 {
     Some(name_among(&draft.locks, name)? as u8)
+}
+
+/// The number of the array of this name, which is to be short enough and declared.
+fn declared_array(draft: &Draft, name: &[u8]) -> Result<u8, LangFaultKind>
+    ensures { result ≡ says ((is_long name.now, Limit) ∷ (not (is_some (spec.array_place draft.now name.now)), FaultName) ∷ []) (spec.array_number draft.now name.now) }
+{
+    if is_long(name) {
+        return Err(LangFaultKind::Limit);
+    }
+    match array_number(draft, name) {
+        None => Err(LangFaultKind::Name),
+        Some(number) => Ok(number),
+    }
 }
 
 /// `set rD v`
@@ -94,39 +110,8 @@ fn load_line(draft: &Draft, words: &[&[u8]]) -> Result<Statement, LangFaultKind>
     let Some(index) = operand_in(index) else {
         return Err(LangFaultKind::Number);
     };
-    if is_long(array) {
-        return Err(LangFaultKind::Limit);
-    }
-    let Some(array) = array_number(draft, array) else {
-        return Err(LangFaultKind::Name);
-    };
+    let array = declared_array(draft, array)?;
     Ok(Statement::Plain(Instr::Load { to, array, index }))
-}
-
-/// `store W i v`
-fn store_line(draft: &Draft, words: &[&[u8]]) -> Result<Statement, LangFaultKind>
-    ensures { result ≡ spec.store_line draft.now (three (texts words.now)) }
-{
-    let Some((array, index, value)) = three(words) else {
-        return Err(LangFaultKind::Form);
-    };
-    if !has_name_form(array) {
-        return Err(LangFaultKind::Form);
-    }
-    let (Some(index), Some(value)) = (operand_in(index), operand_in(value)) else {
-        return Err(LangFaultKind::Number);
-    };
-    if is_long(array) {
-        return Err(LangFaultKind::Limit);
-    }
-    let Some(array) = array_number(draft, array) else {
-        return Err(LangFaultKind::Name);
-    };
-    Ok(Statement::Plain(Instr::Store {
-        array,
-        index,
-        value,
-    }))
 }
 
 /// `cas rD W i old new`
@@ -149,12 +134,7 @@ fn cas_line(draft: &Draft, words: &[&[u8]]) -> Result<Statement, LangFaultKind>
     ) else {
         return Err(LangFaultKind::Number);
     };
-    if is_long(array) {
-        return Err(LangFaultKind::Limit);
-    }
-    let Some(array) = array_number(draft, array) else {
-        return Err(LangFaultKind::Name);
-    };
+    let array = declared_array(draft, array)?;
     Ok(Statement::Plain(Instr::Cas {
         to,
         array,
@@ -183,9 +163,12 @@ fn locked(draft: &Draft, words: &[&[u8]]) -> Result<u8, LangFaultKind>
     Ok(lock)
 }
 
-/// The array, the index and the value of `await W i v` and `awaitne W i v`.
-fn awaited(draft: &Draft, words: &[&[u8]]) -> Result<(u8, Operand, Operand), LangFaultKind>
-    ensures { result ≡ spec.awaited draft.now (three (texts words.now)) }
+/// The array, the index and the value of `store W i v`, `await W i v` and `awaitne W i v`.
+fn cell_and_value(
+    draft: &Draft,
+    words: &[&[u8]],
+) -> Result<(u8, Operand, Operand), LangFaultKind>
+    ensures { result ≡ spec.cell_and_value draft.now (three (texts words.now)) }
 {
     let Some((array, index, value)) = three(words) else {
         return Err(LangFaultKind::Form);
@@ -196,13 +179,7 @@ fn awaited(draft: &Draft, words: &[&[u8]]) -> Result<(u8, Operand, Operand), Lan
     let (Some(index), Some(value)) = (operand_in(index), operand_in(value)) else {
         return Err(LangFaultKind::Number);
     };
-    if is_long(array) {
-        return Err(LangFaultKind::Limit);
-    }
-    let Some(array) = array_number(draft, array) else {
-        return Err(LangFaultKind::Name);
-    };
-    Ok((array, index, value))
+    Ok((declared_array(draft, array)?, index, value))
 }
 
 /// `pick rD K`
@@ -279,45 +256,46 @@ fn return_line(words: &[&[u8]]) -> Result<Statement, LangFaultKind>
 fn lock_line(draft: &Draft, words: &[&[u8]]) -> Result<Statement, LangFaultKind>
     ensures { result ≡ spec.statement draft.now (Some Keyword.Lock) (texts words.now) }
 {
-    match locked(draft, words) {
-        Ok(lock) => Ok(Statement::Plain(Instr::Lock(lock))),
-        Err(kind) => Err(kind),
-    }
+    Ok(Statement::Plain(Instr::Lock(locked(draft, words)?)))
 }
 
 fn unlock_line(draft: &Draft, words: &[&[u8]]) -> Result<Statement, LangFaultKind>
     ensures { result ≡ spec.statement draft.now (Some Keyword.Unlock) (texts words.now) }
 {
-    match locked(draft, words) {
-        Ok(lock) => Ok(Statement::Plain(Instr::Unlock(lock))),
-        Err(kind) => Err(kind),
-    }
+    Ok(Statement::Plain(Instr::Unlock(locked(draft, words)?)))
+}
+
+fn store_line(draft: &Draft, words: &[&[u8]]) -> Result<Statement, LangFaultKind>
+    ensures { result ≡ spec.statement draft.now (Some Keyword.Store) (texts words.now) }
+{
+    let (array, index, value) = cell_and_value(draft, words)?;
+    Ok(Statement::Plain(Instr::Store {
+        array,
+        index,
+        value,
+    }))
 }
 
 fn await_line(draft: &Draft, words: &[&[u8]]) -> Result<Statement, LangFaultKind>
     ensures { result ≡ spec.statement draft.now (Some Keyword.Await) (texts words.now) }
 {
-    match awaited(draft, words) {
-        Ok((array, index, value)) => Ok(Statement::Plain(Instr::Await {
-            array,
-            index,
-            value,
-        })),
-        Err(kind) => Err(kind),
-    }
+    let (array, index, value) = cell_and_value(draft, words)?;
+    Ok(Statement::Plain(Instr::Await {
+        array,
+        index,
+        value,
+    }))
 }
 
 fn await_not_line(draft: &Draft, words: &[&[u8]]) -> Result<Statement, LangFaultKind>
     ensures { result ≡ spec.statement draft.now (Some Keyword.AwaitNot) (texts words.now) }
 {
-    match awaited(draft, words) {
-        Ok((array, index, value)) => Ok(Statement::Plain(Instr::AwaitNot {
-            array,
-            index,
-            value,
-        })),
-        Err(kind) => Err(kind),
-    }
+    let (array, index, value) = cell_and_value(draft, words)?;
+    Ok(Statement::Plain(Instr::AwaitNot {
+        array,
+        index,
+        value,
+    }))
 }
 
 /// The instruction of a line, or the first fault that it has.

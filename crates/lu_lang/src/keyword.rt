@@ -26,7 +26,7 @@ pub enum Keyword {
 
 impl Arithmetic {
     /// The keyword of the instruction that computes it.
-    pub fn word(self) -> &'static str
+    pub(crate) fn word(self) -> &'static str
         ensures { result.now ≡ spec.arithmetic_word self }
     {
         match self {

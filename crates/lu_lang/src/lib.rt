@@ -20,7 +20,7 @@ pub use component::{
     MOST_OPS, Op,
 };
 pub use fault::{LangFault, LangFaultKind};
-pub use instr::{Arithmetic, Instr, MOST_PICKS, Operand, REGISTERS};
+pub use instr::{Arithmetic, Instr, MOST_PICKS, Operand};
 pub use laws::round_trip;
 pub use reading::read_component;
 pub use writing::write_component;

@@ -16,7 +16,7 @@ ghost use Rattle.lu_lang.specs.Grammar.{component_grammar};
 
 use crate::component::{
     Array, Code, Component, MOST_ARGUMENTS, MOST_ARRAYS, MOST_CELLS, MOST_INSTRS, MOST_LOCKS,
-    MOST_OPS, Op,
+    MOST_OPS, Op, operation_place,
 };
 use crate::draft::{Draft, OpenOp, Statement};
 use crate::fault::{LangFault, LangFaultKind};
@@ -32,7 +32,7 @@ use std::alloc::{AllocError, Global};
 fn component_line(
     alloc: Global,
     line: usize,
-    draft: Draft,
+    mut draft: Draft,
     words: &[&[u8]],
 ) -> Result<Draft, LangFault>
     ensures { Gives result (on_line line (spec.component_line draft (one (texts words.now)))) }
@@ -46,7 +46,6 @@ fn component_line(
     if is_long(name) {
         return Err(Fault::At(LangFaultKind::Limit, line));
     }
-    let mut draft = draft;
     draft.name = Some(Name::new(alloc, name)?);
     Ok(draft)
 }
@@ -58,7 +57,7 @@ fn has_most_arrays(draft: &Draft) -> bool
 }
 
 /// `word NAME LEN INIT`
-fn array_line(alloc: Global, line: usize, draft: Draft, words: &[&[u8]]) -> Result<Draft, LangFault>
+fn array_line(alloc: Global, line: usize, mut draft: Draft, words: &[&[u8]]) -> Result<Draft, LangFault>
     ensures { Gives result (on_line line (spec.array_line draft (three (texts words.now)))) }
 {
     let Some((name, len, init)) = three(words) else {
@@ -76,7 +75,6 @@ fn array_line(alloc: Global, line: usize, draft: Draft, words: &[&[u8]]) -> Resu
     if array_number(&draft, name).is_some() {
         return Err(Fault::At(LangFaultKind::Name, line));
     }
-    let mut draft = draft;
     draft.arrays.push(Array {
         name: Name::new(alloc, name)?,
         len: len as u8,
@@ -92,7 +90,7 @@ fn has_most_locks(draft: &Draft) -> bool
 }
 
 /// `lock NAME`, outside an operation
-fn lock_line(alloc: Global, line: usize, draft: Draft, words: &[&[u8]]) -> Result<Draft, LangFault>
+fn lock_line(alloc: Global, line: usize, mut draft: Draft, words: &[&[u8]]) -> Result<Draft, LangFault>
     ensures { Gives result (on_line line (spec.lock_line draft (one (texts words.now)))) }
 {
     let Some(name) = one(words) else {
@@ -107,7 +105,6 @@ fn lock_line(alloc: Global, line: usize, draft: Draft, words: &[&[u8]]) -> Resul
     if lock_number(&draft, name).is_some() {
         return Err(Fault::At(LangFaultKind::Name, line));
     }
-    let mut draft = draft;
     draft.locks.push(Name::new(alloc, name)?)?;
     Ok(draft)
 }
@@ -118,20 +115,8 @@ fn has_most_operations(draft: &Draft) -> bool
     draft.operations.len() >= MOST_OPS
 }
 
-fn place_among(operations: &[Op], name: &[u8]) -> Option<usize>
-    ensures { result ≡ position (λ o. bytes_eq o.name name.now) operations.now }
-{
-    operations.iter().position(|op| op.name.is(name))
-}
-
-fn has_operation(draft: &Draft, name: &[u8]) -> bool
-    ensures { result ≡ is_some (spec.operation_place draft.now name.now) }
-{
-    place_among(&draft.operations, name).is_some()
-}
-
 /// `op NAME ARGS`
-fn op_line(alloc: Global, line: usize, draft: Draft, words: &[&[u8]]) -> Result<Draft, LangFault>
+fn op_line(alloc: Global, line: usize, mut draft: Draft, words: &[&[u8]]) -> Result<Draft, LangFault>
     ensures { Gives result (on_line line (spec.op_line draft (two (texts words.now)))) }
 {
     let Some((name, args)) = two(words) else {
@@ -146,10 +131,9 @@ fn op_line(alloc: Global, line: usize, draft: Draft, words: &[&[u8]]) -> Result<
     if is_long(name) || has_most_operations(&draft) || args > MOST_ARGUMENTS {
         return Err(Fault::At(LangFaultKind::Limit, line));
     }
-    if has_operation(&draft, name) {
+    if operation_place(&draft.operations, name).is_some() {
         return Err(Fault::At(LangFaultKind::Name, line));
     }
-    let mut draft = draft;
     draft.begun = Some(OpenOp {
         name: Name::new(alloc, name)?,
         args: args as u8,
@@ -242,14 +226,13 @@ fn place_fault(op: &OpenOp, label: Option<&[u8]>) -> Option<LangFaultKind>
 /// The open operation with one more instruction.
 fn with_statement(
     alloc: Global,
-    op: OpenOp,
+    mut op: OpenOp,
     label: Option<&[u8]>,
     statement: Statement,
 ) -> Result<OpenOp, AllocError>
     requires { spec.place_fault op (option_map (λ label. label.now) label) ≡ None }
     ensures { IfOk result (λ next. next ≡ spec.with_statement op (option_map (λ label. label.now) label.entry) statement) }
 {
-    let mut op = op;
     if let Some(label) = label {
         let place = op.statements.len() as u8;
         op.labels.push((Name::new(alloc, label)?, place))?;
@@ -262,7 +245,7 @@ fn with_statement(
 fn instr_line(
     alloc: Global,
     line: usize,
-    draft: Draft,
+    mut draft: Draft,
     op: OpenOp,
     label: Option<&[u8]>,
     word: &[u8],
@@ -270,7 +253,6 @@ fn instr_line(
 ) -> Result<Draft, LangFault>
     ensures { Gives result (on_line line (spec.instr_line draft op (option_map (λ label. label.now) label.entry) word.now (texts words.now))) }
 {
-    let mut draft = draft;
     let fault = place_fault(&op, label);
     match statement(alloc, &draft, keyword_in(word), words)? {
         Err(kind) => Err(Fault::At(sooner(fault, kind), line)),
@@ -399,7 +381,7 @@ fn op_of(alloc: Global, op: OpenOp) -> Result<Op, AllocError>
 fn end_line(
     alloc: Global,
     line: usize,
-    draft: Draft,
+    mut draft: Draft,
     op: OpenOp,
     words: &[&[u8]],
 ) -> Result<Draft, LangFault>
@@ -415,7 +397,6 @@ fn end_line(
     if !are_there(&op) {
         return Err(Fault::At(LangFaultKind::Name, line));
     }
-    let mut draft = draft;
     draft.operations.push(op_of(alloc, op)?)?;
     Ok(draft)
 }
@@ -462,13 +443,12 @@ fn component_first(
 fn by_state(
     alloc: Global,
     line: usize,
-    draft: Draft,
+    mut draft: Draft,
     word: &[u8],
     words: &[&[u8]],
 ) -> Result<Draft, LangFault>
     ensures { Gives result (on_line line (spec.by_state (spec.closed draft) draft.name draft.begun word.now (texts words.now))) }
 {
-    let mut draft = draft;
     let begun = draft.begun.take();
     if draft.name.is_none() {
         return component_first(alloc, line, draft, word, words);

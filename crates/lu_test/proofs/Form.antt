@@ -7,14 +7,11 @@ use Rattle.std.proofs.lemmas.List.{length-drop, take_all}
 use denote.Ref.{Bor}
 use Rattle.lu_text.specs.Lines.{texts}
 use Rattle.lu_test.specs.ScheduleText.{has_form}
-
-all_texts : (words : List (Bor (List ℕ))) → list_all (λ w. not (length w.now == 0)) words ≡ list_all (λ w. not (length w == 0)) (texts words)
-all_texts [] = refl
-all_texts (w ∷ ws) = rw (all_texts ws) refl
+use Rattle.lu_test.proofs.Parts.{all_texts}
 
 pub form_at : (words : List (Bor (List ℕ))) (d : Bor (List ℕ)) → 1 ≤ length words → bytes_eq (get_or words 0 d).now (codes "schedule") ≡ true → has_form (texts words) ≡ list_all (λ w. not (length w.now == 0)) (drop 1 words)
 form_at [] d h e = absurd (omega arith)
-form_at (w ∷ ws) d h e = rw e (sym (all_texts ws))
+form_at (w ∷ ws) d h e = rw e (sym (all_texts (λ word. not (length word == 0)) ws))
 
 pub rest_at : (words : List (Bor (List ℕ))) → take (length words - 1) (drop 1 words) ≡ drop 1 words
 rest_at words = take_all _ _ (omega (arith, length-drop 1 words))

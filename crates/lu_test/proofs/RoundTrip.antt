@@ -13,6 +13,7 @@ use Rattle.lu_test.specs.declared.schedule_fault.ScheduleFault.{ScheduleFault}
 use Rattle.lu_test.specs.declared.schedule_fault.ScheduleFault.TheVariants.{Form, Limit}
 use Rattle.lu_test.specs.ScheduleText.{◌>>=◌, Gives, has_form, line_to, one_line, move_of, move_text, moves_by, moves_in, moves_of, schedule_of, schedule_text}
 use Rattle.lu_text.proofs.NumberText.{bytes_same}
+use Rattle.lu_text.proofs.Written.{each_append}
 use Rattle.lu_test.specs.Schedule.{IsMove, AreMoves}
 use Rattle.lu_test.proofs.Words.{is_at, move_again, move_takes, lacks, some_byte}
 
@@ -127,16 +128,12 @@ schedule_takes text ms e = go (position (λ b. b == 10) text) refl e
 
 -- ---- what is spelled so is read
 
-all_append : (P : ℕ → Type 0) (xs ys : List ℕ) → AllByRecursion P xs → AllByRecursion P ys → AllByRecursion P (xs ++ ys)
-all_append P [] ys p q = q
-all_append P (x ∷ xs) ys p q = (p.0, all_append P xs ys p.1 q)
-
 abbrev line_of : List Move → List ℕ
 line_of ms = flat_map (λ m. 32 ∷ move_text m) ms
 
 no_lf : (ms : List Move) → AllByRecursion IsMove ms → AllByRecursion (λ b. (b == 10) ≡ false) (line_of ms)
 no_lf [] h = tt
-no_lf (m ∷ ms) h = (refl, all_append (λ b. (b == 10) ≡ false) (move_text m) (line_of ms) (lacks 10 m (omega arith) h.0) (no_lf ms h.1))
+no_lf (m ∷ ms) h = (refl, each_append (λ b. (b == 10) ≡ false) (move_text m) (line_of ms) (lacks 10 m (omega arith) h.0) (no_lf ms h.1))
 
 until_lf : (line : List ℕ) → AllByRecursion (λ b. (b == 10) ≡ false) line → prefix_len (λ b. not (b == 10)) (line ++ 10 ∷ []) ≡ length line
 until_lf [] h = refl
@@ -165,7 +162,7 @@ schedule_again ms h =
     let word : List ℕ = codes "schedule" in
     let line : List ℕ = word ++ line_of ms in
     let text : schedule_text ms ≡ line ++ 10 ∷ [] = sym (append_assoc word (line_of ms) (10 ∷ [])) in
-    let plain : AllByRecursion (λ b. (b == 10) ≡ false) line = all_append (λ b. (b == 10) ≡ false) word (line_of ms) (refl, (refl, (refl, (refl, (refl, (refl, (refl, (refl, tt)))))))) (no_lf ms each) in
+    let plain : AllByRecursion (λ b. (b == 10) ≡ false) line = each_append (λ b. (b == 10) ≡ false) word (line_of ms) (refl, (refl, (refl, (refl, (refl, (refl, (refl, (refl, tt)))))))) (no_lf ms each) in
     let one : one_line (schedule_text ms) ≡ Some line = ap one_line text ∙ line_again line plain in
     let split : slice_split (λ b. b == 32) line ≡ word ∷ map move_text ms = split_again word ms (refl, (refl, (refl, (refl, (refl, (refl, (refl, (refl, tt)))))))) each in
     ap moves_in one ∙ (ap moves_by split ∙ rw (words_again ms each) (moves_again 0 ms (omega (arith, h.0)) each))

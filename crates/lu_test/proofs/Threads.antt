@@ -6,7 +6,7 @@ use Rattle.std.specs.Str.{bytes_eq}
 use Rattle.std.specs.Option.{unwrap_or}
 use Rattle.std.proofs.lemmas.Bool.{or_parts, leb-false, ltb-false, not-false, eqb-true}
 use Rattle.std.proofs.lemmas.List.{length-append, length-map}
-use Rattle.std.proofs.lemmas.List.Elements.{All-append, All-map, All-nil}
+use Rattle.std.proofs.lemmas.List.Elements.{All-map, All-nil}
 use Rattle.std.proofs.lemmas.List.Sums.{sum_by-append, AllPass-from_list_all}
 use Rattle.std.proofs.lemmas.Option.{slice_get_cases}
 use Rattle.lu_text.specs.Lines.{is_allowed}
@@ -15,6 +15,8 @@ use Rattle.lu_text.specs.Words.{Word}
 use Rattle.lu_text.specs.declared.fault.Fault.{Fault}
 use Rattle.lu_text.specs.Faults.{on_line, Gives}
 use Rattle.lu_text.proofs.Says.{said}
+use Rattle.lu_text.proofs.Reading.{line_ok}
+use Rattle.lu_text.proofs.Written.{All-last}
 use Rattle.lu_lang.specs.declared.component.Op.{Op}
 use Rattle.lu_lang.specs.Component.{Declarations, IsComponent, IsOp}
 use Rattle.lu_lang.proofs.Statements.{place_small, value_small}
@@ -79,13 +81,6 @@ record IsSound (c : Declarations) (matrix : List (List Call)) : Type 0 where
 
 abbrev Keeps : Declarations → Result (List (List Call)) MatrixFaultKind → Type 0
 Keeps c r = (next : List (List Call)) → r ≡ Ok next → IsSound c next
-
-All-one : {X : Type 0} (P : X → Type 0) (x : X) → P x → All P (x ∷ [])
-All-one P x h zero d within = h
-All-one P x h (suc k) d within = absurd (omega arith)
-
-All-last : {X : Type 0} (P : X → Type 0) (xs : List X) (x : X) → All P xs → P x → All P (xs ++ x ∷ [])
-All-last P xs x all last = All-append P xs (x ∷ []) all (All-one P x last)
 
 each_call : (c : Declarations) (P : Call → Type 0) → ((words : List Word) → has_operation c words ≡ true → has_arguments c words ≡ true → P (call_of c words)) → (calls : List (List Word)) → list_all (has_operation c) calls ≡ true → list_all (has_arguments c) calls ≡ true → All P (map (call_of c) calls)
 each_call c P h calls there count =
@@ -160,13 +155,9 @@ no_threads = record { threads = omega arith; each = All-nil (λ calls. length ca
 pub no_calls : (c : Declarations) → IsOf [] c
 no_calls c = All-nil (λ calls. All (IsCallOf c) calls)
 
-one_line : {A : Type 0} (n : ℕ) (r : Result A MatrixFaultKind) (x : A) → on_line n r ≡ Ok x → r ≡ Ok x
-one_line n (Ok y) x e = cc
-one_line n (Err kind) x e = absurd cc
-
 -- the calls of the finished matrix are the component's
 pub of_finished : (c : Declarations) (matrix : List (List Call)) (n : ℕ) (r : Result (List (List Call)) (Fault MatrixFaultKind)) → Gives r (on_line n (finished matrix)) → IsOf matrix c → IfOk r (λ m. IsOf m c)
 of_finished c matrix n (Err e) gives fits = tt
 of_finished c matrix n (Ok m) gives fits =
-    let x = said ((length matrix == 0, Limit) ∷ []) matrix m (one_line n (finished matrix) m gives) in
+    let x = said ((length matrix == 0, Limit) ∷ []) matrix m (line_ok n (finished matrix) m gives) in
     subst (λ (m : List (List Call)). IsOf m c) x.same fits

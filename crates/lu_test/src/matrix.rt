@@ -149,7 +149,7 @@ impl Matrix {
         ensures calls { result.now ≡ self.now }
         ensures sound { IsMatrix self.now }
     {
-        &self.threads
+        self.threads.as_slice()
     }
 
     /// The number of calls of thread `t`: 0 where there is no such thread.

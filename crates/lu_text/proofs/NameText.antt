@@ -1,11 +1,11 @@
--- A name is text.
-use Rattle.std.proofs.Common.{◌≡◌, ℕ, zero, suc, ◌<◌, true, List, [], ◌∷◌, get_or, inl, inr, arith}
-use Rattle.std.specs.Prelude.{◌==◌, ◌&&◌, ◌||◌, nat_le}
+-- A name is text, and a word is a name by its form and its length.
+use Rattle.std.proofs.Common.{◌≡◌, ℕ, zero, suc, ◌<◌, true, false, List, [], ◌∷◌, length, get_or, inl, inr, arith}
+use Rattle.std.specs.Prelude.{◌==◌, ◌&&◌, ◌||◌, not, nat_le}
 use Rattle.std.specs.List.{list_all}
 use Rattle.std.specs.Str.{IsUtf8}
-use Rattle.std.proofs.lemmas.Bool.{and_parts, or_cases, leb-true, eqb-true}
+use Rattle.std.proofs.lemmas.Bool.{and_parts, or_cases, leb-true, eqb-true, ltb-false, not-false}
 use Rattle.std.proofs.lemmas.Str.{IsUtf8-from_ascii}
-use Rattle.lu_text.specs.Names.{is_name_start, is_name_part, has_name_form}
+use Rattle.lu_text.specs.Names.{is_name_start, is_name_part, has_name_form, is_long, IsName}
 
 start_small : (b : ℕ) → is_name_start b ≡ true → b < 128
 start_small b h =
@@ -37,3 +37,6 @@ name_ascii (b ∷ bs) h (suc i) = parts_small bs (and_parts (is_name_start b) (l
 
 pub name_is_text : (word : List ℕ) → has_name_form word ≡ true → IsUtf8 word
 name_is_text word h = IsUtf8-from_ascii word (name_ascii word h)
+
+pub name_from : (word : List ℕ) → not (has_name_form word) ≡ false → is_long word ≡ false → IsName word
+name_from word form short = (not-false (has_name_form word) form, ltb-false 32 (length word) short)

@@ -1,10 +1,10 @@
 -- Texts that are written by lines and words are read as they were written.
-use Rattle.std.proofs.Common.{◌≡◌, ℕ, ◌+◌, ◌-◌, ◌<◌, ◌≤◌, Bool, true, false, List, [], ◌∷◌, ◌++◌, length, Ok, refl, sym, ap, ◌∙◌, append_assoc, arith}
-use Rattle.std.specs.Prelude.{◌==◌, not, filter, slice_index}
+use Rattle.std.proofs.Common.{◌≡◌, ℕ, zero, suc, ◌+◌, ◌-◌, ◌<◌, ◌≤◌, Bool, true, false, List, [], ◌∷◌, ◌++◌, length, Ok, refl, sym, ap, ◌∙◌, append_assoc, arith}
+use Rattle.std.specs.Prelude.{◌==◌, not, filter, slice_index, All}
 use Rattle.std.specs.List.{flat_map, join_with_byte, list_all, position_or_len, slice_split, AllByRecursion}
 use Rattle.std.proofs.lemmas.Bool.{ne_eqb, le-leb, le-ltb}
 use Rattle.std.proofs.lemmas.List.{append-nil, length-append, take_at, get_or_push}
-use Rattle.std.proofs.lemmas.List.Elements.{All-from_recursion}
+use Rattle.std.proofs.lemmas.List.Elements.{All-from_recursion, All-append}
 use Rattle.std.proofs.lemmas.List.Splits.{slice_split_at, slice_split_none}
 use Rattle.lu_text.specs.Lines.{lines_of, is_allowed, is_blank, before_comment, words_of}
 use Rattle.lu_text.specs.Words.{Word}
@@ -23,6 +23,13 @@ each_weaker P Q h (x ∷ xs) all = (h x all.0, each_weaker P Q h xs all.1)
 pub all_from_each : {X : Type 0} (p : X → Bool) (xs : List X) → AllByRecursion (λ x. p x ≡ true) xs → list_all p xs ≡ true
 all_from_each p [] h = refl
 all_from_each p (x ∷ xs) h = rw (h.0, all_from_each p xs h.1) refl
+
+pub All-one : {X : Type 0} (P : X → Type 0) (x : X) → P x → All P (x ∷ [])
+All-one P x h zero d within = h
+All-one P x h (suc k) d within = absurd (omega arith)
+
+pub All-last : {X : Type 0} (P : X → Type 0) (xs : List X) (x : X) → All P xs → P x → All P (xs ++ x ∷ [])
+All-last P xs x all last = All-append P xs (x ∷ []) all (All-one P x last)
 
 -- what holds of each part and of the byte between them holds of each byte
 pub each_joined : (P : ℕ → Type 0) (c : ℕ) → P c → (parts : List (List ℕ)) → AllByRecursion (AllByRecursion P) parts → AllByRecursion P (join_with_byte c parts)
@@ -142,7 +149,7 @@ allowed_line line h = all_from_each is_allowed line (each_weaker IsLineByte (λ 
 pub one_line : (line : List ℕ) → AllByRecursion IsLineByte line → IsOneLine line
 one_line line h = each_weaker IsLineByte (λ b. (b == 10) ≡ false) line_one line h
 
-none_before : (p : ℕ → Bool) (xs : List ℕ) → AllByRecursion (λ b. p b ≡ false) xs → position_or_len p xs ≡ length xs
+pub none_before : {X : Type 0} (p : X → Bool) (xs : List X) → AllByRecursion (λ x. p x ≡ false) xs → position_or_len p xs ≡ length xs
 none_before p [] h = refl
 none_before p (x ∷ xs) h = rw (h.0, none_before p xs h.1) (omega arith)
 
