@@ -6,7 +6,7 @@ use Rattle.std.proofs.lemmas.List.{take_more, take_all, length-take-le}
 use Rattle.std.proofs.lemmas.List.Elements.{All-take}
 use Rattle.std.proofs.lemmas.List.Sums.{sum_by-cons}
 use Rattle.lu_test.specs.declared.matrix.Call.{Call}
-use Rattle.lu_test.specs.Matrix.{AreArguments, IsMatrix, call_count, cut}
+use Rattle.lu_test.specs.Matrix.{AreArguments, IsMatrix, total_calls, cut}
 
 abbrev pub Fits : List (List Call) → List ℕ → Type 0
 Fits matrix lengths = AllZip (λ calls n. n ≤ length calls) matrix lengths
@@ -41,7 +41,7 @@ cut_more matrix lengths fits t d e h =
     take_more (cut matrix lengths) t [] (omega (arith, length-cut matrix lengths fits))
     ∙ ap (λ (calls : List Call). take t (cut matrix lengths) ++ calls ∷ []) (cut_at matrix lengths fits t d e h)
 
-count_less : (matrix : List (List Call)) (lengths : List ℕ) → Fits matrix lengths → call_count (cut matrix lengths) ≤ call_count matrix
+count_less : (matrix : List (List Call)) (lengths : List ℕ) → Fits matrix lengths → total_calls (cut matrix lengths) ≤ total_calls matrix
 count_less [] lengths fits = omega arith
 count_less (calls ∷ m) [] fits = absurd fits
 count_less (calls ∷ m) (n ∷ ns) fits =

@@ -1,5 +1,5 @@
 -- Words in memory, and their bytes.
-use Rattle.std.proofs.Common.{◌≡◌, ℕ, take, ◌-◌, ◌≤◌, true, List, [], ◌∷◌, length, get_or, drop, refl, sym, arith}
+use Rattle.std.proofs.Common.{◌≡◌, ℕ, take, ◌-◌, ◌≤◌, true, List, [], ◌∷◌, length, get_or, drop, sym, arith}
 use Rattle.std.specs.Prelude.{codes, not, ◌==◌}
 use Rattle.std.specs.List.{list_all}
 use Rattle.std.specs.Str.{bytes_eq}

@@ -21,7 +21,7 @@ use Rattle.lu_lang.specs.declared.component.Op.{Op}
 use Rattle.lu_lang.specs.Component.{Declarations, IsComponent, IsOp}
 use Rattle.lu_lang.proofs.Named.{name_has, place_at}
 use Rattle.lu_test.specs.declared.matrix.Call.{Call}
-use Rattle.lu_test.specs.Matrix.{AreArguments, IsMatrix, IsOf, IsCallOf, call_count}
+use Rattle.lu_test.specs.Matrix.{AreArguments, IsMatrix, IsOf, IsCallOf, total_calls}
 use Rattle.lu_test.specs.MatrixText.{has_name, has_operation, has_arguments, has_values, call_of, calls_after, with_calls, by_parts, parts_in, line_of, matrix_grammar, operation_name, arguments_text, call_text, others_text, calls_text, thread_text, matrix_text}
 
 -- ---- bytes that part no calls
@@ -211,13 +211,13 @@ calls_again : (c : Declarations) (calls : List Call) → AllByRecursion (IsSaid 
 calls_again c [] h = refl
 calls_again c (call ∷ calls) h = let first = h.0.again in let rest = calls_again c calls h.1 in cc
 
-calls_say : (c : Declarations) (matrix : List (List Call)) (calls : List Call) → AllByRecursion (IsSaid c) calls → length matrix < 8 → length calls ≤ 8 → call_count matrix + length calls ≤ 16
+calls_say : (c : Declarations) (matrix : List (List Call)) (calls : List Call) → AllByRecursion (IsSaid c) calls → length matrix < 8 → length calls ≤ 8 → total_calls matrix + length calls ≤ 16
     → with_calls c matrix (map (call_words c) calls) ≡ Ok (matrix ++ calls ∷ [])
 calls_say c matrix calls h room few all =
     let n : length (map (call_words c) calls) ≡ length calls = simp length-map in
-    rw (all_named c calls, all_there c calls h, all_counted c calls h, all_values c calls h, n, lt-leb 8 (length matrix) room, le-ltb 8 (length calls) few, le-ltb 16 (call_count matrix + length calls) all, calls_again c calls h) refl
+    rw (all_named c calls, all_there c calls h, all_counted c calls h, all_values c calls h, n, lt-leb 8 (length matrix) room, le-ltb 8 (length calls) few, le-ltb 16 (total_calls matrix + length calls) all, calls_again c calls h) refl
 
-thread_reads : (c : Declarations) (matrix : List (List Call)) (calls : List Call) → AllByRecursion (IsSaid c) calls → length matrix < 8 → length calls ≤ 8 → call_count matrix + length calls ≤ 16
+thread_reads : (c : Declarations) (matrix : List (List Call)) (calls : List Call) → AllByRecursion (IsSaid c) calls → length matrix < 8 → length calls ≤ 8 → total_calls matrix + length calls ≤ 16
     → Reads (matrix_grammar c) matrix (thread_text c calls) (matrix ++ calls ∷ [])
 unfolding line_of
 thread_reads c matrix calls h room few all =
@@ -229,7 +229,7 @@ thread_reads c matrix calls h room few all =
 
 -- ---- a matrix
 
-threads_read : (c : Declarations) → IsComponent c → (all done rest : List (List Call)) → all ≡ done ++ rest → length all ≤ 8 → call_count all ≤ 16
+threads_read : (c : Declarations) → IsComponent c → (all done rest : List (List Call)) → all ≡ done ++ rest → length all ≤ 8 → total_calls all ≤ 16
     → AllByRecursion (λ calls. length calls ≤ 8) rest → AllByRecursion (λ calls. All (IsCallOf c) calls) rest → AllByRecursion (λ calls. All (λ call. AreArguments call.args) calls) rest
     → Reads (matrix_grammar c) done (matrix_text c rest) all
 threads_read c is all done [] cut few count each fits arguments =
@@ -239,10 +239,10 @@ threads_read c is all done (calls ∷ rest) cut few count each fits arguments =
     let n : length (done ++ calls ∷ rest) ≡ length done + length (calls ∷ rest) = simp length-append in
     let whole : length all ≡ length (done ++ calls ∷ rest) = ap length cut in
     let room : length done < 8 = omega arith in
-    let sum : call_count all ≡ call_count (done ++ calls ∷ rest) = ap call_count cut in
+    let sum : total_calls all ≡ total_calls (done ++ calls ∷ rest) = ap total_calls cut in
     let split = sum_by-append length done (calls ∷ rest) in
     let first = sum_by-cons length calls rest in
-    let fewer : call_count done + length calls ≤ 16 = omega arith in
+    let fewer : total_calls done + length calls ≤ 16 = omega arith in
     let said = each_said c is calls (recursion_from_All (IsCallOf c) calls fits.0) (recursion_from_All (λ call. AreArguments call.args) calls arguments.0) in
     reads_on (matrix_grammar c) done (done ++ calls ∷ []) all (thread_text c calls) (matrix_text c rest)
     (thread_reads c done calls said room each.0 fewer)

@@ -1,5 +1,5 @@
 -- Each line of a matrix without a fault keeps the limits, and its calls are the component's.
-use Rattle.std.proofs.Common.{◌≡◌, ℕ, zero, suc, ◌+◌, ◌^◌, ◌<◌, ◌≤◌, Bool, true, false, cond, List, [], ◌∷◌, ◌++◌, length, get_or, Some, Result, Ok, Err, subst, sym, inl, inr, arith}
+use Rattle.std.proofs.Common.{◌≡◌, ℕ, ◌+◌, ◌^◌, ◌<◌, ◌≤◌, Bool, true, false, cond, List, [], ◌∷◌, ◌++◌, length, get_or, Some, Result, Ok, Err, subst, sym, inl, inr, arith}
 use Rattle.std.specs.Prelude.{◌==◌, ◌||◌, not, nat_le, nat_lt, map, drop, All, IfOk, slice_get, codes}
 use Rattle.std.specs.List.{list_all}
 use Rattle.std.specs.Str.{bytes_eq}
@@ -18,28 +18,28 @@ use Rattle.lu_text.proofs.Says.{said}
 use Rattle.lu_text.proofs.Reading.{line_ok}
 use Rattle.lu_text.proofs.Written.{All-last}
 use Rattle.lu_lang.specs.declared.component.Op.{Op}
-use Rattle.lu_lang.specs.Component.{Declarations, IsComponent, IsOp}
+use Rattle.lu_lang.specs.Component.{Declarations, IsComponent, IsOp, operation_place}
 use Rattle.lu_lang.proofs.Statements.{place_small, value_small}
 use Rattle.lu_test.specs.declared.matrix.Call.{Call}
 use Rattle.lu_test.specs.declared.matrix_fault.MatrixFaultKind.{MatrixFaultKind}
 use Rattle.lu_test.specs.declared.matrix_fault.MatrixFaultKind.TheVariants.{Byte, Form, UnknownOp, Arguments, Number, Limit}
-use Rattle.lu_test.specs.Matrix.{AreArguments, IsDraft, IsOf, IsCallOf, call_count}
-use Rattle.lu_test.specs.MatrixText.{name_in, operation_place, has_name, has_operation, has_arguments, has_values, call_of, with_calls, calls_after, by_parts, parts_in, line_of, finished}
+use Rattle.lu_test.specs.Matrix.{AreArguments, IsDraft, IsOf, IsCallOf, total_calls}
+use Rattle.lu_test.specs.MatrixText.{name_in, has_name, has_operation, has_arguments, has_values, call_of, with_calls, calls_after, by_parts, parts_in, line_of, finished}
 
 -- ---- a call
 
 -- the operation that the words name, with as many arguments
 record Named (c : Declarations) (words : List Word) : Type 0 where
   op : Op
-  there : slice_get c.operations (unwrap_or (operation_place c words) 0) ≡ Some op
-  within : unwrap_or (operation_place c words) 0 < length c.operations
-  read : get_or c.operations (unwrap_or (operation_place c words) 0) op ≡ op
+  there : slice_get c.operations (unwrap_or (operation_place c.operations (name_in words)) 0) ≡ Some op
+  within : unwrap_or (operation_place c.operations (name_in words)) 0 < length c.operations
+  read : get_or c.operations (unwrap_or (operation_place c.operations (name_in words)) 0) op ≡ op
   arguments : op.args ≡ length (drop 1 words)
 
 named : (c : Declarations) (words : List Word) → has_operation c words ≡ true → has_arguments c words ≡ true → Named c words
 named c words there count =
     let small = place_small (λ o. bytes_eq o.name (name_in words)) c.operations there in
-    elim (slice_get_cases c.operations (unwrap_or (operation_place c words) 0)).1 [
+    elim (slice_get_cases c.operations (unwrap_or (operation_place c.operations (name_in words)) 0)).1 [
       | inl (op, within, is, same) ↦ record {
         op = op;
         there = is;
@@ -61,7 +61,7 @@ call_small : (c : Declarations) → IsComponent c → (words : List Word) → ha
 call_small c h words there count =
     let n = named c words there count in
     let same : length (map (λ word. unwrap_or (value_in word) 0) (drop 1 words)) ≡ length (drop 1 words) = simp length-map in
-    let op : IsOp (length c.arrays) (length c.locks) n.op = subst (IsOp (length c.arrays) (length c.locks)) n.read (h.operations (unwrap_or (operation_place c words) 0) n.op n.within) in
+    let op : IsOp (length c.arrays) (length c.locks) n.op = subst (IsOp (length c.arrays) (length c.locks)) n.read (h.operations (unwrap_or (operation_place c.operations (name_in words)) 0) n.op n.within) in
     omega (arith, op.args, n.arguments, same)
 
 call_arguments : (c : Declarations) → IsComponent c → (words : List Word) → has_operation c words ≡ true → has_arguments c words ≡ true → AreArguments (call_of c words).args
@@ -87,7 +87,7 @@ each_call c P h calls there count =
     All-map P (call_of c) calls (λ k d within.
     h (get_or calls k d) (AllPass-from_list_all (has_operation c) calls there k d within) (AllPass-from_list_all (has_arguments c) calls count k d within))
 
-count_more : (matrix : List (List Call)) (calls : List Call) → call_count (matrix ++ calls ∷ []) ≡ call_count matrix + length calls
+count_more : (matrix : List (List Call)) (calls : List Call) → total_calls (matrix ++ calls ∷ []) ≡ total_calls matrix + length calls
 count_more matrix calls = rw (sum_by-append length matrix (calls ∷ [])) (omega arith)
 
 calls_keep : (c : Declarations) → IsComponent c → (matrix : List (List Call)) → IsSound c matrix → (calls : List (List Word)) → Keeps c (with_calls c matrix calls)
@@ -98,15 +98,15 @@ calls_keep c is matrix h calls next e =
     ∷ (not (list_all (has_operation c) calls), UnknownOp)
     ∷ (not (list_all (has_arguments c) calls), Arguments)
     ∷ (not (list_all has_values calls), Number)
-    ∷ (nat_le 8 (length matrix) || (nat_lt 8 (length calls) || nat_lt 16 (call_count matrix + length calls)), Limit) ∷ [])
+    ∷ (nat_le 8 (length matrix) || (nat_lt 8 (length calls) || nat_lt 16 (total_calls matrix + length calls)), Limit) ∷ [])
     (matrix ++ more ∷ []) next e in
     let there = not-false (list_all (has_operation c) calls) x.none.1.0 in
     let count = not-false (list_all (has_arguments c) calls) x.none.1.1.0 in
-    let full = or_parts (nat_le 8 (length matrix)) (nat_lt 8 (length calls) || nat_lt 16 (call_count matrix + length calls)) x.none.1.1.1.1.0 in
-    let many = or_parts (nat_lt 8 (length calls)) (nat_lt 16 (call_count matrix + length calls)) full.1 in
+    let full = or_parts (nat_le 8 (length matrix)) (nat_lt 8 (length calls) || nat_lt 16 (total_calls matrix + length calls)) x.none.1.1.1.1.0 in
+    let many = or_parts (nat_lt 8 (length calls)) (nat_lt 16 (total_calls matrix + length calls)) full.1 in
     let room = leb-false 8 (length matrix) full.0 in
     let few = ltb-false 8 (length calls) many.0 in
-    let all = ltb-false 16 (call_count matrix + length calls) many.1 in
+    let all = ltb-false 16 (total_calls matrix + length calls) many.1 in
     let same : length more ≡ length calls = simp length-map in
     let longer : length (matrix ++ more ∷ []) ≡ length matrix + 1 = simp length-append in
     subst (IsSound c) x.same (record {

@@ -8,18 +8,18 @@ abbrev pub calls_of : List (List Call) → ℕ → List Call
 calls_of matrix t = unwrap_or (slice_get matrix t) []
 
 -- the number of calls in all
-abbrev pub call_count : List (List Call) → ℕ
-call_count matrix = sum_by length matrix
+abbrev pub total_calls : List (List Call) → ℕ
+total_calls matrix = sum_by length matrix
 
 -- at most 4 numbers of 32 bits
 abbrev pub AreArguments : List ℕ → Type 0
 AreArguments arguments = (length arguments ≤ 4) × All (λ n. n < 2 ^ 32) arguments
 
--- the limits hold, but for that of one thread
+-- all limits hold but that there is a thread
 pub record IsDraft (matrix : List (List Call)) : Type 0 where
   pub threads : length matrix ≤ 8
   pub each : All (λ calls. length calls ≤ 8) matrix
-  pub calls : call_count matrix ≤ 16
+  pub calls : total_calls matrix ≤ 16
   pub arguments : All (λ calls. All (λ call. AreArguments call.args) calls) matrix
 
 -- the limits hold: 1 to 8 threads, at most 8 calls of each and 16 in all, at most 4 arguments of each

@@ -1,6 +1,6 @@
 -- The text of a matrix: what each line says, or what is wrong with it.
 use Rattle.std.specs.Prelude.{ℕ, ◌+◌, Bool, List, [], ◌∷◌, ◌++◌, length, map, drop, Option, is_some, Result, Ok, Err, codes, ◌==◌, ◌&&◌, ◌||◌, not, nat_le, nat_lt, if◌then◌else◌}
-use Rattle.std.specs.List.{position, list_all, slice_split, flat_map}
+use Rattle.std.specs.List.{list_all, slice_split, flat_map}
 use Rattle.std.specs.Str.{bytes_eq}
 use Rattle.std.specs.Fmt.{decimal}
 use Rattle.std.specs.Option.{unwrap_or, option_map}
@@ -9,11 +9,11 @@ use Rattle.lu_text.specs.Numbers.{value_in}
 use Rattle.lu_text.specs.Lines.{words_of, before_comment, is_allowed}
 use Rattle.lu_text.specs.Words.{Word}
 use Rattle.lu_text.specs.Faults.{Grammar, says}
-use Rattle.lu_lang.specs.Component.{Declarations}
+use Rattle.lu_lang.specs.Component.{Declarations, operation_place}
 use Rattle.lu_test.specs.declared.matrix.Call.{Call}
 use Rattle.lu_test.specs.declared.matrix_fault.MatrixFaultKind.{MatrixFaultKind}
 use Rattle.lu_test.specs.declared.matrix_fault.MatrixFaultKind.TheVariants.{Byte, Form, UnknownOp, Arguments, Number, Limit}
-use Rattle.lu_test.specs.Matrix.{call_count}
+use Rattle.lu_test.specs.Matrix.{total_calls}
 
 -- ---- the words of a call: a name and arguments
 
@@ -21,18 +21,15 @@ abbrev pub name_in : List Word → Word
 name_in [] = []
 name_in (name ∷ arguments) = name
 
-abbrev pub operation_place : Declarations → List Word → Option ℕ
-operation_place c words = position (λ o. bytes_eq o.name (name_in words)) c.operations
-
 -- the number of arguments of the operation that the words name
 abbrev pub wanted : Declarations → List Word → Option ℕ
-wanted c words = option_map (λ o. o.args) (slice_get c.operations (unwrap_or (operation_place c words) 0))
+wanted c words = option_map (λ o. o.args) (slice_get c.operations (unwrap_or (operation_place c.operations (name_in words)) 0))
 
 abbrev pub has_name : List Word → Bool
 has_name words = not (length words == 0)
 
 abbrev pub has_operation : Declarations → List Word → Bool
-has_operation c words = is_some (operation_place c words)
+has_operation c words = is_some (operation_place c.operations (name_in words))
 
 -- as many arguments as the operation has
 abbrev pub has_arguments : Declarations → List Word → Bool
@@ -43,7 +40,7 @@ has_values words = list_all (λ word. is_some (value_in word)) (drop 1 words)
 
 abbrev pub call_of : Declarations → List Word → Call
 call_of c words = record {
-  op = unwrap_or (operation_place c words) 0;
+  op = unwrap_or (operation_place c.operations (name_in words)) 0;
   args = map (λ word. unwrap_or (value_in word) 0) (drop 1 words);
 }
 
@@ -56,7 +53,7 @@ with_calls c matrix calls =
     ∷ (not (list_all (has_operation c) calls), UnknownOp)
     ∷ (not (list_all (has_arguments c) calls), Arguments)
     ∷ (not (list_all has_values calls), Number)
-    ∷ (nat_le 8 (length matrix) || (nat_lt 8 (length calls) || nat_lt 16 (call_count matrix + length calls)), Limit) ∷ [])
+    ∷ (nat_le 8 (length matrix) || (nat_lt 8 (length calls) || nat_lt 16 (total_calls matrix + length calls)), Limit) ∷ [])
     (matrix ++ map (call_of c) calls ∷ [])
 
 -- behind `thread` stands nothing, or calls

@@ -71,11 +71,11 @@ schedule_of text = moves_in (one_line text)
 
 -- What a reader returned is the schedule or the fault of the definition, unless memory ran out.
 abbrev pub IsUnlessMemory : {A : Type 0} → ScheduleFault → Result A ScheduleFault → Type 0
-IsUnlessMemory Memory read = Unit {0}
-IsUnlessMemory Form read = read ≡ Err Form
-IsUnlessMemory Number read = read ≡ Err Number
-IsUnlessMemory Limit read = read ≡ Err Limit
+IsUnlessMemory Memory meant = Unit {0}
+IsUnlessMemory Form meant = meant ≡ Err Form
+IsUnlessMemory Number meant = meant ≡ Err Number
+IsUnlessMemory Limit meant = meant ≡ Err Limit
 
 abbrev pub Gives : {A : Type 0} → Result A ScheduleFault → Result A ScheduleFault → Type 0
-Gives (Ok x) read = read ≡ Ok x
-Gives (Err e) read = IsUnlessMemory e read
+Gives (Ok x) meant = meant ≡ Ok x
+Gives (Err e) meant = IsUnlessMemory e meant

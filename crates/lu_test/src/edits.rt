@@ -38,6 +38,11 @@ fn copies_of(alloc: Global, threads: &[Calls]) -> Result<Vec<Calls>, AllocError>
 }
 
 /// The matrix without call number `k` of thread `t`, both from 0. The thread stays, also with no calls.
+/// Asks for a call that is there.
+///
+/// # Errors
+///
+/// There is no memory for the smaller matrix.
 pub fn remove(alloc: Global, matrix: &Matrix, t: u8, k: u8) -> Result<Matrix, AllocError>
     requires { k < length (calls_of matrix.now t) }
     ensures { IfOk result (λ smaller. smaller ≡ without matrix.now t k) }
@@ -48,6 +53,11 @@ pub fn remove(alloc: Global, matrix: &Matrix, t: u8, k: u8) -> Result<Matrix, Al
 }
 
 /// The matrix of each thread's first calls: of thread `t` as many as `lengths[t]` says.
+/// Asks for a length of each thread, at most its number of calls.
+///
+/// # Errors
+///
+/// There is no memory for the smaller matrix.
 pub fn cut_to(alloc: Global, matrix: &Matrix, lengths: &[u8]) -> Result<Matrix, AllocError>
     requires { AllZip (λ calls n. n ≤ length calls) matrix.now lengths.now }
     ensures { IfOk result (λ smaller. smaller ≡ cut matrix.now lengths.now) }

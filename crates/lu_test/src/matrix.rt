@@ -93,7 +93,7 @@ impl Calls {
         &self.calls
     }
 
-    /// Takes call number `k` away.
+    /// Takes call number `k`, from 0, away. Asks for a call that is there.
     pub fn remove(&mut self, k: usize)
         requires { k < length self.old }
         ensures { self.new ≡ remove self.old k }
@@ -128,7 +128,8 @@ impl Model for Matrix {
 }
 
 impl Matrix {
-    /// The matrix of these threads' calls.
+    /// The matrix of these threads' calls. Asks for what each matrix keeps: 1 to 8 threads of at most 8
+    /// calls, 16 calls in all, and at most 4 arguments of a call.
     pub fn new(threads: Vec<Calls>) -> Matrix
         requires { IsMatrix threads.items }
         ensures { result ≡ threads.items }
@@ -162,7 +163,7 @@ impl Matrix {
         }
     }
 
-    /// Call number `k` of thread `t`, both from 0.
+    /// Call number `k` of thread `t`, both from 0. Asks for a call that is there.
     pub fn call(&self, t: u8, k: u8) -> &Call
         requires { k < length (calls_of self.now t) }
         ensures { slice_get (calls_of self.now t) k ≡ Some result.now }

@@ -47,5 +47,5 @@ impl MatrixFaultKind {
     }
 }
 
-/// Why a text is no matrix: the first fault by line, or want of memory (`M7`).
+/// Why a text is no matrix: the first fault by line, or want of memory, which is shown as `memory`.
 pub type MatrixFault = Fault<MatrixFaultKind>;

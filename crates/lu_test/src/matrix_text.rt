@@ -1,4 +1,4 @@
-//! Reading and writing of matrices.
+//! Reading of matrices.
 
 ghost use Rattle.std.specs.Prelude.{◌≡◌, ◌==◌, ◌||◌, ◌+◌, ◌∷◌, ◌^◌, ◌<◌, ◌≤◌, ℕ, [], IfOk, Ok, Some, IsErrOf, length, map, drop, nat_le, nat_lt, is_some};
 ghost use Rattle.std.specs.Option.{option_map, unwrap_or};
@@ -8,8 +8,9 @@ ghost use Rattle.lu_text.specs.Lines.{texts, words_of};
 ghost use Rattle.lu_text.specs.Numbers.{value_in};
 ghost use Rattle.lu_text.specs.Faults.{Gives, IsFirstFault, on_line, value_of, lines_after};
 ghost use Rattle.lu_text.specs.declared.fault.Fault.TheVariants.{At};
+ghost use Rattle.lu_lang.specs.Component.{operation_place};
 ghost use Rattle.lu_test.specs.declared.matrix_fault.MatrixFaultKind.{MatrixFaultKind as Kind};
-ghost use Rattle.lu_test.specs.Matrix.{IsMatrix, IsOf, IsDraft, call_count};
+ghost use Rattle.lu_test.specs.Matrix.{IsMatrix, IsOf, IsDraft, total_calls};
 ghost use Rattle.lu_test.specs.MatrixText as spec;
 ghost use Rattle.lu_test.specs.MatrixText.{matrix_grammar};
 
@@ -17,7 +18,7 @@ use crate::matrix::{
     Arguments, Call, Calls, MOST_CALLS, MOST_CALLS_OF_THREAD, MOST_THREADS, Matrix,
 };
 use crate::matrix_fault::{MatrixFault, MatrixFaultKind};
-use lu_lang::{Component, Op};
+use lu_lang::Component;
 use lu_text::{Fault, are_allowed, before_comment, lines_of, parts_of, value_in, words_of};
 use std::alloc::{AllocError, Global};
 use std::marker::Model;
@@ -75,16 +76,11 @@ impl Part<'_> {
     }
 }
 
-fn place_among(operations: &[Op], name: &[u8]) -> Option<usize>
-    ensures { result ≡ position (λ o. bytes_eq o.name name.now) operations.now }
-{
-    operations.iter().position(|op| op.name.is(name))
-}
-
+/// The number of the operation that a call's first word names.
 fn operation_place(component: &Component, part: &Part<'_>) -> Option<u8>
-    ensures { result ≡ spec.operation_place component.now part.now }
+    ensures { result ≡ operation_place component.now.operations (spec.name_in part.now) }
 {
-    Some(place_among(component.operations(), part.name())? as u8)
+    component.operation_place(part.name())
 }
 
 fn has_operation(component: &Component, part: &Part<'_>) -> bool
@@ -195,9 +191,9 @@ impl Model for Draft {
     ghost view = { λ d. d.threads.items };
 }
 
-fn call_count(threads: &[Calls]) -> usize
-    requires { call_count threads.now < 2 ^ 64 }
-    ensures { result ≡ call_count threads.now }
+fn total_calls(threads: &[Calls]) -> usize
+    requires { total_calls threads.now < 2 ^ 64 }
+    ensures { result ≡ total_calls threads.now }
 {
     threads.iter().map(|calls| calls.as_slice().len()).sum()
 }
@@ -205,11 +201,11 @@ fn call_count(threads: &[Calls]) -> usize
 /// Whether there is no room for a thread of so many calls.
 fn is_full(draft: &Draft, calls: usize) -> bool
     requires { IsDraft draft.now }
-    ensures { result ≡ (nat_le 8 (length draft.now) || (nat_lt 8 calls || nat_lt 16 (call_count draft.now + calls))) }
+    ensures { result ≡ (nat_le 8 (length draft.now) || (nat_lt 8 calls || nat_lt 16 (total_calls draft.now + calls))) }
 {
     draft.threads.len() >= MOST_THREADS
         || calls > MOST_CALLS_OF_THREAD
-        || call_count(&draft.threads) + calls > MOST_CALLS
+        || total_calls(&draft.threads) + calls > MOST_CALLS
 }
 
 /// One more thread with these calls, or what is wrong with them.
@@ -217,7 +213,7 @@ fn with_calls(
     alloc: Global,
     line: usize,
     component: &Component,
-    draft: Draft,
+    mut draft: Draft,
     calls: &[Part<'_>],
 ) -> Result<Draft, MatrixFault>
     requires { IsDraft draft }
@@ -238,7 +234,6 @@ fn with_calls(
     if is_full(&draft, calls.len()) {
         return Err(Fault::At(MatrixFaultKind::Limit, line));
     }
-    let mut draft = draft;
     let calls = calls_of(alloc, component, calls)?;
     draft.threads.push(Calls::new(calls))?;
     Ok(draft)
@@ -348,6 +343,7 @@ fn read_lines(alloc: Global, component: &Component, lines: &[&[u8]]) -> Result<M
     ensures exact { Gives result (lines_after (matrix_grammar component.now) 1 [] (texts lines.now)) }
     ensures of { IfOk result (λ matrix. IsOf matrix component.now) }
 {
+    // The proof needs that the component obeys its rules.
     let _operations = component.operations();
     let mut draft = Draft {
         threads: Vec::new(alloc),
@@ -370,6 +366,10 @@ fn matrix_in(alloc: Global, component: &Component, text: &[u8]) -> Result<Matrix
 ///
 /// A fault is the first one of the text: by line, and on a line by the order of [`MatrixFaultKind`].
 /// One at the end of the text carries the number of lines plus one.
+///
+/// # Errors
+///
+/// The first fault of the text, or that there is no memory for the matrix.
 pub fn read_matrix(alloc: Global, component: &Component, text: &[u8]) -> Result<Matrix, MatrixFault>
     // Which matrix, or which fault.
     ensures exact { Gives result (value_of (matrix_grammar component.now) text.now) }

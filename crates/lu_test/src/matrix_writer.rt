@@ -83,7 +83,11 @@ fn put_thread(text: &mut String, component: &Component, calls: &[Call]) -> Resul
 
 /// The canonical text of a matrix: `thread`, and where there are calls a space and the calls, parted by
 /// `;` without blanks; one space before each argument; each line ends with LF. Read again it is the
-/// same matrix.
+/// same matrix. Asks for a matrix of the component.
+///
+/// # Errors
+///
+/// There is no memory for the text.
 pub fn write_matrix(
     alloc: Global,
     component: &Component,
@@ -93,6 +97,7 @@ pub fn write_matrix(
     ensures text { IfOk result (λ text. string_bytes text ≡ spec.matrix_text component.now matrix.now) }
     ensures again { IfOk result (λ text. value_of (spec.matrix_grammar component.now) (string_bytes text) ≡ Ok matrix.now) }
 {
+    // The proof needs that the component obeys its rules.
     let _operations = component.operations();
     let mut text = String::new(alloc);
     for calls in matrix.as_slice() {

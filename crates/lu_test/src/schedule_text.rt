@@ -102,6 +102,10 @@ fn schedule_in(alloc: Global, text: &[u8]) -> Result<Schedule, ScheduleFault>
 /// A fault is [`ScheduleFault::Form`] where the form of the whole text is wrong; else the first bad
 /// word from the left decides, and of one word [`ScheduleFault::Number`] before
 /// [`ScheduleFault::Limit`].
+///
+/// # Errors
+///
+/// The fault of the text, or that there is no memory for the schedule.
 pub fn read_schedule(alloc: Global, text: &[u8]) -> Result<Schedule, ScheduleFault>
     // What is read is spelled so.
     ensures found { IfOk result (λ s. AreMoves s × (text.now ≡ schedule_text s)) }

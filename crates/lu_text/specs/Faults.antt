@@ -53,12 +53,12 @@ value_of g text = lines_after g 1 g.nothing (lines_of text)
 
 -- What a reader returned is the value or the fault of the definition, unless memory ran out.
 abbrev pub IsUnlessMemory : {Kind A : Type 0} → Fault Kind → Result A (Fault Kind) → Type 0
-IsUnlessMemory Memory read = Unit {0}
-IsUnlessMemory (At kind n) read = read ≡ Err (At kind n)
+IsUnlessMemory Memory meant = Unit {0}
+IsUnlessMemory (At kind n) meant = meant ≡ Err (At kind n)
 
 abbrev pub Gives : {Kind A : Type 0} → Result A (Fault Kind) → Result A (Fault Kind) → Type 0
-Gives (Ok x) read = read ≡ Ok x
-Gives (Err e) read = IsUnlessMemory e read
+Gives (Ok x) meant = meant ≡ Ok x
+Gives (Err e) meant = IsUnlessMemory e meant
 
 -- ---- the fault is the first one
 

@@ -28,10 +28,10 @@ pub loop-word-preserved : goal.loop-word-preserved
 loop-word-preserved c =
     let words = c.args.words.now in
     let i = c.loop-word.word-index in
-    let step = text_more words i _ (omega arith) in
     let front = c.loop-word.moves.items in
     let few : length front < 4112 = omega (arith, c.loop-word.moves.ok.0) in
     let more : length (front ++ c.in_ok-next.next ∷ []) ≤ 4112 = simp length-append (omega arith) in
+    let step = text_more words i _ (omega arith) in
     rw c.in_ok-push.ensures.items (record {
       few = more;
       told = goes_on front _ _ _ _ few (sym c.in_ok-next.ensures) (rw step at c.loop-word.invariant.told);
