@@ -1,6 +1,6 @@
 use crate::{
-    Matrix, MatrixFaultKind, Move, Schedule, ScheduleFault, cut_to, read_matrix, read_schedule,
-    remove, write_matrix, write_schedule,
+    Arguments, Call, Calls, Matrix, MatrixFaultKind, Move, Schedule, ScheduleFault, cut_to,
+    read_matrix, read_schedule, remove, write_matrix, write_schedule,
 };
 use lu_lang::{Component, read_component};
 use lu_text::Fault;
@@ -11,20 +11,12 @@ const COMPONENT: &[u8] =
     b"component c\nop inc 0\nreturn 0\nend\nop add 2\nadd r0 r0 r1\nreturn r0\nend\n";
 
 fn component<X: AllocGlobal>(rt: &X) -> Result<Component, Fail> {
-    Ok(
-        read_component(rt.alloc(), COMPONENT)
-            .ok()
-            .ok_or("a component")?,
-    )
+    Ok(read_component(rt.alloc(), COMPONENT)?)
 }
 
 fn matrix<X: AllocGlobal>(rt: &X, text: &[u8]) -> Result<Matrix, Fail> {
     let component = component(rt)?;
-    Ok(
-        read_matrix(rt.alloc(), &component, text)
-            .ok()
-            .ok_or("a matrix")?,
-    )
+    Ok(read_matrix(rt.alloc(), &component, text)?)
 }
 
 /// The operations' numbers that a thread calls.
@@ -46,10 +38,8 @@ fn matrices_are_read(rt: HostRuntime) -> Result<(), Fail> {
     assert_eq!(rt; read.calls(1), 0);
     assert_eq!(rt; read.calls(7), 0);
     assert_eq!(rt; numbers(&rt, &read, 0)?.as_slice(), [0, 1].as_slice());
-    if read.calls(0) > 1 {
-        let call = read.call(0, 1);
-        assert_eq!(rt; call.args.as_slice(), [1, 4_294_967_295].as_slice());
-    }
+    let call = read.call(0, 1);
+    assert_eq!(rt; call.args.as_slice(), [1, 4_294_967_295].as_slice());
     let component = component(&rt)?;
     assert!(rt; read.of(&component));
     Ok(())
@@ -58,9 +48,7 @@ fn matrices_are_read(rt: HostRuntime) -> Result<(), Fail> {
 #[test]
 fn a_matrix_of_another_component_is_told(rt: HostRuntime) -> Result<(), Fail> {
     let read = matrix(&rt, b"thread add 1 2\n")?;
-    let other = read_component(rt.alloc(), b"component d\nop f 0\nreturn 0\nend\n")
-        .ok()
-        .ok_or("a component")?;
+    let other = read_component(rt.alloc(), b"component d\nop f 0\nreturn 0\nend\n")?;
     assert!(rt; !read.of(&other));
     Ok(())
 }
@@ -72,10 +60,8 @@ fn refuses<X: AllocGlobal + Abort>(
     line: usize,
 ) -> Result<(), Fail> {
     let component = component(rt)?;
-    let fault = read_matrix(rt.alloc(), &component, text)
-        .err()
-        .ok_or("a fault")?;
-    assert_eq!(rt; fault, Fault::At(kind, line));
+    let fault = read_matrix(rt.alloc(), &component, text).err();
+    assert_eq!(rt; fault, Some(Fault::At(kind, line)));
     Ok(())
 }
 
@@ -123,33 +109,28 @@ fn faults_of_matrices(rt: HostRuntime) -> Result<(), Fail> {
 #[test]
 fn calls_are_taken_away(rt: HostRuntime) -> Result<(), Fail> {
     let whole = matrix(&rt, b"thread inc;add 1 2;inc\nthread add 3 4;inc\n")?;
-    if whole.calls(0) > 1 {
-        let smaller = remove(rt.alloc(), &whole, 0, 1)?;
-        assert_eq!(rt; numbers(&rt, &smaller, 0)?.as_slice(), [0, 0].as_slice());
-        assert_eq!(rt; numbers(&rt, &smaller, 1)?.as_slice(), [1, 0].as_slice());
-    }
+    assert_eq!(rt; whole.calls(0), 3);
+    let smaller = remove(rt.alloc(), &whole, 0, 1)?;
+    assert_eq!(rt; numbers(&rt, &smaller, 0)?.as_slice(), [0, 0].as_slice());
+    assert_eq!(rt; numbers(&rt, &smaller, 1)?.as_slice(), [1, 0].as_slice());
     Ok(())
 }
 
 #[test]
 fn schedules_are_read_and_written(rt: HostRuntime) -> Result<(), Fail> {
     for text in ["schedule\n", "schedule 0 1:2 7:7 3\n"] {
-        let schedule = read_schedule(rt.alloc(), text.as_bytes())
-            .ok()
-            .ok_or("a schedule")?;
+        let schedule = read_schedule(rt.alloc(), text.as_bytes())?;
         let written = write_schedule(rt.alloc(), &schedule)?;
         assert_eq!(rt; written.as_str(), text);
     }
-    let read = read_schedule(rt.alloc(), b"schedule 0 1:2\n")
-        .ok()
-        .ok_or("a schedule")?;
+    let read = read_schedule(rt.alloc(), b"schedule 0 1:2\n")?;
     let second = Move { thread: 1, pick: 2 };
     assert_eq!(rt; read.moves().last().copied(), Some(second));
     Ok(())
 }
 
 #[test]
-fn faults_of_schedules(rt: HostRuntime) -> Result<(), Fail> {
+fn faults_of_schedules(rt: HostRuntime) {
     for (text, wanted) in [
         (b"schedule  0\n".as_slice(), ScheduleFault::Form),
         (b"schedule 0".as_slice(), ScheduleFault::Form),
@@ -167,10 +148,9 @@ fn faults_of_schedules(rt: HostRuntime) -> Result<(), Fail> {
             ScheduleFault::Limit,
         ),
     ] {
-        let fault = read_schedule(rt.alloc(), text).err().ok_or("a fault")?;
-        assert_eq!(rt; fault, wanted);
+        let fault = read_schedule(rt.alloc(), text).err();
+        assert_eq!(rt; fault, Some(wanted));
     }
-    Ok(())
 }
 
 #[test]
@@ -181,17 +161,41 @@ fn a_schedule_has_at_most_4112_moves(rt: HostRuntime) -> Result<(), Fail> {
     }
     let mut longer = text.clone()?;
     text.push('\n')?;
-    let schedule = read_schedule(rt.alloc(), text.as_bytes())
-        .ok()
-        .ok_or("a schedule")?;
+    let schedule = read_schedule(rt.alloc(), text.as_bytes())?;
     assert_eq!(rt; schedule.moves().len(), 4112);
     let written = write_schedule(rt.alloc(), &schedule)?;
     assert_eq!(rt; written.as_str(), text.as_str());
     longer.push_str(" 0\n")?;
-    let fault = read_schedule(rt.alloc(), longer.as_bytes())
-        .err()
-        .ok_or("a fault")?;
-    assert_eq!(rt; fault, ScheduleFault::Limit);
+    let fault = read_schedule(rt.alloc(), longer.as_bytes()).err();
+    assert_eq!(rt; fault, Some(ScheduleFault::Limit));
+    Ok(())
+}
+
+#[test]
+fn codes_of_refusals(rt: HostRuntime) {
+    assert_eq!(rt; MatrixFaultKind::UnknownOp.code(), "M3");
+    assert_eq!(rt; MatrixFaultKind::Limit.code(), "M6");
+    assert_eq!(rt; ScheduleFault::Form.code(), "C1");
+    assert_eq!(rt; ScheduleFault::Memory.code(), "memory");
+}
+
+#[test]
+fn a_matrix_is_made_of_calls(rt: HostRuntime) -> Result<(), Fail> {
+    let mut calls = Vec::new(rt.alloc());
+    calls.push(Call {
+        op: 3,
+        args: Arguments::new(Vec::new(rt.alloc())),
+    })?;
+    calls.push(Call {
+        op: 5,
+        args: Arguments::new(Vec::new(rt.alloc())),
+    })?;
+    let mut calls = Calls::new(calls);
+    calls.remove(0);
+    let mut threads = Vec::new(rt.alloc());
+    threads.push(calls)?;
+    let matrix = Matrix::new(threads);
+    assert_eq!(rt; numbers(&rt, &matrix, 0)?.as_slice(), [5].as_slice());
     Ok(())
 }
 
@@ -220,9 +224,7 @@ fn matrices_are_written(rt: HostRuntime) -> Result<(), Fail> {
         rt.alloc(),
         &component,
         b"\tthread  inc ; add 1  20 # two\n\nthread\n",
-    )
-    .ok()
-    .ok_or("a matrix")?;
+    )?;
     let written = write_matrix(rt.alloc(), &component, &read)?;
     assert_eq!(rt; written.as_str(), "thread inc;add 1 20\nthread\n");
     Ok(())
