@@ -518,6 +518,10 @@ fn component_in(alloc: Global, text: &[u8]) -> Result<Component, LangFault>
 ///
 /// A fault is the first one of the text: by line, and on a line by the order of [`LangFaultKind`]. One
 /// at the end of the text carries the number of lines plus one.
+///
+/// # Errors
+///
+/// The first fault of the text, or that there is no memory for the component.
 pub fn read_component(alloc: Global, text: &[u8]) -> Result<Component, LangFault>
     // Which component, or which fault.
     ensures exact { Gives result (value_of component_grammar text.now) }

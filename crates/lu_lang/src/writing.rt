@@ -203,7 +203,9 @@ fn write_operations(text: &mut String, component: &Component) -> Result<(), Allo
 /// the places k, from 0, that some jump of the operation leads to. Each line ends with LF. Read again it
 /// is the same component.
 ///
-/// The error is want of memory.
+/// # Errors
+///
+/// There is no memory for the text.
 pub fn write_component(alloc: Global, component: &Component) -> Result<String, AllocError>
     ensures text { IfOk result (λ text. string_bytes text ≡ spec.component_text component.now) }
     ensures again { IfOk result (λ text. value_of component_grammar (string_bytes text) ≡ Ok component.now) }
