@@ -16,12 +16,13 @@ use Rattle.lu_lang.specs.declared.instr.Instr.{Instr}
 use Rattle.lu_lang.specs.declared.instr.Instr.TheVariants as instr
 use Rattle.lu_lang.specs.declared.component.Array.{Array}
 use Rattle.lu_lang.specs.declared.component.Op.{Op}
+use Rattle.lu_lang.specs.declared.draft.Label.{Label}
 use Rattle.lu_lang.specs.declared.draft.Statement.{Statement}
 use Rattle.lu_lang.specs.declared.draft.Statement.TheVariants.{Plain, Jump, JumpIfZero}
 use Rattle.lu_lang.specs.declared.fault.LangFaultKind.{LangFaultKind}
 use Rattle.lu_lang.specs.declared.fault.LangFaultKind.TheVariants.{Byte, Missing, Form, Number, Limit, Flow, Name}
 use Rattle.lu_lang.specs.Component.{operation_place, AreDistinct, EndsWell, IsArray, IsComponent, IsInstr, IsOp}
-use Rattle.lu_lang.specs.Draft.{Begun, Drafted, nothing}
+use Rattle.lu_lang.specs.Draft.{Begun, Drafted, nothing, named}
 use Rattle.lu_lang.specs.Grammar.{value, is_value, array_place, lock_place, component_line, array_line, lock_line, op_line, declaration, statement, sooner, place_fault, with_label, with_statement, placed, instr_line, labelled, are_there, is_last, ends_well, target, resolved, op_of, end_line, inside, by_state, closed, by_words, line_of, label_in}
 use Rattle.lu_lang.specs.Words.{keyword_in}
 use Rattle.lu_lang.specs.Sound.{IsStatement, IsBegun, IsDraft}
@@ -128,15 +129,7 @@ component_keeps d h (Some name) = kept
     (record d { name = Some name })
     (λ n. record {
       name = name_from name n.0 n.1.0;
-      arrays_few = h.arrays_few;
-      arrays = h.arrays;
-      arrays_apart = h.arrays_apart;
-      locks_few = h.locks_few;
-      locks = h.locks;
-      locks_apart = h.locks_apart;
-      operations_few = h.operations_few;
-      operations = h.operations;
-      operations_apart = h.operations_apart;
+      declared = h.declared;
       begun = h.begun;
     })
 
@@ -157,15 +150,18 @@ array_keeps d h none (Some (name, len, init)) = kept
     let more : length (d.arrays ++ new ∷ []) ≡ length d.arrays + 1 = length-last d.arrays new in
     record {
       name = h.name;
-      arrays_few = omega arith;
-      arrays = All-last IsArray d.arrays new h.arrays (record { name = name_from name n.0 long.0; some = ltb-false (value len) 1 size.0; few = ltb-false 64 (value len) size.1; init = value_small init });
-      arrays_apart = distinct_more (λ a. a.name) d.arrays new h.arrays_apart n.1.1.1.0;
-      locks_few = h.locks_few;
-      locks = h.locks;
-      locks_apart = h.locks_apart;
-      operations_few = h.operations_few;
-      operations = All-weaker (IsOp (length d.arrays) (length d.locks)) (IsOp (length (d.arrays ++ new ∷ [])) (length d.locks)) (op_weaker (length d.arrays) (length d.locks) (length (d.arrays ++ new ∷ [])) (length d.locks) (omega arith) (omega arith)) d.operations h.operations;
-      operations_apart = h.operations_apart;
+      declared = λ own is. let c = h.declared own is in record {
+        name = is;
+        arrays_few = omega arith;
+        arrays = All-last IsArray d.arrays new c.arrays (record { name = name_from name n.0 long.0; some = ltb-false (value len) 1 size.0; few = ltb-false 64 (value len) size.1; init = value_small init });
+        arrays_apart = distinct_more (λ a. a.name) d.arrays new c.arrays_apart n.1.1.1.0;
+        locks_few = c.locks_few;
+        locks = c.locks;
+        locks_apart = c.locks_apart;
+        operations_few = c.operations_few;
+        operations = All-weaker (IsOp (length d.arrays) (length d.locks)) (IsOp (length (d.arrays ++ new ∷ [])) (length d.locks)) (op_weaker (length d.arrays) (length d.locks) (length (d.arrays ++ new ∷ [])) (length d.locks) (omega arith) (omega arith)) d.operations c.operations;
+        operations_apart = c.operations_apart;
+      };
       begun = rw none tt;
     })
 
@@ -182,15 +178,18 @@ lock_keeps d h none (Some name) = kept
     let more : length (d.locks ++ name ∷ []) ≡ length d.locks + 1 = length-last d.locks name in
     record {
       name = h.name;
-      arrays_few = h.arrays_few;
-      arrays = h.arrays;
-      arrays_apart = h.arrays_apart;
-      locks_few = omega arith;
-      locks = All-last IsName d.locks name h.locks (name_from name n.0 long.0);
-      locks_apart = distinct_name d.locks name h.locks_apart n.1.1.0;
-      operations_few = h.operations_few;
-      operations = All-weaker (IsOp (length d.arrays) (length d.locks)) (IsOp (length d.arrays) (length (d.locks ++ name ∷ []))) (op_weaker (length d.arrays) (length d.locks) (length d.arrays) (length (d.locks ++ name ∷ [])) (omega arith) (omega arith)) d.operations h.operations;
-      operations_apart = h.operations_apart;
+      declared = λ own is. let c = h.declared own is in record {
+        name = is;
+        arrays_few = c.arrays_few;
+        arrays = c.arrays;
+        arrays_apart = c.arrays_apart;
+        locks_few = omega arith;
+        locks = All-last IsName d.locks name c.locks (name_from name n.0 long.0);
+        locks_apart = distinct_name d.locks name c.locks_apart n.1.1.0;
+        operations_few = c.operations_few;
+        operations = All-weaker (IsOp (length d.arrays) (length d.locks)) (IsOp (length d.arrays) (length (d.locks ++ name ∷ []))) (op_weaker (length d.arrays) (length d.locks) (length d.arrays) (length (d.locks ++ name ∷ [])) (omega arith) (omega arith)) d.operations c.operations;
+        operations_apart = c.operations_apart;
+      };
       begun = rw none tt;
     })
 
@@ -207,15 +206,7 @@ op_keeps d h (Some (name, args)) = kept
     let full = or_parts (nat_le 16 (length d.operations)) (nat_lt 4 (value args)) long.1 in
     record {
       name = h.name;
-      arrays_few = h.arrays_few;
-      arrays = h.arrays;
-      arrays_apart = h.arrays_apart;
-      locks_few = h.locks_few;
-      locks = h.locks;
-      locks_apart = h.locks_apart;
-      operations_few = h.operations_few;
-      operations = h.operations;
-      operations_apart = h.operations_apart;
+      declared = h.declared;
       begun = record {
         room = omega (arith, leb-false 16 (length d.operations) full.0);
         apart = n.1.1.1.0;
@@ -239,13 +230,13 @@ declaration_keeps d h none word words =
 
 -- ---- instructions
 
-label_weaker : (n m : ℕ) → n ≤ m → (labels : List (List ℕ × ℕ)) → All (λ l. l.1 < n) labels → All (λ l. l.1 < m) labels
-label_weaker n m le labels all = All-weaker (λ l. l.1 < n) (λ l. l.1 < m) (λ l h. omega arith) labels all
+label_weaker : (n m : ℕ) → n ≤ m → (labels : List Label) → All (λ l. l.place < n) labels → All (λ l. l.place < m) labels
+label_weaker n m le labels all = All-weaker (λ l. l.place < n) (λ l. l.place < m) (λ l h. omega arith) labels all
 
-labels_kept : (b : Begun) (label : Option Word) (s : Statement) → All (λ l. l.1 < length b.statements) b.labels → All (λ l. l.1 < length (b.statements ++ s ∷ [])) (with_label b label)
+labels_kept : (b : Begun) (label : Option Word) (s : Statement) → All (λ l. l.place < length b.statements) b.labels → All (λ l. l.place < length (b.statements ++ s ∷ [])) (with_label b label)
 labels_kept b None s all = label_weaker (length b.statements) (length (b.statements ++ s ∷ [])) (omega (arith, length-last b.statements s)) b.labels all
 labels_kept b (Some label) s all =
-    All-last (λ l. l.1 < length (b.statements ++ s ∷ [])) b.labels (label, length b.statements)
+    All-last (λ l. l.place < length (b.statements ++ s ∷ [])) b.labels (record { name = label; place = length b.statements })
     (label_weaker (length b.statements) (length (b.statements ++ s ∷ [])) (omega (arith, length-last b.statements s)) b.labels all)
     (omega (arith, length-last b.statements s))
 
@@ -282,15 +273,7 @@ instr_keeps d h b begun label word words = go (statement d (keyword_in word) wor
         let same : record d { begun = Some (with_statement b label s) } ≡ next = cc in
         subst IsDraft same (record {
           name = h.name;
-          arrays_few = h.arrays_few;
-          arrays = h.arrays;
-          arrays_apart = h.arrays_apart;
-          locks_few = h.locks_few;
-          locks = h.locks;
-          locks_apart = h.locks_apart;
-          operations_few = h.operations_few;
-          operations = h.operations;
-          operations_apart = h.operations_apart;
+          declared = h.declared;
           begun = begun_kept (length d.arrays) (length d.locks) d.operations b label s begun (room refl) (is s refl);
         })
 
@@ -304,19 +287,19 @@ find_kept P p (x ∷ xs) all = go (p x) (all zero x (omega arith)) (find_kept P 
     go true h rest = h
     go false h rest = rest
 
-target_small : (n : ℕ) (labels : List (List ℕ × ℕ)) (label : Word) → 0 < n → All (λ l. l.1 < n) labels → target labels label < n
-target_small n labels label some all = go (find (λ l. bytes_eq l.0 label) labels) (find_kept (λ l. l.1 < n) (λ l. bytes_eq l.0 label) labels all)
+target_small : (n : ℕ) (labels : List Label) (label : Word) → 0 < n → All (λ l. l.place < n) labels → target labels label < n
+target_small n labels label some all = go (find (λ l. bytes_eq l.name label) labels) (find_kept (λ l. l.place < n) (λ l. bytes_eq l.name label) labels all)
   where
-    go : (o : Option (List ℕ × ℕ)) → IfSome o (λ l. l.1 < n) → unwrap_or (option_map (λ l. l.1) o) 0 < n
+    go : (o : Option Label) → IfSome o (λ l. l.place < n) → unwrap_or (option_map (λ l. l.place) o) 0 < n
     go None h = some
     go (Some l) h = h
 
-resolved_sound : (a l n : ℕ) (labels : List (List ℕ × ℕ)) → 0 < n → All (λ l. l.1 < n) labels → (s : Statement) → IsStatement a l s → IsInstr a l n (resolved labels s)
+resolved_sound : (a l n : ℕ) (labels : List Label) → 0 < n → All (λ l. l.place < n) labels → (s : Statement) → IsStatement a l s → IsInstr a l n (resolved labels s)
 resolved_sound a l n labels some all (Plain i) h = h n
 resolved_sound a l n labels some all (Jump label) h = target_small n labels label some all
 resolved_sound a l n labels some all (JumpIfZero v label) h = (h, target_small n labels label some all)
 
-last_resolved : (labels : List (List ℕ × ℕ)) (o : Option Statement) → is_last o ≡ true → EndsWell (option_map (resolved labels) o)
+last_resolved : (labels : List Label) (o : Option Statement) → is_last o ≡ true → EndsWell (option_map (resolved labels) o)
 last_resolved labels None e = absurd cc
 last_resolved labels (Some (Jump label)) e = tt
 last_resolved labels (Some (JumpIfZero v label)) e = absurd cc
@@ -361,15 +344,18 @@ end_keeps d h none b begun [] = kept
     (record d { operations = d.operations ++ op_of b ∷ []; begun = None })
     (λ n. record {
       name = h.name;
-      arrays_few = h.arrays_few;
-      arrays = h.arrays;
-      arrays_apart = h.arrays_apart;
-      locks_few = h.locks_few;
-      locks = h.locks;
-      locks_apart = h.locks_apart;
-      operations_few = omega (arith, begun.room, length-last d.operations (op_of b));
-      operations = All-last (IsOp (length d.arrays) (length d.locks)) d.operations (op_of b) h.operations (op_sound (length d.arrays) (length d.locks) d.operations b begun (not-false (ends_well b) n.0));
-      operations_apart = distinct_more (λ o. o.name) d.operations (op_of b) h.operations_apart begun.apart;
+      declared = λ own is. let c = h.declared own is in record {
+        name = is;
+        arrays_few = c.arrays_few;
+        arrays = c.arrays;
+        arrays_apart = c.arrays_apart;
+        locks_few = c.locks_few;
+        locks = c.locks;
+        locks_apart = c.locks_apart;
+        operations_few = omega (arith, begun.room, length-last d.operations (op_of b));
+        operations = All-last (IsOp (length d.arrays) (length d.locks)) d.operations (op_of b) c.operations (op_sound (length d.arrays) (length d.locks) d.operations b begun (not-false (ends_well b) n.0));
+        operations_apart = distinct_more (λ o. o.name) d.operations (op_of b) c.operations_apart begun.apart;
+      };
       begun = tt;
     })
 
@@ -393,15 +379,7 @@ state_keeps d h none (Some name) (Some b) is word words = inside_keeps d h none 
 closed_draft : (d : Drafted) → IsDraft d → IsDraft (closed d)
 closed_draft d h = record {
   name = h.name;
-  arrays_few = h.arrays_few;
-  arrays = h.arrays;
-  arrays_apart = h.arrays_apart;
-  locks_few = h.locks_few;
-  locks = h.locks;
-  locks_apart = h.locks_apart;
-  operations_few = h.operations_few;
-  operations = h.operations;
-  operations_apart = h.operations_apart;
+  declared = h.declared;
   begun = tt;
 }
 
@@ -419,29 +397,21 @@ pub nothing_draft : IsDraft nothing
 unfolding IsDistinct
 nothing_draft = record {
   name = tt;
-  arrays_few = omega arith;
-  arrays = All-nil IsArray;
-  arrays_apart = tt;
-  locks_few = omega arith;
-  locks = All-nil IsName;
-  locks_apart = tt;
-  operations_few = omega arith;
-  operations = All-nil (IsOp 0 0);
-  operations_apart = tt;
+  declared = λ own is. record {
+    name = is;
+    arrays_few = omega arith;
+    arrays = All-nil IsArray;
+    arrays_apart = tt;
+    locks_few = omega arith;
+    locks = All-nil IsName;
+    locks_apart = tt;
+    operations_few = omega arith;
+    operations = All-nil (IsOp 0 0);
+    operations_apart = tt;
+  };
   begun = tt;
 }
 
 -- what is declared at the end is a component
-pub draft_component : (d : Drafted) → IsDraft d → (name : Word) → IsName name → IsComponent (record { name = name; arrays = d.arrays; locks = d.locks; operations = d.operations })
-draft_component d h name is = record {
-  name = is;
-  arrays_few = h.arrays_few;
-  arrays = h.arrays;
-  arrays_apart = h.arrays_apart;
-  locks_few = h.locks_few;
-  locks = h.locks;
-  locks_apart = h.locks_apart;
-  operations_few = h.operations_few;
-  operations = h.operations;
-  operations_apart = h.operations_apart;
-}
+pub draft_component : (d : Drafted) → IsDraft d → (name : Word) → IsName name → IsComponent (named d name)
+draft_component d h name is = h.declared name is

@@ -16,6 +16,7 @@ use Rattle.lu_text.proofs.WordText.{literal_text}
 use Rattle.lu_lang.specs.declared.instr.Instr.{Instr}
 use Rattle.lu_lang.specs.declared.instr.Instr.TheVariants as instr
 use Rattle.lu_lang.specs.declared.component.Op.{Op}
+use Rattle.lu_lang.specs.declared.draft.Label.{Label}
 use Rattle.lu_lang.specs.declared.draft.Statement.{Statement}
 use Rattle.lu_lang.specs.Component.{Declarations, IsComponent, IsInstr, EndsWell, IsOp}
 use Rattle.lu_lang.specs.Draft.{Begun, Drafted}
@@ -30,29 +31,33 @@ use Rattle.lu_lang.proofs.WrittenInstrs.{keyword_of, arguments_of, statement_of,
 -- ---- labels
 
 abbrev Labels : Type 0
-Labels = List (Word × ℕ)
+Labels = List Label
 
-abbrev label_at : Labels → ℕ → Option (Word × ℕ)
-label_at labels t = find (λ l. bytes_eq l.0 (label_word t)) labels
+-- the label that is written at this place
+abbrev label_of : ℕ → Label
+label_of n = record { name = label_word n; place = n }
+
+abbrev label_at : Labels → ℕ → Option Label
+label_at labels t = find (λ l. bytes_eq l.name (label_word t)) labels
 
 -- before place n of the code stand the labels of these places, where a jump leads there
 pub record AreLabels (code : List Instr) (n : ℕ) (labels : Labels) : Type 0 where
-  pub there : (t : ℕ) → t < n → t < 2 ^ 64 → list_any (leads_to t) code ≡ true → label_at labels t ≡ Some (label_word t, t)
+  pub there : (t : ℕ) → t < n → t < 2 ^ 64 → list_any (leads_to t) code ≡ true → label_at labels t ≡ Some (label_of t)
   pub fresh : (t : ℕ) → n ≤ t → t < 2 ^ 64 → label_at labels t ≡ None
 
 no_labels : (code : List Instr) → AreLabels code 0 []
 no_labels code = record { there = λ t lt small led. absurd (omega arith); fresh = λ t le small. refl }
 
-new_label : (code : List Instr) (n : ℕ) (labels : Labels) → n < 2 ^ 64 → AreLabels code n labels → AreLabels code (n + 1) (labels ++ (label_word n, n) ∷ [])
+new_label : (code : List Instr) (n : ℕ) (labels : Labels) → n < 2 ^ 64 → AreLabels code n labels → AreLabels code (n + 1) (labels ++ label_of n ∷ [])
 new_label code n labels small are = record {
   there = λ t lt fits led. elim (cases_lt t n) [
-    | inl before ↦ find_first (λ l. bytes_eq l.0 (label_word t)) labels ((label_word n, n) ∷ []) (label_word t, t) (are.there t before fits led)
+    | inl before ↦ find_first (λ l. bytes_eq l.name (label_word t)) labels (label_of n ∷ []) (label_of t) (are.there t before fits led)
     | inr here ↦ (let same : n ≡ t = omega arith in
-        find_later (λ l. bytes_eq l.0 (label_word t)) labels ((label_word n, n) ∷ []) (are.fresh t here fits)
+        find_later (λ l. bytes_eq l.name (label_word t)) labels (label_of n ∷ []) (are.fresh t here fits)
         ∙ rw (same, bytes_self (label_word t)) refl)
   ];
   fresh = λ t le fits.
-      find_later (λ l. bytes_eq l.0 (label_word t)) labels ((label_word n, n) ∷ []) (are.fresh t (omega arith) fits)
+      find_later (λ l. bytes_eq l.name (label_word t)) labels (label_of n ∷ []) (are.fresh t (omega arith) fits)
       ∙ rw (labels_apart n t small fits (λ e. omega arith)) refl;
 }
 
@@ -89,14 +94,14 @@ labelled_text label text =
     ∙ ap (λ (t : List ℕ). t ++ 10 ∷ []) (sym (append_assoc label (58 ∷ []) (32 ∷ text))))
 
 labelled_reads : (c : Declarations) (operations : List Op) (name : Word) (args n : ℕ) (statements : List Statement) (labels : Labels) (i : Instr) → IsSaid c operations i → n ≡ length statements → n < 64 → label_at labels n ≡ None
-    → Reads component_grammar (in_op c operations (begun name args statements labels)) ((label_word n ++ codes ": ") ++ line_text (instr_words c i)) (in_op c operations (begun name args (statements ++ statement_of i ∷ []) (labels ++ (label_word n, n) ∷ [])))
+    → Reads component_grammar (in_op c operations (begun name args statements labels)) ((label_word n ++ codes ": ") ++ line_text (instr_words c i)) (in_op c operations (begun name args (statements ++ statement_of i ∷ []) (labels ++ label_of n ∷ [])))
 labelled_reads c operations name args n statements labels i said is room fresh =
     let k = is_keyword_word (keyword_of i) in
     let l = is_name_word (label_word n) (label_name n (omega arith)) in
-    let new : is_some (label_place labels (label_word n)) ≡ false = is_found (λ x. bytes_eq x.0 (label_word n)) labels ∙ ap (λ (o : Option (Word × ℕ)). is_some o) fresh in
+    let new : is_some (label_place labels (label_word n)) ≡ false = is_found (λ x. bytes_eq x.name (label_word n)) labels ∙ ap (λ (o : Option Label). is_some o) fresh in
     let free : nat_le 64 (length statements) ≡ false = lt-leb 64 (length statements) (omega arith) in
     rw (said.words, labelled_text (label_word n) (join_with_byte 32 (keyword_word (keyword_of i) ∷ arguments_of c i)))
-    (line_reads (in_op c operations (begun name args statements labels)) (in_op c operations (begun name args (statements ++ statement_of i ∷ []) (labels ++ (label_word n, n) ∷ [])))
+    (line_reads (in_op c operations (begun name args statements labels)) (in_op c operations (begun name args (statements ++ statement_of i ∷ []) (labels ++ label_of n ∷ [])))
     ((label_word n ++ 58 ∷ []) ∷ keyword_word (keyword_of i) ∷ arguments_of c i) (label_text_is (label_word n) l.text, (k.text, said.text))
     (rw (label_again (label_word n), k.again, said.says, l.form, l.short, free, new, ← is) refl))
 
@@ -144,7 +149,7 @@ code_read c operations name args code done (i ∷ rest) labels is said few are =
 
     go : (b : Bool) → list_any (leads_to (length done)) code ≡ b → ((next : Labels) → AreLabels code (length done + 1) next → IsRead c operations name args code (done ++ i ∷ []) rest next) → IsRead c operations name args code done (i ∷ rest) labels
     go true led again =
-        let next : Labels = labels ++ (label_word (length done), length done) ∷ [] in
+        let next : Labels = labels ++ label_of (length done) ∷ [] in
         more_read c operations name args code done rest i labels next
         (rw led (labelled_reads c operations name args (length done) (map statement_of done) labels i said.0 same_length here (are.fresh (length done) (omega arith) (omega (arith, here)))))
         (again next (new_label code (length done) labels (omega (arith, here)) are))
@@ -174,8 +179,8 @@ record IsResolved (labels : Labels) (i : Instr) : Type 0 where
 target_again : (code : List Instr) (labels : Labels) (t : ℕ) → AreLabels code (length code) labels → length code ≤ 64 → t < length code → list_any (leads_to t) code ≡ true
     → (target labels (label_word t) ≡ t) × (is_some (label_place labels (label_word t)) ≡ true)
 target_again code labels t are few lt led =
-    let at : label_at labels t ≡ Some (label_word t, t) = are.there t lt (omega arith) led in
-    (rw at refl, is_found (λ l. bytes_eq l.0 (label_word t)) labels ∙ ap (λ (o : Option (Word × ℕ)). is_some o) at)
+    let at : label_at labels t ≡ Some (label_of t) = are.there t lt (omega arith) led in
+    (rw at refl, is_found (λ l. bytes_eq l.name (label_word t)) labels ∙ ap (λ (o : Option Label). is_some o) at)
 
 is_resolved : (arrays locks : ℕ) (code : List Instr) (labels : Labels) → AreLabels code (length code) labels → length code ≤ 64 → (i : Instr) → IsInstr arrays locks (length code) i → HasTargets code i → IsResolved labels i
 is_resolved a l code labels are few (instr.Set to v) h led = record { again = refl; there = refl }

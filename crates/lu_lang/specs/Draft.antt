@@ -2,14 +2,16 @@
 use Rattle.std.specs.Prelude.{ℕ, List, [], Option, None}
 use Rattle.lu_lang.specs.declared.component.Array.{Array}
 use Rattle.lu_lang.specs.declared.component.Op.{Op}
+use Rattle.lu_lang.specs.declared.draft.Label.{Label}
 use Rattle.lu_lang.specs.declared.draft.Statement.{Statement}
+use Rattle.lu_lang.specs.Component.{Declarations}
 
--- an operation that has no `end` yet: its instructions, and its labels with the places of theirs
+-- an operation that has no `end` yet
 pub record Begun : Type 0 where
   pub name : List ℕ
   pub args : ℕ
   pub statements : List Statement
-  pub labels : List (List ℕ × ℕ)
+  pub labels : List Label
 
 -- what is declared, and the operation that has no `end` yet
 pub record Drafted : Type 0 where
@@ -21,3 +23,7 @@ pub record Drafted : Type 0 where
 
 abbrev pub nothing : Drafted
 nothing = record { name = None; arrays = []; locks = []; operations = []; begun = None }
+
+-- what is declared, under this name
+abbrev pub named : Drafted → List ℕ → Declarations
+named d name = record { name = name; arrays = d.arrays; locks = d.locks; operations = d.operations }

@@ -14,6 +14,7 @@ use Rattle.lu_lang.specs.declared.instr.Arithmetic.{Arithmetic}
 use Rattle.lu_lang.specs.declared.instr.Instr.{Instr}
 use Rattle.lu_lang.specs.declared.instr.Instr.TheVariants as instr
 use Rattle.lu_lang.specs.declared.component.Op.{Op}
+use Rattle.lu_lang.specs.declared.draft.Label.{Label}
 use Rattle.lu_lang.specs.declared.draft.Statement.{Statement}
 use Rattle.lu_lang.specs.declared.draft.Statement.TheVariants.{Plain, Jump, JumpIfZero}
 use Rattle.lu_lang.specs.declared.keyword.Keyword.{Keyword}
@@ -22,7 +23,7 @@ use Rattle.lu_lang.specs.declared.fault.LangFaultKind.{LangFaultKind}
 use Rattle.lu_lang.specs.declared.fault.LangFaultKind.TheVariants.{Byte, Missing, Form, Number, Limit, Flow, Name}
 use Rattle.lu_lang.specs.Kinds.{rank}
 use Rattle.lu_lang.specs.Component.{Declarations, operation_place}
-use Rattle.lu_lang.specs.Draft.{Begun, Drafted, nothing}
+use Rattle.lu_lang.specs.Draft.{Begun, Drafted, nothing, named}
 use Rattle.lu_lang.specs.Words.{keyword_in, register_in, operand_in}
 
 -- ---- words
@@ -54,8 +55,8 @@ array_place d name = position (λ a. bytes_eq a.name name) d.arrays
 abbrev pub lock_place : Drafted → Word → Option ℕ
 lock_place d name = position (λ l. bytes_eq l name) d.locks
 
-abbrev pub label_place : List (List ℕ × ℕ) → Word → Option ℕ
-label_place labels name = position (λ l. bytes_eq l.0 name) labels
+abbrev pub label_place : List Label → Word → Option ℕ
+label_place labels name = position (λ l. bytes_eq l.name name) labels
 
 abbrev pub array_number : Drafted → Word → ℕ
 array_number d name = unwrap_or (array_place d name) 0
@@ -237,9 +238,9 @@ place_fault b (Some label) =
     else (if is_some (label_place b.labels label) then Some Name
     else None))
 
-abbrev pub with_label : Begun → Option Word → List (List ℕ × ℕ)
+abbrev pub with_label : Begun → Option Word → List Label
 with_label b None = b.labels
-with_label b (Some label) = b.labels ++ (label, length b.statements) ∷ []
+with_label b (Some label) = b.labels ++ record { name = label; place = length b.statements } ∷ []
 
 -- the open operation with this label and instruction
 abbrev pub with_statement : Begun → Option Word → Statement → Begun
@@ -265,7 +266,7 @@ label_used (Plain i) = None
 label_used (Jump label) = Some label
 label_used (JumpIfZero v label) = Some label
 
-abbrev pub is_there : List (List ℕ × ℕ) → Option Word → Bool
+abbrev pub is_there : List Label → Option Word → Bool
 is_there labels None = true
 is_there labels (Some label) = is_some (label_place labels label)
 
@@ -283,11 +284,11 @@ abbrev pub ends_well : Begun → Bool
 ends_well b = is_last (slice_get b.statements (length b.statements - 1))
 
 -- the place of a label
-abbrev pub target : List (List ℕ × ℕ) → Word → ℕ
-target labels label = unwrap_or (option_map (λ l. l.1) (find (λ l. bytes_eq l.0 label) labels)) 0
+abbrev pub target : List Label → Word → ℕ
+target labels label = unwrap_or (option_map (λ l. l.place) (find (λ l. bytes_eq l.name label) labels)) 0
 
 -- the instruction, with the place of its label
-abbrev pub resolved : List (List ℕ × ℕ) → Statement → Instr
+abbrev pub resolved : List Label → Statement → Instr
 resolved labels (Plain i) = i
 resolved labels (Jump label) = instr.Jump (target labels label)
 resolved labels (JumpIfZero v label) = instr.JumpIfZero v (target labels label)
@@ -332,7 +333,7 @@ line_of d line = if list_all is_allowed line then by_words d (words_of line) els
 abbrev pub declared : Drafted → Option Word → Option Begun → Result Declarations LangFaultKind
 declared d None begun = Err Missing
 declared d (Some name) (Some b) = Err Missing
-declared d (Some name) None = Ok (record { name = name; arrays = d.arrays; locks = d.locks; operations = d.operations })
+declared d (Some name) None = Ok (named d name)
 
 -- the text of a component
 abbrev pub component_grammar : Grammar LangFaultKind Drafted Declarations

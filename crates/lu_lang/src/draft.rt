@@ -17,6 +17,13 @@ pub enum Statement {
     JumpIfZero(Operand, Name),
 }
 
+/// A label and the place of its instruction, from 0.
+#[derive(Debug, Drop)]
+pub struct Label {
+    pub name: Name,
+    pub place: u8,
+}
+
 /// An operation that has no `end` yet.
 #[derive(Debug, Drop)]
 pub struct OpenOp {
@@ -24,8 +31,8 @@ pub struct OpenOp {
     pub args: u8,
     pub statements: Vec<Statement>,
 
-    /// The labels so far, each with the place of its instruction.
-    pub labels: Vec<(Name, u8)>,
+    /// The labels so far.
+    pub labels: Vec<Label>,
 }
 
 impl Model for OpenOp {

@@ -164,10 +164,7 @@ fn locked(draft: &Draft, words: &[&[u8]]) -> Result<u8, LangFaultKind>
 }
 
 /// The array, the index and the value of `store W i v`, `await W i v` and `awaitne W i v`.
-fn cell_and_value(
-    draft: &Draft,
-    words: &[&[u8]],
-) -> Result<(u8, Operand, Operand), LangFaultKind>
+fn cell_and_value(draft: &Draft, words: &[&[u8]]) -> Result<(u8, Operand, Operand), LangFaultKind>
     ensures { result ≡ spec.cell_and_value draft.now (three (texts words.now)) }
 {
     let Some((array, index, value)) = three(words) else {

@@ -18,7 +18,7 @@ use crate::component::{
     Array, Code, Component, MOST_ARGUMENTS, MOST_ARRAYS, MOST_CELLS, MOST_INSTRS, MOST_LOCKS,
     MOST_OPS, Op, operation_place,
 };
-use crate::draft::{Draft, OpenOp, Statement};
+use crate::draft::{Draft, Label, OpenOp, Statement};
 use crate::fault::{LangFault, LangFaultKind};
 use crate::instr::Instr;
 use crate::instructions::{array_number, lock_number, statement};
@@ -57,7 +57,12 @@ fn has_most_arrays(draft: &Draft) -> bool
 }
 
 /// `word NAME LEN INIT`
-fn array_line(alloc: Global, line: usize, mut draft: Draft, words: &[&[u8]]) -> Result<Draft, LangFault>
+fn array_line(
+    alloc: Global,
+    line: usize,
+    mut draft: Draft,
+    words: &[&[u8]],
+) -> Result<Draft, LangFault>
     ensures { Gives result (on_line line (spec.array_line draft (three (texts words.now)))) }
 {
     let Some((name, len, init)) = three(words) else {
@@ -90,7 +95,12 @@ fn has_most_locks(draft: &Draft) -> bool
 }
 
 /// `lock NAME`, outside an operation
-fn lock_line(alloc: Global, line: usize, mut draft: Draft, words: &[&[u8]]) -> Result<Draft, LangFault>
+fn lock_line(
+    alloc: Global,
+    line: usize,
+    mut draft: Draft,
+    words: &[&[u8]],
+) -> Result<Draft, LangFault>
     ensures { Gives result (on_line line (spec.lock_line draft (one (texts words.now)))) }
 {
     let Some(name) = one(words) else {
@@ -116,7 +126,12 @@ fn has_most_operations(draft: &Draft) -> bool
 }
 
 /// `op NAME ARGS`
-fn op_line(alloc: Global, line: usize, mut draft: Draft, words: &[&[u8]]) -> Result<Draft, LangFault>
+fn op_line(
+    alloc: Global,
+    line: usize,
+    mut draft: Draft,
+    words: &[&[u8]],
+) -> Result<Draft, LangFault>
     ensures { Gives result (on_line line (spec.op_line draft (two (texts words.now)))) }
 {
     let Some((name, args)) = two(words) else {
@@ -183,10 +198,10 @@ fn label_in(word: &[u8]) -> Option<&[u8]>
     }
 }
 
-fn label_place(labels: &[(Name, u8)], label: &[u8]) -> Option<usize>
+fn label_place(labels: &[Label], label: &[u8]) -> Option<usize>
     ensures { result ≡ spec.label_place labels.now label.now }
 {
-    labels.iter().position(|(name, _)| name.is(label))
+    labels.iter().position(|other| other.name.is(label))
 }
 
 fn has_label(op: &OpenOp, label: &[u8]) -> bool
@@ -235,7 +250,10 @@ fn with_statement(
 {
     if let Some(label) = label {
         let place = op.statements.len() as u8;
-        op.labels.push((Name::new(alloc, label)?, place))?;
+        op.labels.push(Label {
+            name: Name::new(alloc, label)?,
+            place,
+        })?;
     }
     op.statements.push(statement)?;
     Ok(op)
@@ -303,7 +321,7 @@ fn ends_well(op: &OpenOp) -> bool
 }
 
 /// Whether the label that a statement uses is there.
-fn is_there(labels: &[(Name, u8)], statement: &Statement) -> bool
+fn is_there(labels: &[Label], statement: &Statement) -> bool
     ensures { result ≡ spec.is_there labels.now (spec.label_used statement.now) }
 {
     match statement {
@@ -313,7 +331,7 @@ fn is_there(labels: &[(Name, u8)], statement: &Statement) -> bool
     }
 }
 
-fn all_there(labels: &[(Name, u8)], statements: &[Statement]) -> bool
+fn all_there(labels: &[Label], statements: &[Statement]) -> bool
     ensures { result ≡ list_all (λ s. spec.is_there labels.now (spec.label_used s)) statements.now }
 {
     statements
@@ -329,17 +347,17 @@ fn are_there(op: &OpenOp) -> bool
 }
 
 /// The place of a label, which is there.
-fn target(labels: &[(Name, u8)], label: &[u8]) -> u8
+fn target(labels: &[Label], label: &[u8]) -> u8
     ensures { result ≡ spec.target labels.now label.now }
 {
-    match labels.iter().find(|(name, _)| name.is(label)) {
+    match labels.iter().find(|other| other.name.is(label)) {
         None => 0,
-        Some((_, place)) => *place,
+        Some(found) => found.place,
     }
 }
 
 /// The instruction, with the place of its label.
-fn resolved(labels: &[(Name, u8)], statement: &Statement) -> Instr
+fn resolved(labels: &[Label], statement: &Statement) -> Instr
     ensures { result ≡ spec.resolved labels.now statement.now }
 {
     match statement {
@@ -355,7 +373,7 @@ fn resolved(labels: &[(Name, u8)], statement: &Statement) -> Instr
 /// The instructions, with the places of their labels.
 fn all_resolved(
     alloc: Global,
-    labels: &[(Name, u8)],
+    labels: &[Label],
     statements: &[Statement],
 ) -> Result<Vec<Instr>, AllocError>
     ensures { IfOk result (λ instrs. instrs.items ≡ map (spec.resolved labels.now) statements.now) }
@@ -480,6 +498,7 @@ fn read_line(alloc: Global, line: usize, draft: Draft, text: &[u8]) -> Result<Dr
 }
 
 /// What is declared at the end of the text.
+#[tactic(auto, using(crate::proofs::Drafts::draft_component))]
 fn finished(line: usize, draft: Draft) -> Result<Component, LangFault>
     requires { IsDraft draft }
     ensures { Gives result (on_line line (component_grammar.finish draft)) }
