@@ -45,7 +45,8 @@ instr_words c (Load to array i) =
 instr_words c (Store array i v) =
     keyword_word keyword.Store ∷ array_word c array ∷ operand_word i ∷ operand_word v ∷ []
 instr_words c (Cas to array i old new) =
-    keyword_word keyword.Cas ∷ register_word to ∷ array_word c array ∷ operand_word i ∷ operand_word old ∷ operand_word new ∷ []
+    keyword_word keyword.Cas ∷ register_word to ∷ array_word c array
+    ∷ operand_word i ∷ operand_word old ∷ operand_word new ∷ []
 instr_words c (Lock lock) = keyword_word keyword.Lock ∷ lock_word c lock ∷ []
 instr_words c (Unlock lock) = keyword_word keyword.Unlock ∷ lock_word c lock ∷ []
 instr_words c (Await array i v) =
@@ -54,7 +55,8 @@ instr_words c (AwaitNot array i v) =
     keyword_word keyword.AwaitNot ∷ array_word c array ∷ operand_word i ∷ operand_word v ∷ []
 instr_words c (Pick to count) = keyword_word keyword.Pick ∷ register_word to ∷ decimal count ∷ []
 instr_words c (Jump target) = keyword_word keyword.Jump ∷ label_word target ∷ []
-instr_words c (JumpIfZero v target) = keyword_word keyword.JumpIfZero ∷ operand_word v ∷ label_word target ∷ []
+instr_words c (JumpIfZero v target) =
+    keyword_word keyword.JumpIfZero ∷ operand_word v ∷ label_word target ∷ []
 instr_words c (Return v) = keyword_word keyword.Return ∷ operand_word v ∷ []
 
 abbrev pub leads_to : ℕ → Instr → Bool

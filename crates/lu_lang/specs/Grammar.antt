@@ -159,7 +159,8 @@ locked d (Some lock) =
     (lock_number d lock)
 
 -- the array, the index and the value of `store W i v`, `await W i v` and `awaitne W i v`
-abbrev pub cell_and_value : Drafted → Option (Word × Word × Word) → Result (ℕ × Operand × Operand) LangFaultKind
+abbrev pub cell_and_value : Drafted → Option (Word × Word × Word)
+    → Result (ℕ × Operand × Operand) LangFaultKind
 cell_and_value d None = Err Form
 cell_and_value d (Some (array, i, v)) =
     says ((not (has_name_form array), Form)
@@ -202,12 +203,15 @@ statement d None words = Err Form
 statement d (Some keyword.Set) words = set_line (two words)
 statement d (Some (keyword.Compute arithmetic)) words = compute_line arithmetic (three words)
 statement d (Some keyword.Load) words = load_line d (three words)
-statement d (Some keyword.Store) words = as_plain (λ (array, i, v). instr.Store array i v) (cell_and_value d (three words))
+statement d (Some keyword.Store) words =
+    as_plain (λ (array, i, v). instr.Store array i v) (cell_and_value d (three words))
 statement d (Some keyword.Cas) words = cas_line d (five words)
 statement d (Some keyword.Lock) words = as_plain (λ lock. instr.Lock lock) (locked d (one words))
 statement d (Some keyword.Unlock) words = as_plain (λ lock. instr.Unlock lock) (locked d (one words))
-statement d (Some keyword.Await) words = as_plain (λ (array, i, v). instr.Await array i v) (cell_and_value d (three words))
-statement d (Some keyword.AwaitNot) words = as_plain (λ (array, i, v). instr.AwaitNot array i v) (cell_and_value d (three words))
+statement d (Some keyword.Await) words =
+    as_plain (λ (array, i, v). instr.Await array i v) (cell_and_value d (three words))
+statement d (Some keyword.AwaitNot) words =
+    as_plain (λ (array, i, v). instr.AwaitNot array i v) (cell_and_value d (three words))
 statement d (Some keyword.Pick) words = pick_line (two words)
 statement d (Some keyword.Jump) words = jump_line (one words)
 statement d (Some keyword.JumpIfZero) words = jump_if_zero_line (two words)
@@ -227,7 +231,8 @@ fault_in (Err kind) = Some kind
 
 -- a word `NAME:` is a label
 abbrev pub label_in : Word → Option Word
-label_in word = if slice_index word (length word - 1) == 58 then Some (take (length word - 1) word) else None
+label_in word =
+    if slice_index word (length word - 1) == 58 then Some (take (length word - 1) word) else None
 
 -- what is wrong with a label, and with one more instruction
 abbrev pub place_fault : Begun → Option Word → Option LangFaultKind
@@ -246,13 +251,15 @@ with_label b (Some label) = b.labels ++ record { name = label; place = length b.
 abbrev pub with_statement : Begun → Option Word → Statement → Begun
 with_statement b label s = record b { statements = b.statements ++ s ∷ []; labels = with_label b label }
 
-abbrev pub placed : Drafted → Begun → Option Word → Option LangFaultKind → Result Statement LangFaultKind → Result Drafted LangFaultKind
+abbrev pub placed : Drafted → Begun → Option Word → Option LangFaultKind → Result Statement LangFaultKind
+    → Result Drafted LangFaultKind
 placed d b label fault (Ok s) = or_else fault (record d { begun = Some (with_statement b label s) })
 placed d b label fault (Err kind) = or_else (sooner fault (Some kind)) d
 
 -- the label's fault or the instruction's, that which is looked for first; or one instruction more
 abbrev pub instr_line : Drafted → Begun → Option Word → Word → List Word → Result Drafted LangFaultKind
-instr_line d b label word words = placed d b label (place_fault b label) (statement d (keyword_in word) words)
+instr_line d b label word words =
+    placed d b label (place_fault b label) (statement d (keyword_in word) words)
 
 -- an instruction behind a label
 abbrev pub labelled : Drafted → Begun → Word → List Word → Result Drafted LangFaultKind
@@ -305,7 +312,8 @@ end_line d b (word ∷ words) = Err Form
 -- ---- lines
 
 abbrev pub inside : Drafted → Begun → Option Word → Word → List Word → Result Drafted LangFaultKind
-inside d b None word words = if bytes_eq word (codes "end") then end_line d b words else instr_line d b None word words
+inside d b None word words =
+    if bytes_eq word (codes "end") then end_line d b words else instr_line d b None word words
 inside d b (Some label) word words = labelled d b label words
 
 abbrev pub component_first : Drafted → Word → List Word → Result Drafted LangFaultKind

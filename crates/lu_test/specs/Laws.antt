@@ -8,4 +8,6 @@ use Rattle.lu_test.specs.MatrixText.{matrix_grammar, matrix_text}
 
 -- what is written of a component's matrix is read as it was
 abbrev pub RoundTrip : Type 0
-RoundTrip = (c : Declarations) (matrix : List (List Call)) → IsComponent c → IsMatrix matrix → IsOf matrix c → value_of (matrix_grammar c) (matrix_text c matrix) ≡ Ok matrix
+RoundTrip =
+    (c : Declarations) (matrix : List (List Call)) → IsComponent c → IsMatrix matrix → IsOf matrix c
+    → value_of (matrix_grammar c) (matrix_text c matrix) ≡ Ok matrix

@@ -23,7 +23,8 @@ name_in (name ∷ arguments) = name
 
 -- the number of arguments of the operation that the words name
 abbrev pub wanted : Declarations → List Word → Option ℕ
-wanted c words = option_map (λ o. o.args) (slice_get c.operations (unwrap_or (operation_place c.operations (name_in words)) 0))
+wanted c words =
+    option_map (λ o. o.args) (slice_get c.operations (unwrap_or (operation_place c.operations (name_in words)) 0))
 
 abbrev pub has_name : List Word → Bool
 has_name words = not (length words == 0)
@@ -47,13 +48,18 @@ call_of c words = record {
 -- ---- lines
 
 -- what is wrong with the calls of one more thread; or the matrix with it
-abbrev pub with_calls : Declarations → List (List Call) → List (List Word) → Result (List (List Call)) MatrixFaultKind
+abbrev pub with_calls : Declarations → List (List Call) → List (List Word)
+    → Result (List (List Call)) MatrixFaultKind
 with_calls c matrix calls =
     says ((not (list_all has_name calls), Form)
     ∷ (not (list_all (has_operation c) calls), UnknownOp)
     ∷ (not (list_all (has_arguments c) calls), Arguments)
     ∷ (not (list_all has_values calls), Number)
-    ∷ (nat_le 8 (length matrix) || (nat_lt 8 (length calls) || nat_lt 16 (total_calls matrix + length calls)), Limit) ∷ [])
+    ∷ (
+      nat_le 8 (length matrix)
+          || (nat_lt 8 (length calls) || nat_lt 16 (total_calls matrix + length calls)),
+      Limit,
+    ) ∷ [])
     (matrix ++ map (call_of c) calls ∷ [])
 
 -- behind `thread` stands nothing, or calls
@@ -61,12 +67,14 @@ abbrev pub calls_after : List Word → List (List Word) → List (List Word)
 calls_after words parts = if length words == 0 && length parts == 0 then [] else words ∷ parts
 
 -- the first word is `thread`
-abbrev pub thread_line : Declarations → List (List Call) → Word → List Word → List (List Word) → Result (List (List Call)) MatrixFaultKind
+abbrev pub thread_line : Declarations → List (List Call) → Word → List Word → List (List Word)
+    → Result (List (List Call)) MatrixFaultKind
 thread_line c matrix word words parts =
     if bytes_eq word (codes "thread") then with_calls c matrix (calls_after words parts) else Err Form
 
 -- a line by the words of its parts, between which stands `;`
-abbrev pub by_parts : Declarations → List (List Call) → List (List Word) → Result (List (List Call)) MatrixFaultKind
+abbrev pub by_parts : Declarations → List (List Call) → List (List Word)
+    → Result (List (List Call)) MatrixFaultKind
 by_parts c matrix [] = Ok matrix
 by_parts c matrix ([] ∷ []) = Ok matrix
 by_parts c matrix ([] ∷ part ∷ parts) = Err Form

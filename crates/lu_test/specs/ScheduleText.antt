@@ -20,7 +20,8 @@ schedule_text moves = codes "schedule" ++ flat_map (λ m. 32 ∷ move_text m) mo
 -- ---- reading, with the first fault from the left
 
 infixl 10 ◌>>=◌
-abbrev pub ◌>>=◌ : {A B : Type 0} → Result A ScheduleFault → (A → Result B ScheduleFault) → Result B ScheduleFault
+abbrev pub ◌>>=◌ : {A B : Type 0} → Result A ScheduleFault → (A → Result B ScheduleFault)
+    → Result B ScheduleFault
 (Ok x) >>= f = f x
 (Err e) >>= f = Err e
 
@@ -35,17 +36,21 @@ one_line text = line_to text (position (λ b. b == 10) text)
 -- `schedule`, and words that aren't empty
 abbrev pub has_form : List (List ℕ) → Bool
 has_form [] = false
-has_form (first ∷ words) = bytes_eq first (codes "schedule") && list_all (λ word. not (length word == 0)) words
+has_form (first ∷ words) =
+    bytes_eq first (codes "schedule") && list_all (λ word. not (length word == 0)) words
 
 abbrev pub move_with : Option ℕ → Option ℕ → Result Move ScheduleFault
 move_with None p = Err Number
 move_with (Some t) None = Err Number
-move_with (Some t) (Some p) = if nat_le t 7 && nat_le p 7 then Ok (record { thread = t; pick = p }) else Err Limit
+move_with (Some t) (Some p) =
+    if nat_le t 7 && nat_le p 7 then Ok (record { thread = t; pick = p }) else Err Limit
 
 -- the move that a word says, by the place of its first colon
 abbrev pub move_cut : List ℕ → Option ℕ → Result Move ScheduleFault
 move_cut word None = move_with (number_in word) (Some 0)
-move_cut word (Some colon) = if bytes_eq (drop (colon + 1) word) (48 ∷ []) then Err Number else move_with (number_in (take colon word)) (number_in (drop (colon + 1) word))
+move_cut word (Some colon) =
+    if bytes_eq (drop (colon + 1) word) (48 ∷ []) then Err Number
+    else move_with (number_in (take colon word)) (number_in (drop (colon + 1) word))
 
 unfoldable pub move_of : List ℕ → Result Move ScheduleFault
 move_of word = move_cut word (position (λ b. b == 58) word)
