@@ -77,12 +77,12 @@ impl<'a> Machine<'a> {
     }
 
     /// Where the thread stands.
-    fn standing(&self, thread: u8) -> Option<Thread>
-        ensures value { result ≡ slice_get self.now.threads thread }
-        ensures stands { IfSome result IsStanding }
+    fn standing(&self, thread: u8) -> Option<&Thread>
+        ensures value { option_copied result ≡ slice_get self.now.threads thread }
+        ensures stands { IfSome result (λ standing. IsStanding standing.now) }
         ensures few { length self.now.threads ≤ 8 }
     {
-        self.threads.get(usize::from(thread)).copied()
+        self.threads.get(usize::from(thread))
     }
 
     /// The instruction at the operation's place.
@@ -171,11 +171,11 @@ impl<'a> Machine<'a> {
         let Some(standing) = self.standing(t) else {
             return 0;
         };
-        match standing.activity {
+        match &standing.activity {
             Activity::Idle => u8::from(standing.done < self.matrix.calls(t)),
-            Activity::Open(frame) => match self.instr(&frame) {
+            Activity::Open(frame) => match self.instr(frame) {
                 None => 0,
-                Some(instr) => self.instr_picks(&frame, instr),
+                Some(instr) => self.instr_picks(frame, instr),
             },
         }
     }
@@ -201,7 +201,7 @@ impl<'a> Machine<'a> {
         let Some(standing) = self.standing(t) else {
             return true;
         };
-        match standing.activity {
+        match &standing.activity {
             Activity::Idle => self.matrix.calls(t) <= standing.done,
             Activity::Open(_) => false,
         }
@@ -245,6 +245,7 @@ impl<'a> Machine<'a> {
         let Some(standing) = self.standing(next.thread) else {
             unreachable!()
         };
+        let standing = *standing;
         match standing.activity {
             Activity::Idle => self.open(next, standing),
             Activity::Open(frame) => self.go_on(next, standing, frame),
