@@ -12,8 +12,8 @@ use Rattle.lu_machine.specs.declared.event.Outcome.TheVariants.{Trap}
 use Rattle.lu_machine.specs.declared.thread.Frame.{Frame}
 use Rattle.lu_machine.specs.declared.thread.Activity.{Activity}
 use Rattle.lu_machine.specs.declared.thread.Activity.TheVariants.{Idle, Open}
-use Rattle.lu_machine.specs.declared.thread.Effect.{Effect}
-use Rattle.lu_machine.specs.declared.thread.Effect.TheVariants.{Ends}
+use Rattle.lu_machine.specs.Effects.{Effect}
+use Rattle.lu_machine.specs.Effects.Effect.{Ends}
 use Rattle.lu_machine.specs.declared.thread.Thread.{Thread}
 use Rattle.lu_machine.specs.Effects.{value_of, onward, onward_with}
 use Rattle.lu_machine.specs.States.{State, cell_at, value_at, with_cell, with_owner}

@@ -9,8 +9,8 @@ use Rattle.lu_machine.specs.declared.event.Event.TheVariants.{Call as Called, Re
 use Rattle.lu_machine.specs.declared.event.Outcome.{Outcome}
 use Rattle.lu_machine.specs.declared.thread.Activity.{Activity}
 use Rattle.lu_machine.specs.declared.thread.Activity.TheVariants.{Idle, Open}
-use Rattle.lu_machine.specs.declared.thread.Effect.{Effect}
-use Rattle.lu_machine.specs.declared.thread.Effect.TheVariants.{GoesOn, Ends}
+use Rattle.lu_machine.specs.Effects.{Effect}
+use Rattle.lu_machine.specs.Effects.Effect.{GoesOn, Ends}
 use Rattle.lu_machine.specs.declared.thread.Thread.{Thread}
 use Rattle.lu_machine.specs.States.{State, progress, progress_of}
 use Rattle.lu_machine.specs.Steps.{Step, event_after, thread_after}

@@ -4,9 +4,13 @@ use Rattle.lu_lang.specs.declared.instr.Operand.{Operand}
 use Rattle.lu_lang.specs.declared.instr.Operand.TheVariants.{Reg, Num}
 use Rattle.lu_lang.specs.declared.instr.Arithmetic.{Arithmetic}
 use Rattle.lu_lang.specs.declared.instr.Arithmetic.TheVariants.{Add, Sub, Mul, Eq, Lt}
+use Rattle.lu_machine.specs.declared.event.Outcome.{Outcome}
 use Rattle.lu_machine.specs.declared.thread.Frame.{Frame}
-use Rattle.lu_machine.specs.declared.thread.Effect.{Effect}
-use Rattle.lu_machine.specs.declared.thread.Effect.TheVariants.{GoesOn}
+
+-- what an instruction makes of its operation: it goes on so, or it ends
+pub data Effect : Type 0 where
+  GoesOn : Frame → Effect
+  Ends : Outcome → Effect
 
 -- what an operand stands for
 abbrev pub value_of : Frame → Operand → ℕ

@@ -6,6 +6,7 @@ pub mod Starts
 pub mod Events
 pub mod Runs
 pub mod Order
+pub mod Changes
 pub mod Undoes
 pub mod Layout
 pub mod Laws

@@ -12,10 +12,9 @@ use Rattle.lu_machine.specs.declared.event.Outcome.TheVariants.{Ret, Trap}
 use Rattle.lu_machine.specs.declared.thread.Frame.{Frame}
 use Rattle.lu_machine.specs.declared.thread.Activity.{Activity}
 use Rattle.lu_machine.specs.declared.thread.Activity.TheVariants.{Idle, Open}
-use Rattle.lu_machine.specs.declared.thread.Effect.{Effect}
-use Rattle.lu_machine.specs.declared.thread.Effect.TheVariants.{GoesOn, Ends}
 use Rattle.lu_machine.specs.declared.thread.Thread.{Thread}
-use Rattle.lu_machine.specs.Effects.{value_of, computed, onward, onward_at, onward_with}
+use Rattle.lu_machine.specs.Effects.{Effect, value_of, computed, onward, onward_at, onward_with}
+use Rattle.lu_machine.specs.Effects.Effect.{GoesOn, Ends}
 use Rattle.lu_machine.specs.States.{State, cell_at, instr_at, call_count, value_at, owner_of, with_cell, with_owner, with_thread}
 
 -- whether thread t owns lock l

@@ -1,29 +1,35 @@
 -- How a move is taken back.
-use Rattle.std.specs.Prelude.{◌<◌, length}
-use Rattle.lu_machine.specs.declared.undo.Overwritten.{Overwritten}
-use Rattle.lu_machine.specs.declared.undo.Overwritten.TheVariants.{Nothing, Cell, Owner}
+use Rattle.std.specs.Prelude.{◌<◌, ℕ, length, slice_get}
+use Rattle.std.specs.Option.{option_map_or}
+use Rattle.lu_machine.specs.declared.undo.Shared.{Shared}
+use Rattle.lu_machine.specs.declared.undo.Shared.TheVariants.{Nothing, Cell, Owner}
 use Rattle.lu_machine.specs.declared.undo.Undo.{Undo}
-use Rattle.lu_machine.specs.Layout.{IsStanding}
+use Rattle.lu_machine.specs.declared.thread.Was.{Was}
+use Rattle.lu_machine.specs.Changes.{CanStand, before}
 use Rattle.lu_machine.specs.States.{State, with_cell, with_owner, with_thread}
 
--- s with what was overwritten put back
-abbrev pub with_back : State → Overwritten → State
-with_back s Nothing = s
-with_back s (Cell p n) = with_cell s p n
-with_back s (Owner l owner) = with_owner s l owner
+-- s with this value in its cell, or this owner of its lock
+abbrev pub with_shared : State → Shared → State
+with_shared s Nothing = s
+with_shared s (Cell p n) = with_cell s p n
+with_shared s (Owner l owner) = with_owner s l owner
+
+-- s with thread t as it stood, where there is such a thread
+abbrev pub with_thread_back : State → ℕ → Was → State
+with_thread_back s t was = option_map_or (λ thread. with_thread s t (before was thread)) (slice_get s.threads t) s
 
 -- the state before the move, from the state after it
 abbrev pub restored : Undo → State → State
-restored undo s = with_thread (with_back s undo.overwritten) undo.thread undo.standing
+restored undo s = with_thread_back (with_shared s undo.overwritten) undo.thread undo.was
 
--- s has the cell or the lock that was overwritten
-abbrev pub IsThere : State → Overwritten → Type 0
+-- s has the cell or the lock
+abbrev pub IsThere : State → Shared → Type 0
 IsThere s Nothing = Unit {0}
 IsThere s (Cell p n) = p < length s.cells
-IsThere s (Owner l owner) = l < length s.locks
+IsThere s (Owner l owner) = l < length s.component.locks
 
 -- s has all that the undo puts back: the thread, and the cell or the lock
 pub record CanTake (s : State) (undo : Undo) : Type 0 where
   pub thread : undo.thread < length s.threads
-  pub standing : IsStanding undo.standing
+  pub standing : CanStand undo.was
   pub overwritten : IsThere s undo.overwritten

@@ -1,45 +1,48 @@
 //! What each instruction does.
 
-ghost use Rattle.std.specs.Prelude.{◌≡◌, ◌<◌, ◌==◌, false, length, MatchOption};
+ghost use Rattle.std.specs.Prelude.{◌≡◌, ◌<◌, ◌==◌, length, MatchOption};
 ghost use Rattle.std.specs.Option.{option_map};
 ghost use Rattle.lu_lang.specs.Component.{IsOperand};
 ghost use Rattle.lu_test.specs.declared.schedule.Move.{Move as AMove};
+ghost use Rattle.lu_machine.specs.declared.event.Outcome.TheVariants.{Trap};
+ghost use Rattle.lu_machine.specs.Changes.{IsChange, effect_of};
 ghost use Rattle.lu_machine.specs.Effects.{onward, value_of};
+ghost use Rattle.lu_machine.specs.Effects.Effect.{Ends};
 ghost use Rattle.lu_machine.specs.Layout.{IsSound};
 ghost use Rattle.lu_machine.specs.States.{cell_at, value_at};
 ghost use Rattle.lu_machine.specs.Steps.{Carries, choices, instr_picks, is_blocked};
-ghost use Rattle.lu_machine.specs.Undoes.{IsThere, with_back};
+ghost use Rattle.lu_machine.specs.Undoes.{IsThere, with_shared};
 
 use crate::event::Outcome;
 use crate::machine::Machine;
-use crate::thread::{Effect, Frame, compute};
-use crate::undo::Overwritten;
+use crate::thread::{Change, Frame, compute};
+use crate::undo::Shared;
 use lu_lang::{Instr, Operand};
 use lu_test::Move;
 
-/// What an instruction did: to its operation, and to what all threads share.
+/// What an instruction does: to its operation, and to what all threads share.
 #[derive(Clone, Copy, Debug)]
-pub(crate) struct Carried {
-    pub(crate) effect: Effect,
-    pub(crate) overwritten: Overwritten,
+pub(crate) struct Act {
+    pub(crate) change: Change,
+    pub(crate) shared: Shared,
 }
 
-/// The instruction did this to its operation, and nothing else.
-fn alone(effect: Effect) -> Carried
-    ensures effect { result.effect ≡ effect }
-    ensures overwritten { result.overwritten ≡ Overwritten.Nothing }
+/// The instruction does this to its operation, and nothing else.
+fn alone(change: Change) -> Act
+    ensures change { result.change ≡ change }
+    ensures shared { result.shared ≡ Shared.Nothing }
 {
-    Carried {
-        effect,
-        overwritten: Overwritten::Nothing,
+    Act {
+        change,
+        shared: Shared::Nothing,
     }
 }
 
 /// How many choices the instruction leaves to the move.
-fn choices(instr: Instr) -> u8
-    ensures { result ≡ choices instr }
+fn choices(instr: &Instr) -> u8
+    ensures { result ≡ choices instr.now }
 {
-    match instr {
+    match *instr {
         Instr::Pick { count, .. } => count,
         _ => 1,
     }
@@ -47,9 +50,9 @@ fn choices(instr: Instr) -> u8
 
 impl Machine<'_> {
     /// How many picks the instruction has: none where it is blocked.
-    pub(crate) fn instr_picks(&self, frame: &Frame, instr: Instr) -> u8
-        requires { IsSound self.now frame.now instr }
-        ensures { result ≡ instr_picks self.now frame.now instr }
+    pub(crate) fn instr_picks(&self, frame: &Frame, instr: &Instr) -> u8
+        requires { IsSound self.now frame.now instr.now }
+        ensures { result ≡ instr_picks self.now frame.now instr.now }
     {
         if self.is_blocked(frame, instr) {
             0
@@ -59,11 +62,11 @@ impl Machine<'_> {
     }
 
     /// Whether the instruction is blocked.
-    fn is_blocked(&self, frame: &Frame, instr: Instr) -> bool
-        requires { IsSound self.now frame.now instr }
-        ensures { result ≡ is_blocked self.now frame.now instr }
+    fn is_blocked(&self, frame: &Frame, instr: &Instr) -> bool
+        requires { IsSound self.now frame.now instr.now }
+        ensures { result ≡ is_blocked self.now frame.now instr.now }
     {
-        match instr {
+        match *instr {
             Instr::Lock(lock) => self.owner(lock).is_some(),
             Instr::Await {
                 array,
@@ -92,15 +95,15 @@ impl Machine<'_> {
         Some(self.value_at(place) == frame.value(value))
     }
 
-    /// Carries out the instruction, but for what becomes of the thread.
-    pub(crate) fn carry_out(&mut self, next: Move, frame: Frame, instr: Instr) -> Carried
-        requires sound { IsSound self.old frame instr }
-        requires feasible { next.pick < instr_picks self.old frame instr }
-        ensures carried { Carries self.old next frame instr self.new result.effect }
-        ensures back { with_back self.new result.overwritten ≡ self.old }
-        ensures there { IsThere self.new result.overwritten }
+    /// What the instruction does where it is carried out.
+    pub(crate) fn act(&self, next: Move, frame: &Frame, instr: &Instr) -> Act
+        requires sound { IsSound self.now frame.now instr.now }
+        requires feasible { next.pick < instr_picks self.now frame.now instr.now }
+        ensures carries { Carries self.now next frame.now instr.now (with_shared self.now result.shared) (effect_of frame.now result.change) }
+        ensures there { IsThere self.now result.shared }
+        ensures sound { IsChange result.change }
     {
-        match instr {
+        match *instr {
             Instr::Set { to, value } => alone(frame.onward_with(to, frame.value(value))),
             Instr::Compute {
                 arithmetic,
@@ -124,121 +127,112 @@ impl Machine<'_> {
                 expected,
                 desired,
             } => self.cas(frame, to, array, index, expected, desired),
-            Instr::Lock(lock) => self.lock(next.thread, frame, lock),
+            Instr::Lock(lock) => Act {
+                change: frame.onward(),
+                shared: Shared::Owner {
+                    lock,
+                    owner: Some(next.thread),
+                },
+            },
             Instr::Unlock(lock) => self.unlock(next.thread, frame, lock),
             Instr::Await { array, index, .. } | Instr::AwaitNot { array, index, .. } => {
                 alone(self.pass(frame, array, index))
             }
             Instr::Pick { to, .. } => alone(frame.onward_with(to, u32::from(next.pick))),
-            Instr::Jump(target) => alone(frame.onward_at(target)),
+            Instr::Jump(target) => alone(Change::GoesTo(target)),
             Instr::JumpIfZero { value, target } => alone(if frame.value(value) == 0 {
-                frame.onward_at(target)
+                Change::GoesTo(target)
             } else {
                 frame.onward()
             }),
-            Instr::Return(value) => alone(Effect::Ends(Outcome::Ret(frame.value(value)))),
+            Instr::Return(value) => alone(Change::Ends(Outcome::Ret(frame.value(value)))),
         }
     }
 
-    fn load(&self, frame: Frame, to: u8, array: u8, index: Operand) -> Effect
-        requires { IsSound self.now frame (Instr.Load to array index) }
-        ensures { (m : AMove) → Carries self.now m frame (Instr.Load to array index) self.now result }
+    fn load(&self, frame: &Frame, to: u8, array: u8, index: Operand) -> Change
+        requires { IsSound self.now frame.now (Instr.Load to array index) }
+        ensures carries { (m : AMove) → Carries self.now m frame.now (Instr.Load to array index) self.now (effect_of frame.now result) }
+        ensures sound { IsChange result }
     {
         match self.cell(array, frame.value(index)) {
-            None => Effect::Ends(Outcome::Trap),
+            None => Change::Ends(Outcome::Trap),
             Some(place) => frame.onward_with(to, self.value_at(place)),
         }
     }
 
-    fn store(&mut self, frame: Frame, array: u8, index: Operand, value: Operand) -> Carried
-        requires { IsSound self.old frame (Instr.Store array index value) }
-        ensures carried { (m : AMove) →
-            Carries self.old m frame (Instr.Store array index value) self.new result.effect }
-        ensures back { with_back self.new result.overwritten ≡ self.old }
-        ensures there { IsThere self.new result.overwritten }
+    fn store(&self, frame: &Frame, array: u8, index: Operand, value: Operand) -> Act
+        requires { IsSound self.now frame.now (Instr.Store array index value) }
+        ensures carries { (m : AMove) → Carries self.now m frame.now (Instr.Store array index value) (with_shared self.now result.shared) (effect_of frame.now result.change) }
+        ensures there { IsThere self.now result.shared }
+        ensures sound { IsChange result.change }
     {
         match self.cell(array, frame.value(index)) {
-            None => alone(Effect::Ends(Outcome::Trap)),
-            Some(place) => {
-                let overwritten = self.set_cell(place, frame.value(value));
-                Carried {
-                    effect: frame.onward(),
-                    overwritten,
-                }
-            }
+            None => alone(Change::Ends(Outcome::Trap)),
+            Some(place) => Act {
+                change: frame.onward(),
+                shared: Shared::Cell {
+                    place,
+                    value: frame.value(value),
+                },
+            },
         }
     }
 
     fn cas(
-        &mut self,
-        frame: Frame,
+        &self,
+        frame: &Frame,
         to: u8,
         array: u8,
         index: Operand,
         expected: Operand,
         desired: Operand,
-    ) -> Carried
-        requires { IsSound self.old frame (Instr.Cas to array index expected desired) }
-        ensures carried { (m : AMove) →
-            Carries self.old m frame (Instr.Cas to array index expected desired) self.new result.effect }
-        ensures back { with_back self.new result.overwritten ≡ self.old }
-        ensures there { IsThere self.new result.overwritten }
+    ) -> Act
+        requires { IsSound self.now frame.now (Instr.Cas to array index expected desired) }
+        ensures carries { (m : AMove) → Carries self.now m frame.now (Instr.Cas to array index expected desired) (with_shared self.now result.shared) (effect_of frame.now result.change) }
+        ensures there { IsThere self.now result.shared }
+        ensures sound { IsChange result.change }
     {
         match self.cell(array, frame.value(index)) {
-            None => alone(Effect::Ends(Outcome::Trap)),
-            Some(place) if self.value_at(place) == frame.value(expected) => {
-                let overwritten = self.set_cell(place, frame.value(desired));
-                Carried {
-                    effect: frame.onward_with(to, 1),
-                    overwritten,
-                }
-            }
+            None => alone(Change::Ends(Outcome::Trap)),
+            Some(place) if self.value_at(place) == frame.value(expected) => Act {
+                change: frame.onward_with(to, 1),
+                shared: Shared::Cell {
+                    place,
+                    value: frame.value(desired),
+                },
+            },
             Some(_) => alone(frame.onward_with(to, 0)),
         }
     }
 
-    fn lock(&mut self, thread: u8, frame: Frame, lock: u8) -> Carried
-        requires sound { IsSound self.old frame (Instr.Lock lock) }
-        requires free { is_blocked self.old frame (Instr.Lock lock) ≡ false }
-        ensures carried { (m : AMove) → m.thread ≡ thread →
-            Carries self.old m frame (Instr.Lock lock) self.new result.effect }
-        ensures back { with_back self.new result.overwritten ≡ self.old }
-        ensures there { IsThere self.new result.overwritten }
-    {
-        Carried {
-            effect: frame.onward(),
-            overwritten: self.set_owner(lock, Some(thread)),
-        }
-    }
-
-    fn unlock(&mut self, thread: u8, frame: Frame, lock: u8) -> Carried
-        requires { IsSound self.old frame (Instr.Unlock lock) }
-        ensures carried { (m : AMove) → m.thread ≡ thread →
-            Carries self.old m frame (Instr.Unlock lock) self.new result.effect }
-        ensures back { with_back self.new result.overwritten ≡ self.old }
-        ensures there { IsThere self.new result.overwritten }
+    fn unlock(&self, thread: u8, frame: &Frame, lock: u8) -> Act
+        requires { IsSound self.now frame.now (Instr.Unlock lock) }
+        ensures carries { (m : AMove) → m.thread ≡ thread → Carries self.now m frame.now (Instr.Unlock lock) (with_shared self.now result.shared) (effect_of frame.now result.change) }
+        ensures there { IsThere self.now result.shared }
+        ensures sound { IsChange result.change }
     {
         if self.owner(lock) == Some(thread) {
-            Carried {
-                effect: frame.onward(),
-                overwritten: self.set_owner(lock, None),
+            Act {
+                change: frame.onward(),
+                shared: Shared::Owner { lock, owner: None },
             }
         } else {
-            alone(Effect::Ends(Outcome::Trap))
+            alone(Change::Ends(Outcome::Trap))
         }
     }
 
     /// What `await` and `awaitne` do where they are not blocked.
-    fn pass(&self, frame: Frame, array: u8, index: Operand) -> Effect
-        requires room { frame.place < 64 }
+    fn pass(&self, frame: &Frame, array: u8, index: Operand) -> Change
+        requires room { frame.now.place < 64 }
         requires array { array < length self.now.component.arrays }
         requires index { IsOperand index }
-        ensures { MatchOption (cell_at self.now frame array index)
-            (result ≡ Effect.Ends Outcome.Trap)
-            (λ _. result ≡ onward frame) }
+        ensures effect { MatchOption (cell_at self.now frame.now array index)
+            (effect_of frame.now result ≡ Ends Trap)
+            (λ _. effect_of frame.now result ≡ onward frame.now) }
+        ensures sound { IsChange result }
     {
         match self.cell(array, frame.value(index)) {
-            None => Effect::Ends(Outcome::Trap),
+            None => Change::Ends(Outcome::Trap),
             Some(_) => frame.onward(),
         }
     }

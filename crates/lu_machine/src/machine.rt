@@ -3,19 +3,24 @@
 ghost use Rattle.std.specs.Prelude.{◌≡◌, ℕ, ◌+◌, ◌<◌, ◌≤◌, ◌↔◌, length, IsTrue, IsSome, IfSome, IfOk, slice_get, Some};
 ghost use Rattle.std.specs.Option.{option_copied};
 ghost use Rattle.lu_lang.specs.Component.{IsInstr};
+ghost use Rattle.lu_test.specs.declared.schedule.Move.{Move as AMove};
 ghost use Rattle.lu_test.specs.Matrix.{IsOf, calls_of};
-ghost use Rattle.lu_machine.specs.States.{cell_of, instr_at, owner_of, value_at, with_cell, with_owner, with_thread};
-ghost use Rattle.lu_machine.specs.Steps.{IsEnabled, IsFeasible, Step, picks_of};
+ghost use Rattle.lu_machine.specs.declared.thread.Frame.{Frame as AFrame};
+ghost use Rattle.lu_machine.specs.declared.thread.Thread.{Thread as AThread};
+ghost use Rattle.lu_machine.specs.Changes.{CanStand, IsChange, IsChanged, at_work, effect_of, idle};
+ghost use Rattle.lu_machine.specs.States.{call_count, cell_of, instr_at, owner_of, value_at, with_cell, with_owner, with_thread};
+ghost use Rattle.lu_machine.specs.Steps.{IsEnabled, IsFeasible, Step, event_after, picks_of, thread_after};
 ghost use Rattle.lu_machine.specs.Layout.{IsSound, IsStanding};
 ghost use Rattle.lu_machine.specs.Events.{IsInRange};
 ghost use Rattle.lu_machine.specs.Ends.{HasStatus, IsFinished};
-ghost use Rattle.lu_machine.specs.Undoes.{CanTake, IsThere, restored, with_back};
+ghost use Rattle.lu_machine.specs.Undoes.{CanTake, IsThere, restored, with_shared, with_thread_back};
 ghost use Rattle.lu_machine.specs.Starts.{IsStart};
 
 use crate::event::{Event, Status};
+use crate::instructions::Act;
 use crate::span::{Span, lay_out};
-use crate::thread::{Activity, Frame, Thread, event_after, first_registers};
-use crate::undo::{Overwritten, Undo};
+use crate::thread::{Activity, Change, Frame, Thread, Was, event_after, first_registers};
+use crate::undo::{Shared, Undo};
 use lu_lang::{Component, Instr};
 use lu_test::{Matrix, Move};
 use std::alloc::{AllocError, Global};
@@ -87,12 +92,12 @@ impl<'a> Machine<'a> {
 
     /// The instruction at the operation's place.
     #[tactic(auto, unfolding(crate::specs::States::instr_at))]
-    fn instr(&self, frame: &Frame) -> Option<Instr>
-        ensures value { result ≡ instr_at self.now.component frame.now.op frame.now.place }
-        ensures sound { IfSome result (IsSound self.now frame.now) }
+    fn instr(&self, frame: &Frame) -> Option<&Instr>
+        ensures value { option_copied result ≡ instr_at self.now.component frame.now.op frame.now.place }
+        ensures sound { IfSome result (λ instr. IsSound self.now frame.now instr.now) }
     {
         let op = self.component.operations().get(usize::from(frame.op))?;
-        op.code.instrs().get(usize::from(frame.place)).copied()
+        op.code.instrs().get(usize::from(frame.place))
     }
 
     /// The place of cell `index` of the array: none at or past the array's length.
@@ -127,13 +132,13 @@ impl<'a> Machine<'a> {
     }
 
     /// Writes the cell at this place, and says what that overwrote.
-    pub(crate) fn set_cell(&mut self, place: usize, value: u32) -> Overwritten
+    pub(crate) fn set_cell(&mut self, place: usize, value: u32) -> Shared
         requires { place < length self.old.cells }
         ensures cell { self.new ≡ with_cell self.old place value }
-        ensures back { with_back self.new result ≡ self.old }
+        ensures back { with_shared self.new result ≡ self.old }
         ensures there { IsThere self.new result }
     {
-        let overwritten = Overwritten::Cell {
+        let overwritten = Shared::Cell {
             place,
             value: self.cells[place],
         };
@@ -142,18 +147,32 @@ impl<'a> Machine<'a> {
     }
 
     /// Gives the lock this owner, or none, and says what that overwrote.
-    pub(crate) fn set_owner(&mut self, lock: u8, owner: Option<u8>) -> Overwritten
+    pub(crate) fn set_owner(&mut self, lock: u8, owner: Option<u8>) -> Shared
         requires { lock < length self.old.component.locks }
         ensures owner { self.new ≡ with_owner self.old lock owner }
-        ensures back { with_back self.new result ≡ self.old }
+        ensures back { with_shared self.new result ≡ self.old }
         ensures there { IsThere self.new result }
     {
-        let overwritten = Overwritten::Owner {
+        let overwritten = Shared::Owner {
             lock,
             owner: self.locks[usize::from(lock)],
         };
         self.locks[usize::from(lock)] = owner;
         overwritten
+    }
+
+    /// Writes this, and says what that overwrote.
+    fn write(&mut self, shared: Shared) -> Shared
+        requires { IsThere self.old shared }
+        ensures shared { self.new ≡ with_shared self.old shared }
+        ensures back { with_shared self.new result ≡ self.old }
+        ensures there { IsThere self.new result }
+    {
+        match shared {
+            Shared::Nothing => Shared::Nothing,
+            Shared::Cell { place, value } => self.set_cell(place, value),
+            Shared::Owner { lock, owner } => self.set_owner(lock, owner),
+        }
     }
 
     fn set_thread(&mut self, thread: u8, standing: Thread)
@@ -162,6 +181,24 @@ impl<'a> Machine<'a> {
         ensures { self.new ≡ with_thread self.old thread standing }
     {
         self.threads[usize::from(thread)] = standing;
+    }
+
+    /// Changes the open operation of the thread, and says what that overwrote.
+    fn change(&mut self, thread: u8, change: Change) -> Was
+        requires there { thread < length self.old.threads }
+        requires sound { IsChange change }
+        ensures { (standing : AThread) → slice_get self.old.threads thread ≡ Some standing → IsChanged self.old thread standing change self.new result }
+    {
+        self.threads[usize::from(thread)].change(change)
+    }
+
+    /// Puts back where the thread stood.
+    fn put_back(&mut self, thread: u8, was: Was)
+        requires there { thread < length self.old.threads }
+        requires stands { CanStand was }
+        ensures { self.new ≡ with_thread_back self.old thread was }
+    {
+        self.threads[usize::from(thread)].put_back(was);
     }
 
     /// How many picks thread `t` has: none where there is no such thread.
@@ -245,26 +282,29 @@ impl<'a> Machine<'a> {
         let Some(standing) = self.standing(next.thread) else {
             unreachable!()
         };
-        let standing = *standing;
-        match standing.activity {
-            Activity::Idle => self.open(next, standing),
-            Activity::Open(frame) => self.go_on(next, standing, frame),
+        let done = standing.done;
+        match &standing.activity {
+            Activity::Idle => self.open(next.thread, done),
+            Activity::Open(frame) => {
+                let Some(instr) = self.instr(frame) else {
+                    unreachable!()
+                };
+                let act = self.act(next, frame, instr);
+                self.go_on(next.thread, done, act)
+            }
         }
     }
 
-    /// Opens the next call of an idle thread.
-    fn open(&mut self, next: Move, standing: Thread) -> Undo
-        requires few { next.thread < 8 }
-        requires stands { slice_get self.old.threads next.thread ≡ Some standing }
-        requires idle { standing.activity ≡ Activity.Idle }
-        requires feasible { IsFeasible self.old next }
-        ensures step { Step self.old next self.new result.event }
+    /// Opens the next call of an idle thread, which has made `done` of them.
+    fn open(&mut self, thread: u8, done: u8) -> Undo
+        requires few { thread < 8 }
+        requires stands { slice_get self.old.threads thread ≡ Some (idle done) }
+        requires left { done < call_count self.old thread }
+        ensures step { (m : AMove) → m.thread ≡ thread → m.pick ≡ 0 → Step self.old m self.new result.event }
         ensures range { IfSome result.event IsInRange }
         ensures back { restored result self.new ≡ self.old }
         ensures fits { CanTake self.new result }
     {
-        let thread = next.thread;
-        let done = standing.done;
         let call = self.matrix.call(thread, done);
         let frame = Frame {
             op: call.op,
@@ -280,35 +320,32 @@ impl<'a> Machine<'a> {
         );
         Undo {
             thread,
-            standing,
-            overwritten: Overwritten::Nothing,
+            was: Was::Idle,
+            overwritten: Shared::Nothing,
             event: Some(Event::Call { t: thread, k: done }),
         }
     }
 
-    /// Carries out the next instruction of an open operation.
-    fn go_on(&mut self, next: Move, standing: Thread, frame: Frame) -> Undo
-        requires few { next.thread < 8 }
-        requires stands { slice_get self.old.threads next.thread ≡ Some standing }
-        requires at_work { standing.activity ≡ Activity.Open frame }
-        requires counted { standing.done < 8 }
-        requires feasible { IsFeasible self.old next }
-        ensures step { Step self.old next self.new result.event }
+    /// Carries out what an instruction does in the open operation of a thread, which is number `done`.
+    fn go_on(&mut self, thread: u8, done: u8, act: Act) -> Undo
+        requires few { thread < 8 }
+        requires counted { done < 8 }
+        requires stands { (f : AFrame) × (slice_get self.old.threads thread ≡ Some (at_work done f)) }
+        requires there { IsThere self.old act.shared }
+        requires sound { IsChange act.change }
+        ensures after { (f : AFrame) → slice_get self.old.threads thread ≡ Some (at_work done f) → self.new ≡ with_thread (with_shared self.old act.shared) thread (thread_after done (effect_of f act.change)) }
+        ensures event { (f : AFrame) → result.event ≡ event_after thread done (effect_of f act.change) }
         ensures range { IfSome result.event IsInRange }
         ensures back { restored result self.new ≡ self.old }
         ensures fits { CanTake self.new result }
     {
-        let Some(instr) = self.instr(&frame) else {
-            unreachable!()
-        };
-        let thread = next.thread;
-        let carried = self.carry_out(next, frame, instr);
-        self.set_thread(thread, standing.after(carried.effect));
+        let overwritten = self.write(act.shared);
+        let was = self.change(thread, act.change);
         Undo {
             thread,
-            standing,
-            overwritten: carried.overwritten,
-            event: event_after(thread, standing.done, carried.effect),
+            was,
+            overwritten,
+            event: event_after(thread, done, act.change),
         }
     }
 
@@ -318,10 +355,10 @@ impl<'a> Machine<'a> {
         ensures { self.new ≡ restored undo self.old }
     {
         match undo.overwritten {
-            Overwritten::Nothing => {}
-            Overwritten::Cell { place, value } => self.cells[place] = value,
-            Overwritten::Owner { lock, owner } => self.locks[usize::from(lock)] = owner,
+            Shared::Nothing => {}
+            Shared::Cell { place, value } => self.cells[place] = value,
+            Shared::Owner { lock, owner } => self.locks[usize::from(lock)] = owner,
         }
-        self.set_thread(undo.thread, undo.standing);
+        self.put_back(undo.thread, undo.was);
     }
 }

@@ -2,7 +2,10 @@
 
 ghost use Rattle.std.specs.Prelude.{◌≡◌, ◌-◌, ◌<◌, ◌≤◌, ◌++◌, length, replicate, IfSome};
 ghost use Rattle.lu_lang.specs.Component.{IsRegister, IsOperand};
-ghost use Rattle.lu_machine.specs.Effects.{computed, onward, onward_with, onward_at, value_of};
+ghost use Rattle.lu_machine.specs.declared.thread.Activity.TheVariants.{Open};
+ghost use Rattle.lu_machine.specs.declared.thread.Frame.{Frame as AFrame};
+ghost use Rattle.lu_machine.specs.Changes.{CanStand, IsChange, before, effect_of};
+ghost use Rattle.lu_machine.specs.Effects.{computed, onward, onward_with, value_of};
 ghost use Rattle.lu_machine.specs.Events.{IsInRange};
 ghost use Rattle.lu_machine.specs.Layout.{IsStanding};
 ghost use Rattle.lu_machine.specs.Steps.{event_after, thread_after};
@@ -43,12 +46,31 @@ pub(crate) struct Thread {
 
 /// What an instruction makes of its operation.
 #[derive(Clone, Copy, Debug)]
-pub(crate) enum Effect {
-    /// It goes on from here.
-    GoesOn(Frame),
+pub(crate) enum Change {
+    /// It goes on at this place.
+    GoesTo(u8),
+
+    /// It goes on at this place, with this value in a register.
+    Sets { place: u8, register: u8, value: u32 },
 
     /// It ends.
     Ends(Outcome),
+}
+
+/// What a change overwrote of where a thread stood.
+#[derive(Clone, Copy, Debug)]
+pub(crate) enum Was {
+    /// The thread was idle.
+    Idle,
+
+    /// The operation was at this place.
+    At(u8),
+
+    /// The operation was at this place, and the register had this value.
+    With { place: u8, register: u8, value: u32 },
+
+    /// The thread stood so.
+    Standing(Thread),
 }
 
 impl Frame {
@@ -64,61 +86,109 @@ impl Frame {
     }
 
     /// It goes on at the next place.
-    pub(crate) fn onward(self) -> Effect
-        requires { self.place < 64 }
-        ensures { result ≡ onward self }
+    pub(crate) fn onward(&self) -> Change
+        requires { self.now.place < 64 }
+        ensures effect { effect_of self.now result ≡ onward self.now }
+        ensures sound { IsChange result }
     {
-        self.onward_at(self.place + 1)
+        Change::GoesTo(self.place + 1)
     }
 
     /// It goes on at the next place, with this value in a register.
-    pub(crate) fn onward_with(mut self, to: u8, value: u32) -> Effect
-        requires in_code { self.place < 64 }
-        requires register { IsRegister to }
-        ensures { result ≡ onward_with self to value }
+    pub(crate) fn onward_with(&self, register: u8, value: u32) -> Change
+        requires in_code { self.now.place < 64 }
+        requires register { IsRegister register }
+        ensures effect { effect_of self.now result ≡ onward_with self.now register value }
+        ensures sound { IsChange result }
     {
-        self.registers[usize::from(to)] = value;
-        self.onward()
-    }
-
-    /// It goes on at this place.
-    pub(crate) fn onward_at(self, place: u8) -> Effect
-        ensures { result ≡ onward_at self place }
-    {
-        Effect::GoesOn(Frame { place, ..self })
-    }
-}
-
-impl Thread {
-    /// Where the thread stands after the effect on its open operation.
-    pub(crate) fn after(self, effect: Effect) -> Thread
-        requires { self.done < 8 }
-        ensures after { result ≡ thread_after self.done effect }
-        ensures stands { IsStanding result }
-    {
-        match effect {
-            Effect::GoesOn(frame) => Thread {
-                done: self.done,
-                activity: Activity::Open(frame),
-            },
-            Effect::Ends(_) => Thread {
-                done: self.done + 1,
-                activity: Activity::Idle,
-            },
+        Change::Sets {
+            place: self.place + 1,
+            register,
+            value,
         }
     }
 }
 
-/// The event of the effect on operation number `done` of thread `t`.
-pub(crate) fn event_after(t: u8, done: u8, effect: Effect) -> Option<Event>
+impl Thread {
+    /// Changes its open operation, and says what that overwrote.
+    pub(crate) fn change(&mut self, change: Change) -> Was
+        requires stands { IsStanding self.old }
+        requires sound { IsChange change }
+        ensures after { (f : AFrame) → self.old.activity ≡ Open f → self.new ≡ thread_after self.old.done (effect_of f change) }
+        ensures stands { IsStanding self.new }
+        ensures back { before result self.new ≡ self.old }
+        ensures fits { CanStand result }
+    {
+        match &mut self.activity {
+            Activity::Idle => Was::Idle,
+            Activity::Open(frame) => match change {
+                Change::GoesTo(place) => {
+                    let was = Was::At(frame.place);
+                    frame.place = place;
+                    was
+                }
+                Change::Sets {
+                    place,
+                    register,
+                    value,
+                } => {
+                    let was = Was::With {
+                        place: frame.place,
+                        register,
+                        value: frame.registers[usize::from(register)],
+                    };
+                    frame.place = place;
+                    frame.registers[usize::from(register)] = value;
+                    was
+                }
+                Change::Ends(_) => {
+                    let was = Was::Standing(*self);
+                    self.done += 1;
+                    self.activity = Activity::Idle;
+                    was
+                }
+            },
+        }
+    }
+
+    /// Puts back what a change overwrote.
+    pub(crate) fn put_back(&mut self, was: Was)
+        requires { CanStand was }
+        ensures before { self.new ≡ before was self.old }
+        ensures stands { IsStanding self.old → IsStanding self.new }
+    {
+        match was {
+            Was::Idle => self.activity = Activity::Idle,
+            Was::At(place) => {
+                if let Activity::Open(frame) = &mut self.activity {
+                    frame.place = place;
+                }
+            }
+            Was::With {
+                place,
+                register,
+                value,
+            } => {
+                if let Activity::Open(frame) = &mut self.activity {
+                    frame.place = place;
+                    frame.registers[usize::from(register)] = value;
+                }
+            }
+            Was::Standing(standing) => *self = standing,
+        }
+    }
+}
+
+/// The event of the change of operation number `done` of thread `t`.
+pub(crate) fn event_after(t: u8, done: u8, change: Change) -> Option<Event>
     requires thread { t < 8 }
     requires operation { done < 8 }
-    ensures event { result ≡ event_after t done effect }
+    ensures event { (f : AFrame) → result ≡ event_after t done (effect_of f change) }
     ensures range { IfSome result IsInRange }
 {
-    match effect {
-        Effect::GoesOn(_) => None,
-        Effect::Ends(outcome) => Some(Event::Return {
+    match change {
+        Change::GoesTo(_) | Change::Sets { .. } => None,
+        Change::Ends(outcome) => Some(Event::Return {
             t,
             k: done,
             outcome,

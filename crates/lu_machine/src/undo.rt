@@ -3,17 +3,17 @@
 ghost use Rattle.std.specs.Prelude.{◌≡◌};
 
 use crate::event::Event;
-use crate::thread::Thread;
+use crate::thread::Was;
 
-/// What a move overwrote of what all threads share.
+/// What a move writes of what all threads share, or overwrote of it.
 #[derive(Clone, Copy, Debug)]
-pub(crate) enum Overwritten {
+pub(crate) enum Shared {
     Nothing,
 
-    /// The cell at this place had this value.
+    /// The cell at this place has this value.
     Cell { place: usize, value: u32 },
 
-    /// The lock had this owner, or none.
+    /// The lock has this owner, or none.
     Owner { lock: u8, owner: Option<u8> },
 }
 
@@ -23,10 +23,11 @@ pub struct Undo {
     /// The thread that moved.
     pub(crate) thread: u8,
 
-    /// Where it stood.
-    pub(crate) standing: Thread,
+    /// What that overwrote of where it stood.
+    pub(crate) was: Was,
 
-    pub(crate) overwritten: Overwritten,
+    /// What that overwrote of what all threads share.
+    pub(crate) overwritten: Shared,
 
     pub(crate) event: Option<Event>,
 }
