@@ -2,6 +2,7 @@ pub mod Ahead
 pub mod Ended
 pub mod Keeping
 pub mod Layouts
+pub mod Moves
 pub mod Numbers
 pub mod Orders
 pub mod Paths

@@ -44,7 +44,8 @@ pub smaller_branch : (u : List Move) (m n : Move) (x y : List Move) → IsMoveBe
 smaller_branch [] m n x y h = inl h
 smaller_branch (k ∷ u) m n x y h = inr (refl, smaller_branch u m n x y h)
 
-move_cases : (m n : Move) → (IsMoveBelow m n ⊎ IsMoveBelow n m) ⊎ (m ≡ n)
+-- of two moves one is below the other, or they are the same
+pub move_cases : (m n : Move) → (IsMoveBelow m n ⊎ IsMoveBelow n m) ⊎ (m ≡ n)
 move_cases m n =
     elim (cases_lt m.thread n.thread) [
       | inl a ↦ inl (inl (inl a))

@@ -24,12 +24,15 @@ IsFinished s t =
 abbrev pub IsComplete : State → Type 0
 IsComplete s = (t : ℕ) → t < length s.threads → IsFinished s t
 
+-- not complete, and no thread is enabled
 abbrev pub IsStuck : State → Type 0
 IsStuck s = (IsComplete s → ⊥) × HasNoMove s
 
+-- complete or stuck
 abbrev pub IsEnded : State → Type 0
 IsEnded s = IsComplete s ⊎ IsStuck s
 
+-- the state stands so
 abbrev pub HasStatus : State → Status → Type 0
 HasStatus s Running = HasMove s
 HasStatus s Complete = IsComplete s

@@ -18,12 +18,13 @@ spans_of before [] = []
 spans_of before (a ∷ arrays) = record { first = before; len = a.len } ∷ spans_of (before + a.len) arrays
 
 -- an open operation is one of the eight calls that a thread makes at most
-abbrev pub IsCounted : ℕ → Activity → Type 0
-IsCounted done Idle = Unit {0}
-IsCounted done (Open f) = done < 8
+abbrev pub HasRoom : ℕ → Activity → Type 0
+HasRoom done Idle = Unit {0}
+HasRoom done (Open f) = done < 8
 
+-- a thread can stand so
 abbrev pub IsStanding : Thread → Type 0
-IsStanding thread = IsCounted thread.done thread.activity
+IsStanding thread = HasRoom thread.done thread.activity
 
 -- a span for each array, and as many cells, locks and threads as the component and the matrix have
 pub record IsLaidOut (c : Declarations) (matrix : List (List Call)) (spans : List Span)

@@ -6,6 +6,7 @@ use Rattle.lu_test.specs.declared.schedule.Move.{Move}
 abbrev pub IsMoveBelow : Move → Move → Type 0
 IsMoveBelow m n = (m.thread < n.thread) ⊎ (m.thread ≡ n.thread) × (m.pick < n.pick)
 
+-- u is smaller than v
 abbrev pub IsSmaller : List Move → List Move → Type 0
 IsSmaller u [] = ⊥
 IsSmaller [] (n ∷ v) = Unit {0}

@@ -28,8 +28,13 @@ IsSchedule s u = Reaches s u (λ _ _. Unit {0})
 abbrev pub IsCompleteWithin : State → ℕ → List Move → Type 0
 IsCompleteWithin s bound u = (length u ≤ bound) × Reaches s u (λ end _. IsComplete end)
 
+-- u is stuck, and has no more moves than the bound
 abbrev pub IsStuckWithin : State → ℕ → List Move → Type 0
 IsStuckWithin s bound u = (length u ≤ bound) × Reaches s u (λ end _. IsStuck end)
+
+-- u is complete or stuck, and has no more moves than the bound
+abbrev pub IsEndedWithin : State → ℕ → List Move → Type 0
+IsEndedWithin s bound u = IsCompleteWithin s bound u ⊎ IsStuckWithin s bound u
 
 -- u has as many moves as the bound, and a thread is enabled
 abbrev pub IsCutAt : State → ℕ → List Move → Type 0
@@ -37,7 +42,7 @@ IsCutAt s bound u = (length u ≡ bound) × Reaches s u (λ end _. HasMove end)
 
 -- ended within the bound, or cut at it
 abbrev pub IsCounted : State → ℕ → List Move → Type 0
-IsCounted s bound u = (IsCompleteWithin s bound u ⊎ IsStuckWithin s bound u) ⊎ IsCutAt s bound u
+IsCounted s bound u = IsEndedWithin s bound u ⊎ IsCutAt s bound u
 
 -- u is of this kind, and no smaller schedule is
 pub record IsLeast (Kind : List Move → Type 0) (u : List Move) : Type 0 where
@@ -73,6 +78,7 @@ pub record AreNumbers (s : State) (bound : ℕ) (Part : List Move → Type 0) (c
   pub cut : IsNumber (λ u. Part u × IsCutAt s bound u) counts.cut
 
 -- Sorted, none a beginning of another, and each schedule that is ended within the bound or cut at it begins with exactly one.
+-- That a piece is a schedule is not asked: `IsSchedule s` of each piece says it, where it is wanted.
 pub record IsCover (s : State) (bound : ℕ) (pieces : List (List Move)) : Type 0 where
   pub rising : IsRising pieces
   pub apart : (p q : List Move) → Lists pieces p → Lists pieces q → BeginsWith q p → p ≡ q

@@ -99,16 +99,12 @@ ByActivity s m done (Open f) new event =
     × (new ≡ with_thread mid m.thread (thread_after done effect))
     × (event ≡ event_after m.thread done effect)
 
--- one call or one instruction: the move m leads from the state s to the state `new`, with this event
--- or none
-abbrev pub Basic : State → Move → State → Option Event → Type 0
-Basic s m new event =
+-- The move m leads from the state s to the state `new`, with this event or none: its thread makes one
+-- call or carries out one instruction.
+abbrev pub Step : State → Move → State → Option Event → Type 0
+Step s m new event =
     (thread : Thread) × (slice_get s.threads m.thread ≡ Some thread)
     × ByActivity s m thread.done thread.activity new event
-
--- The move m leads from the state s to the state `new`, with this event or none.
-abbrev pub Step : State → Move → State → Option Event → Type 0
-Step s m new event = Basic s m new event
 
 -- whether an instruction of the operation f is blocked
 abbrev pub is_blocked : State → Frame → Instr → Bool
@@ -119,6 +115,7 @@ is_blocked s f (AwaitNot w i v) =
     option_map_or (λ p. value_at s p == value_of f v) (cell_at s f w i) false
 is_blocked s f _ = false
 
+-- how many picks an instruction of the operation f has: none where it is blocked
 abbrev pub instr_picks : State → Frame → Instr → ℕ
 instr_picks s f instr = if is_blocked s f instr then 0 else choices instr
 
@@ -132,8 +129,10 @@ abbrev pub picks_of : State → ℕ → ℕ
 picks_of s t =
     option_map_or (λ thread. activity_picks s t thread.done thread.activity) (slice_get s.threads t) 0
 
+-- thread t has a pick
 abbrev pub IsEnabled : State → ℕ → Type 0
 IsEnabled s t = 0 < picks_of s t
 
+-- the pick of the move is one of its thread's
 abbrev pub IsFeasible : State → Move → Type 0
 IsFeasible s m = m.pick < picks_of s m.thread

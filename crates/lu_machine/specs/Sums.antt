@@ -6,6 +6,7 @@ use Rattle.lu_machine.specs.declared.counts.Counts.{Counts}
 abbrev pub capped : ℕ → ℕ
 capped n = min n (2 ^ 64 - 1)
 
+-- the sums of two counts
 abbrev pub plus : Counts → Counts → Counts
 plus a b = record {
   complete = capped (a.complete + b.complete);
@@ -13,6 +14,7 @@ plus a b = record {
   cut = capped (a.cut + b.cut);
 }
 
+-- the sums of all counts
 abbrev pub total : List Counts → Counts
 total counts = record {
   complete = capped (sum_by (λ c. c.complete) counts);
