@@ -6,8 +6,13 @@ ghost use Rattle.lu_machine.specs.Sums.{plus};
 /// How many schedules are complete, stuck and cut: each number up to 2^64 - 1, which stands for that or more.
 #[derive(Clone, Copy, Debug, PartialEq, Eq)]
 pub struct Counts {
+    /// How many end in a complete state.
     pub complete: u64,
+
+    /// How many end in a stuck state.
     pub stuck: u64,
+
+    /// How many have as many moves as the bound, and end where a thread is enabled.
     pub cut: u64,
 }
 

@@ -10,10 +10,13 @@ pub enum Outcome {
     Trap,
 }
 
-/// The call or the return of an operation: call number `k` of thread `t`, both from 0.
+/// The call or the return of an operation: call number `k`, 0 to 7, of thread `t`, 0 to 7.
 #[derive(Clone, Copy, Debug, PartialEq, Eq)]
 pub enum Event {
+    /// The operation is opened.
     Call { t: u8, k: u8 },
+
+    /// The operation ends so.
     Return { t: u8, k: u8, outcome: Outcome },
 }
 

@@ -49,7 +49,12 @@ impl<'a> Model for Machine<'a> {
 }
 
 impl<'a> Machine<'a> {
-    /// The machine of the component and the matrix, at the start of a run.
+    /// The machine of the component and the matrix, at the start of a run. The matrix is asked to be one of
+    /// the component ([`Matrix::of`]).
+    ///
+    /// # Errors
+    ///
+    /// Want of memory.
     pub fn start(
         alloc: Global,
         component: &'a Component,
@@ -201,7 +206,8 @@ impl<'a> Machine<'a> {
         self.threads[usize::from(thread)].put_back(was);
     }
 
-    /// How many picks thread `t` has: none where there is no such thread.
+    /// How many picks thread `t` has: 0 where there is no such thread, no call is left or the instruction is
+    /// blocked; K at `pick rD K`; else 1.
     pub fn picks(&self, t: u8) -> u8
         ensures { result ≡ picks_of self.now t }
     {
@@ -217,7 +223,7 @@ impl<'a> Machine<'a> {
         }
     }
 
-    /// Whether thread `t` is enabled: it has a pick.
+    /// Whether thread `t` is enabled: it is there, and has a pick.
     pub fn enabled(&self, t: u8) -> bool
         ensures { IsTrue result ↔ IsEnabled self.now t }
     {
@@ -262,7 +268,8 @@ impl<'a> Machine<'a> {
         }
     }
 
-    /// Makes the move, and answers its event, if it has one.
+    /// Makes the move, and answers its event, if it has one. The move is asked to be feasible
+    /// ([`Machine::feasible`]).
     pub fn step(&mut self, next: Move) -> Option<Event>
         requires { IsFeasible self.old next }
         ensures step { Step self.old next self.new result }
@@ -271,7 +278,8 @@ impl<'a> Machine<'a> {
         self.apply(next).event()
     }
 
-    /// Makes the move, and says how to take it back.
+    /// Makes the move, and says how to take it back. The move is asked to be feasible
+    /// ([`Machine::feasible`]).
     pub fn apply(&mut self, next: Move) -> Undo
         requires { IsFeasible self.old next }
         ensures step { Step self.old next self.new result.event }
@@ -349,7 +357,8 @@ impl<'a> Machine<'a> {
         }
     }
 
-    /// Takes back the move that was made last.
+    /// Takes back the move that was made last. The state is asked to have what is put back, as the one has
+    /// that its `apply` left: the thread, and the cell or the lock.
     pub fn undo(&mut self, undo: Undo)
         requires { CanTake self.old undo }
         ensures { self.new ≡ restored undo self.old }
