@@ -2,9 +2,9 @@
 
 ghost use Rattle.std.specs.Prelude.{◌≡◌, ℕ, ◌+◌, ◌<◌, ◌≤◌, ◌↔◌, length, IsTrue, IsSome, IfSome, IfOk, slice_get, Some};
 ghost use Rattle.std.specs.Option.{option_copied};
-ghost use Rattle.lu_lang.specs.Component.{IsInstr};
+ghost use Rattle.lu_lang.specs.Component.{IsComponent};
 ghost use Rattle.lu_test.specs.declared.schedule.Move.{Move as AMove};
-ghost use Rattle.lu_test.specs.Matrix.{IsOf, calls_of};
+ghost use Rattle.lu_test.specs.Matrix.{IsMatrix, IsOf};
 ghost use Rattle.lu_machine.specs.declared.thread.Frame.{Frame as AFrame};
 ghost use Rattle.lu_machine.specs.declared.thread.Thread.{Thread as AThread};
 ghost use Rattle.lu_machine.specs.Changes.{CanStand, IsChange, IsChanged, at_work, effect_of, idle};
@@ -61,8 +61,10 @@ impl<'a> Machine<'a> {
         matrix: &'a Matrix,
     ) -> Result<Machine<'a>, AllocError>
         requires { IsOf matrix.now component.now }
-        ensures { IfOk result (λ m. IsStart component.now matrix.now m) }
+        ensures starts { IfOk result (λ m. IsStart component.now matrix.now m) }
+        ensures limits { IsComponent component.now × IsMatrix matrix.now }
     {
+        let threads = usize::from(matrix.threads());
         let (spans, cells) = lay_out(alloc, component.arrays())?;
         let idle = Thread {
             done: 0,
@@ -74,7 +76,7 @@ impl<'a> Machine<'a> {
             spans,
             cells,
             locks: vec![in alloc; None; component.locks().len()]?,
-            threads: vec![in alloc; idle; usize::from(matrix.threads())]?,
+            threads: vec![in alloc; idle; threads]?,
         })
     }
 
