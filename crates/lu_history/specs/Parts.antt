@@ -1,4 +1,5 @@
--- The part of a history that belongs to a thread, and the history with one pending call.
+-- The part of a history that belongs to a thread (Herlihy and Wing, 1990), and the history with one
+-- pending call (Burckhardt, Dern, Musuvathi and Tan, 2010).
 use Rattle.std.specs.Prelude.{ℕ, ◌==◌, ◌&&◌, ◌||◌, if◌then◌else◌, Bool, true, false, List, [], ◌∷◌, ◌++◌, map, filter}
 use Rattle.std.specs.List.{list_any}
 use Rattle.lu_machine.specs.declared.event.Event.{Event}

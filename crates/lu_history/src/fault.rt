@@ -6,11 +6,11 @@ ghost use Rattle.lu_history.specs.declared.fault.HistoryFault.TheVariants.{Memor
 use std::alloc::{AllocError, AllocFailed};
 use thiserror::Error;
 
-/// Why a history could not be made or could not grow. It is shown by its code.
+/// Why a history could not be made or could not grow. It is shown by a word.
 #[derive(Clone, Copy, Debug, PartialEq, Eq, Error)]
 pub enum HistoryFault {
     /// Memory was refused.
-    #[error("H1")]
+    #[error("memory")]
     Memory,
 }
 

@@ -7,14 +7,15 @@ ghost use Rattle.lu_history.specs.Histories.{Fits, IsWellFormed, IsCallAt, IsPen
 ghost use Rattle.lu_history.specs.Parts.{part, is_kept, keep_pending};
 
 use crate::fault::HistoryFault;
-use crate::operation::{LIMIT, OpId};
+use crate::operation::OpId;
 use crate::serial::SerialOutcome;
 use lu_machine::{Event, Outcome};
+use lu_test::{MOST_CALLS_OF_THREAD, MOST_THREADS};
 use std::alloc::Global;
 use std::marker::Model;
 
 /// The number of operations that a history can have.
-const PLACES: usize = 64;
+const PLACES: usize = MOST_THREADS * MOST_CALLS_OF_THREAD;
 
 /// The calls and returns of up to 8 threads with up to 8 calls each, in the order in which they happened. In clauses it is
 /// the list of its events.
@@ -27,16 +28,16 @@ pub struct History {
     events: Vec<Event>,
 
     /// The number of calls of each thread.
-    called: [u8; LIMIT],
+    called: [u8; MOST_THREADS],
 
     /// The number of returns of each thread.
-    returned: [u8; LIMIT],
+    returned: [u8; MOST_THREADS],
 
     /// The outcome of each operation that has returned.
     outcomes: [Outcome; PLACES],
 
     /// For each operation, the number of returns of each thread before its call.
-    before: [[u8; LIMIT]; PLACES],
+    before: [[u8; MOST_THREADS]; PLACES],
 }
 
 impl Model for History {
@@ -59,10 +60,10 @@ impl History {
     {
         History {
             events: Vec::new(alloc),
-            called: [0; LIMIT],
-            returned: [0; LIMIT],
+            called: [0; MOST_THREADS],
+            returned: [0; MOST_THREADS],
             outcomes: [Outcome::Trap; PLACES],
-            before: [[0; LIMIT]; PLACES],
+            before: [[0; MOST_THREADS]; PLACES],
         }
     }
 
@@ -74,7 +75,8 @@ impl History {
         self.events.as_slice()
     }
 
-    /// How thread `t`'s operations returned, in order. A pending one has no place here.
+    /// How thread `t`'s operations returned, in order: the outcomes of the thread's part of the history
+    /// (Herlihy and Wing, 1990). A pending one has no place here.
     pub fn outcomes(&self, t: u8) -> &[Outcome]
         requires { t < 8 }
         ensures { result.now ≡ outcomes t self.now }
@@ -88,6 +90,7 @@ impl History {
         requires { t < 8 }
         ensures number { result ≡ pending t self.now }
         ensures call { IsTrue result ↔ ((k : ℕ) × IsPending self.now (record { t = t; k = k })) }
+        ensures well_formed { IsWellFormed self.now }
     {
         let t = usize::from(t);
         self.returned[t] < self.called[t]
@@ -108,6 +111,7 @@ impl History {
         requires { a.t < 8 }
         ensures ended { result ≡ slice_get (part a.t self.now) a.k }
         ensures few { IsSome result → a.k < 8 }
+        ensures well_formed { IsWellFormed self.now }
     {
         if a.k < self.returned[usize::from(a.t)] {
             Some(SerialOutcome::from(self.outcomes(a.t)[usize::from(a.k)]))
@@ -157,7 +161,11 @@ impl History {
         }
     }
 
-    /// Adds an event at the end. Where memory is refused the history stays as it was.
+    /// Adds an event at the end. It is asked to fit ([`History::fits`]).
+    ///
+    /// # Errors
+    ///
+    /// [`HistoryFault::Memory`]: want of memory. The history then stays as it was.
     pub fn push(&mut self, event: Event) -> Result<(), HistoryFault>
         requires { Fits self.old event }
         ensures ok { OnOk result (self.new ≡ self.old ++ event ∷ []) }
@@ -177,7 +185,7 @@ impl History {
         Ok(())
     }
 
-    /// Takes the last event away.
+    /// Takes the last event away. The history is asked not to be empty.
     pub fn pop(&mut self) -> Event
         requires { self.old ≢ [] }
         ensures { self.old ≡ self.new ++ result ∷ [] }
@@ -195,6 +203,10 @@ impl History {
     }
 
     /// A history of the same events.
+    ///
+    /// # Errors
+    ///
+    /// [`HistoryFault::Memory`]: want of memory.
     pub fn copy(&self) -> Result<History, HistoryFault>
         ensures { IfOk result (λ copy. copy ≡ self.now) }
     {
@@ -218,7 +230,13 @@ impl History {
         }
     }
 
-    /// The history without the pending calls of threads other than `t`. Where `t` has no pending call, it has none.
+    /// The history without the pending calls of threads other than `t`: where `t` has a pending call, the history with that
+    /// one alone, for which a stuck history has to have a witness (Burckhardt, Dern, Musuvathi and Tan, 2010). Where `t` has
+    /// no pending call, it has none.
+    ///
+    /// # Errors
+    ///
+    /// [`HistoryFault::Memory`]: want of memory.
     pub fn keep_pending(&self, t: u8) -> Result<History, HistoryFault>
         ensures kept { IfOk result (λ kept. kept ≡ keep_pending t self.now) }
 

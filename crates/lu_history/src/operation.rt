@@ -2,8 +2,7 @@
 
 ghost use Rattle.std.specs.Prelude.{◌≡◌, ◌+◌, ◌*◌};
 
-/// The number of threads of a history, at most, and that of the calls of one thread.
-pub(crate) const LIMIT: usize = 8;
+use lu_test::MOST_CALLS_OF_THREAD;
 
 /// An operation: call number `k` of thread `t`, both from 0 to 7.
 #[derive(Clone, Copy, Debug, PartialEq, Eq, Hash)]
@@ -17,6 +16,6 @@ impl OpId {
     pub(crate) fn place(self) -> usize
         ensures { result ≡ self.t * 8 + self.k }
     {
-        usize::from(self.t) * LIMIT + usize::from(self.k)
+        usize::from(self.t) * MOST_CALLS_OF_THREAD + usize::from(self.k)
     }
 }

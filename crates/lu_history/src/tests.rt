@@ -194,10 +194,10 @@ fn writes_a_line_for_each_event(rt: HostRuntime) -> Result<(), Fail> {
 }
 
 #[test]
-fn shows_its_code(rt: HostRuntime) -> Result<(), Fail> {
+fn want_of_memory_is_shown(rt: HostRuntime) -> Result<(), Fail> {
     assert_eq!(rt;
         format!(in rt.alloc(); "{}", HistoryFault::Memory)?.as_str(),
-        "H1"
+        "memory"
     );
     Ok(())
 }

@@ -29,6 +29,10 @@ fn write_event(text: &mut String, event: Event) -> Result<(), AllocError>
 
 /// The text of a history: a line for each event, as `call 0 1`, `return 0 1 ret 5` or `return 0 1 trap`, with the thread and
 /// the number of its call, both from 0. Each line ends with LF.
+///
+/// # Errors
+///
+/// Want of memory.
 pub fn write_history(alloc: Global, history: &History) -> Result<String, AllocError>
     ensures { IfOk result (λ text. string_bytes text ≡ history_text history.now) }
 {

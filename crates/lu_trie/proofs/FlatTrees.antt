@@ -194,7 +194,7 @@ module _ (links : List Link) (ns : List Node) (t : Table) (view : table_from lin
     flat_branches = ap branches_of here.members ∙ node-branches n.ends (resolve t (links_of links n)) here.branches
 
     pub flat_branching : IsBranching (get_or t k [])
-    flat_branching = subst IsBranching (sym here.members) (node-branching n.ends (resolve t (links_of links n)) here.branches here.serial)
+    flat_branching = subst IsBranching (sym here.members) (node-branching n.ends (resolve t (links_of links n)) here.branches)
 
     links_count : length (links_of links n) ≡ n.count
     links_count = simp (length-take, length-drop) (omega (arith, here.in_range))

@@ -47,13 +47,12 @@ pub node-branches : (ends : Bool) (bs : List Branch) → AreBranches bs → bran
 node-branches true bs are = branches-joined bs are.rise are.full
 node-branches false bs are = branches-joined bs are.rise are.full
 
-pub node-branching : (ends : Bool) (bs : List Branch) → AreBranches bs → AllSerial (members_from ends bs) → IsBranching (members_from ends bs)
-node-branching ends bs are serial =
+pub node-branching : (ends : Bool) (bs : List Branch) → AreBranches bs → IsBranching (members_from ends bs)
+node-branching ends bs are =
     let same = node-branches ends bs are in
     record {
       parted = ap (λ b. members_from b bs) (sym (node-nil ends bs)) ∙ ap (members_from (contains (members_from ends bs) [])) (sym same);
       branches = subst AreBranches (sym same) are;
-      serial = serial;
     }
 
 pub node-branch : (ends : Bool) (bs : List Branch) → AreBranches bs → (i : ℕ) (b : Branch) → i < length bs → b ≡ get_or bs i b → slice_get (branches_of (members_from ends bs)) i ≡ Some b

@@ -53,7 +53,6 @@ branches_of ((op ∷ history) ∷ histories) = with_first op history (branches_o
 pub record IsBranching (histories : List (List SerialOp)) : Type 0 where
   pub parted : histories ≡ members_from (contains histories []) (branches_of histories)
   pub branches : AreBranches (branches_of histories)
-  pub serial : AllSerial histories
 
 -- the branch at place i has the label
 pub record IsBranchAt (branches : List Branch) (label : SerialOp) (i : ℕ) : Type 0 where

@@ -52,7 +52,7 @@ impl<B: Allocator> Trie<B> {
         ensures place { IfOk result (λ place. place < length table.new) }
         ensures members { IfOk result (λ place. slice_index_or table.new place [] ≡ self.now) }
     {
-        let mut links = Vec::new(table.links.allocator().clone()?);
+        let mut links = Vec::with_capacity(table.links.allocator().clone()?, self.kids.len())?;
         for (label, below) in &self.kids {
             let place = below.add_to(table)?;
             links.push((*label, place))?;
@@ -69,8 +69,8 @@ impl<B: Allocator> Trie<B> {
     }
 }
 
-/// A set of serial histories in flat vectors, made from a trie and only read. A step down the tree reads one node and one
-/// link, and takes no memory. In clauses it is the sets below its places and the place of its root.
+/// A set of serial histories in flat vectors, made from a trie and only read. A step down the tree reads two nodes and
+/// the link between them, and takes no memory. In clauses it is the sets below its places and the place of its root.
 #[derive(Drop)]
 pub struct PackedTrie<A: Allocator> {
     table: Table<A>,
@@ -90,6 +90,10 @@ impl<A: Allocator> Model for PackedTrie<A> {
 
 impl<A: Allocator + Clone> PackedTrie<A> {
     /// The same set as the trie's, under an allocator of its own.
+    ///
+    /// # Errors
+    ///
+    /// Want of memory.
     pub fn pack<B: Allocator>(alloc: A, trie: &Trie<B>) -> Result<PackedTrie<A>, AllocError>
         ensures { IfOk result (λ packed. members_of packed ≡ trie.now) }
     {
@@ -117,6 +121,7 @@ impl<'a, A: Allocator> SerialTree for &'a PackedTrie<A> {
     fn root(&self) -> usize {
         let packed: &'a PackedTrie<A> = *self;
         let table = &packed.table;
+        // What holds of every node is known where the node is read.
         let _ = table.nodes[packed.root];
         packed.root
     }
@@ -137,6 +142,7 @@ impl<'a, A: Allocator> SerialTree for &'a PackedTrie<A> {
         let packed: &'a PackedTrie<A> = *self;
         let table = &packed.table;
         let (label, below) = table.links[table.nodes[place].first + i];
+        // What holds of every node is known where the node is read.
         let _ = table.nodes[below];
         (label, below)
     }

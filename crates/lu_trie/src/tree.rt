@@ -11,9 +11,14 @@ use std::alloc::Allocator;
 
 /// A set of serial histories as a tree, whose places stand for the beginnings of its members.
 ///
-/// The members below a place are the empty history, where the place ends one, and those below its kids, each behind the
-/// kid's label. The labels rise strictly, by thread and then by outcome, and below each kid there is a member. Places are
-/// cheap to copy. They are asked to come from `root` or `kid` of the same tree.
+/// The laws that are asked of a tree, at each of its places:
+///
+/// - the members below the place are the empty history, where the place ends one, and those below its kids, in the order
+///   of the kids and each behind its kid's label;
+/// - the labels of the kids rise strictly, by thread and then by outcome;
+/// - below each kid there is a member.
+///
+/// Places are cheap to copy. They are asked to come from `root` or `kid` of the same tree.
 ///
 /// To read a tree from several threads ask for `T: SerialTree + Sync` where `T::Place: Send + Sync`.
 pub trait SerialTree {
@@ -51,8 +56,8 @@ pub trait SerialTree {
         ensures place { is_place self.now result.1 }
         ensures kid { slice_get (branches_of (below self.now place)) i ≡ Some (result.0, below self.now result.1) };
 
-    /// The law: what is below a place is the empty history, where the place ends one, and what is below its kids, each behind
-    /// its label.
+    /// The laws: what is below a place is the empty history, where the place ends one, and what is below its kids, each behind
+    /// its label; the labels rise strictly; and below each kid there is a member.
     ghost branching: { (tree : Self) (place : Self.Place) → is_place tree place → IsBranching (below tree place) };
 }
 
@@ -70,6 +75,7 @@ impl<'a, A: Allocator> SerialTree for &'a Trie<A> {
 
     fn root(&self) -> &'a Trie<A> {
         let trie: &'a Trie<A> = *self;
+        // What holds of every trie is known where its kids are named.
         let _ = &trie.kids;
         trie
     }
@@ -84,6 +90,7 @@ impl<'a, A: Allocator> SerialTree for &'a Trie<A> {
 
     fn kid(&self, place: &'a Trie<A>, i: usize) -> (SerialOp, &'a Trie<A>) {
         let (label, below) = &place.kids[i];
+        // What holds of every trie is known where its kids are named.
         let _ = &below.kids;
         (*label, below)
     }

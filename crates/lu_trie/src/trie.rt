@@ -62,7 +62,7 @@ impl<A: Allocator> Trie<A> {
     {
         match history {
             [] => self.ends,
-            [label, rest @ ..] => match place(&self.kids, *label) {
+            [label, rest @ ..] => match find_kid(&self.kids, *label) {
                 Ok(i) => self.kids[i].1.contains(rest),
                 Err(_) => false,
             },
@@ -90,7 +90,8 @@ impl<A: Allocator> Trie<A> {
 
     /// Where the history conflicts with a member: the number i of operations at which they agree, and the outcome of the
     /// member's next one, where the histories go on with the same thread and different outcomes
-    /// (Burckhardt, Dern, Musuvathi and Tan, 2010). In a set without conflicts there is at most one such pair.
+    /// (Burckhardt, Dern, Musuvathi and Tan, 2010). The set is asked to be one without conflicts between its members, and then
+    /// there is at most one such pair.
     pub fn conflict(&self, history: &[SerialOp]) -> Option<(usize, SerialOutcome)>
         requires { IsDeterministic self.now }
         ensures { (i : ℕ) (o : SerialOutcome) → (result ≡ Some (i, o)) ↔ HasConflict self.now history.now i o }
@@ -112,7 +113,7 @@ impl<A: Allocator> Trie<A> {
 
 impl<A: Allocator + Clone> Trie<A> {
     /// The set of one history.
-    fn path(alloc: &A, history: &[SerialOp]) -> Result<Trie<A>, AllocError>
+    fn of_one(alloc: &A, history: &[SerialOp]) -> Result<Trie<A>, AllocError>
         requires { IsSerial history.now }
         ensures { IfOk result (λ trie. trie ≡ history.now ∷ []) }
     {
@@ -120,15 +121,18 @@ impl<A: Allocator + Clone> Trie<A> {
         match history {
             [] => Ok(Trie { ends: true, kids }),
             [label, rest @ ..] => {
-                let below = Self::path(alloc, rest)?;
+                let below = Self::of_one(alloc, rest)?;
                 kids.push((*label, below))?;
                 Ok(Trie { ends: false, kids })
             }
         }
     }
 
-    /// Adds a history, and answers whether it was no member before. Where memory is refused the set stays as it was: the nodes
-    /// of the new operations are built first, and linked by one growth.
+    /// Adds a history, in which `Stuck` may stand only last, and answers whether it was no member before.
+    ///
+    /// # Errors
+    ///
+    /// Want of memory. The set then stays as it was: the nodes of the new operations are built first, and linked by one growth.
     pub fn insert(&mut self, history: &[SerialOp]) -> Result<bool, AllocError>
         requires { IsSerial history.now }
         ensures ok { OnOk result (Adds self.old self.new history.now) }
@@ -141,10 +145,10 @@ impl<A: Allocator + Clone> Trie<A> {
                 self.ends = true;
                 Ok(fresh)
             }
-            [label, rest @ ..] => match place(&self.kids, *label) {
+            [label, rest @ ..] => match find_kid(&self.kids, *label) {
                 Ok(i) => self.kids[i].1.insert(rest),
                 Err(i) => {
-                    let below = Self::path(self.kids.allocator(), rest)?;
+                    let below = Self::of_one(self.kids.allocator(), rest)?;
                     self.kids.insert(i, (*label, below))?;
                     Ok(true)
                 }
@@ -154,7 +158,7 @@ impl<A: Allocator + Clone> Trie<A> {
 }
 
 /// Where the kid with a label is, or where it would go.
-fn place<A: Allocator>(kids: &[(SerialOp, Trie<A>)], label: SerialOp) -> Result<usize, usize>
+fn find_kid<A: Allocator>(kids: &[(SerialOp, Trie<A>)], label: SerialOp) -> Result<usize, usize>
     requires { AreBranches kids.now }
     ensures found { IfOk result (IsBranchAt kids.now label) }
     ensures absent { IfErr result (IsGapFor kids.now label) }

@@ -8,7 +8,7 @@ pub returns-in_err-clone-clause-grows : goal.returns-in_err-clone-clause-grows
 returns-in_err-clone-clause-grows g t c = grown_same c.args.table.now
 
 pub loop-label-init : goal.loop-label-init
-loop-label-init g t c = rw c.new-links.ensures.items record { grown = grown_same c.args.table.now; below = tt; done = refl }
+loop-label-init g t c = rw c.in_ok-links.ensures.items record { grown = grown_same c.args.table.now; below = tt; done = refl }
 
 pub add_to-requires : goal.add_to-requires
 add_to-requires g t c κs w =

@@ -34,8 +34,8 @@ invariant_of-self-in-Err g t c =
 pub insert-requires : goal.insert-requires
 insert-requires g t c κs within = (search rules, (within, serial_rest c.args.history.now c.requires))
 
-pub path-requires : goal.path-requires
-path-requires g t c = serial_rest c.args.history.now c.requires
+pub of_one-requires : goal.of_one-requires
+of_one-requires g t c = serial_rest c.args.history.now c.requires
 
 pub returns-in-empty-clause-fresh : goal.returns-in-empty-clause-fresh
 returns-in-empty-clause-fresh g t c = ap not (sym (rw (← c.self.view_is) (node-empty c.self.inside.ends c.self.inside.kids.items c.args.history.now c.in-empty.len_below)))

@@ -3,7 +3,7 @@ use Rattle.std.proofs.lemmas.List.Sorted.{answers_always}
 use Rattle.lu_history.proofs.Derived.{op_order}
 use Rattle.lu_trie.specs.Branches.{Branch}
 use Rattle.lu_trie.proofs.Searched.{searched}
-use Rattle.lu_trie.proofs.trie.place.Goals as goal
+use Rattle.lu_trie.proofs.trie.find_kid.Goals as goal
 
 pub returns : goal.returns
 returns g c =
