@@ -5,7 +5,7 @@ use Rattle.std.specs.Ordering.{is_eq}
 use Rattle.std.proofs.lemmas.Option.{slice_get_read}
 use Rattle.lu_history.specs.declared.serial.SerialOp.{SerialOp}
 use Rattle.lu_history.specs.Order.{op_cmp}
-use Rattle.lu_trie.specs.Members.{same_op, contains, behind, AllSerial}
+use Rattle.lu_trie.specs.Members.{same_op, contains, behind}
 use Rattle.lu_trie.specs.Branches.{Branch, labels, joined, members_from, with_first, branches_of, NoneBare, AreBranches, IsBranching}
 use Rattle.lu_trie.proofs.Ops.{ops_equiv}
 use Rattle.lu_trie.proofs.Membership.{node-nil}

@@ -7,6 +7,9 @@ use Rattle.lu_trie.proofs.trie.Trie.+add_to.Goals as goal
 pub returns-in_err-clone-clause-grows : goal.returns-in_err-clone-clause-grows
 returns-in_err-clone-clause-grows g t c = grown_same c.args.table.now
 
+pub returns-in_err-links-clause-grows : goal.returns-in_err-links-clause-grows
+returns-in_err-links-clause-grows g t c = grown_same c.args.table.now
+
 pub loop-label-init : goal.loop-label-init
 loop-label-init g t c = rw c.in_ok-links.ensures.items record { grown = grown_same c.args.table.now; below = tt; done = refl }
 
@@ -65,8 +68,8 @@ invariant_of-table-2 g t c =
     let items = c.deref-label-items.result.now in
     let done = inv.done ∙ take_all c.loop-label.label-index items (omega arith) ∙ c.deref-label-items.ensures.value in
     let first = c.len-first.ensures ∙ links.ok.0 in
-    let count = c.len.ensures ∙ own.ok.0 in
-    let node : Node = record { ends = c.self.inside.ends; first = c.len-first.result; count = c.len.result } in
+    let count = c.len-2.ensures ∙ own.ok.0 in
+    let node : Node = record { ends = c.self.inside.ends; first = c.len-first.result; count = c.len-2.result } in
     rw (c.in_ok-push-2.ensures.items, linked) (added_packed links.items own.items nodes.items c.loop-label.table c.table-2.view_is c.table-2.invariant node c.self.inside.kids.items first count inv.below done c.self.invariant.are c.self.invariant.serial)
 
 pub returns-clause-grows : goal.returns-clause-grows
@@ -79,8 +82,8 @@ returns-clause-grows g t c =
     let items = c.deref-label-items.result.now in
     let done = inv.done ∙ take_all c.loop-label.label-index items (omega arith) ∙ c.deref-label-items.ensures.value in
     let first = c.len-first.ensures ∙ links.ok.0 in
-    let count = c.len.ensures ∙ own.ok.0 in
-    let node : Node = record { ends = c.self.inside.ends; first = c.len-first.result; count = c.len.result } in
+    let count = c.len-2.ensures ∙ own.ok.0 in
+    let node : Node = record { ends = c.self.inside.ends; first = c.len-first.result; count = c.len-2.result } in
     rw (c.in_ok-push-2.ensures.items, linked, added_view links.items own.items nodes.items c.loop-label.table c.table-2.view_is c.table-2.invariant node c.self.inside.kids.items first count inv.below done c.self.invariant.are c.self.invariant.serial) (grown_more c.args.table.now c.loop-label.table _ inv.grown (_, refl))
 
 pub returns-clause-place : goal.returns-clause-place
@@ -93,8 +96,8 @@ returns-clause-place g t c =
     let items = c.deref-label-items.result.now in
     let done = inv.done ∙ take_all c.loop-label.label-index items (omega arith) ∙ c.deref-label-items.ensures.value in
     let first = c.len-first.ensures ∙ links.ok.0 in
-    let count = c.len.ensures ∙ own.ok.0 in
-    let node : Node = record { ends = c.self.inside.ends; first = c.len-first.result; count = c.len.result } in
+    let count = c.len-2.ensures ∙ own.ok.0 in
+    let node : Node = record { ends = c.self.inside.ends; first = c.len-first.result; count = c.len-2.result } in
     rw (c.in_ok-push-2.ensures.items, linked, added_view links.items own.items nodes.items c.loop-label.table c.table-2.view_is c.table-2.invariant node c.self.inside.kids.items first count inv.below done c.self.invariant.are c.self.invariant.serial, c.len-place.ensures, nodes.ok.0) (added_in_range links.items own.items nodes.items c.loop-label.table c.table-2.view_is c.table-2.invariant node c.self.inside.kids.items first count inv.below done c.self.invariant.are c.self.invariant.serial)
 
 pub returns-clause-members : goal.returns-clause-members
@@ -107,6 +110,6 @@ returns-clause-members g t c =
     let items = c.deref-label-items.result.now in
     let done = inv.done ∙ take_all c.loop-label.label-index items (omega arith) ∙ c.deref-label-items.ensures.value in
     let first = c.len-first.ensures ∙ links.ok.0 in
-    let count = c.len.ensures ∙ own.ok.0 in
-    let node : Node = record { ends = c.self.inside.ends; first = c.len-first.result; count = c.len.result } in
+    let count = c.len-2.ensures ∙ own.ok.0 in
+    let node : Node = record { ends = c.self.inside.ends; first = c.len-first.result; count = c.len-2.result } in
     rw (c.in_ok-push-2.ensures.items, linked, added_view links.items own.items nodes.items c.loop-label.table c.table-2.view_is c.table-2.invariant node c.self.inside.kids.items first count inv.below done c.self.invariant.are c.self.invariant.serial, c.len-place.ensures, nodes.ok.0) (added_place links.items own.items nodes.items c.loop-label.table c.table-2.view_is c.table-2.invariant node c.self.inside.kids.items first count inv.below done c.self.invariant.are c.self.invariant.serial ∙ c.self.view_is)
