@@ -44,9 +44,16 @@ impl Model for Board {
 /// A worker's right to claim pieces of one board. Contracts see what it knows as its [`View`].
 #[derive(Drop)]
 pub struct Seat {
+    /// The number of pieces of the board.
     pieces: u64,
+
+    /// Whether the worker was told that no piece is left.
     spent: bool,
+
+    /// Whether the worker gave a piece up.
     gave_up: bool,
+
+    /// The worker's share in the board's words, which each of its steps takes.
     token: Token,
 }
 
@@ -84,7 +91,7 @@ impl Seat {
     }
 }
 
-// Takes in the views of more seats, and says whether any of them gave a piece up.
+/// Takes in the views of more seats, and says whether any of them gave a piece up.
 fn gather(table: &Words, mut token: Token, mut gave_up: bool, mut seats: Vec<Seat>) -> (Token, bool)
     requires words { table.now.shared.table_id.words ≡ 4 }
     requires table { token.table_id ≡ table.now.shared.table_id }

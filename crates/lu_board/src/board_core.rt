@@ -30,7 +30,7 @@ pub enum CoreEvent {
 }
 
 /// Why [`run`] stopped.
-#[derive(Debug, Drop, Error)]
+#[derive(Clone, Copy, Debug, PartialEq, Eq, Error)]
 pub enum CoreFault {
     /// The event at this index, from 0, is the first one that is not legal.
     #[error("event {0} is not legal")]
@@ -40,7 +40,7 @@ pub enum CoreFault {
     Memory,
 }
 
-// What a worker has done. Contracts see it as a view of weight 1.
+/// What a worker has done. Contracts see it as a view of weight 1.
 #[derive(Drop)]
 struct Worker {
     pieces: u64,
@@ -60,10 +60,21 @@ impl Model for Worker {
 
     ghost Value = { View };
 
-    ghost view = { λ w. record { pieces = w.pieces; weight = 1; spent = if w.spent then 1 else 0; seen = w.seen; past = w.past; held = w.held.items; clean = w.clean.items; found = w.found.items; skipped = w.skipped.items; given = w.given.items } };
+    ghost view = { λ w. record {
+      pieces = w.pieces;
+      weight = 1;
+      spent = if w.spent then 1 else 0;
+      seen = w.seen;
+      past = w.past;
+      held = w.held.items;
+      clean = w.clean.items;
+      found = w.found.items;
+      skipped = w.skipped.items;
+      given = w.given.items;
+    } };
 }
 
-// Takes the piece out of the list, and says whether it was there.
+/// Takes the piece out of the list, and says whether it was there.
 fn take_out(pieces: &mut Vec<u64>, piece: u64) -> bool
     ensures taken { result ≡ is_in piece pieces.old.items }
     ensures left { pieces.new.items ≡ without piece pieces.old.items }
@@ -92,7 +103,7 @@ impl Worker {
         }
     }
 
-    // Spent, and holds no piece.
+    /// Spent, and holds no piece.
     fn is_over(&self) -> bool
         ensures { IsTrue result ↔ IsOver self.now }
     {
@@ -168,7 +179,7 @@ impl Worker {
     }
 }
 
-// The state of a board, which a refused growth may leave between two events.
+/// The state of a board, which a refused growth may leave between two events.
 #[derive(Drop)]
 struct State {
     pieces: u64,
@@ -263,7 +274,7 @@ impl State {
         })
     }
 
-    // Makes the event's step where it is legal, and says whether it is.
+    /// Makes the event's step where it is legal, and says whether it is.
     fn step(&mut self, event: CoreEvent) -> Result<bool, AllocError>
         requires { self.old.next < 2 ^ 63 }
         ensures { IfOk result (λ ok. StepsIfLegal event self.old ok self.new) }

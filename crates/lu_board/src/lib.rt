@@ -7,6 +7,21 @@
 //! for nobody and takes no memory. When all is done, the board tells the least piece that was found
 //! bad, and whether any was given up.
 //!
+//! ```text
+//! let (board, mut seats) = Board::new(alloc, pieces, workers)?;
+//! while let Some(piece) = board.claim(&mut seat) {
+//!     if let Look::Skip(_) = board.look(&mut seat, piece) {
+//!         continue;
+//!     }
+//!     if is_bad(piece) {
+//!         board.lower(&mut seat, piece);
+//!     } else {
+//!         board.settle(&mut seat, piece, Kind::Clean);
+//!     }
+//! }
+//! let close = board.finish(seats);
+//! ```
+//!
 //! [`board_core`] has the same events as a pure machine, for every list of them. What an event does
 //! to the view of its seat stands once, in `specs/Events.antt`, for both.
 #![tactic(auto)]

@@ -9,7 +9,7 @@ use std::test::*;
 use std::thread;
 use std::thread::Threads;
 
-// A worker claims pieces until none is left, and finds one of them bad.
+/// A worker claims pieces until none is left, and finds one of them bad.
 fn work(board: &Board, mut seat: Seat, bad: u64) -> Seat
     requires { (seat.board ≡ board.now.board) × (seat.view.held ≡ []) }
     ensures { (result.board ≡ board.now.board) × (result.view.spent ≡ 1) × (result.view.held ≡ []) }
@@ -29,7 +29,7 @@ fn work(board: &Board, mut seat: Seat, bad: u64) -> Seat
     seat
 }
 
-// Two workers in threads of their own.
+/// Two workers in threads of their own.
 fn work_in_threads<R: Threads + Sync>(
     rt: &R,
     board: &Board,
@@ -54,7 +54,7 @@ fn work_in_threads<R: Threads + Sync>(
     )
 }
 
-// The seat claims this piece, and holds it.
+/// The seat claims this piece, and holds it.
 fn claims(rt: &impl Abort, board: &Board, seat: &mut Seat, expected: u64)
     requires { (seat.old.board ≡ board.now.board) × (seat.old.view.held ≡ []) }
     ensures { (seat.new.board ≡ seat.old.board) × (seat.new.view.held ≡ expected ∷ []) }
@@ -65,7 +65,7 @@ fn claims(rt: &impl Abort, board: &Board, seat: &mut Seat, expected: u64)
     assert!(rt; piece == expected);
 }
 
-// The seat claims this piece and skips it, since it sees piece 1 as the best.
+/// The seat claims this piece and skips it, since it sees piece 1 as the best.
 fn skips(rt: &impl Abort, board: &Board, seat: &mut Seat, expected: u64)
     requires { (seat.old.board ≡ board.now.board) × (seat.old.view.held ≡ []) }
     ensures { (seat.new.board ≡ seat.old.board) × (seat.new.view.held ≡ []) }
@@ -77,7 +77,7 @@ fn skips(rt: &impl Abort, board: &Board, seat: &mut Seat, expected: u64)
     }
 }
 
-// Two seats on one thread, of which A lowers piece 1. B sees it, though B lowered none.
+/// Two seats on one thread, of which A lowers piece 1. B sees it, though B lowered none.
 #[test]
 fn a_seat_sees_what_another_lowered(rt: HostRuntime) -> Result<(), Fail> {
     let (board, mut seats) = Board::new(rt.alloc(), 8, 2)?;
@@ -184,7 +184,7 @@ fn a_board_without_pieces(rt: HostRuntime) -> Result<(), Fail> {
     Ok(())
 }
 
-// The first illegal event of a run with two workers and three pieces, of which 1 and 2 are bad.
+/// The first illegal event of a run with two workers and three pieces, of which 1 and 2 are bad.
 fn illegal_at(alloc: Global, events: &[CoreEvent]) -> Result<Option<usize>, CoreFault> {
     match run(alloc, 3, 2, &[false, true, true], events) {
         Ok(_) => Ok(None),
@@ -193,7 +193,7 @@ fn illegal_at(alloc: Global, events: &[CoreEvent]) -> Result<Option<usize>, Core
     }
 }
 
-// The best piece of a run, whether it is done, and whether a piece was given up.
+/// The best piece of a run, whether it is done, and whether a piece was given up.
 fn told(core: &Core) -> (Option<u64>, bool, bool) {
     (core.best(), core.done(), core.given_up())
 }

@@ -78,7 +78,7 @@ impl TableRule<(), View, Size> for BoardRule {
     ghost first = { λ size. newcomer size.pieces size.workers };
 }
 
-// What a step is about beyond its operands, for the proof alone. A call at `Brand` picks it.
+/// What a step is about beyond its operands, for the proof alone. A call at `Brand` picks it.
 pub(crate) trait About {
     ghost use Rattle.std.specs.Prelude.{ℕ};
     ghost use Rattle.lu_board.specs.declared.view.Kind.{Kind};
@@ -100,7 +100,7 @@ impl About for Brand {
     ghost pieces = { 0 };
 }
 
-// A claim, on a board of so many pieces.
+/// A claim, on a board of so many pieces.
 pub(crate) struct Claims<J> {
     about: PhantomData<J>,
 }
@@ -111,7 +111,7 @@ impl<J: About> Play<(), View> for Claims<J> {
     ghost then = { Claimed J.pieces };
 }
 
-// A look for a piece.
+/// A look for a piece.
 pub(crate) struct Looks<J> {
     about: PhantomData<J>,
 }
@@ -122,7 +122,7 @@ impl<J: About> Play<(), View> for Looks<J> {
     ghost then = { Looked J.piece };
 }
 
-// The operand is found bad.
+/// The operand is found bad.
 pub(crate) struct Lowers;
 
 impl Play<(), View> for Lowers {
@@ -131,7 +131,7 @@ impl Play<(), View> for Lowers {
     ghost then = { Lowered };
 }
 
-// A piece is settled.
+/// A piece is settled.
 pub(crate) struct Settles<J> {
     about: PhantomData<J>,
 }
@@ -142,7 +142,7 @@ impl<J: About> Play<(), View> for Settles<J> {
     ghost then = { Settled J.piece J.kind };
 }
 
-// A new seat of weight 1 is cut off.
+/// A new seat of weight 1 is cut off.
 pub(crate) struct Deal;
 
 impl Split<View> for Deal {
@@ -153,7 +153,7 @@ impl Split<View> for Deal {
     ghost right = { λ v. newcomer v.pieces 1 };
 }
 
-// A seat takes in another one.
+/// A seat takes in another one.
 pub(crate) struct Gather;
 
 impl Join<View> for Gather {

@@ -22,11 +22,13 @@ fn ret(thread: u8, number: u32) -> SerialOp
 }
 
 /// Inserts the histories `0=0`, `0=1` and so on, and answers the number of those that were inserted before memory was
-/// refused; `None` where it never was.
+/// refused; `None` where it never was, or one of them was a member before.
 fn fill<A: Allocator + Clone>(set: &mut Trie<A>) -> Option<u32> {
     for number in 0..10_000 {
-        if !matches!(set.insert(&[ret(0, number)]), Ok(true)) {
-            return Some(number);
+        match set.insert(&[ret(0, number)]) {
+            Ok(true) => {}
+            Ok(false) => return None,
+            Err(_) => return Some(number),
         }
     }
     None
