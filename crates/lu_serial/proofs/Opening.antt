@@ -182,33 +182,28 @@ module _ (s : State) (m : Move) (new : State) (event : Option Event) (t : Turned
   module _ (start : State) (u : List Move) (history : List Event) (leads : Leads start u s history) (step : Step s m new event) where
     taken_call : (k : ℕ) → event ≡ Some (Call m.thread k) → HasTaken start (u ++ m ∷ []) new m.thread 0
     taken_call k is = record {
-      before = u;
-      call = m;
-      after = [];
-      parts = refl;
-      count = refl;
-      idle = s;
-      history = history;
-      begins = leads;
       called = new;
-      number = k;
-      calls = subst (Step s m new) is step;
+      after = [];
+      call = record { before = u; move = m; parts = refl; idle = s; history = history; begins = leads; number = k; step = subst (Step s m new) is step };
+      count = refl;
       goes_on = (refl, refl);
     }
 
-    taken_more : (i n : ℕ) → event ≡ None → HasTaken start u s i n → HasTaken start (u ++ m ∷ []) new i (n + 1)
+    pub taken_more : (i n : ℕ) → event ≡ None → HasTaken start u s i n → HasTaken start (u ++ m ∷ []) new i (n + 1)
     taken_more i n is h = record {
-      before = h.before;
-      call = h.call;
-      after = h.after ++ m ∷ [];
-      parts = ap (λ x. x ++ m ∷ []) h.parts ∙ parts_of h.before h.call h.after;
-      count = (let a : length (h.after ++ m ∷ []) ≡ length h.after + 1 = length-append h.after (m ∷ []) in let b = h.count in omega arith);
-      idle = h.idle;
-      history = h.history;
-      begins = h.begins;
       called = h.called;
-      number = h.number;
-      calls = h.calls;
+      after = h.after ++ m ∷ [];
+      call = record {
+        before = h.call.before;
+        move = h.call.move;
+        parts = ap (λ x. x ++ m ∷ []) h.call.parts ∙ parts_of h.call.before h.call.move h.after;
+        idle = h.call.idle;
+        history = h.call.history;
+        begins = h.call.begins;
+        number = h.call.number;
+        step = h.call.step;
+      };
+      count = (let a : length (h.after ++ m ∷ []) ≡ length h.after + 1 = length-append h.after (m ∷ []) in let b = h.count in omega arith);
       goes_on = leads_on h.called h.after (m ∷ []) s new [] [] h.goes_on (new, None, [], subst (Step s m new) is step, (refl, refl), refl);
     }
       where

@@ -62,8 +62,8 @@ module _ (start : State) (bound : ℕ) (u : List Move) (s : State) (entries : Li
           least = λ v lt out. differ (contains members out.0) (x.inside v out.0 lt out.1) out.2;
         }
 
-    pub cut_beyond : (m : Move) → IsSerialMove s m → IsFull current bound → (v : List Move) → IsOutside start bound members v → ⊥
-    cut_beyond m f full v out =
+    pub none_past_cut : (m : Move) → IsSerialMove s m → IsFull current bound → (v : List Move) → IsOutside start bound members v → ⊥
+    none_past_cut m f full v out =
         let cut : IsSeriallyCut start bound u = run_here start u s at.history at.leads _ at.serial (cut_here start u s bound current at.opens at.taken full m f) in
         elim (smaller_cases v u) [
           | inl y ↦ elim y [

@@ -93,4 +93,6 @@ unique s (m ∷ b) c a (n ∷ b') c' a' is idle h p called e step end on idle' h
 -- how many moves the open operation has taken is determined
 pub taken_same : (s : State) (u : List Move) (end : State) (t i m n : ℕ) → HasTaken s u end t m → HasTaken s u end i n → m ≡ n
 taken_same s u end t i m n x y =
-    sym x.count ∙ unique s x.before x.call x.after y.before y.call y.after (sym x.parts ∙ y.parts) x.idle x.history x.begins x.called (Call t x.number) x.calls end x.goes_on y.idle y.history y.begins y.called (Call i y.number) y.calls end y.goes_on ∙ y.count
+    let a = x.call in
+    let b = y.call in
+    sym x.count ∙ unique s a.before a.move x.after b.before b.move y.after (sym a.parts ∙ b.parts) a.idle a.history a.begins x.called (Call t a.number) a.step end x.goes_on b.idle b.history b.begins y.called (Call i b.number) b.step end y.goes_on ∙ y.count

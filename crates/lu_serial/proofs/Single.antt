@@ -21,17 +21,20 @@ use Rattle.lu_machine.proofs.Paths.{leads_same}
 use Rattle.lu_serial.proofs.Opening.{step_turned, others, same_or_not, complete_not_open}
 use Rattle.lu_serial.proofs.CallsLeft.{none_at_start}
 
-abbrev AtMostOne : State → Type 0
+-- at most one operation is open
+abbrev pub AtMostOne : State → Type 0
 AtMostOne s = (t i : ℕ) → HasOpen s t → HasOpen s i → t ≡ i
 
-mover : (s : State) (m : Move) (new : State) (event : Option Event) → Step s m new event → IsByOpen s m → (t : ℕ) → HasOpen new t → t ≡ m.thread
+-- after a move that goes on serially, its thread alone may have an operation open
+pub mover : (s : State) (m : Move) (new : State) (event : Option Event) → Step s m new event → IsByOpen s m → (t : ℕ) → HasOpen new t → t ≡ m.thread
 mover s m new event step by t h =
     elim (same_or_not t m.thread) [
       | inl e ↦ e
       | inr e ↦ sym (by t (others s m new event (step_turned s m new event step) t e h))
     ]
 
-one_along : (s : State) (u : List Move) (end : State) (h : List Event) → AtMostOne s → IsSerialFrom s u → Leads s u end h → AtMostOne end
+-- and so at most one is open all along a serial schedule
+pub one_along : (s : State) (u : List Move) (end : State) (h : List Event) → AtMostOne s → IsSerialFrom s u → Leads s u end h → AtMostOne end
 one_along s [] end h one f p = subst AtMostOne (sym p.0) one
 one_along s (m ∷ u) end h one f p =
     one_along p.0 u end p.2 (λ t i a b. mover s m p.0 p.1 p.3 f.0 t a ∙ sym (mover s m p.0 p.1 p.3 f.0 i b)) (f.1 p.0 p.1 p.3) p.4

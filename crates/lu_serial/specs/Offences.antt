@@ -1,5 +1,5 @@
 -- Serial offences, and what is learnt of a component and a matrix.
-use Rattle.std.specs.Prelude.{◌≡◌, ℕ, ◌+◌, ◌≤◌, List, ◌++◌, ◌⊎◌, ◌↔◌, true, false, min, length, Option, Some, None}
+use Rattle.std.specs.Prelude.{◌≡◌, ℕ, ◌≤◌, List, ◌⊎◌, ◌↔◌, true, false, Option, Some, None}
 use Rattle.lu_lang.specs.Component.{Declarations}
 use Rattle.lu_test.specs.declared.matrix.Call.{Call}
 use Rattle.lu_test.specs.declared.schedule.Move.{Move}
@@ -13,7 +13,7 @@ use Rattle.lu_trie.specs.Conflicts.{ConflictAt, IsDeterministic}
 use Rattle.lu_serial.specs.declared.learning.Learnt.{Learnt}
 use Rattle.lu_serial.specs.declared.learning.Learnt.TheVariants.{Set, Cut, Conflict}
 use Rattle.lu_machine.specs.Schedules.{IsLeast}
-use Rattle.lu_serial.specs.Serial.{HasTaken, IsSeriallyEnded, IsSeriallyCut, IsSerialHistory}
+use Rattle.lu_serial.specs.Serial.{Takes, IsSeriallyEnded, IsSeriallyCut, IsSerialHistory}
 
 -- u is serially ended, and its history conflicts at i with that of a smaller serially ended schedule, whose next outcome is o
 pub record IsConflict (s : State) (u : List Move) (i : ℕ) (o : SerialOutcome) : Type 0 where
@@ -29,6 +29,7 @@ pub record IsConflict (s : State) (u : List Move) (i : ℕ) (o : SerialOutcome) 
 abbrev pub IsOffence : State → ℕ → List Move → Type 0
 IsOffence s bound u = IsSeriallyCut s bound u ⊎ ((i : ℕ) × (o : SerialOutcome) × IsConflict s u i o)
 
+-- no schedule is a serial offence
 abbrev pub NoOffence : State → ℕ → Type 0
 NoOffence s bound = (u : List Move) → IsOffence s bound u → ⊥
 
@@ -46,6 +47,7 @@ IsFirstCut s bound u = IsLeast (IsOffence s bound) u × IsSeriallyCut s bound u
 abbrev pub IsFirstConflict : State → ℕ → List Move → ℕ → SerialOutcome → Type 0
 IsFirstConflict s bound u i o = IsLeast (IsOffence s bound) u × IsConflict s u i o
 
+-- what `learn` answers: the set, where there is no offence; or the least offence, which is cut or conflicts so
 abbrev pub IsLearnt : {A : Type 0} → State → ℕ → Learnt A → Type 0
 IsLearnt s bound (Set members) = IsSetOf s bound members
 IsLearnt s bound (Cut u) = IsFirstCut s bound u
@@ -57,15 +59,16 @@ IsOutside s bound members u =
     (q : List SerialOp) × IsSeriallyEnded s u q × (contains members q ≡ false)
     × ((v : List Move) → IsSmaller v u → IsSeriallyCut s bound v → ⊥)
 
+-- what `first_outside` answers: the least schedule that is outside, or none where none is
 abbrev pub IsFirstOutside : State → ℕ → List (List SerialOp) → Option (List Move) → Type 0
 IsFirstOutside s bound members None = (u : List Move) → IsOutside s bound members u → ⊥
 IsFirstOutside s bound members (Some u) = IsLeast (IsOutside s bound members) u
 
--- Without offence no operation of a serially ended schedule takes more than `bound` moves after its call: where n went by without an event, and more follow, the next is one of them.
+-- Where there is no serial offence, no operation of a serially ended schedule takes more than `bound` moves after its call.
 abbrev pub SerialShort : Type 0
 SerialShort =
-    (s : State) (bound : ℕ) (u rest : List Move) (q : List SerialOp) (end : State) (t n : ℕ) →
-    NoOffence s bound → IsSeriallyEnded s (u ++ rest) q → HasTaken s u end t n → n + min (length rest) 1 ≤ bound
+    (s : State) (bound : ℕ) (u : List Move) (q : List SerialOp) (n : ℕ) →
+    NoOffence s bound → IsSeriallyEnded s u q → Takes s u n → n ≤ bound
 
 -- Where the least offence conflicts, the place and the outcome are determined.
 abbrev pub OneConflict : Type 0

@@ -1,5 +1,5 @@
 -- Serial schedules, how they end, and their histories (Burckhardt, Dern, Musuvathi and Tan, 2010).
-use Rattle.std.specs.Prelude.{◌≡◌, ◌≢◌, ℕ, List, [], ◌∷◌, ◌++◌, ◌⊎◌, Option, Some, length, slice_get}
+use Rattle.std.specs.Prelude.{◌≡◌, ◌≢◌, ℕ, List, [], ◌∷◌, ◌++◌, ◌⊎◌, Option, Some, None, length, slice_get}
 use Rattle.lu_test.specs.declared.schedule.Move.{Move}
 use Rattle.lu_machine.specs.declared.event.Event.{Event}
 use Rattle.lu_machine.specs.declared.event.Event.TheVariants.{Call, Return}
@@ -63,20 +63,40 @@ IsSeriallyEnded s u q = SerialRun s u (λ end history. EndsAs end history q)
 abbrev pub IsSerialHistory : State → List SerialOp → Type 0
 IsSerialHistory s q = (u : List Move) × IsSeriallyEnded s u q
 
--- u leads to the state end; one of its moves calls an operation of thread t, and n moves without an event follow.
-pub record HasTaken (s : State) (u : List Move) (end : State) (t n : ℕ) : Type 0 where
+-- one of the moves of u calls an operation of thread t, which leads to the state called, and these moves are after it
+pub record HasCall (s : State) (u : List Move) (t : ℕ) (called : State) (after : List Move) : Type 0 where
   pub before : List Move
-  pub call : Move
-  pub after : List Move
-  pub parts : u ≡ before ++ call ∷ after
-  pub count : length after ≡ n
+  pub move : Move
+  pub parts : u ≡ before ++ move ∷ after
   pub idle : State
   pub history : List Event
   pub begins : Leads s before idle history
-  pub called : State
   pub number : ℕ
-  pub calls : Step idle call called (Some (Call t number))
+  pub step : Step idle move called (Some (Call t number))
+
+-- u leads to the state end; one of its moves calls an operation of thread t, and n moves without an event follow.
+pub record HasTaken (s : State) (u : List Move) (end : State) (t n : ℕ) : Type 0 where
+  pub called : State
+  pub after : List Move
+  pub call : HasCall s u t called after
+  pub count : length after ≡ n
   pub goes_on : Leads called after end []
+
+-- thread t makes these moves from s, and none of them but perhaps the last has an event
+abbrev pub GoesOn : State → ℕ → List Move → Type 0
+GoesOn s t [] = Unit {0}
+GoesOn s t (m ∷ []) = m.thread ≡ t
+GoesOn s t (m ∷ n ∷ u) = (m.thread ≡ t) × (next : State) × Step s m next None × GoesOn next t (n ∷ u)
+
+-- an operation of u takes n moves after its call: they are of its thread, and none but perhaps the last, which is the return, has an event
+pub record Takes (s : State) (u : List Move) (n : ℕ) : Type 0 where
+  pub thread : ℕ
+  pub called : State
+  pub after : List Move
+  pub rest : List Move
+  pub call : HasCall s u thread called (after ++ rest)
+  pub count : length after ≡ n
+  pub goes_on : GoesOn called thread after
 
 -- the open operation has taken `bound` moves after its call, and its thread is enabled
 abbrev pub IsSeriallyCut : State → ℕ → List Move → Type 0

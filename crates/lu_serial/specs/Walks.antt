@@ -20,7 +20,7 @@ use Rattle.lu_serial.specs.declared.node.Node.{Node}
 use Rattle.lu_serial.specs.declared.learning.Walked.{Walked}
 use Rattle.lu_serial.specs.declared.learning.Walked.TheVariants.{Passed, Cut, Conflict}
 use Rattle.lu_serial.specs.declared.outside.Sought.{Sought}
-use Rattle.lu_serial.specs.declared.outside.Sought.TheVariants.{Inside, Outside, Beyond}
+use Rattle.lu_serial.specs.declared.outside.Sought.TheVariants.{Inside, Outside, Cut as PastCut}
 use Rattle.lu_machine.specs.Schedules.{BeginsWith, IsLeast}
 use Rattle.lu_serial.specs.Serial.{HasOpen, IsByOpen, IsSerialFrom, HasTaken, IsSeriallyEnded, IsSeriallyCut, entry_of, entries_of, stuck_of}
 use Rattle.lu_serial.specs.Offences.{IsOutside, IsFirstCut, IsFirstConflict}
@@ -157,18 +157,18 @@ pub record AreInside (s : State) (bound : ℕ) (Part : List Move → Type 0) (me
 abbrev pub IsSought : List Move → Sought → List Move → Type 0
 IsSought before Inside after = after ≡ before
 IsSought before Outside after = AreMoves after
-IsSought before Beyond after = Unit {0}
+IsSought before PastCut after = Unit {0}
 
 abbrev pub IsHomeSought : Node → Sought → Node → Type 0
 IsHomeSought old Inside new = (new.machine ≡ old.machine) × (new.entries.items ≡ old.entries.items)
 IsHomeSought old Outside new = Unit {0}
-IsHomeSought old Beyond new = Unit {0}
+IsHomeSought old PastCut new = Unit {0}
 
--- what a search for a history outside the set answers; `Beyond` where a schedule is cut before
+-- what a search for a history outside the set answers; where it meets a schedule that is cut, none is outside
 abbrev pub Seeks : State → ℕ → List (List SerialOp) → List Move → Sought → List Move → Type 0
 Seeks s bound members before Inside after = AreInside s bound (IsUpTo before) members
 Seeks s bound members before Outside after = IsLeast (IsOutside s bound members) after
-Seeks s bound members before Beyond after = (u : List Move) → IsOutside s bound members u → ⊥
+Seeks s bound members before PastCut after = (u : List Move) → IsOutside s bound members u → ⊥
 
 -- the path led here, and all smaller schedules are inside
 abbrev pub IsToSeek : State → ℕ → List Move → State → List SerialOp → Option OpenCall → List (List SerialOp) → Type 0

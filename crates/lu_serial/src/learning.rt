@@ -130,10 +130,15 @@ fn walk<A: Allocator + Clone>(
 
 /// What the serial runs of the component and the matrix show: the histories of all serially ended schedules, or else the
 /// least serial offence. `bound`, 1 to 256, is the number of moves that an operation may take after its call
-/// (Burckhardt, Dern, Musuvathi and Tan, 2010). `in_trie` is the allocator of the set, and all else is taken from `alloc`.
+/// (Burckhardt, Dern, Musuvathi and Tan, 2010). `set_alloc` is the allocator of the set, and all else is taken from `alloc`.
+/// The matrix has to be one of the component (`Matrix::of`).
+///
+/// # Errors
+///
+/// Memory is wanting.
 pub fn learn<A: Allocator + Clone>(
     alloc: Global,
-    in_trie: A,
+    set_alloc: A,
     component: &Component,
     matrix: &Matrix,
     bound: u16,
@@ -146,7 +151,7 @@ pub fn learn<A: Allocator + Clone>(
     limits(component, matrix);
     let mut node = Node::start(alloc, component, matrix)?;
     let mut path = Vec::new(alloc);
-    let mut set = Trie::new(in_trie);
+    let mut set = Trie::new(set_alloc);
     match walk(bound, &mut node, &mut path, &mut set, None)? {
         Walked::Passed => Ok(Learnt::Set(set)),
         Walked::Cut => Ok(Learnt::Cut(Schedule::new(path))),

@@ -20,7 +20,7 @@ use std::alloc::{AllocError, Allocator, Global};
 pub(crate) enum Sought {
     Inside,
     Outside,
-    Beyond,
+    Cut,
 }
 
 /// Whether the history of a schedule that ends here is a member.
@@ -65,7 +65,7 @@ fn seek<A: Allocator>(
         return Ok(Sought::Outside);
     }
     if is_full(current, bound) {
-        return Ok(Sought::Beyond);
+        return Ok(Sought::Cut);
     }
     let (first, end) = turns(&node.machine, current);
     for thread in first..end {
@@ -77,7 +77,7 @@ fn seek<A: Allocator>(
             match seek(bound, node, path, set, below)? {
                 Sought::Inside => {}
                 Sought::Outside => return Ok(Sought::Outside),
-                Sought::Beyond => return Ok(Sought::Beyond),
+                Sought::Cut => return Ok(Sought::Cut),
             }
             path.pop();
             node.leave(undo);
@@ -87,7 +87,12 @@ fn seek<A: Allocator>(
 }
 
 /// The least serially ended schedule whose history is not in the set, among those with no smaller schedule that is serially
-/// cut. `bound`, 1 to 256, is the number of moves that an operation may take after its call.
+/// cut. `bound`, 1 to 256, is the number of moves that an operation may take after its call. The matrix has to be one of the
+/// component (`Matrix::of`).
+///
+/// # Errors
+///
+/// Memory is wanting.
 pub fn first_outside<A: Allocator>(
     alloc: Global,
     component: &Component,
@@ -106,6 +111,6 @@ pub fn first_outside<A: Allocator>(
     match seek(bound, &mut node, &mut path, set, None)? {
         Sought::Outside => Ok(Some(Schedule::new(path))),
         Sought::Inside => Ok(None),
-        Sought::Beyond => Ok(None),
+        Sought::Cut => Ok(None),
     }
 }

@@ -6,7 +6,7 @@ use Rattle.lu_trie.specs.Members.{contains}
 use Rattle.lu_serial.specs.Walks.{HasSerialMove, IsFull, IsSerialMove, Seeks, ended_entries, moves_left, open_after}
 use Rattle.lu_serial.proofs.CallsLeft.{falls}
 use Rattle.lu_machine.proofs.Orders.{popped}
-use Rattle.lu_serial.proofs.Seeking.{end_inside, end_outside, cut_beyond, seek_none, seek_more, seek_turn, seek_all, kid_to_seek, seek_room}
+use Rattle.lu_serial.proofs.Seeking.{end_inside, end_outside, none_past_cut, seek_none, seek_more, seek_turn, seek_all, kid_to_seek, seek_room}
 use Rattle.lu_serial.proofs.outside.+seek.Goals as goal
 
 pub returns-then-branch-clause-answer : goal.returns-then-branch-clause-answer
@@ -25,7 +25,7 @@ pub returns-then-is_full-clause-answer : goal.returns-then-is_full-clause-answer
 returns-then-is_full-clause-answer g t c = λ start ready.
     (let some : HasSerialMove c.args.node.now.machine = search rules in
     let full : IsFull c.args.current c.args.bound = search rules in
-    cut_beyond start c.args.bound c.args.path.now.items c.args.node.now.machine c.args.node.now.entries.items c.args.current ready.0 c.args.set.now ready.1 some.0 some.1 full)
+    none_past_cut start c.args.bound c.args.path.now.items c.args.node.now.machine c.args.node.now.entries.items c.args.current ready.0 c.args.set.now ready.1 some.0 some.1 full)
 
 pub loop-thread-init : goal.loop-thread-init
 loop-thread-init g t c =
@@ -64,8 +64,8 @@ returns-in-Outside-clause-answer g t c = λ start ready.
     let walked : Seeks start c.args.bound c.args.set.now c.push.new.self.items c.in_ok-seek.field-0 c.seek.new.path.items = c.in_ok-seek.ensures.answer start (kid_to_seek start c.args.bound c.args.path.now.items c.args.node.now.machine c.args.node.now.entries.items c.args.current ready.0 c.args.set.now next serial room c.loop-pick.node.machine c.loop-pick.invariant.machine c.loop-pick.node.entries.items c.loop-pick.invariant.entries c.enter.new.self.machine c.in_ok-undo.undo.event c.in_ok-undo.ensures.step c.push.new.self.items pushed c.enter.new.self.entries.items c.in_ok-undo.ensures.entries c.open_after-below.result below (c.loop-pick.invariant.inside start ready)) in
     rw c.in-Outside.is at walked)
 
-pub returns-in-Beyond-clause-answer : goal.returns-in-Beyond-clause-answer
-returns-in-Beyond-clause-answer g t c = λ start ready.
+pub returns-in-Cut-clause-answer : goal.returns-in-Cut-clause-answer
+returns-in-Cut-clause-answer g t c = λ start ready.
     (let next : Move = record { thread = c.loop-thread.thread; pick = c.loop-pick.pick } in
     let here : c.loop-pick.pick < picks_of c.loop-thread.node.machine c.loop-thread.thread = rw (← c.picks-pick-end.ensures) (c.loop-pick-test.true) in
     let able : c.loop-pick.pick < picks_of c.args.node.now.machine c.loop-thread.thread = subst (λ x. c.loop-pick.pick < picks_of x c.loop-thread.thread) c.loop-thread.invariant.machine here in
@@ -75,7 +75,7 @@ returns-in-Beyond-clause-answer g t c = λ start ready.
     let step : Step c.args.node.now.machine next c.enter.new.self.machine c.in_ok-undo.undo.event = subst (λ x. Step x next c.enter.new.self.machine c.in_ok-undo.undo.event) c.loop-pick.invariant.machine c.in_ok-undo.ensures.step in
     let below : c.open_after-below.result ≡ open_after c.args.current c.loop-thread.thread c.in_ok-undo.undo.event = search rules in
     let walked : Seeks start c.args.bound c.args.set.now c.push.new.self.items c.in_ok-seek.field-0 c.seek.new.path.items = c.in_ok-seek.ensures.answer start (kid_to_seek start c.args.bound c.args.path.now.items c.args.node.now.machine c.args.node.now.entries.items c.args.current ready.0 c.args.set.now next serial room c.loop-pick.node.machine c.loop-pick.invariant.machine c.loop-pick.node.entries.items c.loop-pick.invariant.entries c.enter.new.self.machine c.in_ok-undo.undo.event c.in_ok-undo.ensures.step c.push.new.self.items pushed c.enter.new.self.entries.items c.in_ok-undo.ensures.entries c.open_after-below.result below (c.loop-pick.invariant.inside start ready)) in
-    rw c.in-Beyond.is at walked)
+    rw c.in-Cut.is at walked)
 
 pub loop-pick-preserved : goal.loop-pick-preserved
 loop-pick-preserved g t c =

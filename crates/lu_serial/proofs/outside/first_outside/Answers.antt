@@ -32,5 +32,5 @@ pub returns : goal.returns
 returns g c = λ s is.
     (let same : c.in_ok-node.node.machine ≡ s = c.in_ok-node.ensures.machine ∙ sym is in
     let sought = c.in_ok-seek.ensures.answer c.in_ok-node.node.machine (start_to_seek c.args.component.now c.args.matrix.now c.args.bound c.limits.ensures.component c.limits.ensures.matrix c.requires.few _ c.new-path.ensures.items _ c.in_ok-node.ensures.machine _ c.in_ok-node.ensures.entries c.args.set.now) in
-    let none : IsFirstOutside c.in_ok-node.node.machine c.args.bound c.args.set.now None = rw c.in-Beyond.is at sought in
+    let none : IsFirstOutside c.in_ok-node.node.machine c.args.bound c.args.set.now None = rw c.in-Cut.is at sought in
     subst (λ x. IsFirstOutside x c.args.bound c.args.set.now None) same none)
