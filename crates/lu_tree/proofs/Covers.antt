@@ -1,4 +1,4 @@
--- What the pieces of a cover say together.
+-- What the pieces of a cover say together, whatever the set of serial histories.
 use Rattle.std.proofs.Common.{◌≡◌, ℕ, ◌+◌, ◌⊎◌, List, [], ◌∷◌, sum_by, refl, sym, ◌∙◌, ap, subst, inl, inr, arith}
 use Rattle.std.specs.List.{AllZip}
 use Rattle.std.proofs.lemmas.List.Sums.{sum_by-cons}
@@ -7,23 +7,13 @@ use Rattle.lu_machine.specs.declared.counts.Counts.{Counts}
 use Rattle.lu_machine.specs.States.{State}
 use Rattle.lu_machine.specs.Order.{IsSmaller}
 use Rattle.lu_machine.specs.Sums.{capped, total}
-use Rattle.lu_machine.specs.Schedules.{Lists, IsRising, BeginsWith, IsNumber, IsCompleteWithin, IsStuckWithin, IsCutAt, IsCounted}
+use Rattle.lu_machine.specs.Schedules.{Lists, IsRising, BeginsWith, Reaches, IsNumber, IsCompleteWithin, IsStuckWithin, IsCutAt, IsEndedWithin, IsCounted}
 use Rattle.lu_machine.proofs.Orders.{smaller_asym, smaller_extends}
 use Rattle.lu_machine.proofs.Numbers.{number_none, number_same, number_join}
 use Rattle.lu_history.specs.declared.serial.SerialOp.{SerialOp}
-use Rattle.lu_witness.specs.Witnesses.{IsMember}
-use Rattle.lu_witness.specs.Goodness.{IsBad, AreAllGood, Any}
+use Rattle.lu_witness.specs.Goodness.{IsGoodAt, AreGood, AreAllGood, Any}
 use Rattle.lu_tree.specs.Trees.{Below}
-use Rattle.lu_tree.specs.Covers.{LeastOfCover, SumsOfCover}
-
--- a bad schedule is ended within the bound
-bad_counted : (Set : List SerialOp → Type 0) (s : State) (bound : ℕ) (u : List Move) → IsBad Set s bound u → IsCounted s bound u
-bad_counted Set s bound u bad =
-    let r = bad.1 in
-    elim r.holds.0 [
-      | inl c ↦ inl (inl (bad.0, record { end = r.end; history = r.history; leads = r.leads; holds = c }))
-      | inr k ↦ inl (inr (bad.0, record { end = r.end; history = r.history; leads = r.leads; holds = k }))
-    ]
+use Rattle.lu_tree.specs.Covers.{FirstOfCover, SumsOfCover}
 
 -- v begins with one of the pieces
 record Under (pieces : List (List Move)) (v : List Move) : Type 0 where
@@ -54,13 +44,13 @@ piece_join Kind p pieces f c counts rising apart x y =
     cases v piece (inr l) b k = inr (record { piece = piece; listed = l; begins = b }, k)
 
 module _ (Set : List SerialOp → Type 0) (s : State) (bound : ℕ) where
-  none_under : (p : List Move) (pieces : List (List Move)) → ((v : List Move) → Below p v → IsBad Set s bound v → ⊥) → ((v : List Move) → Under pieces v → IsBad Set s bound v → ⊥) → (v piece : List Move) → Lists (p ∷ pieces) piece → BeginsWith v piece → IsBad Set s bound v → ⊥
-  none_under p pieces first rest v piece (inl e) b bad = first v (subst (BeginsWith v) (sym e) b) bad
-  none_under p pieces first rest v piece (inr l) b bad = rest v (record { piece = piece; listed = l; begins = b }) bad
+  good_in : (p : List Move) (pieces : List (List Move)) → AreGood Set s bound (Below p) → AreGood Set s bound (Under pieces) → (v piece : List Move) → Lists (p ∷ pieces) piece → BeginsWith v piece → IsEndedWithin s bound v → Reaches s v (IsGoodAt Set)
+  good_in p pieces first rest v piece (inl e) b ended = first v (subst (BeginsWith v) (sym e) b) ended
+  good_in p pieces first rest v piece (inr l) b ended = rest v (record { piece = piece; listed = l; begins = b }) ended
 
   good_under : (pieces : List (List Move)) (counts : List Counts) → IsRising pieces → ((x y : List Move) → Lists pieces x → Lists pieces y → BeginsWith y x → x ≡ y) → AllZip (λ p c. AreAllGood Set s bound (Below p) c) pieces counts → AreAllGood Set s bound (Under pieces) (total counts)
   good_under [] [] rising apart all = record {
-    none = λ v under bad. absurd (under.listed);
+    good = λ v under _. absurd (under.listed);
     numbers = record {
       complete = number_none (λ v. Under [] v × IsCompleteWithin s bound v) (λ v k. absurd (k.0.listed));
       stuck = number_none (λ v. Under [] v × IsStuckWithin s bound v) (λ v k. absurd (k.0.listed));
@@ -73,7 +63,7 @@ module _ (Set : List SerialOp → Type 0) (s : State) (bound : ℕ) where
       let rest = good_under pieces counts rising.1 (λ x y h k b. apart x y (inr h) (inr k) b) all.1 in
       let first = all.0 in
       record {
-        none = λ v under bad. none_under p pieces first.none rest.none v under.piece under.listed under.begins bad;
+        good = λ v under ended. good_in p pieces first.good rest.good v under.piece under.listed under.begins ended;
         numbers = record {
           complete = piece_join (IsCompleteWithin s bound) p pieces (λ c. c.complete) c counts rising apart first.numbers.complete rest.numbers.complete;
           stuck = piece_join (IsStuckWithin s bound) p pieces (λ c. c.stuck) c counts rising apart first.numbers.stuck rest.numbers.stuck;
@@ -81,12 +71,12 @@ module _ (Set : List SerialOp → Type 0) (s : State) (bound : ℕ) where
         };
       }
 
-pub sums_of_cover : SumsOfCover
-sums_of_cover members s bound pieces counts cover all =
-    let h = good_under (IsMember members) s bound pieces counts cover.rising cover.apart all in
+pub sums_of_cover : (Set : List SerialOp → Type 0) → SumsOfCover Set
+sums_of_cover Set s bound pieces counts cover all =
+    let h = good_under Set s bound pieces counts cover.rising cover.apart all in
     let under : (v : List Move) → IsCounted s bound v → Under pieces v = λ v k. (let c = cover.covers v k in record { piece = c.0; listed = c.1; begins = c.2 }) in
     record {
-      none = λ v _ bad. h.none v (under v (bad_counted (IsMember members) s bound v bad)) bad;
+      good = λ v _ ended. h.good v (under v (inl ended)) ended;
       numbers = record {
         complete = number_same (λ v. Under pieces v × IsCompleteWithin s bound v) (λ v. Any v × IsCompleteWithin s bound v) (total counts).complete h.numbers.complete (λ v k. (tt, k.1)) (λ v k. (under v (inl (inl k.1)), k.1));
         stuck = number_same (λ v. Under pieces v × IsStuckWithin s bound v) (λ v. Any v × IsStuckWithin s bound v) (total counts).stuck h.numbers.stuck (λ v k. (tt, k.1)) (λ v k. (under v (inl (inr k.1)), k.1));
@@ -102,17 +92,19 @@ rising_cases (x ∷ pieces) p q rising (inl e) (inr k) = inl (inl (subst (λ y. 
 rising_cases (x ∷ pieces) p q rising (inr h) (inl f) = inl (inr (subst (λ y. IsSmaller y p) f (rising.0 p h)))
 rising_cases (x ∷ pieces) p q rising (inr h) (inr k) = rising_cases pieces p q rising.1 h k
 
-pub least_of_cover : LeastOfCover
-least_of_cover members s bound pieces p u cover listed earlier least =
+pub first_of_cover : (Set : List SerialOp → Type 0) → FirstOfCover Set
+first_of_cover Set s bound pieces p u why cover listed earlier first =
     record {
-      kind = (tt, least.kind.1);
-      least = λ v smaller k.
-          (let c = cover.covers v (bad_counted (IsMember members) s bound v k.1) in
-          elim (rising_cases pieces c.0 p cover.rising c.1 listed) [
-            | inl x ↦ elim x [
-              | inl before ↦ earlier c.0 v c.1 before c.2 k.1
-              | inr after ↦ smaller_asym v u smaller (below_pieces p c.0 u v after (cover.apart p c.0 listed c.1) least.kind.0 c.2)
+      part = tt;
+      bad = first.bad;
+      before = λ v k ended.
+          (let c = cover.covers v (inl ended) in
+          elim (rising_cases pieces c.0 p cover.rising c.1 listed) as (λ _. Reaches s v (IsGoodAt Set)) [
+            | inl x ↦ elim x as (λ _. Reaches s v (IsGoodAt Set)) [
+              | inl below ↦ earlier c.0 c.1 below v c.2 ended
+              | inr above ↦ absurd (smaller_asym v u k.1 (below_pieces p c.0 u v above (cover.apart p c.0 listed c.1) first.part c.2))
             ]
-            | inr same ↦ least.least v smaller (subst (BeginsWith v) same c.2, k.1)
+            | inr same ↦ first.before v (subst (BeginsWith v) same c.2, k.1) ended
           ]);
+      why_is = first.why_is;
     }

@@ -1,4 +1,4 @@
--- The schedules that begin with u, at the state to which u leads: which of them are bad, and how many are ended or cut.
+-- The schedules that begin with u, at the state to which u leads: whether they are good, and how many are ended or cut.
 use Rattle.std.proofs.Common.{◌≡◌, ℕ, ◌+◌, ◌<◌, ◌≤◌, ◌⊎◌, Bool, true, false, List, [], ◌∷◌, ◌++◌, length, refl, sym, ◌∙◌, ap, subst, inl, inr, arith}
 use Rattle.std.proofs.lemmas.Bool.{cases_lt}
 use Rattle.lu_test.specs.declared.schedule.Move.{Move}
@@ -10,19 +10,18 @@ use Rattle.lu_machine.specs.Runs.{Leads}
 use Rattle.lu_machine.specs.Ends.{HasMove, HasNoMove, IsComplete, IsStuck, IsEnded}
 use Rattle.lu_machine.specs.Order.{IsMoveBelow, IsSmaller}
 use Rattle.lu_machine.specs.Sums.{capped, plus}
-use Rattle.lu_machine.specs.Schedules.{BeginsWith, Reaches, IsNumber, IsCompleteWithin, IsStuckWithin, IsCutAt}
+use Rattle.lu_machine.specs.Schedules.{BeginsWith, Reaches, IsNumber, IsCompleteWithin, IsStuckWithin, IsCutAt, IsEndedWithin}
 use Rattle.lu_machine.proofs.Ahead.{begins_itself, begins_shorter, begins_longer, no_move, ended_no_move, not_both, here, reaches_here}
 use Rattle.lu_machine.proofs.Ended.{complete_no_move, picks_past}
 use Rattle.lu_machine.proofs.Numbers.{number_none, number_one, number_same, number_join}
 use Rattle.lu_machine.proofs.Orders.{same_move, smaller_asym, smaller_branch, smaller_cases}
 use Rattle.lu_history.specs.declared.serial.SerialOp.{SerialOp}
 use Rattle.lu_witness.specs.declared.judgement.Why.{Why}
-use Rattle.lu_witness.specs.declared.judgement.Why.TheVariants.{Complete, Stuck}
-use Rattle.lu_witness.specs.Goodness.{IsGoodAt, IsBad, IsWhy, IsFirstBad, AreAllGood}
+use Rattle.lu_witness.specs.Goodness.{IsGoodAt, IsWhyAt, AreGood, IsFirstBad, AreAllGood}
 use Rattle.lu_tree.specs.declared.node.Walked.{Walked}
 use Rattle.lu_tree.specs.declared.node.Walked.TheVariants.{Passed, Stopped}
 use Rattle.lu_tree.specs.Trees.{Below}
-use Rattle.lu_tree.specs.Walks.{IsWhyAt, Judges, Stops, Walks, one_complete, one_stuck, one_cut}
+use Rattle.lu_tree.specs.Walks.{Judges, Stops, Walks, one_complete, one_stuck, one_cut}
 
 -- v goes on from u by a move below the limit
 pub record GoesOnBelow (u : List Move) (limit : Move) (v : List Move) : Type 0 where
@@ -89,6 +88,11 @@ feasible_within s m f =
       | inr ge ↦ (let none : picks_of s m.thread ≡ 0 = picks_past s m.thread ge in absurd (omega arith))
     ]
 
+-- a schedule that is complete or stuck within the bound is ended, and no longer than it
+ended_within : (s : State) (bound : ℕ) (v : List Move) → IsEndedWithin s bound v → (length v ≤ bound) × Reaches s v (λ end _. IsEnded end)
+ended_within s bound v (inl c) = (c.0, record { end = c.1.end; history = c.1.history; leads = c.1.leads; holds = inl c.1.holds })
+ended_within s bound v (inr k) = (k.0, record { end = k.1.end; history = k.1.history; leads = k.1.leads; holds = inr k.1.holds })
+
 module _ (start : State) (u : List Move) (s : State) (h : List Event) (at : Leads start u s h) where
   -- where no schedule of the kind goes on, u alone counts
   one_here : (Short : List Move → Type 0) (P : State → List Event → Type 0) → ((v : List Move) (m : Move) → Short v → IsFeasible s m → BeginsWith v (u ++ m ∷ []) → ⊥) → Short u → P s h → IsNumber (λ v. Below u v × (Short v × Reaches start v P)) 1
@@ -122,16 +126,23 @@ module _ (start : State) (u : List Move) (s : State) (h : List Event) (at : Lead
       alone_cut : (v : List Move) (m : Move) → length v ≡ bound → IsFeasible s m → BeginsWith v (u ++ m ∷ []) → ⊥
       alone_cut v m long f b = alone v m (omega arith) f b
 
-      none_bad : ((IsEnded s × (IsGoodAt Set s h → ⊥)) → ⊥) → (v : List Move) → Below u v → IsBad Set start bound v → ⊥
-      none_bad good v b bad =
-          elim (here start u s h at (λ end history. IsEnded end × (IsGoodAt Set end history → ⊥)) v b bad.1) [
-            | inl e ↦ good e.1
-            | inr m ↦ alone v m.0 bad.0 m.1 m.2
+      -- an ended schedule that begins with u is u itself
+      ended_here : (v : List Move) → Below u v → IsEndedWithin start bound v → (v ≡ u) × IsEnded s
+      ended_here v b ended =
+          let e = ended_within start bound v ended in
+          elim (here start u s h at (λ end _. IsEnded end) v b e.1) [
+            | inl x ↦ x
+            | inr m ↦ absurd (alone v m.0 e.0 m.1 m.2)
           ]
+
+      all_good : (IsEnded s → IsGoodAt Set s h) → AreGood Set start bound (Below u)
+      all_good good v b ended =
+          let e = ended_here v b ended in
+          subst (λ x. Reaches start x (IsGoodAt Set)) (sym e.0) (reaches_here start u s h at (IsGoodAt Set) (good e.1))
 
       cut_counted : HasMove s → AreAllGood Set start bound (Below u) one_cut
       cut_counted some = record {
-        none = none_bad (λ bad. not_both s some (ended_no_move s bad.0));
+        good = all_good (λ ended. absurd (not_both s some (ended_no_move s ended)));
         numbers = record {
           complete = none_here (λ v. length v ≤ bound) (λ end _. IsComplete end) alone (λ c. not_both s some (complete_no_move s c));
           stuck = none_here (λ v. length v ≤ bound) (λ end _. IsStuck end) alone (λ stuck. not_both s some stuck.1);
@@ -141,7 +152,7 @@ module _ (start : State) (u : List Move) (s : State) (h : List Event) (at : Lead
 
       complete_counted : IsComplete s → IsGoodAt Set s h → AreAllGood Set start bound (Below u) one_complete
       complete_counted complete good = record {
-        none = none_bad (λ bad. bad.1 good);
+        good = all_good (λ _. good);
         numbers = record {
           complete = one_here (λ v. length v ≤ bound) (λ end _. IsComplete end) alone short complete;
           stuck = none_here (λ v. length v ≤ bound) (λ end _. IsStuck end) alone (λ stuck. stuck.0 complete);
@@ -151,7 +162,7 @@ module _ (start : State) (u : List Move) (s : State) (h : List Event) (at : Lead
 
       stuck_counted : IsStuck s → IsGoodAt Set s h → AreAllGood Set start bound (Below u) one_stuck
       stuck_counted stuck good = record {
-        none = none_bad (λ bad. bad.1 good);
+        good = all_good (λ _. good);
         numbers = record {
           complete = none_here (λ v. length v ≤ bound) (λ end _. IsComplete end) alone stuck.0;
           stuck = one_here (λ v. length v ≤ bound) (λ end _. IsStuck end) alone short stuck;
@@ -159,21 +170,16 @@ module _ (start : State) (u : List Move) (s : State) (h : List Event) (at : Lead
         };
       }
 
-      why_here : (why : Why) → IsWhyAt Set s h why → IsWhy Set start u why
-      why_here Complete is = reaches_here start u s h at (λ end history. IsComplete end) is
-      why_here (Stuck t) is = reaches_here start u s h at _ is
-
       bad_here : IsEnded s → (why : Why) → (IsGoodAt Set s h → ⊥) → IsWhyAt Set s h why → IsFirstBad Set start bound (Below u) u why
-      bad_here ended why not is = (
-        record {
-          kind = (begins_itself u, (short, reaches_here start u s h at (λ end history. IsEnded end × (IsGoodAt Set end history → ⊥)) (ended, not)));
-          least = λ v smaller k. elim (here start u s h at (λ end history. IsEnded end × (IsGoodAt Set end history → ⊥)) v k.0 k.1.1) [
-            | inl x ↦ (let w : IsSmaller u u = subst (λ y. IsSmaller y u) x.0 smaller in smaller_asym u u w w)
-            | inr m ↦ alone v m.0 k.1.0 m.1 m.2
-          ];
-        },
-        why_here why is,
-      )
+      bad_here ended why not is = record {
+        part = begins_itself u;
+        bad = (short, reaches_here start u s h at (λ end history. IsEnded end × (IsGoodAt Set end history → ⊥)) (ended, not));
+        before = λ v k e.
+            (let same = ended_here v k.0 e in
+            let w : IsSmaller u u = subst (λ y. IsSmaller y u) same.0 k.1 in
+            absurd (smaller_asym u u w w));
+        why_is = reaches_here start u s h at (λ end history. IsWhyAt Set end history why) is;
+      }
 
       complete_walk : (walked : Walked) → IsComplete s → Judges Set s h one_complete walked → Walks Set start bound u walked u
       complete_walk (Passed counts) complete j = subst (AreAllGood Set start bound (Below u)) (sym j.0) (complete_counted complete j.1)
@@ -194,7 +200,7 @@ module _ (start : State) (u : List Move) (s : State) (h : List Event) (at : Lead
     kids_none =
         let first : Move = record { thread = 0; pick = 0 } in
         record {
-          none = λ v f bad. none_below_first f.move f.below;
+          good = λ v f _. absurd (none_below_first f.move f.below);
           numbers = record {
             complete = number_none (λ v. GoesOnBelow u first v × IsCompleteWithin start bound v) (λ v k. none_below_first k.0.move k.0.below);
             stuck = number_none (λ v. GoesOnBelow u first v × IsStuckWithin start bound v) (λ v k. none_below_first k.0.move k.0.below);
@@ -222,7 +228,7 @@ module _ (start : State) (u : List Move) (s : State) (h : List Event) (at : Lead
     -- with the schedules of one more move
     pub kids_more : (t p : ℕ) (a b : Counts) → AreAllGood Set start bound (GoesOnBelow u (record { thread = t; pick = p })) a → AreAllGood Set start bound (Below (u ++ record { thread = t; pick = p } ∷ [])) b → AreAllGood Set start bound (GoesOnBelow u (record { thread = t; pick = p + 1 })) (plus a b)
     kids_more t p a b x y = record {
-      none = λ v f bad. elim (kid_cases t p v f) [ inl k ↦ x.none v k bad | inr k ↦ y.none v k bad ];
+      good = λ v f ended. elim (kid_cases t p v f) [ inl k ↦ x.good v k ended | inr k ↦ y.good v k ended ];
       numbers = record {
         complete = kid_join (IsCompleteWithin start bound) t p a.complete b.complete x.numbers.complete y.numbers.complete;
         stuck = kid_join (IsStuckWithin start bound) t p a.stuck b.stuck x.numbers.stuck y.numbers.stuck;
@@ -243,7 +249,7 @@ module _ (start : State) (u : List Move) (s : State) (h : List Event) (at : Lead
     -- from one thread to the next
     pub kids_turn : (t p : ℕ) → picks_of s t ≤ p → (counts : Counts) → AreAllGood Set start bound (GoesOnBelow u (record { thread = t; pick = p })) counts → AreAllGood Set start bound (GoesOnBelow u (record { thread = t + 1; pick = 0 })) counts
     kids_turn t p all counts x = record {
-      none = λ v f bad. x.none v (turn_back t p all (λ end history. IsEnded end × (IsGoodAt Set end history → ⊥)) v bad.1 f) bad;
+      good = λ v f ended. x.good v (turn_back t p all (λ end _. IsEnded end) v (ended_within start bound v ended).1 f) ended;
       numbers = record {
         complete = turn_number t p all (λ v. length v ≤ bound) (λ end _. IsComplete end) counts.complete x.numbers.complete;
         stuck = turn_number t p all (λ v. length v ≤ bound) (λ end _. IsStuck end) counts.stuck x.numbers.stuck;
@@ -267,9 +273,9 @@ module _ (start : State) (u : List Move) (s : State) (h : List Event) (at : Lead
 
       pub kids_all : length u < bound → (counts : Counts) → AreAllGood Set start bound (GoesOnBelow u (record { thread = t; pick = 0 })) counts → AreAllGood Set start bound (Below u) counts
       kids_all room counts x = record {
-        none = λ v b bad. elim (here start u s h at (λ end history. IsEnded end × (IsGoodAt Set end history → ⊥)) v b bad.1) [
-          | inl e ↦ not_both s some (ended_no_move s e.1.0)
-          | inr m ↦ x.none v (goes_on v m.0 m.1 m.2) bad
+        good = λ v b ended. elim (here start u s h at (λ end _. IsEnded end) v b (ended_within start bound v ended).1) [
+          | inl e ↦ absurd (not_both s some (ended_no_move s e.1))
+          | inr m ↦ x.good v (goes_on v m.0 m.1 m.2) ended
         ];
         numbers = record {
           complete = all_number (λ v. length v ≤ bound) (λ end _. IsComplete end) (λ _ c. not_both s some (complete_no_move s c)) counts.complete x.numbers.complete;
@@ -278,27 +284,26 @@ module _ (start : State) (u : List Move) (s : State) (h : List Event) (at : Lead
         };
       }
 
-    -- the least bad schedule of a move is the least of all, where the moves below it have none
+    -- the first bad schedule of a move is the first of all, where those of the moves below it are good
     pub kids_bad : (m : Move) → IsFeasible s m → (a : Counts) (w : List Move) (why : Why) → AreAllGood Set start bound (GoesOnBelow u m) a → IsFirstBad Set start bound (Below (u ++ m ∷ [])) w why → IsFirstBad Set start bound (Below u) w why
-    kids_bad m f a w why x y = (
-      record {
-        kind = (begins_shorter w u m y.0.kind.0, y.0.kind.1);
-        least = λ v smaller k. elim (here start u s h at (λ end history. IsEnded end × (IsGoodAt Set end history → ⊥)) v k.0 k.1.1) [
-          | inl e ↦ no_move s m (ended_no_move s e.1.0) f
-          | inr n ↦ least_at v smaller k.1 n.0 n.2
-        ];
-      },
-      y.1,
-    )
+    kids_bad m f a w why x y = record {
+      part = begins_shorter w u m y.part;
+      bad = y.bad;
+      before = λ v k ended. elim (here start u s h at (λ end _. IsEnded end) v k.0 (ended_within start bound v ended).1) [
+        | inl e ↦ absurd (no_move s m (ended_no_move s e.1) f)
+        | inr n ↦ good_before v k.1 ended n.0 n.2
+      ];
+      why_is = y.why_is;
+    }
       where
-        least_at : (v : List Move) → IsSmaller v w → IsBad Set start bound v → (n : Move) → BeginsWith v (u ++ n ∷ []) → ⊥
-        least_at v smaller bad n b =
+        good_before : (v : List Move) → IsSmaller v w → IsEndedWithin start bound v → (n : Move) → BeginsWith v (u ++ n ∷ []) → Reaches start v (IsGoodAt Set)
+        good_before v smaller ended n b =
             elim (move_cases n m) [
               | inl c ↦ elim c [
-                | inl lt ↦ x.none v (record { move = n; below = lt; begins = b }) bad
-                | inr gt ↦ (let over : IsSmaller w v = rw (y.0.kind.0.1, b.1) (smaller_branch u m n y.0.kind.0.0 b.0 gt) in smaller_asym v w smaller over)
+                | inl lt ↦ x.good v (record { move = n; below = lt; begins = b }) ended
+                | inr gt ↦ (let over : IsSmaller w v = rw (y.part.1, b.1) (smaller_branch u m n y.part.0 b.0 gt) in absurd (smaller_asym v w smaller over))
               ]
-              | inr e ↦ y.0.least v smaller (subst (λ k. BeginsWith v (u ++ k ∷ [])) e b, bad)
+              | inr e ↦ y.before v (subst (λ k. BeginsWith v (u ++ k ∷ [])) e b, smaller) ended
             ]
 
 -- none of the moves below the limit is feasible, or else some move is

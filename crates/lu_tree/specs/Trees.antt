@@ -13,7 +13,7 @@ use Rattle.lu_tree.specs.declared.found.Found.TheVariants.{Clean, Bad}
 abbrev pub Below : List Move → List Move → Type 0
 Below from u = BeginsWith u from
 
--- the least bad schedule of the part, and why; or, where none is bad, the numbers
+-- the first bad schedule of the part, and why; or, where all are good, the numbers
 abbrev pub IsFound : (List SerialOp → Type 0) → State → ℕ → (List Move → Type 0) → Found → Type 0
 IsFound Set s bound Part (Clean counts) = AreAllGood Set s bound Part counts
 IsFound Set s bound Part (Bad schedule why) = IsFirstBad Set s bound Part schedule why

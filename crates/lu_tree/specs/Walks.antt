@@ -6,10 +6,7 @@ use Rattle.lu_machine.specs.declared.event.Event.{Event}
 use Rattle.lu_machine.specs.States.{State}
 use Rattle.lu_machine.specs.Ends.{HasMove, IsComplete, IsStuck}
 use Rattle.lu_history.specs.declared.serial.SerialOp.{SerialOp}
-use Rattle.lu_witness.specs.declared.judgement.Why.{Why}
-use Rattle.lu_witness.specs.declared.judgement.Why.TheVariants.{Complete, Stuck}
-use Rattle.lu_witness.specs.Witnesses.{IsLeastWithout}
-use Rattle.lu_witness.specs.Goodness.{IsGoodAt, IsFirstBad, AreAllGood}
+use Rattle.lu_witness.specs.Goodness.{IsGoodAt, IsWhyAt, IsFirstBad, AreAllGood}
 use Rattle.lu_tree.specs.declared.node.Node.{Node}
 use Rattle.lu_tree.specs.declared.node.Walked.{Walked}
 use Rattle.lu_tree.specs.declared.node.Walked.TheVariants.{Passed, Stopped}
@@ -24,11 +21,6 @@ one_stuck = record { complete = 0; stuck = 1; cut = 0 }
 
 abbrev pub one_cut : Counts
 one_cut = record { complete = 0; stuck = 0; cut = 1 }
-
--- why a schedule is bad that ends in s with this history
-abbrev pub IsWhyAt : (List SerialOp → Type 0) → State → List Event → Why → Type 0
-IsWhyAt Set s h Complete = IsComplete s
-IsWhyAt Set s h (Stuck t) = IsStuck s × IsLeastWithout Set h t
 
 -- what a schedule comes to that ends here: these counts where it is good
 abbrev pub Judges : (List SerialOp → Type 0) → State → List Event → Counts → Walked → Type 0
@@ -51,7 +43,7 @@ abbrev pub IsHome : Node → Walked → Node → Type 0
 IsHome old (Passed counts) new = (new.machine ≡ old.machine) × (new.history ≡ old.history)
 IsHome old (Stopped why) new = Unit {0}
 
--- a walk that stopped leaves the path at the least bad schedule that begins with the path before
+-- a walk that stopped leaves the path at the first bad schedule that begins with the path before
 abbrev pub Walks : (List SerialOp → Type 0) → State → ℕ → List Move → Walked → List Move → Type 0
 Walks Set s bound before (Passed counts) after = AreAllGood Set s bound (Below before) counts
 Walks Set s bound before (Stopped why) after = IsFirstBad Set s bound (Below before) after why

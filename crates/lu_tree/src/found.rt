@@ -7,9 +7,9 @@ use lu_witness::Why;
 /// What is found among the schedules that begin with a given one.
 #[derive(Debug, Drop)]
 pub enum Found {
-    /// No schedule that ends within the bound is bad: how many are complete, stuck and cut.
+    /// Every schedule that ends within the bound is good: how many are complete, stuck and cut.
     Clean(Counts),
 
-    /// The least schedule that ends within the bound and is not good, and why it is not.
+    /// The least schedule that ends within the bound and is not good, and why it is not. Every smaller one is good.
     Bad { schedule: Schedule, why: Why },
 }

@@ -21,7 +21,7 @@ use lu_trie::SerialTree;
 use lu_witness::{Verdict, Why, verdict};
 use std::alloc::{AllocError, Global};
 
-/// A walk passed all schedules of its part, or stopped at the least bad one.
+/// A walk passed all schedules of its part, which are good, or stopped at the first bad one.
 #[derive(Clone, Copy, Debug)]
 pub(crate) enum Walked {
     Passed(Counts),
