@@ -87,7 +87,12 @@ fn node_after<'a>(
 }
 
 /// Searches the schedules that begin with `from`: answers the least one that is ended within the bound, 0 to 256 moves, and
-/// not good for the set of the tree, with its why; or, where there is none, how many are complete, stuck and cut.
+/// not good for the set of the tree, and why it is not good; or, where all are good, how many are complete, stuck and cut.
+/// The matrix has to be one of the component (`Matrix::of`), and `from` has to be feasible and to have at most `bound` moves.
+///
+/// # Errors
+///
+/// Memory is wanting.
 pub fn search<T: SerialTree>(
     alloc: Global,
     component: &Component,

@@ -104,9 +104,13 @@ fn deeper(
     Ok(Some(next))
 }
 
-/// The schedules of d moves and the ended ones of fewer, in order, with d the greatest depth, up to `depth`, 0 to 8, and the
-/// bound, 0 to 256, at which there are at most 65,536. They are a cover: each schedule that is ended within the bound or cut
-/// at it begins with exactly one of them.
+/// The schedules of `d` moves and the ended ones of fewer, in order. `d` is the greatest number, at most `depth` (0 to 8) and
+/// `bound` (0 to 256), for which there are at most 65,536 of them. They are a cover: each schedule that is ended within the
+/// bound or cut at it begins with exactly one of them. The matrix has to be one of the component (`Matrix::of`).
+///
+/// # Errors
+///
+/// Memory is wanting.
 pub fn frontier(
     alloc: Global,
     component: &Component,
