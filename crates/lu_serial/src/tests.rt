@@ -3,7 +3,8 @@
 use crate::{Learnt, first_outside, learn};
 use lu_history::{SerialOp, SerialOutcome};
 use lu_lang::read_component;
-use lu_test::read_matrix;
+use lu_test::{read_matrix, write_schedule};
+use lu_trie::Trie;
 use std::alloc::Global;
 use std::process::Abort;
 use std::test::Fail;
@@ -120,32 +121,107 @@ fn a_blocked_call_is_stuck(rt: HostRuntime) -> Result<(), Fail> {
     Ok(())
 }
 
-/// The number of moves of the least schedule whose history was not learnt.
-fn moves_to_outside(
+/// The text of the least schedule whose history is not in the set.
+fn outside(
     rt: &(impl AllocGlobal + Abort),
     component: &[u8],
     matrix: &[u8],
-    learnt: &Learnt<Global>,
-) -> Result<Option<usize>, Fail> {
+    set: &Trie<Global>,
+) -> Result<Option<String>, Fail> {
     let component = read_component(rt.alloc(), component)?;
     let matrix = read_matrix(rt.alloc(), &component, matrix)?;
     assert!(rt; matrix.of(&component));
-    let Learnt::Set(set) = learnt else {
-        return Ok(None);
-    };
     match first_outside(rt.alloc(), &component, &matrix, 8, set)? {
         None => Ok(None),
-        Some(schedule) => Ok(Some(schedule.moves().len())),
+        Some(schedule) => Ok(Some(write_schedule(rt.alloc(), &schedule)?)),
+    }
+}
+
+/// The least schedule whose history is not in the set is this one.
+fn assert_outside(
+    rt: &(impl AllocGlobal + Abort),
+    component: &[u8],
+    matrix: &[u8],
+    set: &Trie<Global>,
+    text: &str,
+) -> Result<(), Fail> {
+    match outside(rt, component, matrix, set)? {
+        None => panic!(rt; "nothing is outside"),
+        Some(got) => assert_eq!(rt; got.as_str(), text),
+    }
+    Ok(())
+}
+
+/// No schedule's history is outside of the set, or only behind one that is cut.
+fn assert_none_outside(
+    rt: &(impl AllocGlobal + Abort),
+    component: &[u8],
+    matrix: &[u8],
+    set: &Trie<Global>,
+) -> Result<(), Fail> {
+    match outside(rt, component, matrix, set)? {
+        None => Ok(()),
+        Some(_) => panic!(rt; "a schedule is outside"),
+    }
+}
+
+/// The set that is learnt of a matrix without offence.
+fn set_of(
+    rt: &(impl AllocGlobal + Abort),
+    component: &[u8],
+    matrix: &[u8],
+) -> Result<Trie<Global>, Fail> {
+    match learnt(rt, component, matrix, 8)? {
+        Learnt::Set(set) => Ok(set),
+        Learnt::Cut(_) => panic!(rt; "a serial cut"),
+        Learnt::Conflict { .. } => panic!(rt; "a serial conflict"),
     }
 }
 
 /// What one put shows lacks the history of the first schedule, a call that is blocked at once.
 #[test]
 fn the_first_is_outside(rt: HostRuntime) -> Result<(), Fail> {
-    let learnt = learnt(&rt, SLOT, b"thread put\n", 8)?;
-    let moves = moves_to_outside(&rt, SLOT, b"thread take\nthread put\n", &learnt)?;
-    assert_eq!(rt; moves, Some(1));
-    Ok(())
+    let set = set_of(&rt, SLOT, b"thread put\n")?;
+    assert_outside(
+        &rt,
+        SLOT,
+        b"thread take\nthread put\n",
+        &set,
+        "schedule 0\n",
+    )
+}
+
+/// What one take shows has the first history; the least schedule with another one lets the put go first.
+#[test]
+fn a_later_one_is_outside(rt: HostRuntime) -> Result<(), Fail> {
+    let set = set_of(&rt, SLOT, b"thread take\n")?;
+    let least = "schedule 1 1 1 0 0 0\n";
+    assert_outside(&rt, SLOT, b"thread take\nthread put\n", &set, least)
+}
+
+#[test]
+fn nothing_is_outside_of_all(rt: HostRuntime) -> Result<(), Fail> {
+    let matrix = b"thread take\nthread put\n";
+    let set = set_of(&rt, SLOT, matrix)?;
+    assert_none_outside(&rt, SLOT, matrix, &set)
+}
+
+const LATE: &[u8] = b"component c
+op f 0
+pick r0 2
+jz r0 L3
+return r0
+L3: jump L3
+end
+";
+
+/// The first pick never returns, and the second one does: its schedule comes behind one that is cut. Where the cut comes
+/// last, the first schedule is outside.
+#[test]
+fn a_smaller_cut_hides_what_is_outside(rt: HostRuntime) -> Result<(), Fail> {
+    let none = Trie::new(rt.alloc());
+    assert_none_outside(&rt, LATE, b"thread f\n", &none)?;
+    assert_outside(&rt, PICKS, b"thread f\n", &none, "schedule 0 0 0 0 0\n")
 }
 
 const MAYBE: &[u8] = b"component c
