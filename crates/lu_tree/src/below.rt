@@ -92,7 +92,7 @@ fn node_after<'a>(
 ///
 /// # Errors
 ///
-/// Memory is wanting.
+/// `AllocError` where memory was refused.
 pub fn search<T: SerialTree>(
     alloc: Global,
     component: &Component,

@@ -110,7 +110,7 @@ fn deeper(
 ///
 /// # Errors
 ///
-/// Memory is wanting.
+/// `AllocError` where memory was refused.
 pub fn frontier(
     alloc: Global,
     component: &Component,

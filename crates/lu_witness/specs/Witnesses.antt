@@ -47,6 +47,7 @@ pub record IsLeastWithout (Set : List SerialOp → Type 0) (h : List Event) (t :
   pub without : HasWitness Set (keep_pending t h) → ⊥
   pub least : (a : OpId) → a.t < t → IsPending h a → HasWitness Set (keep_pending a.t h)
 
+-- what `verdict` answers: the history has its witnesses; or no call is pending and it has none; or the least thread whose pending call has none
 abbrev pub IsVerdict : (List SerialOp → Type 0) → List Event → Verdict → Type 0
 IsVerdict Set h Good = IsGood Set h
 IsVerdict Set h NoWitness = ((a : OpId) → IsPending h a → ⊥) × (HasWitness Set h → ⊥)
