@@ -2,12 +2,10 @@
 use Rattle.std.proofs.Common.{◌≡◌, ◌<◌, ◌+◌, ◌↔◌, ℕ, Some, None, length, refl, sym, ap, inl, inr, arith}
 use Rattle.std.proofs.lemmas.Bool.{cases_lt}
 use Rattle.lu_test.specs.declared.schedule.Move.{Move}
-use Rattle.lu_machine.specs.declared.event.Status.{Status}
-use Rattle.lu_machine.specs.declared.event.Status.TheVariants.{Running, Complete, Stuck}
 use Rattle.lu_machine.specs.States.{State}
 use Rattle.lu_machine.specs.Steps.{IsEnabled, IsFeasible, picks_of}
-use Rattle.lu_machine.specs.Ends.{HasMove, HasStatus}
-use Rattle.lu_machine.proofs.Ended.{complete_no_move, picks_past}
+use Rattle.lu_machine.specs.Ends.{HasMove}
+use Rattle.lu_machine.proofs.Ended.{picks_past}
 use Rattle.lu_serial.specs.declared.node.OpenCall.{OpenCall}
 use Rattle.lu_serial.specs.Walks.{AreTurns, HasSerialMove, IsOpenIn}
 
@@ -43,9 +41,3 @@ open_moves s o opens = (
   (λ h. (record { thread = o.thread; pick = 0 }, (h, (λ t k. sym (opens.1 t k))))),
   (λ h. (let e : picks_of s h.0.thread ≡ picks_of s o.thread = ap (picks_of s) (h.1.1 o.thread opens.0) in let f = h.1.0 in omega arith)),
 )
-
--- the status tells whether some thread is enabled
-pub none_runs : (s : State) (status : Status) → HasStatus s status → (status ≡ Running → ⊥) → HasMove s → ⊥
-none_runs s Running h other k = other refl
-none_runs s Complete h other k = (let none = complete_no_move s h k.0 in let some = k.1 in omega arith)
-none_runs s Stuck h other k = (let none = h.1 k.0 in let some = k.1 in omega arith)

@@ -135,7 +135,7 @@ fn walk<A: Allocator + Clone>(
 ///
 /// # Errors
 ///
-/// Memory is wanting.
+/// `AllocError` where memory was refused.
 pub fn learn<A: Allocator + Clone>(
     alloc: Global,
     set_alloc: A,

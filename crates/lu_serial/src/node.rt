@@ -99,13 +99,10 @@ pub(crate) fn open_after(
     match event {
         Some(Event::Call { .. }) => Some(OpenCall { thread, taken: 0 }),
         Some(Event::Return { .. }) => None,
-        None => match current {
-            None => None,
-            Some(current) => Some(OpenCall {
-                thread: current.thread,
-                taken: current.taken + 1,
-            }),
-        },
+        None => current.map(|open| OpenCall {
+            thread: open.thread,
+            taken: open.taken + 1,
+        }),
     }
 }
 
@@ -113,21 +110,14 @@ pub(crate) fn open_after(
 pub(crate) fn is_full(current: Option<OpenCall>, bound: u16) -> bool
     ensures { IsTrue result ↔ IsFull current bound }
 {
-    match current {
-        None => false,
-        Some(current) => current.taken == bound,
-    }
+    current.is_some_and(|open| open.taken == bound)
 }
 
 /// Whether some thread is enabled.
 fn is_running(machine: &Machine) -> bool
     ensures { IsTrue result ↔ HasMove machine.now }
 {
-    match machine.status() {
-        Status::Running => true,
-        Status::Complete => false,
-        Status::Stuck => false,
-    }
+    matches!(machine.status(), Status::Running)
 }
 
 /// Whether some move goes on serially.

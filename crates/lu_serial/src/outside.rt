@@ -92,7 +92,7 @@ fn seek<A: Allocator>(
 ///
 /// # Errors
 ///
-/// Memory is wanting.
+/// `AllocError` where memory was refused.
 pub fn first_outside<A: Allocator>(
     alloc: Global,
     component: &Component,
