@@ -22,13 +22,14 @@ use Rattle.lu_witness.specs.declared.judgement.Why.{Why}
 use Rattle.lu_witness.specs.declared.judgement.Why.TheVariants.{Complete, Stuck}
 use Rattle.lu_witness.specs.declared.judgement.Verdict.TheVariants.{NoWitnessFor}
 use Rattle.lu_witness.specs.Witnesses.{IsLeastWithout}
-use Rattle.lu_witness.specs.Goodness.{IsBad, IsWhy, Any}
+use Rattle.lu_witness.specs.Goodness.{IsWhy, Any}
 use Rattle.lu_witness.proofs.Verdicts.{one_verdict}
 use Rattle.lu_replay.specs.declared.report.Finding.{Finding}
 use Rattle.lu_replay.specs.declared.report.Finding.TheVariants.{SerialCut, Nondeterministic, Fail, Pass}
 use Rattle.lu_replay.specs.declared.report.Report.{Report}
 use Rattle.lu_replay.specs.Parts.{Parts}
 use Rattle.lu_replay.specs.Reports.{IsFinding, IsReport}
+use Rattle.lu_replay.proofs.Sets.{good_not_bad, first_bad_same}
 
 -- ---- a serial schedule is not both cut and ended
 
@@ -109,14 +110,14 @@ module _ (c : Declarations) (matrix : List (List ACall)) (s : State) (is : IsSta
   one_finding bound most (Fail u why) (SerialCut v) x y = absurd (x.0 v y.0.kind)
   one_finding bound most (Fail u why) (Nondeterministic v j p) x y = absurd (x.0 v y.0.kind)
   one_finding bound most (Fail u why) (Fail v other) x y =
-      let same : v ≡ u = least_same (λ w. Any w × IsBad (IsSerialHistory s) s bound w) v u y.1.0 x.1.0 in
-      let reason : IsWhy (IsSerialHistory s) s u other = subst (λ (w : List Move). IsWhy (IsSerialHistory s) s w other) same y.1.1 in
-      let e : why ≡ other = why_same (IsSerialHistory s) u why other x.1.1 reason in
+      let same : v ≡ u = first_bad_same (IsSerialHistory s) s bound Any u v why other x.1 y.1 in
+      let reason : IsWhy (IsSerialHistory s) s u other = subst (λ (w : List Move). IsWhy (IsSerialHistory s) s w other) same y.1.why_is in
+      let e : why ≡ other = why_same (IsSerialHistory s) u why other x.1.why_is reason in
       cc
-  one_finding bound most (Fail u why) (Pass counts) x y = absurd (y.1.none u tt x.1.0.kind.1)
+  one_finding bound most (Fail u why) (Pass counts) x y = absurd (good_not_bad (IsSerialHistory s) s bound Any u y.1.good tt x.1.bad)
   one_finding bound most (Pass counts) (SerialCut v) x y = absurd (x.0 v y.0.kind)
   one_finding bound most (Pass counts) (Nondeterministic v j p) x y = absurd (x.0 v y.0.kind)
-  one_finding bound most (Pass counts) (Fail v why) x y = absurd (x.1.none v tt y.1.0.kind.1)
+  one_finding bound most (Pass counts) (Fail v why) x y = absurd (good_not_bad (IsSerialHistory s) s bound Any v x.1.good tt y.1.bad)
   one_finding bound most (Pass counts) (Pass others) x y = ap Pass (numbers_same s bound Any counts others x.1.numbers y.1.numbers)
 
 pub same_parts : (a b : Parts) → a.bound ≡ b.bound → a.serial ≡ b.serial → a.finding ≡ b.finding → a ≡ b

@@ -16,13 +16,14 @@ use Rattle.lu_replay.specs.declared.report_fault.ReportFault.{ReportFault}
 use Rattle.lu_replay.specs.declared.report_fault.ReportFault.TheVariants.{Form, Memory}
 use Rattle.lu_replay.specs.Parts.{Parts, AreLimits, IsThreadOf}
 use Rattle.lu_replay.specs.ReportText.{number_line, earlier_line, fail_line, finding_lines, report_text}
-use Rattle.lu_replay.specs.ReportForms.{kept_lines, IsOutcome, IsSound, AreFinding, AreReport, IsFaultFrom, IsFault, AreRun, AreConflict, AreCountLines, IsFirst, HasNoSchedule}
+use Rattle.lu_text.specs.Lines.{kept_lines}
+use Rattle.lu_replay.specs.ReportForms.{IsOutcome, IsSound, AreFinding, AreReport, IsFaultFrom, IsFault, AreRun, AreConflict, AreCountLines, IsFirst, HasNoSchedule}
 use Rattle.std.specs.Fmt.{decimal}
 use Rattle.std.proofs.lemmas.Fmt.{decimal_injective}
 use Rattle.std.proofs.lemmas.List.{append_assoc, append_cancel_left, append_cancel_right}
 use Rattle.std.proofs.lemmas.Bool.{eq-eqb}
 use Rattle.lu_replay.proofs.Faulty.{fault_at, fault_behind}
-use Rattle.lu_replay.proofs.Lines.{joined_lines}
+use Rattle.lu_text.proofs.KeptLines.{joined_lines}
 
 no_moves : AreMoves []
 no_moves = (omega arith, λ k d h. absurd (omega arith))

@@ -4,7 +4,8 @@ use Rattle.std.proofs.lemmas.Bool.{cases_lt}
 use Rattle.std.proofs.lemmas.List.{length-append}
 use Rattle.lu_replay.specs.declared.report_fault.ReportFault.{ReportFault}
 use Rattle.lu_replay.specs.declared.report_fault.ReportFault.TheVariants.{Form, Memory}
-use Rattle.lu_replay.specs.ReportForms.{kept_lines, DiffersAt, IsFaultFrom, IsFirst}
+use Rattle.lu_text.specs.Lines.{kept_lines}
+use Rattle.lu_replay.specs.ReportForms.{DiffersAt, IsFaultFrom, IsFirst}
 
 -- ---- the first line of a text
 

@@ -1,10 +1,10 @@
 pub mod Playing
 pub mod Sets
 pub mod Determined
+pub mod Limits
 pub mod Texts
 pub mod RunsAnew
 pub mod Alike
-pub mod Lines
 pub mod Numbers
 pub mod Outcomes
 pub mod Faulty

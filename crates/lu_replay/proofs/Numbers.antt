@@ -1,24 +1,12 @@
--- Numbers of 64 bits, and lines that end with one.
-use Rattle.std.proofs.Common.{◌≡◌, ℕ, ◌<◌, ◌≤◌, ◌^◌, List, ◌++◌, Option, Some, None, true, false, refl, sym, ◌∙◌, ap, subst, arith}
-use Rattle.std.specs.Prelude.{Bool, cond, min, nat_lt, codes, IfNone, IfErr, Result, Ok, Err}
+-- Lines that end with a number.
+use Rattle.std.proofs.Common.{◌≡◌, ℕ, ◌+◌, ◌<◌, ◌≤◌, ◌^◌, List, ◌++◌, Option, Some, None, true, false, refl, sym, ◌∙◌, ap, subst, arith}
+use Rattle.std.specs.Prelude.{Bool, cond, nat_lt, codes, IfNone, IfSome, IfErr, Result, Ok, Err}
 use Rattle.std.specs.Fmt.{decimal}
-use Rattle.std.proofs.lemmas.Bool.{le-ltb, lt-ltb, ltb-true}
+use Rattle.std.proofs.lemmas.Bool.{lt-ltb, ltb-true}
 use Rattle.std.proofs.lemmas.List.{append_assoc, append_cancel_left, append_cancel_right}
 use Rattle.lu_text.specs.Numbers.{below, number_in}
 use Rattle.lu_text.proofs.NumberText.{number_again, number_takes}
 use Rattle.lu_replay.specs.ReportText.{number_line}
-
--- a number that is cut at 2^64 is below it where the number itself is
-pub below_cut : (n m : ℕ) → min n (2 ^ 64) ≡ m → m < 2 ^ 64 → below (2 ^ 64) (Some n) ≡ Some m
-below_cut n m e small =
-    let same : n ≡ m = omega arith in
-    let t : nat_lt n (2 ^ 64) ≡ true = lt-ltb n (2 ^ 64) (omega arith) in
-    rw (t, same) refl
-
-pub above_cut : (n m : ℕ) → min n (2 ^ 64) ≡ m → 2 ^ 64 ≤ m → below (2 ^ 64) (Some n) ≡ None
-above_cut n m e large =
-    let f : nat_lt n (2 ^ 64) ≡ false = le-ltb n (2 ^ 64) (omega arith) in
-    rw f refl
 
 -- nothing is there
 pub if_none : {A : Type 0} (r : Option A) (P : Type 0) → P → IfNone r P
@@ -53,23 +41,29 @@ module _ (line front p : List ℕ) (same : p ≡ front) where
       is_word : (n : ℕ) → line ≡ number_line front n → word ≡ decimal n
       is_word n e = append_cancel_right word (decimal n) (codes "\n") (sym ends ∙ behind n e)
 
-      pub said : (n : ℕ) → below (2 ^ 64) (number_in word) ≡ Some n → line ≡ number_line front n
-      said n e =
-          let small = below_some (2 ^ 64) n (number_in word) e in
-          let text : decimal n ≡ word = number_takes word n small.1 small.0 in
+      spoken : (n : ℕ) → n < 2 ^ 64 → number_in word ≡ Some n → line ≡ number_line front n
+      spoken n small is =
+          let text : decimal n ≡ word = number_takes word n small is in
           begins ∙ (ap (λ x. p ++ x) ends ∙ (ap (λ x. x ++ (word ++ codes "\n")) same ∙ (ap (λ x. front ++ (x ++ codes "\n")) (sym text) ∙ sym (append_assoc front (decimal n) (codes "\n")))))
 
-      again : (n : ℕ) → n < 2 ^ 64 → line ≡ number_line front n → below (2 ^ 64) (number_in word) ≡ Some n
-      again n small e =
-          let t : nat_lt n (2 ^ 64) ≡ true = lt-ltb n (2 ^ 64) small in
+      again : (limit n : ℕ) → n < 2 ^ 64 → n < limit → line ≡ number_line front n → below limit (number_in word) ≡ Some n
+      again limit n small few e =
+          let t : nat_lt n limit ≡ true = lt-ltb n limit few in
           let number : number_in word ≡ Some n = ap number_in (is_word n e) ∙ number_again n small in
           rw (number, t) refl
 
-      pub not_said : below (2 ^ 64) (number_in word) ≡ None → (n : ℕ) → n < 2 ^ 64 → line ≡ number_line front n → ⊥
-      not_said none n small e = let f = again n small e in cc
+      -- the number that is read is the one of the line
+      pub said : (most : ℕ) (o : Option ℕ) → most < 2 ^ 64 → o ≡ below (most + 1) (number_in word) → IfSome o (λ n. (n ≤ most) × (line ≡ number_line front n))
+      said most None small is = tt
+      said most (Some n) small is =
+          let found = below_some (most + 1) n (number_in word) (sym is) in
+          let few = found.1 in
+          (omega arith, spoken n (omega arith) found.0)
 
-      pub said_once : (m n : ℕ) → below (2 ^ 64) (number_in word) ≡ Some m → n < 2 ^ 64 → line ≡ number_line front n → m ≡ n
-      said_once m n some small e = let f = again n small e in cc
+      -- where none is read, the line has none
+      pub not_said : (most : ℕ) (o : Option ℕ) → most < 2 ^ 64 → o ≡ below (most + 1) (number_in word) → IfNone o ((n : ℕ) → n ≤ most → line ≡ number_line front n → ⊥)
+      not_said most None small is = λ n few e. let f = again (most + 1) n (omega arith) (omega arith) e in cc
+      not_said most (Some n) small is = tt
 
 pub err_weaker : {A E : Type 0} (r : Result A E) (P Q : E → Type 0) → ((e : E) → P e → Q e) → IfErr r P → IfErr r Q
 err_weaker (Ok x) P Q h p = p

@@ -26,7 +26,8 @@ use Rattle.lu_replay.specs.declared.report_fault.ReportFault.{ReportFault}
 use Rattle.lu_replay.specs.declared.report_fault.ReportFault.TheVariants.{Form, Memory}
 use Rattle.lu_replay.specs.Parts.{AreLimits, IsThreadOf}
 use Rattle.lu_replay.specs.ReportText.{number_line, earlier_line, fail_line, finding_lines, report_lines, report_text}
-use Rattle.lu_replay.specs.ReportForms.{kept_lines, IsOutcome, IsSound, IsFault, Gives}
+use Rattle.lu_text.specs.Lines.{kept_lines}
+use Rattle.lu_replay.specs.ReportForms.{IsOutcome, IsSound, IsFault, Gives, Spells}
 use Rattle.lu_replay.proofs.Determined.{same_parts}
 use Rattle.lu_replay.proofs.Exits.{byte_at, clash, fail_byte, same_number}
 
@@ -189,10 +190,14 @@ report_same r s limits is others also e =
     (same_number (codes "serial ") r.serial s.serial (omega arith) (omega arith) (ap (line_at 2) e))
     (finding_same r.finding s.finding is also (ap (λ (x : List (List ℕ)). drop 3 x) e))
 
+-- a text spells one report
+pub one_spelt : (text : List ℕ) (r s : Report) → Spells text r → Spells text s → r ≡ s
+one_spelt text r s is also =
+    report_same r s is.0 is.1 also.0 also.1 (sym (report_again r is.0 is.1) ∙ (ap kept_lines (sym is.2 ∙ also.2) ∙ report_again s also.0 also.1))
+
 -- a report's text is read as the report
-pub text_read : (text : List ℕ) (result : Result Report ReportFault) → IfOk result (λ r. AreLimits r × IsSound r.finding × (text ≡ report_text r)) → IfErr result (IsFault text) → (r : Report) → AreLimits r → IsSound r.finding → text ≡ report_text r → Gives result r
-text_read text (Ok x) found fault r limits is e =
-    report_same x r found.0 found.1 limits is (sym (report_again x found.0 found.1) ∙ (ap kept_lines (sym found.2 ∙ e) ∙ report_again r limits is))
-text_read text (Err Memory) found fault r limits is e = refl
-text_read text (Err (Form line)) found fault r limits is e =
-    absurd (fault.2.there (report_lines r) (r, limits, is, refl) (ap (take (fault.0 + 1)) (sym (ap kept_lines e ∙ report_again r limits is))))
+pub text_read : (text : List ℕ) (result : Result Report ReportFault) → IfOk result (Spells text) → IfErr result (IsFault text) → (r : Report) → Spells text r → Gives result r
+text_read text (Ok x) found fault r is = one_spelt text x r found is
+text_read text (Err Memory) found fault r is = refl
+text_read text (Err (Form line)) found fault r is =
+    absurd (fault.2.there (report_lines r) (r, is.0, is.1, refl) (ap (take (fault.0 + 1)) (sym (ap kept_lines is.2 ∙ report_again r is.0 is.1))))

@@ -135,7 +135,7 @@ module _ (c : Declarations) (matrix : List (List ACall)) (s : State) (is : IsSta
 finding_shown : (s : State) (bound serial : ℕ) (f : Finding) → IsFinding s bound serial f → (IsPass f → ⊥) → IsShown s bound serial f
 finding_shown s bound serial (SerialCut u) is no_pass = is
 finding_shown s bound serial (Nondeterministic u before earlier) is no_pass = is
-finding_shown s bound serial (Fail u why) is no_pass = (is.0, (is.1.0.kind.1, is.1.1))
+finding_shown s bound serial (Fail u why) is no_pass = (is.0, (is.1.bad, is.1.why_is))
 finding_shown s bound serial (Pass counts) is no_pass = no_pass tt
 
 pub report_shown : (c : Declarations) (matrix : List (List ACall)) (bound serial : ℕ) (r : Report) → IsReport c matrix bound serial r → (IsPass r.finding → ⊥) → (s : State) → IsStart c matrix s → IsShown s r.bound r.serial r.finding

@@ -11,25 +11,9 @@ use Rattle.lu_replay.specs.declared.report.Finding.TheVariants.{SerialCut, Nonde
 use Rattle.lu_replay.specs.declared.report.Report.{Report}
 use Rattle.lu_replay.specs.declared.report_fault.ReportFault.{ReportFault}
 use Rattle.lu_replay.specs.declared.report_fault.ReportFault.TheVariants.{Form, Memory}
+use Rattle.lu_text.specs.Lines.{kept_lines}
 use Rattle.lu_replay.specs.Parts.{AreLimits, IsWithin}
-use Rattle.lu_replay.specs.ReportText.{number_line, earlier_line, finding_lines, report_lines}
-
--- ---- the lines of a text
-
--- a byte before the first line
-abbrev pub onto_line : ℕ → List (List ℕ) → List (List ℕ)
-onto_line b [] = (b ∷ []) ∷ []
-onto_line b (line ∷ lines) = (b ∷ line) ∷ lines
-
--- the lines, each with its LF; the last may lack it
-abbrev pub kept_lines : List ℕ → List (List ℕ)
-kept_lines [] = []
-kept_lines (b ∷ bs) = if b == 10 then (b ∷ []) ∷ kept_lines bs else onto_line b (kept_lines bs)
-
--- how many bytes the first line has, with its LF
-abbrev pub first_len : List ℕ → ℕ
-first_len [] = 0
-first_len (b ∷ bs) = if b == 10 then 1 else suc (first_len bs)
+use Rattle.lu_replay.specs.ReportText.{number_line, earlier_line, finding_lines, report_lines, report_text}
 
 -- ---- reports
 
@@ -55,6 +39,10 @@ HasParts (Pass counts) = AreCounts counts
 -- what a finding in a report is
 abbrev pub IsSound : Finding → Type 0
 IsSound f = IsWithin f × HasParts f
+
+-- this text spells this report
+abbrev pub Spells : List ℕ → Report → Type 0
+Spells text r = AreLimits r × IsSound r.finding × (text ≡ report_text r)
 
 -- these are the lines of a finding
 abbrev pub AreFinding : List (List ℕ) → Type 0

@@ -18,6 +18,13 @@ IsFinding s bound serial (Nondeterministic u before earlier) = IsFirstConflict s
 IsFinding s bound serial (Fail u why) = NoOffence s serial × IsFirstBad (IsSerialHistory s) s bound Any u why
 IsFinding s bound serial (Pass counts) = NoOffence s serial × AreAllGood (IsSerialHistory s) s bound Any counts
 
+-- what is found is a serial offence
+abbrev pub IsOfOffence : Finding → Type 0
+IsOfOffence (SerialCut u) = Unit {0}
+IsOfOffence (Nondeterministic u before earlier) = Unit {0}
+IsOfOffence (Fail u why) = ⊥
+IsOfOffence (Pass counts) = ⊥
+
 -- r is the report of the component and the matrix with these bounds
 abbrev pub IsReport : Declarations → List (List Call) → ℕ → ℕ → Report → Type 0
 IsReport c matrix bound serial r =

@@ -7,15 +7,15 @@ use lu_history::HistoryFault;
 use std::alloc::AllocError;
 use thiserror::Error;
 
-/// Why a schedule has no replay. It is shown by its code.
+/// Why a schedule has no replay. Shown, it is `P1` with the index of the move, or `memory`.
 #[derive(Clone, Copy, Debug, PartialEq, Eq, Error)]
 pub enum ReplayFault {
-    /// The move at this index, from 0, is the first that is not feasible where it stands.
+    /// `P1`: the move at this index, from 0, is the first that is not feasible where it stands.
     #[error("P1 {0}")]
     Infeasible(usize),
 
     /// Memory was refused.
-    #[error("P2")]
+    #[error("memory")]
     Memory,
 }
 

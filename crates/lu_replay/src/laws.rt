@@ -1,7 +1,8 @@
 //! Laws of replays and reports, for the crates above.
 
-ghost use Rattle.lu_serial.specs.Offences.{SerialShort};
 ghost use Rattle.lu_replay.specs.Laws.{AllConfirmed, EndedApart, OneFault, OneReplay, OneReport, ReplayOrFault};
+
+pub use lu_serial::serial_short;
 
 /// Why the answer of a replay is the only one: a schedule shows one history and one status, or else
 /// it is infeasible, and then at one place. The function does nothing.
@@ -19,12 +20,6 @@ pub fn ended_apart()
 /// A component and a matrix have one report with given bounds: so it does not matter who finds it. The function does nothing.
 pub fn one_report()
     ensures { OneReport }
-{}
-
-/// Where there is no serial offence, no operation of a serially ended schedule takes more moves after its call than the serial
-/// bound allows: so the set of serial histories needs no bound of its own. The function does nothing.
-pub fn serial_short()
-    ensures { SerialShort }
 {}
 
 /// A report that is no pass is confirmed by a run. The function does nothing.

@@ -14,6 +14,7 @@
 mod confirming;
 mod fault;
 pub mod laws;
+mod offence;
 mod player;
 mod report;
 mod report_fault;
@@ -26,6 +27,7 @@ mod text;
 pub use confirming::confirm;
 pub use fault::ReplayFault;
 pub use laws::{all_confirmed, ended_apart, one_report, replay_laws, serial_short};
+pub use offence::set_or_offence;
 pub use player::replay;
 pub use report::{Finding, Report};
 pub use report_fault::ReportFault;

@@ -7,17 +7,18 @@ ghost use Rattle.lu_test.specs.ScheduleText.{schedule_text};
 ghost use Rattle.lu_history.specs.declared.serial.SerialOutcome.{SerialOutcome};
 ghost use Rattle.lu_replay.specs.declared.report_fault.ReportFault.TheVariants.{Form};
 ghost use Rattle.lu_replay.specs.declared.report.Report.{Report};
-ghost use Rattle.lu_replay.specs.Parts.{AreLimits};
-ghost use Rattle.lu_replay.specs.ReportText.{finding_lines, report_text};
+ghost use Rattle.lu_replay.specs.ReportText.{finding_lines};
 ghost use Rattle.lu_replay.specs.ReportText as spec;
-ghost use Rattle.lu_replay.specs.ReportForms.{kept_lines, AreConflict, AreCountLines, AreCounts, AreFinding, AreRun, Gives, HasNoSchedule, IsFault, IsFaultFrom, IsFirst, IsOutcome, IsSound};
+ghost use Rattle.lu_text.specs.Lines.{kept_lines};
+ghost use Rattle.lu_replay.specs.ReportForms.{AreConflict, AreCountLines, AreCounts, AreFinding, AreRun, Gives, HasNoSchedule, IsFault, IsFaultFrom, IsFirst, IsOutcome, IsSound, Spells};
 
 use crate::report::{Finding, Report};
 use crate::report_fault::ReportFault;
-use crate::report_line::{cut_line, earlier_in, is_line, number_behind, why_in};
+use crate::report_line::{earlier_in, is_line, number_behind, why_in};
 use lu_history::SerialOutcome;
 use lu_machine::Counts;
 use lu_test::{Schedule, ScheduleFault, read_schedule};
+use lu_text::cut_line;
 use std::alloc::Global;
 
 /// The number on the first line, behind this front, and what follows the line. The fault is of line `line`.
@@ -144,7 +145,7 @@ fn finding(alloc: Global, text: &[u8]) -> Result<Finding, ReportFault>
 
 /// The report that a text is.
 fn report_in(alloc: Global, text: &[u8]) -> Result<Report, ReportFault>
-    ensures found { IfOk result (λ r. AreLimits r × IsSound r.finding × (text.now ≡ report_text r)) }
+    ensures found { IfOk result (Spells text.now) }
     ensures fault { IfErr result (IsFault text.now) }
 {
     let (first, rest) = cut_line(text);
@@ -163,11 +164,15 @@ fn report_in(alloc: Global, text: &[u8]) -> Result<Report, ReportFault>
 /// Reads a report from its text. Each report has one spelling. The fault is [`ReportFault::Form`] with the first line, from 1,
 /// that no report with the same lines before it has there; a missing line counts as the number of lines plus one, and a last
 /// line without LF is at fault.
+///
+/// # Errors
+///
+/// [`ReportFault::Form`] where the text spells no report, and [`ReportFault::Memory`] where memory was refused.
 pub fn read_report(alloc: Global, text: &[u8]) -> Result<Report, ReportFault>
-    // What is read is spelled so.
-    ensures found { IfOk result (λ r. AreLimits r × IsSound r.finding × (text.now ≡ report_text r)) }
-    // What is spelled so is read, unless memory runs out.
-    ensures only { (r : Report) → AreLimits r → IsSound r.finding → text.now ≡ report_text r → Gives result r }
+    // The text spells what is read.
+    ensures found { IfOk result (Spells text.now) }
+    // What the text spells is read, unless memory runs out.
+    ensures only { (r : Report) → Spells text.now r → Gives result r }
     // Which fault it is.
     ensures fault { IfErr result (IsFault text.now) }
 {

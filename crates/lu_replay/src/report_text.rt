@@ -1,9 +1,11 @@
 //! Reports as text.
 
-ghost use Rattle.std.specs.Prelude.{◌≡◌, ◌++◌, IfOk, OnOk, string_bytes};
+ghost use Rattle.std.specs.Prelude.{◌≡◌, ◌<◌, ◌^◌, ◌++◌, IfOk, OnOk, string_bytes};
 ghost use Rattle.std.specs.List.{concat};
+ghost use Rattle.lu_test.specs.Schedule.{AreMoves};
 ghost use Rattle.lu_test.specs.ScheduleText.{schedule_text};
-ghost use Rattle.lu_replay.specs.ReportText.{finding_lines, report_text};
+ghost use Rattle.lu_replay.specs.ReportForms.{HasParts, IsOutcome, Spells};
+ghost use Rattle.lu_replay.specs.ReportText.{finding_lines};
 ghost use Rattle.lu_replay.specs.ReportText as spec;
 
 use crate::report::{Finding, Report};
@@ -13,22 +15,26 @@ use lu_witness::Why;
 use std::alloc::{AllocError, Global};
 
 fn put_schedule(alloc: Global, text: &mut String, schedule: &Schedule) -> Result<(), AllocError>
-    ensures { OnOk result (string_bytes text.new ≡ string_bytes text.old ++ schedule_text schedule.now) }
+    ensures text { OnOk result (string_bytes text.new ≡ string_bytes text.old ++ schedule_text schedule.now) }
+    ensures moves { OnOk result (AreMoves schedule.now) }
 {
+    let _moves = schedule.moves();
     let line = write_schedule(alloc, schedule)?;
     text.push_str(line.as_str())
 }
 
 /// Adds a line with a number behind a front.
 fn put_number(text: &mut String, front: &str, number: u64) -> Result<(), AllocError>
-    ensures { OnOk result (string_bytes text.new ≡ string_bytes text.old ++ spec.number_line front.now number) }
+    ensures text { OnOk result (string_bytes text.new ≡ string_bytes text.old ++ spec.number_line front.now number) }
+    ensures range { number < 2 ^ 64 }
 {
     writeln!(text, "{front}{number}")?;
     Ok(())
 }
 
 fn put_earlier(text: &mut String, earlier: SerialOutcome) -> Result<(), AllocError>
-    ensures { OnOk result (string_bytes text.new ≡ string_bytes text.old ++ spec.earlier_line earlier) }
+    ensures text { OnOk result (string_bytes text.new ≡ string_bytes text.old ++ spec.earlier_line earlier) }
+    ensures outcome { OnOk result (IsOutcome earlier) }
 {
     match earlier {
         SerialOutcome::Ret(number) => put_number(text, "earlier ret ", u64::from(number))?,
@@ -49,7 +55,8 @@ fn put_fail(text: &mut String, why: Why) -> Result<(), AllocError>
 
 /// Adds the lines of what was found.
 fn put_finding(alloc: Global, text: &mut String, finding: &Finding) -> Result<(), AllocError>
-    ensures { OnOk result (string_bytes text.new ≡ string_bytes text.old ++ concat (finding_lines finding.now)) }
+    ensures text { OnOk result (string_bytes text.new ≡ string_bytes text.old ++ concat (finding_lines finding.now)) }
+    ensures parts { OnOk result (HasParts finding.now) }
 {
     match finding {
         Finding::SerialCut(schedule) => {
@@ -89,8 +96,14 @@ fn put_finding(alloc: Global, text: &mut String, finding: &Finding) -> Result<()
 /// fail complete
 /// schedule 0 0 0 1 1 0 0 1 1 1
 /// ```
+///
+/// It is the one spelling of the report, which [`crate::read_report`] reads as the report again.
+///
+/// # Errors
+///
+/// `AllocError` where memory was refused.
 pub fn write_report(alloc: Global, report: &Report) -> Result<String, AllocError>
-    ensures { IfOk result (λ text. string_bytes text ≡ report_text report.now) }
+    ensures { IfOk result (λ text. Spells (string_bytes text) report.now) }
 {
     let mut text = String::from_str(alloc, "lineup report 1\n")?;
     put_number(&mut text, "bound ", u64::from(report.bound()))?;
