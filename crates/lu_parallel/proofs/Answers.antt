@@ -40,17 +40,19 @@ number_of P Q n into back is = record {
 -- what is found below the empty schedule is what is found among all
 pub all_below : (Set : List SerialOp → Type 0) (s : State) (bound : ℕ) (found : Found) → IsFound Set s bound (Below []) found → IsFound Set s bound Any found
 all_below Set s bound (Clean counts) is = record {
-  none = λ u any bad. is.none u (below_empty u) bad;
+  good = λ u any ended. is.good u (below_empty u) ended;
   numbers = record {
     complete = number_of _ _ counts.complete (λ u p. (tt, p.1)) (λ u p. (below_empty u, p.1)) is.numbers.complete;
     stuck = number_of _ _ counts.stuck (λ u p. (tt, p.1)) (λ u p. (below_empty u, p.1)) is.numbers.stuck;
     cut = number_of _ _ counts.cut (λ u p. (tt, p.1)) (λ u p. (below_empty u, p.1)) is.numbers.cut;
   };
 }
-all_below Set s bound (Bad schedule why) is = (
-  record { kind = (tt, is.0.kind.1); least = λ v less bad. is.0.least v less (below_empty v, bad.1) },
-  is.1,
-)
+all_below Set s bound (Bad schedule why) is = record {
+  part = tt;
+  bad = is.bad;
+  before = λ v at ended. is.before v (below_empty v, at.1) ended;
+  why_is = is.why_is;
+}
 
 -- what is found below the empty schedule, over the set of all serial histories
 pub whole_finding : (members : List (List SerialOp)) (s : State) (bound serial : ℕ) (found : Found) → IsSetOf s serial members → IsFound (IsMember members) s bound (Below []) found → IsFinding s bound serial (finding_of found)

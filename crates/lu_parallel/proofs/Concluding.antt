@@ -19,11 +19,11 @@ use Rattle.lu_machine.proofs.Orders.{smaller_asym}
 use Rattle.lu_machine.proofs.Numbers.{numbers_same}
 use Rattle.lu_history.specs.declared.serial.SerialOp.{SerialOp}
 use Rattle.lu_witness.specs.declared.judgement.Why.{Why}
-use Rattle.lu_witness.specs.Goodness.{IsBad, IsFirstBad, AreAllGood, Any}
+use Rattle.lu_witness.specs.Goodness.{IsFirstBad, AreGood, AreAllGood, Any}
 use Rattle.lu_witness.specs.Witnesses.{IsMember}
 use Rattle.lu_tree.specs.declared.found.Found.TheVariants.{Clean, Bad}
 use Rattle.lu_tree.specs.Trees.{Below}
-use Rattle.lu_tree.proofs.Covers.{least_of_cover, sums_of_cover}
+use Rattle.lu_tree.proofs.Covers.{first_of_cover, sums_of_cover}
 use Rattle.lu_board.specs.Close.{clean_by, found_by, skipped_by, given_by, SharesOut}
 use Rattle.lu_board.specs.Pieces.{count_of, without, once_below, HasEachOnce}
 use Rattle.lu_board.specs.Seats.{SeatModel}
@@ -242,15 +242,15 @@ module _ (c : Declarations) (matrix : List (List Call)) (members : List (List Se
         given_zip (λ p k. AreAllGood (IsMember members) s bound (Below p) k) f 0 pieces
         (λ i within. let e : 0 + i ≡ i = omega arith in subst (λ j. AreAllGood (IsMember members) s bound (Below (piece_at pieces i)) (f j)) (sym e)
         (right i (let o = each i in let l : once_below i (length pieces) ≡ 1 = ap (λ b. cond b 1 0) (lt-ltb i (length pieces) within) in omega arith))) in
-        subst (AreAllGood (IsMember members) s bound Any) (sym (sum ∙ same)) (sums_of_cover members s bound pieces given cover zip)
+        subst (AreAllGood (IsMember members) s bound Any) (sym (sum ∙ same)) (sums_of_cover (IsMember members) s bound pieces given cover zip)
 
     bad_found : (i : ℕ) (u : List Move) (why : Why) → Contains (found_by (seats_of works)) i → All (λ y. i ≤ y) (found_by (seats_of works)) → Contains (founds_of works) (record { piece = i; schedule = u; why = why }) → IsFirstBad (IsMember members) s bound Any u why
     bad_found i u why has least entry =
         let right = entries_right works all (record { piece = i; schedule = u; why = why }) entry in
         let found = found_by (seats_of works) in
         let within : i < length pieces = once_below-lt i (length pieces) (let o = once i in let h = contains-has found i has in omega arith) in
-        let earlier : (q v : List Move) → Lists pieces q → IsSmaller q (piece_at pieces i) → BeginsWith v q → IsBad (IsMember members) s bound v → ⊥ =
-        λ q v listed smaller begins bad.
+        let earlier : (q : List Move) → Lists pieces q → IsSmaller q (piece_at pieces i) → AreGood (IsMember members) s bound (Below q) =
+        λ q listed smaller v begins ended.
         (let place = place_of pieces q listed in
         let j = place.0 in
         let below : j < i = place_below pieces i j cover.rising within place.1 (subst (λ (x : List Move). IsSmaller x (piece_at pieces i)) (sym place.2) smaller) in
@@ -260,8 +260,8 @@ module _ (c : Declarations) (matrix : List (List Call)) (members : List (List Se
         let xs = clean_by (seats_of works) in
         let one : once_below j (length pieces) ≡ 1 = ap (λ b. cond b 1 0) (lt-ltb j (length pieces) place.1) in
         let clean = beside_is (IsClean (IsMember members) s bound pieces) xs n.numbers j n.zip (let o = once j in omega arith) in
-        clean.none v (subst (BeginsWith v) (sym place.2) begins) bad) in
-        (least_of_cover members s bound pieces (piece_at pieces i) u cover (listed_at pieces i within) earlier right.0, right.1)
+        clean.good v (subst (BeginsWith v) (sym place.2) begins) ended) in
+        first_of_cover (IsMember members) s bound pieces (piece_at pieces i) u why cover (listed_at pieces i within) earlier right
 
 pub concluded : Concludes
 concluded c matrix members s bound pieces board works (Clean counts) start cover all shares skips conclusion =

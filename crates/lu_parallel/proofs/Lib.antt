@@ -2,5 +2,4 @@ pub mod Answers
 pub mod Concluding
 pub mod Ends
 pub mod Frontiers
-pub mod Limits
 pub mod Tallies

@@ -1,5 +1,5 @@
 -- How a worker's tally goes with its seat's view.
-use Rattle.std.proofs.Common.{◌≡◌, ℕ, zero, suc, ◌+◌, ◌<◌, List, [], ◌∷◌, ◌++◌, length, sum_by, refl, sym, ◌∙◌, ap, subst, arith, Bool, if◌then◌else◌, eq-eqb}
+use Rattle.std.proofs.Common.{◌≡◌, ℕ, zero, suc, ◌+◌, ◌<◌, List, [], ◌∷◌, ◌++◌, length, get_or, sum_by, refl, sym, ◌∙◌, ap, subst, arith, Bool, if◌then◌else◌, eq-eqb}
 use Rattle.std.specs.List.{AllZip, slice_index_or}
 use Rattle.std.proofs.lemmas.List.{map-append}
 use Rattle.std.proofs.lemmas.List.Elements.{All-nil, All-push}
@@ -16,7 +16,7 @@ use Rattle.lu_board.specs.declared.view.View.{View}
 use Rattle.lu_board.specs.declared.view.Kind.TheVariants.{Clean}
 use Rattle.lu_board.specs.Events.{with_settled, with_found}
 use Rattle.lu_board.specs.Pieces.{without}
-use Rattle.lu_board.specs.Views.{newcomer}
+use Rattle.lu_board.specs.Views.{pieces_of as seat_pieces}
 use Rattle.lu_parallel.specs.declared.parts.FoundPiece.{FoundPiece}
 use Rattle.lu_parallel.specs.Works.{piece_at, IsClean, IsFound, Holds}
 
@@ -27,10 +27,10 @@ zip_push R (a ∷ xs) [] x y all one = absurd all
 zip_push R (a ∷ xs) (b ∷ ys) x y all one = (all.0, zip_push R xs ys x y all.1 one)
 
 -- a piece of the list, whatever stands for those past its end
-pub piece_is : (pieces : List (List Move)) (i : ℕ) (p : List Move) → i < length pieces → p ≡ slice_index_or pieces i p → p ≡ piece_at pieces i
-piece_is [] i p within is = absurd (omega arith)
-piece_is (q ∷ pieces) zero p within is = is
-piece_is (q ∷ pieces) (suc i) p within is = piece_is pieces i p (omega arith) is
+pub piece_is : (pieces : List (List Move)) (i : ℕ) (other : List Move) → i < length pieces → get_or pieces i other ≡ piece_at pieces i
+piece_is [] i other within = absurd (omega arith)
+piece_is (q ∷ pieces) zero other within = refl
+piece_is (q ∷ pieces) (suc i) other within = piece_is pieces i other (omega arith)
 
 sum_push : (f : Counts → ℕ) (cs : List Counts) (c : Counts) → capped (capped (sum_by f cs) + f c) ≡ capped (sum_by f (cs ++ c ∷ []))
 sum_push f cs c =
@@ -70,10 +70,32 @@ module _ (Set : List SerialOp → Type 0) (s : State) (bound : ℕ) (pieces : Li
         right = All-push (IsFound Set s bound pieces) found entry holds.right bad';
       })
 
+-- nothing is in the parts of an empty list
+no_parts : {X : Type 0} (xs ys : List X) → xs ++ ys ≡ [] → (xs ≡ []) × (ys ≡ [])
+no_parts [] ys is = (refl, is)
+no_parts (x ∷ xs) ys is = absurd cc
+
+-- no piece is held, clean or found
+pub no_pieces : (v : View) → seat_pieces v ≡ [] → (v.held ≡ []) × (v.clean ≡ []) × (v.found ≡ [])
+no_pieces v none =
+    let a = no_parts (v.held ++ v.clean ++ v.found ++ v.skipped) v.given none in
+    let b = no_parts (v.held ++ v.clean ++ v.found) v.skipped a.0 in
+    let c = no_parts (v.held ++ v.clean) v.found b.0 in
+    let d = no_parts v.held v.clean c.0 in
+    (d.0, d.1, c.1)
+
 -- nothing is claimed
-pub holds_nothing : (Set : List SerialOp → Type 0) (s : State) (bound : ℕ) (pieces : List (List Move)) (v : View) (n : ℕ) (counts : Counts) (found : List FoundPiece) → v ≡ newcomer n 1 → counts ≡ record { complete = 0; stuck = 0; cut = 0 } → found ≡ [] → Holds Set s bound pieces v counts found
-holds_nothing Set s bound pieces v n counts found new none empty =
-    rw (new, none, empty) (record { numbers = []; clean = tt; sums = refl; listed = refl; right = All-nil (IsFound Set s bound pieces) })
+pub holds_nothing : (Set : List SerialOp → Type 0) (s : State) (bound : ℕ) (pieces : List (List Move)) (v : View) (counts : Counts) (found : List FoundPiece) → seat_pieces v ≡ [] → counts ≡ record { complete = 0; stuck = 0; cut = 0 } → found ≡ [] → Holds Set s bound pieces v counts found
+holds_nothing Set s bound pieces v counts found new none empty =
+    let clean = (no_pieces v new).1 in
+    let more = (no_pieces v new).2 in
+    rw (none, empty) (record {
+      numbers = [];
+      clean = subst (λ (x : List ℕ). AllZip (IsClean Set s bound pieces) x []) (sym clean) tt;
+      sums = refl;
+      listed = sym more;
+      right = All-nil (IsFound Set s bound pieces);
+    })
 
 -- a view with the same clean and found pieces
 pub holds_same : (Set : List SerialOp → Type 0) (s : State) (bound : ℕ) (pieces : List (List Move)) (v w : View) (counts : Counts) (found : List FoundPiece) → w.clean ≡ v.clean → w.found ≡ v.found → Holds Set s bound pieces v counts found → Holds Set s bound pieces w counts found

@@ -4,5 +4,5 @@ use Rattle.lu_parallel.specs.declared.fault.CheckFault.{CheckFault}
 use Rattle.lu_parallel.specs.declared.fault.CheckFault.TheVariants.{Memory, Worker}
 
 abbrev pub code_of : CheckFault → List ℕ
-code_of Memory = codes "K1"
+code_of Memory = codes "memory"
 code_of Worker = codes "K2"

@@ -8,12 +8,15 @@ use Rattle.lu_machine.specs.States.{State}
 use Rattle.lu_machine.specs.Starts.{IsStart}
 use Rattle.lu_machine.specs.Schedules.{IsCover}
 use Rattle.lu_history.specs.declared.serial.SerialOp.{SerialOp}
+use Rattle.lu_serial.specs.Offences.{IsSetOf}
 use Rattle.lu_witness.specs.Goodness.{Any}
 use Rattle.lu_witness.specs.Witnesses.{IsMember}
 use Rattle.lu_tree.specs.declared.found.Found.{Found}
 use Rattle.lu_tree.specs.Trees.{IsFound}
 use Rattle.lu_board.specs.Close.{SharesOut}
+use Rattle.lu_replay.specs.Reports.{IsFinding}
 use Rattle.lu_parallel.specs.declared.parts.Work.{Work}
+use Rattle.lu_parallel.specs.Findings.{finding_of}
 use Rattle.lu_parallel.specs.Works.{IsWork}
 use Rattle.lu_parallel.specs.Conclusions.{IsConclusion, SkipsAbove, seats_of}
 
@@ -24,3 +27,9 @@ Concludes =
     IsStart c matrix s → IsCover s bound pieces → All (IsWork c matrix members bound pieces board) works →
     SharesOut (length pieces) (seats_of works) → SkipsAbove works → IsConclusion works (Some found) →
     IsFound (IsMember members) s bound Any found
+
+-- What is found over the set of all serial histories is the finding of the report.
+abbrev pub IsReported : Type 0
+IsReported =
+    (s : State) (bound serial : ℕ) (members : List (List SerialOp)) (found : Found) →
+    IsSetOf s serial members → IsFound (IsMember members) s bound Any found → IsFinding s bound serial (finding_of found)

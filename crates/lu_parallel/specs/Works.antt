@@ -5,6 +5,7 @@ use Rattle.atomic_table.specs.Seated.{TableId}
 use Rattle.lu_lang.specs.Component.{Declarations}
 use Rattle.lu_test.specs.declared.matrix.Call.{Call}
 use Rattle.lu_test.specs.declared.schedule.Move.{Move}
+use Rattle.lu_test.specs.Matrix.{IsOf as IsMatrixOf}
 use Rattle.lu_machine.specs.declared.counts.Counts.{Counts}
 use Rattle.lu_machine.specs.States.{State}
 use Rattle.lu_machine.specs.Schedules.{IsSchedule}
@@ -16,8 +17,8 @@ use Rattle.lu_witness.specs.Witnesses.{IsMember}
 use Rattle.lu_tree.specs.Trees.{Below}
 use Rattle.lu_board.specs.declared.view.View.{View}
 use Rattle.lu_board.specs.Pieces.{without}
-use Rattle.lu_board.specs.Seats.{SeatModel, IsDone, IsOf}
-use Rattle.lu_board.specs.Views.{newcomer}
+use Rattle.lu_board.specs.Seats.{BoardModel, SeatModel, IsDone, IsOf}
+use Rattle.lu_board.specs.Views.{pieces_of as seat_pieces}
 use Rattle.lu_parallel.specs.declared.parts.FoundPiece.{FoundPiece}
 use Rattle.lu_parallel.specs.declared.parts.Work.{Work}
 
@@ -29,11 +30,18 @@ piece_at pieces i = slice_index_or pieces i []
 abbrev pub IsPiece : State → ℕ → List Move → Type 0
 IsPiece s bound p = (length p ≤ bound) × IsSchedule s p
 
--- a seat of this board, of n pieces, that has done nothing yet
-abbrev pub IsFresh : TableId → ℕ → SeatModel → Type 0
-IsFresh board n seat = (seat.board ≡ board) × (seat.view ≡ newcomer n 1)
+-- an unspent seat of this board, without pieces
+abbrev pub IsFresh : TableId → SeatModel → Type 0
+IsFresh board seat = (seat.board ≡ board) × (seat.view.spent ≡ 0) × (seat_pieces seat.view ≡ [])
 
--- no schedule of piece i is bad, and these are the numbers
+-- what workers share: a matrix of the component, and as many pieces as the board has
+pub record IsJob (c : Declarations) (matrix : List (List Call)) (bound : ℕ) (pieces : List (List Move)) (board : BoardModel) : Type 0 where
+  pub of : IsMatrixOf matrix c
+  pub few : bound ≤ 256
+  pub schedules : (s : State) → IsStart c matrix s → All (IsPiece s bound) pieces
+  pub numbered : board.pieces ≡ length pieces
+
+-- the schedules of piece i are good, and these are the numbers
 abbrev pub IsClean : (List SerialOp → Type 0) → State → ℕ → List (List Move) → ℕ → Counts → Type 0
 IsClean Set s bound pieces i counts = AreAllGood Set s bound (Below (piece_at pieces i)) counts
 

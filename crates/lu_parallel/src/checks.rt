@@ -12,13 +12,13 @@ ghost use Rattle.lu_parallel.specs.declared.fault.CheckFault.TheVariants.{Memory
 use crate::conclusion::conclude;
 use crate::fault::CheckFault;
 use crate::gate::Gate;
-use crate::one::{check_one, finding_of};
+use crate::one::{finding_of, search_all};
 use crate::options::Options;
 use crate::threads::run_workers;
 use lu_board::board::Board;
 use lu_lang::Component;
-use lu_replay::{Finding, Report};
-use lu_serial::{Learnt, learn};
+use lu_replay::{Finding, Report, set_or_offence};
+use lu_serial::learn;
 use lu_test::Matrix;
 use lu_tree::frontier;
 use lu_trie::{PackedTrie, Trie};
@@ -27,7 +27,7 @@ use std::sync::Wait;
 use std::thread::Threads;
 
 /// What the workers find over a set of serial histories.
-fn search_packed<R: Threads + Wait, G: Gate>(
+fn search_by_workers<R: Threads + Wait, G: Gate>(
     rt: &R,
     alloc: Global,
     gate: &G,
@@ -51,8 +51,8 @@ fn search_packed<R: Threads + Wait, G: Gate>(
     }
 }
 
-/// The same over a set that is packed first, once for all workers.
-fn search_by_workers<R: Threads + Wait, G: Gate>(
+/// What is found over a set of serial histories, which is packed once for all workers. One worker searches all schedules.
+fn search_packed<R: Threads + Wait, G: Gate>(
     rt: &R,
     alloc: Global,
     gate: &G,
@@ -62,15 +62,20 @@ fn search_by_workers<R: Threads + Wait, G: Gate>(
     options: Options,
 ) -> Result<Finding, CheckFault>
     requires of { IsOf matrix.now component.now }
-    ensures { (s : State) → IsStart component.now matrix.now s → IfOk result (λ finding. (serial : ℕ) → IsSetOf s serial set → IsFinding s options.bound serial finding) }
+    ensures found { (s : State) → IsStart component.now matrix.now s → IfOk result (λ finding. (serial : ℕ) → IsSetOf s serial set → IsFinding s options.bound serial finding) }
+    ensures alone { IfErr result (λ fault. options.workers ≡ 1 → fault ≡ Memory) }
 {
     let packed = PackedTrie::pack(alloc, &set)?;
     drop(set);
-    search_packed(rt, alloc, gate, component, matrix, &packed, options)
+    if options.workers() == 1 {
+        let finding = search_all(alloc, component, matrix, &&packed, options.bound())?;
+        return Ok(finding);
+    }
+    search_by_workers(rt, alloc, gate, component, matrix, &packed, options)
 }
 
-/// The least serial offence, or what the workers find.
-fn find_by_workers<R: Threads + Wait, G: Gate>(
+/// The least serial offence, or what is found among all schedules.
+fn find<R: Threads + Wait, G: Gate>(
     rt: &R,
     alloc: Global,
     gate: &G,
@@ -79,27 +84,19 @@ fn find_by_workers<R: Threads + Wait, G: Gate>(
     options: Options,
 ) -> Result<Finding, CheckFault>
     requires of { IsOf matrix.now component.now }
-    ensures { (s : State) → IsStart component.now matrix.now s → IfOk result (IsFinding s options.bound options.serial) }
+    ensures found { (s : State) → IsStart component.now matrix.now s → IfOk result (IsFinding s options.bound options.serial) }
+    ensures alone { IfErr result (λ fault. options.workers ≡ 1 → fault ≡ Memory) }
 {
-    match learn(alloc, alloc, component, matrix, options.serial())? {
-        Learnt::Set(set) => search_by_workers(rt, alloc, gate, component, matrix, set, options),
-        Learnt::Cut(schedule) => Ok(Finding::SerialCut(schedule)),
-        Learnt::Conflict {
-            schedule,
-            before,
-            earlier,
-        } => Ok(Finding::Nondeterministic {
-            schedule,
-            before,
-            earlier,
-        }),
+    match set_or_offence(learn(alloc, alloc, component, matrix, options.serial())?) {
+        Ok(set) => search_packed(rt, alloc, gate, component, matrix, set, options),
+        Err(offence) => Ok(offence),
     }
 }
 
 /// The report of a component and a matrix (Burckhardt, Dern, Musuvathi and Tan, 2010), by as many workers as the options say.
 /// It is the same for any number of workers and any depth. One worker searches on the calling thread, and no thread is started
 /// and the gate is not called. More of them each have a thread, where they claim pieces: the schedules of `depth` moves, and the
-/// ended ones of fewer. The calling thread joins them.
+/// ended ones of fewer. The calling thread waits until they are done.
 ///
 /// # Errors
 ///
@@ -117,11 +114,8 @@ pub fn check<R: Threads + Wait, G: Gate>(
     ensures report { IfOk result (IsReport component.now matrix.now options.bound options.serial) }
     ensures alone { IfErr result (λ fault. options.workers ≡ 1 → fault ≡ Memory) }
 {
-    let (bound, serial) = (options.bound(), options.serial());
-    if options.workers() == 1 {
-        return Ok(check_one(alloc, alloc, component, matrix, bound, serial)?);
-    }
+    // Its clause says that the matrix is within its limits.
     let _threads = matrix.threads();
-    let finding = find_by_workers(rt, alloc, gate, component, matrix, options)?;
-    Ok(Report::new(bound, serial, finding))
+    let finding = find(rt, alloc, gate, component, matrix, options)?;
+    Ok(Report::new(options.bound(), options.serial(), finding))
 }

@@ -7,11 +7,11 @@ ghost use Rattle.lu_parallel.specs.Codes.{code_of};
 use std::alloc::AllocError;
 use thiserror::Error;
 
-/// Why a check has no report. It is shown by its code.
+/// Why a check has no report. Shown, it is `memory` or `K2`.
 #[derive(Clone, Copy, Debug, PartialEq, Eq, Error)]
 #[error("{}", self.code())]
 pub enum CheckFault {
-    /// `K1`: memory was refused.
+    /// Memory was refused.
     Memory,
 
     /// `K2`: the start of a worker's thread was refused.
@@ -19,12 +19,12 @@ pub enum CheckFault {
 }
 
 impl CheckFault {
-    /// The code: `K1` or `K2`.
+    /// The code: `memory` or `K2`.
     pub fn code(self) -> &'static str
         ensures { result.now ≡ code_of self }
     {
         match self {
-            CheckFault::Memory => "K1",
+            CheckFault::Memory => "memory",
             CheckFault::Worker => "K2",
         }
     }

@@ -9,11 +9,11 @@ ghost use Rattle.lu_replay.specs.Reports.{IsReport, IsFinding};
 ghost use Rattle.lu_parallel.specs.Findings.{finding_of};
 
 use lu_lang::Component;
-use lu_replay::{Finding, Report};
-use lu_serial::{Learnt, learn};
+use lu_replay::{Finding, Report, set_or_offence};
+use lu_serial::learn;
 use lu_test::{Matrix, Schedule};
 use lu_tree::{Found, search};
-use lu_trie::Trie;
+use lu_trie::SerialTree;
 use std::alloc::{AllocError, Allocator, Global};
 
 /// What a search of all schedules finds, where no serial run offends.
@@ -26,27 +26,27 @@ pub(crate) fn finding_of(found: Found) -> Finding
     }
 }
 
-/// What a search of all schedules finds over a set of serial histories.
-fn search_all<A: Allocator>(
+/// What a search of all schedules finds over the set of a tree.
+pub(crate) fn search_all<T: SerialTree>(
     alloc: Global,
     component: &Component,
     matrix: &Matrix,
-    set: &Trie<A>,
+    tree: &T,
     bound: u16,
 ) -> Result<Finding, AllocError>
     requires of { IsOf matrix.now component.now }
     requires bound { bound ≤ 256 }
-    ensures { (s : State) → IsStart component.now matrix.now s → IfOk result (λ finding. (serial : ℕ) → IsSetOf s serial set.now → IsFinding s bound serial finding) }
+    ensures { (s : State) → IsStart component.now matrix.now s → IfOk result (λ finding. (serial : ℕ) → IsSetOf s serial (T.members tree.now) → IsFinding s bound serial finding) }
 {
     let whole = Schedule::new(Vec::new(alloc));
-    let found = search(alloc, component, matrix, &set, &whole, bound)?;
+    let found = search(alloc, component, matrix, tree, &whole, bound)?;
     Ok(finding_of(found))
 }
 
 /// The least serial offence, or what a search of all schedules finds.
 fn find<A: Allocator + Clone>(
     alloc: Global,
-    in_trie: A,
+    set_alloc: A,
     component: &Component,
     matrix: &Matrix,
     bound: u16,
@@ -57,31 +57,22 @@ fn find<A: Allocator + Clone>(
     requires serial { (1 ≤ serial) × (serial ≤ 256) }
     ensures { (s : State) → IsStart component.now matrix.now s → IfOk result (IsFinding s bound serial) }
 {
-    match learn(alloc, in_trie, component, matrix, serial)? {
-        Learnt::Set(set) => search_all(alloc, component, matrix, &set, bound),
-        Learnt::Cut(schedule) => Ok(Finding::SerialCut(schedule)),
-        Learnt::Conflict {
-            schedule,
-            before,
-            earlier,
-        } => Ok(Finding::Nondeterministic {
-            schedule,
-            before,
-            earlier,
-        }),
+    match set_or_offence(learn(alloc, set_alloc, component, matrix, serial)?) {
+        Ok(set) => search_all(alloc, component, matrix, &&set, bound),
+        Err(offence) => Ok(offence),
     }
 }
 
 /// The report of a component and a matrix (Burckhardt, Dern, Musuvathi and Tan, 2010), on the calling thread. Schedules have
 /// up to `bound` moves, 0 to 256, and an operation that is run serially takes up to `serial` moves after its call, 1 to 256.
-/// The set of serial histories is taken from `in_trie`, and all else from `alloc`.
+/// The memory of the set of serial histories is taken from `set_alloc`, and all else from `alloc`.
 ///
 /// # Errors
 ///
 /// `AllocError` where memory was refused.
 pub fn check_one<A: Allocator + Clone>(
     alloc: Global,
-    in_trie: A,
+    set_alloc: A,
     component: &Component,
     matrix: &Matrix,
     bound: u16,
@@ -92,7 +83,8 @@ pub fn check_one<A: Allocator + Clone>(
     requires serial { (1 ≤ serial) × (serial ≤ 256) }
     ensures { IfOk result (IsReport component.now matrix.now bound serial) }
 {
+    // Its clause says that the matrix is within its limits.
     let _threads = matrix.threads();
-    let finding = find(alloc, in_trie, component, matrix, bound, serial)?;
+    let finding = find(alloc, set_alloc, component, matrix, bound, serial)?;
     Ok(Report::new(bound, serial, finding))
 }

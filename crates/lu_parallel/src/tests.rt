@@ -6,7 +6,7 @@ ghost use Rattle.lu_machine.specs.States.{State};
 ghost use Rattle.lu_machine.specs.Starts.{IsStart};
 ghost use Rattle.lu_parallel.specs.Works.{IsFresh, IsOver, IsPiece};
 
-use crate::laws::{cover_sums, works_conclude};
+use crate::laws::{cover_sums, found_is_reported, works_conclude};
 use crate::rows::ROWS;
 use crate::{CheckFault, Gate, OpenGate, Options, Work, check, check_one, conclude, work};
 use lu_board::board::{Board, Seat};
@@ -132,7 +132,7 @@ fn options_have_ranges(rt: HostRuntime) {
 
 #[test]
 fn faults_have_codes(rt: HostRuntime) {
-    assert!(rt; CheckFault::Memory.code() == "K1" && CheckFault::Worker.code() == "K2");
+    assert!(rt; CheckFault::Memory.code() == "memory" && CheckFault::Worker.code() == "K2");
 }
 
 /// One worker finds a lost increment, counts schedules, and sees an operation that runs on.
@@ -182,16 +182,31 @@ enum Until {
     Done(u64),
 }
 
-/// A gate that holds a piece for a while, at most a million turns.
+/// The number of a worker, from 1, once a worker has told it: waits for that, at most a million turns. 0 where none came.
+fn told(worker: &AtomicU64) -> u64 {
+    for _ in 0..1_000_000 {
+        let told = worker.load(Ordering::SeqCst);
+        if told > 0 {
+            return told;
+        }
+        thread::yield_now();
+    }
+    0
+}
+
+/// A gate that holds a piece for a while.
 #[derive(Drop)]
 struct Holding {
     piece: u64,
     until: Until,
 
-    /// Whether the piece may go on.
-    open: AtomicU64,
+    /// The worker that came with the piece, from 1.
+    held: AtomicU64,
 
-    /// Whether it may when the piece went on.
+    /// The worker for which the piece waits, from 1, as soon as it may go on.
+    awaited: AtomicU64,
+
+    /// The same when the piece went on.
     seen: AtomicU64,
 }
 
@@ -200,57 +215,96 @@ impl Holding {
         Holding {
             piece,
             until,
-            open: AtomicU64::new(0),
+            held: AtomicU64::new(0),
+            awaited: AtomicU64::new(0),
             seen: AtomicU64::new(0),
         }
+    }
+
+    /// Whether the piece went on after another worker had done what it waits for.
+    fn went_on_after_another(&self) -> bool {
+        let seen = self.seen.load(Ordering::SeqCst);
+        seen > 0 && seen != self.held.load(Ordering::SeqCst)
     }
 }
 
 impl Gate for Holding {
-    fn pass(&self, _worker: u8, piece: u64) {
+    fn pass(&self, worker: u8, piece: u64) {
         if let Until::Comes(last) = self.until {
             if piece == last {
-                self.open.store(1, Ordering::SeqCst);
+                self.awaited.store(u64::from(worker) + 1, Ordering::SeqCst);
             }
         }
-        if piece != self.piece {
-            return;
-        }
-        for _ in 0..1_000_000 {
-            if self.open.load(Ordering::SeqCst) == 1 {
-                self.seen.store(1, Ordering::SeqCst);
-                return;
+        if let Until::Done(last) = self.until {
+            if piece == last {
+                told(&self.held);
             }
-            thread::yield_now();
+        }
+        if piece == self.piece {
+            self.held.store(u64::from(worker) + 1, Ordering::SeqCst);
+            self.seen.store(told(&self.awaited), Ordering::SeqCst);
         }
     }
 
-    fn done(&self, _worker: u8, piece: u64) {
+    fn done(&self, worker: u8, piece: u64) {
         if let Until::Done(last) = self.until {
             if piece == last {
-                self.open.store(1, Ordering::SeqCst);
+                self.awaited.store(u64::from(worker) + 1, Ordering::SeqCst);
             }
         }
     }
 }
 
-/// A piece is held while another worker is done with the next one.
+/// A piece is held while another worker goes through the next one, which waits until the first is held.
 #[test]
 fn two_workers_work_at_once(rt: HostRuntime) -> Result<(), Fail> {
     let gate = Holding::new(0, Until::Done(1));
     let reads = report(&rt, TWO_READS, &gate, 2, 4)?;
     assert!(rt; is_pass(&reads, 20));
-    assert_eq!(rt; gate.seen.load(Ordering::SeqCst), 1);
+    assert!(rt; gate.went_on_after_another());
     Ok(())
 }
 
-/// The least failure is reported, though its piece is held until others were found.
+/// The least failure is reported, though its piece is held until another worker has come to the last one.
 #[test]
 fn the_least_failure_comes_last(rt: HostRuntime) -> Result<(), Fail> {
     let gate = Holding::new(1, Until::Comes(15));
     let lost = report(&rt, TWO_INCREMENTS, &gate, 2, 4)?;
     assert!(rt; is_failure(&rt, &lost, LOST_INCREMENT)?);
-    assert_eq!(rt; gate.seen.load(Ordering::SeqCst), 1);
+    assert!(rt; gate.went_on_after_another());
+    Ok(())
+}
+
+/// A gate that counts its calls.
+#[derive(Drop)]
+struct Counting {
+    passes: AtomicU64,
+    ends: AtomicU64,
+}
+
+impl Gate for Counting {
+    fn pass(&self, _worker: u8, _piece: u64) {
+        self.passes.fetch_add(1, Ordering::SeqCst);
+    }
+
+    fn done(&self, _worker: u8, _piece: u64) {
+        self.ends.fetch_add(1, Ordering::SeqCst);
+    }
+}
+
+/// One worker calls no gate. Two call it for each of the 14 pieces.
+#[test]
+fn pieces_pass_the_gate(rt: HostRuntime) -> Result<(), Fail> {
+    for (workers, calls) in [(1u8, 0u64), (2, 14)] {
+        let gate = Counting {
+            passes: AtomicU64::new(0),
+            ends: AtomicU64::new(0),
+        };
+        let reads = report(&rt, TWO_READS, &gate, workers, 4)?;
+        assert!(rt; is_pass(&reads, 20));
+        assert_eq!(rt; gate.passes.load(Ordering::SeqCst), calls);
+        assert_eq!(rt; gate.ends.load(Ordering::SeqCst), calls);
+    }
     Ok(())
 }
 
@@ -327,7 +381,7 @@ fn work_in_turn<R: AllocGlobal, T: SerialTree>(
     requires of { IsOf matrix.now component.now }
     requires pieces { (s : State) → IsStart component.now matrix.now s → All (IsPiece s 40) pieces.now }
     requires board { board.now.pieces ≡ length pieces.now }
-    requires fresh { All (IsFresh board.now.board (length pieces.now)) seats.items }
+    requires fresh { All (IsFresh board.now.board) seats.items }
     ensures all { IfOk result (λ works. length works.items ≡ length seats.items) }
     ensures over { IfOk result (λ works. All (IsOver board.now.board) works.items) }
 {
@@ -350,10 +404,10 @@ fn work_in_turn<R: AllocGlobal, T: SerialTree>(
 }
 
 /// One of the seats.
-fn take_seat(seats: &mut Vec<Seat>, board: &Board, pieces: &[Schedule]) -> Option<Seat>
-    requires { All (IsFresh board.now.board (length pieces.now)) seats.old.items }
-    ensures seat { IfSome result (λ seat. IsFresh board.now.board (length pieces.now) seat) }
-    ensures rest { All (IsFresh board.now.board (length pieces.now)) seats.new.items }
+fn take_seat(seats: &mut Vec<Seat>, board: &Board) -> Option<Seat>
+    requires { All (IsFresh board.now.board) seats.old.items }
+    ensures seat { IfSome result (λ seat. IsFresh board.now.board seat) }
+    ensures rest { All (IsFresh board.now.board) seats.new.items }
 {
     seats.pop()
 }
@@ -385,7 +439,7 @@ fn works_above<R: AllocGlobal + Abort, T: SerialTree>(
     requires pieces { (s : State) → IsStart component.now matrix.now s → All (IsPiece s 40) pieces.now }
 {
     let (board, mut seats) = Board::new(rt.alloc(), pieces.len() as u64, 2)?;
-    match take_seat(&mut seats, &board, pieces) {
+    match take_seat(&mut seats, &board) {
         Some(mut seat) => settle_and_lower(rt, &board, &mut seat),
         None => panic!(rt; "no seat"),
     }
@@ -472,6 +526,32 @@ fn assert_turns<R: AllocGlobal + Abort>(
     assert_worked_in_turn(rt, component, matrix, &set, &pieces)
 }
 
+/// What two workers conclude that take turns on the pieces of a matrix.
+fn concluded_of<R: AllocGlobal + Abort>(
+    rt: &R,
+    component: &Component,
+    matrix: &Matrix,
+) -> Result<Option<Found>, Fail>
+    requires { IsOf matrix.now component.now }
+{
+    let set = serial_histories(rt, component, matrix)?;
+    let pieces = four_moves(rt, component, matrix)?;
+    concluded_in_turn(rt, component, matrix, &&set, &pieces)
+}
+
+/// Where no piece is bad, the numbers are concluded.
+#[test]
+fn clean_works_are_added(rt: HostRuntime) -> Result<(), Fail> {
+    let component = read_component(rt.alloc(), ROWS.as_bytes())?;
+    let matrix = read_matrix(rt.alloc(), &component, TWO_READS)?;
+    assert!(rt; matrix.of(&component));
+    match concluded_of(&rt, &component, &matrix)? {
+        Some(Found::Clean(counts)) => assert_eq!(rt; (counts.complete, counts.stuck), (20, 0)),
+        _ => panic!(rt; "not clean"),
+    }
+    Ok(())
+}
+
 #[test]
 fn workers_take_turns(rt: HostRuntime) -> Result<(), Fail> {
     let component = read_component(rt.alloc(), ROWS.as_bytes())?;
@@ -485,4 +565,5 @@ fn workers_take_turns(rt: HostRuntime) -> Result<(), Fail> {
 fn laws_are_called() {
     cover_sums();
     works_conclude();
+    found_is_reported();
 }

@@ -1,11 +1,8 @@
 //! Workers in threads of their own.
 
-ghost use Rattle.std.specs.Prelude.{◌≡◌, ◌≤◌, IfOk, All, length, vec_len, false};
-ghost use Rattle.lu_test.specs.Matrix.{IsOf};
-ghost use Rattle.lu_machine.specs.States.{State};
-ghost use Rattle.lu_machine.specs.Starts.{IsStart};
+ghost use Rattle.std.specs.Prelude.{◌≡◌, ◌≤◌, IfOk, All, vec_len, false};
 ghost use Rattle.lu_trie.specs.Packed.{members_of};
-ghost use Rattle.lu_parallel.specs.Works.{IsFresh, IsPiece, IsWork};
+ghost use Rattle.lu_parallel.specs.Works.{IsFresh, IsJob, IsWork};
 
 use crate::fault::CheckFault;
 use crate::gate::Gate;
@@ -20,9 +17,9 @@ use std::sync::Wait;
 use std::thread;
 use std::thread::{Promise, PromisedHandle, Scope, Threads, join_promised};
 
-/// What a worker's thread hands back is the work of its seat.
-#[derive(Drop)]
-struct Worked<'a> {
+/// What all workers share. What a worker's thread hands back is the work of its seat.
+#[derive(Clone, Copy, Drop)]
+struct Shared<'a> {
     component: &'a Component,
     matrix: &'a Matrix,
     tree: &'a PackedTrie<Global>,
@@ -31,13 +28,13 @@ struct Worked<'a> {
     board: &'a Board,
 }
 
-impl<'a> Promise<Work> for Worked<'a> {
+impl<'a> Promise<Work> for Shared<'a> {
     ghost kept_by = { λ p w. IsWork p.component.now p.matrix.now (members_of p.tree.now) p.bound p.pieces.now p.board.now.board w };
 }
 
 /// The threads that were started, and whether a start was refused.
 struct Started<'a> {
-    children: Vec<PromisedHandle<Work, Worked<'a>>>,
+    children: Vec<PromisedHandle<Work, Shared<'a>>>,
     refused: bool,
 }
 
@@ -45,48 +42,38 @@ struct Started<'a> {
 fn start_workers<'s, E, G: Gate>(
     scope: &Scope<'s, E>,
     alloc: Global,
-    component: &'s Component,
-    matrix: &'s Matrix,
-    tree: &'s PackedTrie<Global>,
-    pieces: &'s [Schedule],
-    bound: u16,
-    board: &'s Board,
+    shared: Shared<'s>,
     seats: Vec<Seat>,
     gate: &'s G,
 ) -> Result<Started<'s>, AllocError>
-    requires of { IsOf matrix.now component.now }
-    requires bound { bound ≤ 256 }
-    requires pieces { (s : State) → IsStart component.now matrix.now s → All (IsPiece s bound) pieces.now }
-    requires board { board.now.pieces ≡ length pieces.now }
-    requires fresh { All (IsFresh board.now.board (length pieces.now)) seats.items }
+    requires job { IsJob shared.component.now shared.matrix.now shared.bound shared.pieces.now shared.board.now }
+    requires fresh { All (IsFresh shared.board.now.board) seats.items }
     requires few { vec_len seats ≤ 16 }
     ensures few { IfOk result (λ r. vec_len r.children ≤ vec_len seats) }
     ensures all { IfOk result (λ r. r.refused ≡ false → vec_len r.children ≡ vec_len seats) }
-    ensures promised { IfOk result (λ r. All (λ h. (h.promise.component.now ≡ component.entry.now) × (h.promise.matrix.now ≡ matrix.entry.now) × (h.promise.tree.now ≡ tree.entry.now) × (h.promise.pieces.now ≡ pieces.entry.now) × (h.promise.bound ≡ bound) × (h.promise.board.now ≡ board.entry.now)) r.children.items) }
+    ensures promised { IfOk result (λ r. All (λ h. h.promise ≡ shared.entry) r.children.items) }
 {
     let mut children = Vec::with_capacity(alloc, seats.len())?;
     let mut worker = 0u8;
     for seat in seats {
-        let promise = Worked {
-            component,
-            matrix,
-            tree,
-            pieces,
-            bound,
-            board,
-        };
         let started = scope.spawn_with(
-            promise,
+            shared,
             move || -> Work
-                requires of { IsOf matrix.now component.now }
-                requires bound { bound ≤ 256 }
-                requires pieces { (s : State) → IsStart component.now matrix.now s → All (IsPiece s bound) pieces.now }
-                requires board { board.now.pieces ≡ length pieces.now }
-                requires fresh { IsFresh board.now.board (length pieces.now) seat }
-                ensures { IsWork component.entry.now matrix.entry.now (members_of tree.entry.now) bound pieces.entry.now board.entry.now.board result }
+                requires job { IsJob shared.component.now shared.matrix.now shared.bound shared.pieces.now shared.board.now }
+                requires fresh { IsFresh shared.board.now.board seat }
+                ensures { IsWork shared.entry.component.now shared.entry.matrix.now (members_of shared.entry.tree.now) shared.entry.bound shared.entry.pieces.now shared.entry.board.now.board result }
             {
                 work(
-                    alloc, component, matrix, &tree, pieces, bound, board, seat, gate, worker,
+                    alloc,
+                    shared.component,
+                    shared.matrix,
+                    &shared.tree,
+                    shared.pieces,
+                    shared.bound,
+                    shared.board,
+                    seat,
+                    gate,
+                    worker,
                 )
             },
         );
@@ -112,27 +99,17 @@ fn run_in<'s, E, R: Threads, G: Gate>(
     scope: &Scope<'s, E>,
     rt: &R,
     alloc: Global,
-    component: &'s Component,
-    matrix: &'s Matrix,
-    tree: &'s PackedTrie<Global>,
-    pieces: &'s [Schedule],
-    bound: u16,
-    board: &'s Board,
+    shared: Shared<'s>,
     seats: Vec<Seat>,
     gate: &'s G,
 ) -> Result<Vec<Work>, CheckFault>
-    requires of { IsOf matrix.now component.now }
-    requires bound { bound ≤ 256 }
-    requires pieces { (s : State) → IsStart component.now matrix.now s → All (IsPiece s bound) pieces.now }
-    requires board { board.now.pieces ≡ length pieces.now }
-    requires fresh { All (IsFresh board.now.board (length pieces.now)) seats.items }
+    requires job { IsJob shared.component.now shared.matrix.now shared.bound shared.pieces.now shared.board.now }
+    requires fresh { All (IsFresh shared.board.now.board) seats.items }
     requires few { vec_len seats ≤ 16 }
     ensures all { IfOk result (λ works. vec_len works ≡ vec_len seats) }
-    ensures each { IfOk result (λ works. All (IsWork component.entry.now matrix.entry.now (members_of tree.entry.now) bound pieces.entry.now board.entry.now.board) works.items) }
+    ensures each { IfOk result (λ works. All (IsWork shared.entry.component.now shared.entry.matrix.now (members_of shared.entry.tree.now) shared.entry.bound shared.entry.pieces.now shared.entry.board.now.board) works.items) }
 {
-    let Started { children, refused } = start_workers(
-        scope, alloc, component, matrix, tree, pieces, bound, board, seats, gate,
-    )?;
+    let Started { children, refused } = start_workers(scope, alloc, shared, seats, gate)?;
     match join_promised(rt, children) {
         Ok(works) => {
             if refused {
@@ -162,11 +139,8 @@ pub(crate) fn run_workers<R: Threads + Wait, G: Gate>(
     seats: Vec<Seat>,
     gate: &G,
 ) -> Result<Vec<Work>, CheckFault>
-    requires of { IsOf matrix.now component.now }
-    requires bound { bound ≤ 256 }
-    requires pieces { (s : State) → IsStart component.now matrix.now s → All (IsPiece s bound) pieces.now }
-    requires board { board.now.pieces ≡ length pieces.now }
-    requires fresh { All (IsFresh board.now.board (length pieces.now)) seats.items }
+    requires job { IsJob component.now matrix.now bound pieces.now board.now }
+    requires fresh { All (IsFresh board.now.board) seats.items }
     requires few { vec_len seats ≤ 16 }
     ensures all { IfOk result (λ works. vec_len works ≡ vec_len seats) }
     ensures each { IfOk result (λ works. All (IsWork component.now matrix.now (members_of tree.now) bound pieces.now board.now.board) works.items) }
@@ -175,18 +149,21 @@ pub(crate) fn run_workers<R: Threads + Wait, G: Gate>(
         thread::scope_env(),
         rt,
         |scope| -> Result<Vec<Work>, CheckFault>
-            requires of { IsOf matrix.now component.now }
-            requires bound { bound ≤ 256 }
-            requires pieces { (s : State) → IsStart component.now matrix.now s → All (IsPiece s bound) pieces.now }
-            requires board { board.now.pieces ≡ length pieces.now }
-            requires fresh { All (IsFresh board.now.board (length pieces.now)) seats.items }
+            requires job { IsJob component.now matrix.now bound pieces.now board.now }
+            requires fresh { All (IsFresh board.now.board) seats.items }
             requires few { vec_len seats ≤ 16 }
             ensures all { IfOk result (λ works. vec_len works ≡ vec_len seats) }
             ensures each { IfOk result (λ works. All (IsWork component.entry.now matrix.entry.now (members_of tree.entry.now) bound pieces.entry.now board.entry.now.board) works.items) }
         {
-            run_in(
-                scope, rt, alloc, component, matrix, tree, pieces, bound, board, seats, gate,
-            )
+            let shared = Shared {
+                component,
+                matrix,
+                tree,
+                pieces,
+                bound,
+                board,
+            };
+            run_in(scope, rt, alloc, shared, seats, gate)
         },
     )
 }

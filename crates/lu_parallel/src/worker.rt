@@ -5,7 +5,7 @@ ghost use Rattle.lu_test.specs.Matrix.{IsOf};
 ghost use Rattle.lu_machine.specs.States.{State};
 ghost use Rattle.lu_machine.specs.Starts.{IsStart};
 ghost use Rattle.lu_witness.specs.Witnesses.{IsMember};
-ghost use Rattle.lu_parallel.specs.Works.{Holds, IsFresh, IsPiece, IsWork, PutsAway};
+ghost use Rattle.lu_parallel.specs.Works.{Holds, IsFresh, IsJob, IsPiece, IsWork, PutsAway};
 
 use crate::gate::Gate;
 use crate::parts::{FoundPiece, Work};
@@ -17,6 +17,18 @@ use lu_test::{Matrix, Schedule};
 use lu_tree::{Found, search};
 use lu_trie::SerialTree;
 use std::alloc::Global;
+
+/// What a worker is lent.
+#[derive(Drop)]
+struct Job<'a, T> {
+    alloc: Global,
+    component: &'a Component,
+    matrix: &'a Matrix,
+    tree: &'a T,
+    pieces: &'a [Schedule],
+    bound: u16,
+    board: &'a Board,
+}
 
 /// What a worker has done so far.
 #[derive(Drop)]
@@ -41,44 +53,31 @@ impl Tally {
     }
 
     /// Searches a piece that the seat holds, and tells the board what came of it.
-    fn search<T: SerialTree>(
-        &mut self,
-        alloc: Global,
-        component: &Component,
-        matrix: &Matrix,
-        tree: &T,
-        pieces: &[Schedule],
-        bound: u16,
-        board: &Board,
-        seat: &mut Seat,
-        piece: u64,
-    )
-        requires of { IsOf matrix.now component.now }
-        requires bound { bound ≤ 256 }
-        requires pieces { (s : State) → IsStart component.now matrix.now s → All (IsPiece s bound) pieces.now }
-        requires board { seat.old.board ≡ board.now.board }
-        requires piece { piece < length pieces.now }
+    fn search<T: SerialTree>(&mut self, job: &Job<'_, T>, seat: &mut Seat, piece: u64)
+        requires job { IsJob job.now.component.now job.now.matrix.now job.now.bound job.now.pieces.now job.now.board.now }
+        requires board { seat.old.board ≡ job.now.board.now.board }
+        requires piece { piece < length job.now.pieces.now }
         requires held { Contains seat.old.view.held piece }
         ensures board { seat.new.board ≡ seat.old.board }
         ensures away { PutsAway piece seat.old.view seat.new.view }
-        ensures holds { (s : State) → IsStart component.now matrix.now s → Holds (IsMember (T.members tree.now)) s bound pieces.now seat.old.view self.old.counts self.old.found.items → Holds (IsMember (T.members tree.now)) s bound pieces.now seat.new.view self.new.counts self.new.found.items }
+        ensures holds { (s : State) → IsStart job.now.component.now job.now.matrix.now s → Holds (IsMember (T.members job.now.tree.now)) s job.now.bound job.now.pieces.now seat.old.view self.old.counts self.old.found.items → Holds (IsMember (T.members job.now.tree.now)) s job.now.bound job.now.pieces.now seat.new.view self.new.counts self.new.found.items }
     {
         match search(
-            alloc,
-            component,
-            matrix,
-            tree,
-            &pieces[piece as usize],
-            bound,
+            job.alloc,
+            job.component,
+            job.matrix,
+            job.tree,
+            &job.pieces[piece as usize],
+            job.bound,
         ) {
             Ok(Found::Clean(counts)) => {
                 self.counts = self.counts.plus(counts);
-                board.settle(seat, piece, Kind::Clean);
+                job.board.settle(seat, piece, Kind::Clean);
             }
             Ok(Found::Bad { schedule, why }) => {
                 if self.found.reserve(1).is_err() {
                     self.starved = true;
-                    board.settle(seat, piece, Kind::GivenUp);
+                    job.board.settle(seat, piece, Kind::GivenUp);
                     return;
                 }
                 self.found.push_reserved(FoundPiece {
@@ -86,49 +85,40 @@ impl Tally {
                     schedule,
                     why,
                 });
-                board.lower(seat, piece);
+                job.board.lower(seat, piece);
             }
             Err(_) => {
                 self.starved = true;
-                board.settle(seat, piece, Kind::GivenUp);
+                job.board.settle(seat, piece, Kind::GivenUp);
             }
         }
     }
+
     /// Goes with a piece that the seat holds from the gate to the end: it is skipped, found bad, found clean or given up.
     fn serve<T: SerialTree, G: Gate>(
         &mut self,
-        alloc: Global,
-        component: &Component,
-        matrix: &Matrix,
-        tree: &T,
-        pieces: &[Schedule],
-        bound: u16,
-        board: &Board,
+        job: &Job<'_, T>,
         seat: &mut Seat,
         gate: &G,
         worker: u8,
         piece: u64,
     )
-        requires of { IsOf matrix.now component.now }
-        requires bound { bound ≤ 256 }
-        requires pieces { (s : State) → IsStart component.now matrix.now s → All (IsPiece s bound) pieces.now }
-        requires board { seat.old.board ≡ board.now.board }
-        requires piece { piece < length pieces.now }
+        requires job { IsJob job.now.component.now job.now.matrix.now job.now.bound job.now.pieces.now job.now.board.now }
+        requires board { seat.old.board ≡ job.now.board.now.board }
+        requires piece { piece < length job.now.pieces.now }
         requires held { Contains seat.old.view.held piece }
         ensures board { seat.new.board ≡ seat.old.board }
         ensures away { PutsAway piece seat.old.view seat.new.view }
-        ensures holds { (s : State) → IsStart component.now matrix.now s → Holds (IsMember (T.members tree.now)) s bound pieces.now seat.old.view self.old.counts self.old.found.items → Holds (IsMember (T.members tree.now)) s bound pieces.now seat.new.view self.new.counts self.new.found.items }
+        ensures holds { (s : State) → IsStart job.now.component.now job.now.matrix.now s → Holds (IsMember (T.members job.now.tree.now)) s job.now.bound job.now.pieces.now seat.old.view self.old.counts self.old.found.items → Holds (IsMember (T.members job.now.tree.now)) s job.now.bound job.now.pieces.now seat.new.view self.new.counts self.new.found.items }
     {
         if self.starved {
-            board.settle(seat, piece, Kind::GivenUp);
+            job.board.settle(seat, piece, Kind::GivenUp);
             return;
         }
         gate.pass(worker, piece);
-        match board.look(seat, piece) {
+        match job.board.look(seat, piece) {
             Look::Skip(_) => {}
-            Look::Go(_) => self.search(
-                alloc, component, matrix, tree, pieces, bound, board, seat, piece,
-            ),
+            Look::Go(_) => self.search(job, seat, piece),
         }
         gate.done(worker, piece);
     }
@@ -137,7 +127,8 @@ impl Tally {
 /// The life of one worker, on the calling thread: it claims pieces with its seat until none is left. It passes the gate with
 /// each, looks whether the piece is still worth its work, and searches it for bad schedules, those that end within `bound`
 /// moves, 0 to 256, and are not good for the set of the tree (Burckhardt, Dern, Musuvathi and Tan, 2010). Pieces are schedules of
-/// no more moves than that. A piece is given up where memory is refused, and from then on each that is claimed.
+/// no more moves than that. A piece is given up where memory is refused, and from then on each that is claimed, without gate and
+/// search.
 pub fn work<T: SerialTree, G: Gate>(
     alloc: Global,
     component: &Component,
@@ -154,14 +145,21 @@ pub fn work<T: SerialTree, G: Gate>(
     requires bound { bound ≤ 256 }
     requires pieces { (s : State) → IsStart component.now matrix.now s → All (IsPiece s bound) pieces.now }
     requires board { board.now.pieces ≡ length pieces.now }
-    requires fresh { IsFresh board.now.board (length pieces.now) seat }
+    requires fresh { IsFresh board.now.board seat }
     ensures { IsWork component.now matrix.now (T.members tree.now) bound pieces.now board.now.board result }
 {
+    let job = Job {
+        alloc,
+        component,
+        matrix,
+        tree,
+        pieces,
+        bound,
+        board,
+    };
     let mut tally = Tally::new(alloc);
     while let Some(piece) = board.claim(&mut seat) {
-        tally.serve(
-            alloc, component, matrix, tree, pieces, bound, board, &mut seat, gate, worker, piece,
-        );
+        tally.serve(&job, &mut seat, gate, worker, piece);
     }
     Work {
         seat,

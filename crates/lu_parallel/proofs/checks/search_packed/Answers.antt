@@ -1,40 +1,27 @@
-use Rattle.std.proofs.Common.{arith, ◌≡◌, ◌∙◌, List, All, Some, length, refl, sym, subst}
-use Rattle.lu_test.specs.declared.schedule.Move.{Move}
-use Rattle.lu_machine.specs.Starts.{start_of}
-use Rattle.lu_machine.specs.Schedules.{IsCover}
-use Rattle.lu_trie.specs.Packed.{members_of}
-use Rattle.lu_board.specs.Close.{SharesOut}
+use Rattle.std.proofs.Common.{ℕ, List, IfOk, refl, sym, subst}
+use Rattle.lu_history.specs.declared.serial.SerialOp.{SerialOp}
+use Rattle.lu_serial.specs.Offences.{IsSetOf}
 use Rattle.lu_replay.specs.Reports.{IsFinding}
-use Rattle.lu_parallel.specs.Findings.{finding_of}
-use Rattle.lu_parallel.specs.Works.{IsPiece}
-use Rattle.lu_parallel.specs.Conclusions.{seats_of, IsConclusion}
-use Rattle.lu_parallel.proofs.Answers.{found_finding}
-use Rattle.lu_parallel.proofs.Concluding.{concluded}
-use Rattle.lu_parallel.proofs.Frontiers.{frontier_pieces}
 use Rattle.lu_parallel.proofs.checks.search_packed.Goals as goal
 
-pub new-requires-clause-pieces : goal.new-requires-clause-pieces
-new-requires-clause-pieces g c =
-    let few = (c.in_ok-pieces.ensures.frontier (start_of c.args.component.now c.args.matrix.now) refl).few in
-    let long = c.in_ok-pieces.pieces.ok.0 in
-    let is = c.len.ensures in
-    omega (arith, few, long, is)
+pub same-set : goal.same-set
+same-set g c = refl
 
-pub run_workers-requires-clause-pieces : goal.run_workers-requires-clause-pieces
-run_workers-requires-clause-pieces g c κs within = λ s is.
-    subst (λ (pieces : List (List Move)). All (IsPiece s c.bound-bound.result) pieces) (sym c.deref.ensures.value)
-    (frontier_pieces s c.bound-bound.result c.depth.result c.in_ok-pieces.pieces.items (c.in_ok-pieces.ensures.frontier s is))
+pub search_all-requires-clause-of : goal.search_all-requires-clause-of
+search_all-requires-clause-of g c = c.requires.of
 
-pub returns-in-Some : goal.returns-in-Some
-returns-in-Some g c = λ s is serial set.
-    let members = members_of c.args.tree.now in
-    let bound = c.bound-bound.result in
-    let pieces = c.deref.result.now in
-    let works = c.in_ok-works.works.items in
-    let found = c.in-Some.found in
-    let cover = subst (λ (x : List (List Move)). IsCover s bound x) (sym c.deref.ensures.value) (c.in_ok-pieces.ensures.cover s is) in
-    let long : c.in_ok-board.board.pieces ≡ length pieces = c.in_ok-board.ensures.board.0 ∙ (c.len.ensures ∙ sym c.deref.ensures.len) in
-    let shares = subst (λ n. SharesOut n (seats_of works)) long c.in_ok-found.ensures.pieces in
-    let conclusion : IsConclusion works (Some found) = rw c.in-Some.is at c.in_ok-found.ensures.conclusion in
-    let all = concluded c.args.component.now c.args.matrix.now members s bound pieces c.in_ok-board.board.board works found is cover c.in_ok-works.ensures.each shares c.in_ok-found.ensures.skipped conclusion in
-    rw c.finding_of.ensures (subst (λ n. IsFinding s n serial (finding_of found)) c.bound-bound.ensures.bound (found_finding members s bound serial found set all))
+pub search_all-requires-clause-bound : goal.search_all-requires-clause-bound
+search_all-requires-clause-bound g c = c.bound.ensures.range
+
+pub search_by_workers-requires-clause-of : goal.search_by_workers-requires-clause-of
+search_by_workers-requires-clause-of g c κs within = c.requires.of
+
+pub returns-then-workers-eq1-clause-found : goal.returns-then-workers-eq1-clause-found
+returns-then-workers-eq1-clause-found g c = λ s is serial set.
+    let packed = subst (λ (members : List (List SerialOp)). IsSetOf s serial members) (sym c.in_ok-packed.ensures) set in
+    subst (λ n. IsFinding s n serial c.in_ok-finding.finding) c.bound.ensures.bound (c.in_ok-finding.ensures s is serial packed)
+
+pub returns-clause-found : goal.returns-clause-found
+returns-clause-found g c = λ s is.
+    subst (λ (members : List (List SerialOp)). IfOk c.search_by_workers.result (λ finding. (serial : ℕ) → IsSetOf s serial members → IsFinding s c.args.options.bound serial finding))
+    c.in_ok-packed.ensures (c.search_by_workers.ensures s is)

@@ -3,7 +3,7 @@ use Rattle.lu_replay.specs.declared.report.Finding.{Finding}
 use Rattle.lu_replay.specs.Parts.{Parts}
 use Rattle.lu_replay.specs.Reports.{IsFinding}
 use Rattle.lu_machine.specs.Starts.{start_of}
-use Rattle.lu_parallel.proofs.Limits.{finding_within}
+use Rattle.lu_replay.proofs.Limits.{finding_within}
 use Rattle.lu_parallel.proofs.one.check_one.Goals as goal
 
 pub new-requires-clause-within : goal.new-requires-clause-within

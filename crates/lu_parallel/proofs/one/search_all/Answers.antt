@@ -15,5 +15,5 @@ search-requires-clause-leads g c = λ s is.
 pub returns : goal.returns
 returns g c = λ s is serial set.
     let empty : c.new-whole.result ≡ [] = c.new-whole.ensures ∙ c.new.ensures.items in
-    let found = subst (λ (u : List Move). IsFound (IsMember c.args.set.now) s c.args.bound (Below u) c.in_ok-found.found) empty (c.in_ok-found.ensures s is) in
-    subst (λ f. IsFinding s c.args.bound serial f) (sym c.finding_of.ensures) (whole_finding c.args.set.now s c.args.bound serial c.in_ok-found.found set found)
+    let found = subst (λ (u : List Move). IsFound (IsMember (g.T.SerialTree.members c.args.tree.now)) s c.args.bound (Below u) c.in_ok-found.found) empty (c.in_ok-found.ensures s is) in
+    subst (λ f. IsFinding s c.args.bound serial f) (sym c.finding_of.ensures) (whole_finding (g.T.SerialTree.members c.args.tree.now) s c.args.bound serial c.in_ok-found.found set found)

@@ -15,7 +15,7 @@ loop-seat-preserved g c =
     let works = c.loop-seat.works.items in
     let one = c.work.result in
     let pushed = c.in_ok-push.ensures.items in (
-      all_rest (IsFresh c.args.board.now.board (length c.args.pieces.now)) rest seat more is was.0,
+      all_rest (IsFresh c.args.board.now.board) rest seat more is was.0,
       (let a = ap length is in let b = ap length pushed in let d = length-append works (one ∷ []) in let e = was.1 in omega (arith, a, b, d, e)),
       subst (All (IsOver c.args.board.now.board)) (sym pushed) (All-push (IsOver c.args.board.now.board) works one was.2 c.work.ensures.over),
     )

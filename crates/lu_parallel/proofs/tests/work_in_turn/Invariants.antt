@@ -5,6 +5,6 @@ use Rattle.lu_parallel.proofs.tests.work_in_turn.Given as goal
 
 abbrev pub invariant-loop-seat : goal.invariant-loop-seat
 invariant-loop-seat g l =
-    All (IsFresh l.board.board (length l.pieces)) (into_iter_items l.seat-iterator)
+    All (IsFresh l.board.board) (into_iter_items l.seat-iterator)
     × (length l.works.items + length (into_iter_items l.seat-iterator) ≡ length l.fn.seats.items)
     × All (IsOver l.board.board) l.works.items

@@ -8,11 +8,11 @@ use Rattle.lu_parallel.proofs.threads.start_workers.Goals as goal
 pub loop-seat-preserved : goal.loop-seat-preserved
 loop-seat-preserved g c =
     let was = c.loop-seat.invariant in let pushed = c.push_reserved in (
-      all_rest (IsFresh c.args.board.now.board (length c.args.pieces.now)) (into_iter_items c.loop-seat.seat-iterator) c.in-Some.seat (into_iter_items c.next.new.self) (search rules) was.0,
+      all_rest (IsFresh c.args.shared.board.now.board) (into_iter_items c.loop-seat.seat-iterator) c.in-Some.seat (into_iter_items c.next.new.self) (search rules) was.0,
       search rules,
       search rules,
       search rules,
       rw pushed.ensures.items
-          (All-push (λ h. (h.promise.component.now ≡ c.args.component.now) × (h.promise.matrix.now ≡ c.args.matrix.now) × (h.promise.tree.now ≡ c.args.tree.now) × (h.promise.pieces.now ≡ c.args.pieces.now) × (h.promise.bound ≡ c.args.bound) × (h.promise.board.now ≡ c.args.board.now))
+          (All-push (λ h. h.promise ≡ c.args.shared)
           c.loop-seat.children.items c.in-Ok.child was.4 (search rules)),
     )

@@ -6,8 +6,8 @@ use Rattle.lu_parallel.proofs.threads.start_workers.Given as goal
 
 abbrev pub invariant-loop-seat : goal.invariant-loop-seat
 invariant-loop-seat g l =
-    All (IsFresh l.board.board (length l.pieces)) (into_iter_items l.seat-iterator)
+    All (IsFresh l.shared.board.now.board) (into_iter_items l.seat-iterator)
     × (vec_len l.children + into_iter_len l.seat-iterator ≡ vec_len l.fn.seats)
     × (l.worker ≡ vec_len l.children)
     × (vec_len l.fn.seats ≤ vec_capacity l.children)
-    × All (λ h. (h.promise.component.now ≡ l.component) × (h.promise.matrix.now ≡ l.matrix) × (h.promise.tree.now ≡ l.tree) × (h.promise.pieces.now ≡ l.pieces) × (h.promise.bound ≡ l.bound) × (h.promise.board.now ≡ l.board)) l.children.items
+    × All (λ h. h.promise ≡ l.shared) l.children.items

@@ -4,17 +4,16 @@ use Rattle.lu_board.specs.Events.{with_held, with_spent}
 use Rattle.lu_board.specs.Pieces.{without}
 use Rattle.lu_machine.specs.Starts.{start_of}
 use Rattle.lu_witness.specs.Witnesses.{IsMember}
-use Rattle.lu_parallel.proofs.Tallies.{holds_nothing, holds_same, without_one}
+use Rattle.lu_parallel.proofs.Tallies.{holds_nothing, holds_same, no_pieces, without_one}
 use Rattle.lu_parallel.proofs.worker.work.Goals as goal
 
 pub loop-piece-init : goal.loop-piece-init
 loop-piece-init g c =
-    let fresh = c.requires.fresh.1 in
+    let empty = c.requires.fresh.2 in
     record {
       board = c.requires.fresh.0;
-      pieces = ap (λ (v : View). v.pieces) fresh;
-      held = ap (λ (v : View). v.held) fresh;
-      holds = λ s is. holds_nothing (IsMember (g.T.SerialTree.members c.args.tree.now)) s c.args.bound c.args.pieces.now c.args.seat.view (length c.args.pieces.now) c.new-tally.result.counts c.new-tally.result.found.items fresh c.new-tally.ensures.counts c.new-tally.ensures.found;
+      held = (no_pieces c.args.seat.view empty).0;
+      holds = λ s is. holds_nothing (IsMember (g.T.SerialTree.members c.args.tree.now)) s c.args.bound c.args.pieces.now c.args.seat.view c.new-tally.result.counts c.new-tally.result.found.items empty c.new-tally.ensures.counts c.new-tally.ensures.found;
     }
 
 pub loop-piece-preserved : goal.loop-piece-preserved
@@ -26,7 +25,6 @@ loop-piece-preserved g c =
     let away = c.serve.ensures.away in
     record {
       board = c.serve.ensures.board ∙ c.claim.ensures.board ∙ i.board;
-      pieces = away.pieces ∙ ap (λ (v : View). v.pieces) claimed ∙ i.pieces;
       held = away.held ∙ ap (λ (v : View). without piece v.held) claimed ∙ without_one piece was.held i.held;
       holds = λ s is. c.serve.ensures.holds s is
           (holds_same (IsMember (g.T.SerialTree.members c.args.tree.now)) s c.args.bound c.args.pieces.now was c.claim.new.seat.view c.loop-piece.tally.counts c.loop-piece.tally.found.items
@@ -48,3 +46,7 @@ returns g c =
       holds = λ s is. holds_same (IsMember (g.T.SerialTree.members c.args.tree.now)) s c.args.bound c.args.pieces.now was c.claim.new.seat.view c.loop-piece.tally.counts c.loop-piece.tally.found.items
           (ap (λ (v : View). v.clean) spent) (ap (λ (v : View). v.found) spent) (i.holds s is);
     }
+
+pub serve-requires-clause-job : goal.serve-requires-clause-job
+serve-requires-clause-job g c κs within =
+    record { of = c.requires.of; few = c.requires.bound; schedules = c.requires.pieces; numbered = c.requires.board }

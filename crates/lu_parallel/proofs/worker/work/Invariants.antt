@@ -8,7 +8,6 @@ use Rattle.lu_parallel.proofs.worker.work.Given as goal
 abbrev pub invariant-loop-piece : goal.invariant-loop-piece
 invariant-loop-piece g l = record {
   board : l.seat.board ≡ l.board.board;
-  pieces : l.seat.view.pieces ≡ length l.pieces;
   held : l.seat.view.held ≡ [];
   holds : (s : State) → IsStart l.component l.matrix s → Holds (IsMember (g.T.SerialTree.members l.tree)) s l.bound l.pieces l.seat.view l.tally.counts l.tally.found.items;
 }
