@@ -14,8 +14,12 @@ fn refuse(rt: &impl Print, text: &str, status: u8) -> ExitCode {
 }
 
 fn main(rt: HostRuntime) -> ExitCode {
-    let Ok(arguments) = std::env::args(&rt) else {
-        return refuse(&rt, "refused command line\n", 2);
+    let arguments = match std::env::args(&rt) {
+        Ok(arguments) => arguments,
+        Err(error) if error.kind() == io::ErrorKind::OutOfMemory => {
+            return refuse(&rt, "refused memory\n", 4);
+        }
+        Err(_) => return refuse(&rt, "refused command line\n", 2),
     };
     let words: Vec<String> = match arguments.skip(1).collect(rt.alloc()) {
         Ok(words) => words,

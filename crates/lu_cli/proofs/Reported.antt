@@ -10,10 +10,10 @@ use Rattle.lu_history.specs.declared.serial.SerialOp.{SerialOp}
 use Rattle.lu_trie.specs.Members.{history_cmp}
 use Rattle.lu_serial.specs.Offences.{IsSetOf}
 use Rattle.lu_replay.specs.Parts.{Parts}
-use Rattle.lu_replay.specs.Reports.{IsReport}
+use Rattle.lu_replay.specs.Reports.{IsReport, IsOfOffence}
 use Rattle.lu_parallel.specs.Ranges.{Choice}
 use Rattle.lu_cli.specs.Orders.{Limits}
-use Rattle.lu_cli.specs.Replies.{Answer, IsChecked, IsOfOffence, IsRunSerially, no_worker, reported, shown}
+use Rattle.lu_cli.specs.Replies.{Answer, IsChecked, IsRunSerially, no_worker, reported, shown}
 
 module _ {E : Type 0} (c : Declarations) (matrix : List (List Call)) (choice : Choice) where
   pub report_checked : (r : Parts) → IsReport c matrix choice.bound choice.serial r → (result : Result Answer E) → IfOk result (λ answer. answer ≡ reported r) → IfOk result (IsChecked c matrix choice)

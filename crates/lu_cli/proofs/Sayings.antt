@@ -1,17 +1,145 @@
 -- Answers that go out.
-use Rattle.std.proofs.Common.{◌≡◌, ℕ, ◌<◌, List, Option, Some, None, refl, inl, inr, sym, ◌∙◌, ap, arith, subst}
-use Rattle.std.specs.Prelude.{IfSome}
+use Rattle.std.proofs.Common.{◌≡◌, ◌≢◌, ℕ, suc, ◌<◌, Bool, true, false, List, [], ◌∷◌, Option, Some, None, length, replicate, Result, Ok, Err, refl, inl, inr, ap, sym, ◌∙◌, arith, subst, get_or}
+use Rattle.std.specs.Prelude.{IfSome, MatchBool, codes, nat_lt}
 use Rattle.std.specs.Io.KnownBytes.{Appends}
-use Rattle.lu_cli.specs.Replies.{Answer, Answers, Tells, no_memory}
-
-pub some_weaker : (o : Option (List ℕ)) (P Q : List ℕ → Type 0) → ((x : List ℕ) → P x → Q x) → IfSome o P → IfSome o Q
-some_weaker None P Q f h = tt
-some_weaker (Some x) P Q f h = f x h
-
-pub some_all : (o : Option (List ℕ)) (Q : List ℕ → Type 0) → ((x : List ℕ) → Q x) → IfSome o Q
-some_all None Q f = tt
-some_all (Some x) Q f = f x
+use Rattle.std.proofs.lemmas.Bool.{lt-ltb}
+use Rattle.std.proofs.lemmas.List.{length-replicate}
+use Rattle.lu_text.specs.declared.fault.Fault.{Fault}
+use Rattle.lu_text.specs.declared.fault.Fault.TheVariants.{At, Memory}
+use Rattle.lu_text.specs.Faults.{value_of}
+use Rattle.lu_lang.specs.Component.{Declarations}
+use Rattle.lu_lang.specs.Kinds.{code_of}
+use Rattle.lu_lang.specs.Grammar.{component_grammar}
+use Rattle.lu_test.specs.declared.matrix.Call.{Call}
+use Rattle.lu_test.specs.declared.schedule.Move.{Move}
+use Rattle.lu_test.specs.declared.schedule_fault.ScheduleFault.{ScheduleFault}
+use Rattle.lu_test.specs.Codes.{matrix_code_of}
+use Rattle.lu_test.specs.MatrixText.{matrix_grammar}
+use Rattle.lu_test.specs.ScheduleText.{schedule_of}
+use Rattle.lu_replay.specs.declared.report.Finding.{Finding}
+use Rattle.lu_replay.specs.declared.report.Finding.TheVariants.{SerialCut, Nondeterministic, Fail, Pass}
+use Rattle.lu_replay.specs.Parts.{Parts}
+use Rattle.lu_parallel.specs.Ranges.{Choice}
+use Rattle.lu_cli.specs.declared.order.Order.{Order}
+use Rattle.lu_cli.specs.declared.order.Order.TheVariants.{Replay, Serial, Check}
+use Rattle.lu_cli.specs.Bundle.{parts_of}
+use Rattle.lu_cli.specs.Orders.{Limits}
+use Rattle.lu_cli.specs.Replies.{Answer, Answers, IsAnswerFrom, IsAnswerOf, IsAnswerTo, IsChecked, IsReplayed, IsReplayOf, IsRunSerially, Tells, ToMatrix, ToParts, ToSchedule, ToTexts, ToValue, no_command, no_device, no_memory, refused, reported, status_of}
 
 -- an answer that was made and said
 pub said : (IsAnswer : Answer → Type 0) (answer : Answer) (text : List ℕ) (old new : Option (List ℕ)) (status : ℕ) → IsAnswer answer → text ≡ answer.text → Appends old new text × (status ≡ answer.status) → Answers IsAnswer old new status
 said IsAnswer answer text old new status is t h = inl (answer, is, (subst (Appends old new) t h.0, h.1))
+
+-- ---- answers to what was read
+
+-- the input was read whole
+pub answer_whole : (order : Order) (known : Option (List ℕ)) (input : List ℕ) (answer : Answer) → IfSome known (λ all. input ≡ all) → IsAnswerOf order input answer → IsAnswerFrom order known answer
+answer_whole order known input answer all is = (input, all, is)
+
+too_long : (input : List ℕ) → 1048576 < length input → nat_lt 1048576 (length input) ≡ true
+too_long input long = lt-ltb 1048576 (length input) long
+
+refused_as_long : (order : Order) (input : List ℕ) (answer : Answer) → 1048576 < length input → answer ≡ refused (codes "B2") → IsAnswerOf order input answer
+refused_as_long order input answer long is = rw (too_long input long) is
+
+-- some text has more bytes
+longer : (n : ℕ) → (input : List ℕ) × (n < length input)
+longer n = (replicate (suc n) n, (let e = length-replicate (suc n) n in omega arith))
+
+some_long : (order : Order) (answer : Answer) → ((input : List ℕ) × (1048576 < length input)) → answer ≡ refused (codes "B2") → IsAnswerFrom order None answer
+some_long order answer some is = (some.0, tt, refused_as_long order some.0 answer some.1 is)
+
+-- more came than is read
+pub answer_long : (order : Order) (known : Option (List ℕ)) (answer : Answer) → IfSome known (λ all. 1048576 < length all) → answer ≡ refused (codes "B2") → IsAnswerFrom order known answer
+answer_long order (Some all) answer long is = (all, refl, refused_as_long order all answer long is)
+answer_long order None answer long is = some_long order answer (longer 1048576) is
+
+-- ---- no answer blames a device
+
+-- the answer says that no device failed
+abbrev IsElse : Answer → Type 0
+IsElse answer = answer ≢ no_device
+
+status_else : (answer : Answer) (n : ℕ) → answer.status ≡ n → (n ≡ 4 → ⊥) → IsElse answer
+status_else answer n is other same = other (sym is ∙ ap (λ (a : Answer). a.status) same)
+
+refused_else : (why : List ℕ) (answer : Answer) → answer ≡ refused why → IsElse answer
+refused_else why answer is = status_else answer 2 (ap (λ (a : Answer). a.status) is) (λ e. omega arith)
+
+-- the byte of a text at this place
+abbrev byte_of : ℕ → Answer → ℕ
+byte_of i answer = get_or answer.text i 0
+
+text_else : (answer : Answer) (n : ℕ) → byte_of 8 answer ≡ n → (n ≡ 100 → ⊥) → IsElse answer
+text_else answer n is other same = other (sym is ∙ ap (byte_of 8) same)
+
+status_of_else : (f : Finding) → status_of f ≡ 4 → ⊥
+status_of_else (SerialCut u) e = omega arith
+status_of_else (Nondeterministic u before earlier) e = omega arith
+status_of_else (Fail u why) e = omega arith
+status_of_else (Pass counts) e = omega arith
+
+reported_else : (r : Parts) (answer : Answer) → answer ≡ reported r → IsElse answer
+reported_else r answer is = status_else answer (status_of r.finding) (ap (λ (a : Answer). a.status) is) (status_of_else r.finding)
+
+replayed_else : (c : Declarations) (m : List (List Call)) (u : List Move) (answer : Answer) → IsReplayed c m u answer → IsElse answer
+replayed_else c m u answer (inl is) = status_else answer 0 (ap (λ (a : Answer). a.status) is.3) (λ e. omega arith)
+replayed_else c m u answer (inr is) = status_else answer 1 (ap (λ (a : Answer). a.status) is.2) (λ e. omega arith)
+
+scheduled_else : (c : Declarations) (m : List (List Call)) (r : Result (List Move) ScheduleFault) (answer : Answer) → ToSchedule r (IsReplayed c m) answer → IsElse answer
+scheduled_else c m (Ok u) answer is = replayed_else c m u answer is
+scheduled_else c m (Err fault) answer is = refused_else _ answer is
+
+serial_else : (c : Declarations) (m : List (List Call)) (limits : Limits) (answer : Answer) → IsRunSerially c m limits answer → IsElse answer
+serial_else c m limits answer (inl is) = status_else answer 0 (ap (λ (a : Answer). a.status) is.3.2) (λ e. omega arith)
+serial_else c m limits answer (inr is) = reported_else is.0 answer is.3
+
+checked_else : (c : Declarations) (m : List (List Call)) (choice : Choice) (answer : Answer) → IsChecked c m choice answer → IsElse answer
+checked_else c m choice answer (inl is) = reported_else is.0 answer is.2
+checked_else c m choice answer (inr is) = text_else answer 75 (ap (byte_of 8) is.1) (λ e. omega arith)
+
+value_else : {Kind A : Type 0} (code : Kind → List ℕ) (r : Result A (Fault Kind)) (IsAnswer : A → Answer → Type 0) (answer : Answer) → ((x : A) → IsAnswer x answer → IsElse answer) → ToValue code r IsAnswer answer → IsElse answer
+value_else code (Ok x) IsAnswer answer h is = h x is
+value_else code (Err (At kind n)) IsAnswer answer h is = refused_else _ answer is
+value_else code (Err Memory) IsAnswer answer h is = absurd is
+
+texts_else : (component matrix : List ℕ) (IsAnswer : Declarations → List (List Call) → Answer → Type 0) (answer : Answer) → ((c : Declarations) (m : List (List Call)) → IsAnswer c m answer → IsElse answer) → ToTexts component matrix IsAnswer answer → IsElse answer
+texts_else component matrix IsAnswer answer h is =
+    value_else code_of (value_of component_grammar component) (λ c. ToMatrix c matrix (IsAnswer c)) answer
+    (λ c more. value_else matrix_code_of (value_of (matrix_grammar c) matrix) (IsAnswer c) answer (h c) more) is
+
+parts_else : (parts : List (List ℕ)) (IsAnswer : Declarations → List (List Call) → Answer → Type 0) (answer : Answer) → ((c : Declarations) (m : List (List Call)) → IsAnswer c m answer → IsElse answer) → ToParts parts IsAnswer answer → IsElse answer
+parts_else [] IsAnswer answer h is = refused_else (codes "B1") answer is
+parts_else (a ∷ []) IsAnswer answer h is = refused_else (codes "B1") answer is
+parts_else (a ∷ b ∷ []) IsAnswer answer h is = texts_else a b IsAnswer answer h is
+parts_else (a ∷ b ∷ c ∷ rest) IsAnswer answer h is = refused_else (codes "B1") answer is
+
+replay_else : (parts : List (List ℕ)) (answer : Answer) → IsReplayOf parts answer → IsElse answer
+replay_else [] answer is = refused_else (codes "B1") answer is
+replay_else (a ∷ []) answer is = refused_else (codes "B1") answer is
+replay_else (a ∷ b ∷ []) answer is = refused_else (codes "B1") answer is
+replay_else (a ∷ b ∷ c ∷ []) answer is =
+    texts_else a b (λ x m. ToSchedule (schedule_of c) (IsReplayed x m)) answer (λ x m more. scheduled_else x m (schedule_of c) answer more) is
+replay_else (a ∷ b ∷ c ∷ d ∷ rest) answer is = refused_else (codes "B1") answer is
+
+order_else : (order : Order) (parts : List (List ℕ)) (answer : Answer) → IsAnswerTo order parts answer → IsElse answer
+order_else Replay parts answer is = replay_else parts answer is
+order_else (Serial limits) parts answer is = parts_else parts (λ c m. IsRunSerially c m limits) answer (λ c m more. serial_else c m limits answer more) is
+order_else (Check choice) parts answer is = parts_else parts (λ c m. IsChecked c m choice) answer (λ c m more. checked_else c m choice answer more) is
+
+either_else : (long : Bool) (order : Order) (parts : List (List ℕ)) (answer : Answer) → MatchBool long (answer ≡ refused (codes "B2")) (IsAnswerTo order parts answer) → IsElse answer
+either_else true order parts answer is = refused_else (codes "B2") answer is
+either_else false order parts answer is = order_else order parts answer is
+
+pub answer_else : (order : Order) (known : Option (List ℕ)) (answer : Answer) → IsAnswerFrom order known answer → answer ≢ no_device
+answer_else order known answer is = either_else (nat_lt 1048576 (length is.0)) order (parts_of is.0) answer is.2
+
+pub command_else : (answer : Answer) → answer ≡ no_command → answer ≢ no_device
+command_else answer is = status_else answer 2 (ap (λ (a : Answer). a.status) is) (λ e. omega arith)
+
+pub memory_else : no_memory ≢ no_device
+memory_else = text_else no_memory 109 refl (λ e. omega arith)
+
+-- what was said was something else
+pub said_else : (answer : Answer) (text : List ℕ) (old new : Option (List ℕ)) (status : ℕ) → answer ≢ no_device → text ≡ answer.text → Appends old new text × (status ≡ answer.status) → (a : Answer) × (a ≢ no_device) × Tells a old new status
+said_else answer text old new status else t h = (answer, else, (subst (Appends old new) t h.0, h.1))

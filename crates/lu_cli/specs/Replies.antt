@@ -1,5 +1,5 @@
 -- What the program writes, and its status.
-use Rattle.std.specs.Prelude.{◌≡◌, ◌≢◌, ◌⊎◌, ℕ, List, [], ◌∷◌, ◌++◌, length, Option, Result, Ok, Err, MatchBool, codes, nat_lt}
+use Rattle.std.specs.Prelude.{◌≡◌, ◌≢◌, ◌⊎◌, ℕ, List, [], ◌∷◌, ◌++◌, length, Option, Result, Ok, Err, MatchBool, IfSome, codes, nat_lt}
 use Rattle.std.specs.Io.KnownBytes.{Appends}
 use Rattle.lu_text.specs.declared.fault.Fault.{Fault}
 use Rattle.lu_text.specs.declared.fault.Fault.TheVariants.{At, Memory}
@@ -23,7 +23,7 @@ use Rattle.lu_serial.specs.Offences.{NoOffence}
 use Rattle.lu_replay.specs.declared.report.Finding.{Finding}
 use Rattle.lu_replay.specs.declared.report.Finding.TheVariants.{SerialCut, Nondeterministic, Fail, Pass}
 use Rattle.lu_replay.specs.Parts.{Parts}
-use Rattle.lu_replay.specs.Reports.{IsReport}
+use Rattle.lu_replay.specs.Reports.{IsReport, IsOfOffence}
 use Rattle.lu_replay.specs.ReportText.{report_text}
 use Rattle.lu_replay.specs.Replays.{Shows, IsInfeasibleAt}
 use Rattle.lu_replay.specs.Text.{replay_text}
@@ -65,13 +65,6 @@ status_of (SerialCut u) = 3
 
 abbrev pub reported : Parts → Answer
 reported r = record { text = report_text r; status = status_of r.finding }
-
--- what is found is a serial offence
-abbrev pub IsOfOffence : Finding → Type 0
-IsOfOffence (SerialCut u) = Unit {0}
-IsOfOffence (Nondeterministic u before earlier) = Unit {0}
-IsOfOffence (Fail u why) = ⊥
-IsOfOffence (Pass counts) = ⊥
 
 -- ---- `serial`
 
@@ -127,6 +120,10 @@ IsAnswerTo (Check choice) parts = ToParts parts (λ c m. IsChecked c m choice)
 abbrev pub IsAnswerOf : Order → List ℕ → Answer → Type 0
 IsAnswerOf order input answer =
     MatchBool (nat_lt 1048576 (length input)) (answer ≡ refused (codes "B2")) (IsAnswerTo order (parts_of input) answer)
+
+-- the answer to an order and what was read: the whole input where it is known, and else some bytes
+abbrev pub IsAnswerFrom : Order → Option (List ℕ) → Answer → Type 0
+IsAnswerFrom order known answer = (input : List ℕ) × IfSome known (λ all. input ≡ all) × IsAnswerOf order input answer
 
 -- the answer went out, and the status is the answer's
 abbrev pub Tells : Answer → Option (List ℕ) → Option (List ℕ) → ℕ → Type 0

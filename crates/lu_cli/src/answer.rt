@@ -8,7 +8,7 @@ ghost use Rattle.lu_test.specs.ScheduleText.{schedule_of};
 ghost use Rattle.lu_machine.specs.States.{State};
 ghost use Rattle.lu_machine.specs.Starts.{IsStart};
 ghost use Rattle.lu_trie.specs.Members.{history_cmp};
-ghost use Rattle.lu_replay.specs.Reports.{IsFinding};
+ghost use Rattle.lu_replay.specs.Reports.{IsFinding, IsOfOffence};
 ghost use Rattle.lu_cli.specs.Replies as spec;
 ghost use Rattle.lu_cli.specs.Tasks.{is_done};
 
@@ -16,8 +16,10 @@ use crate::order::{Bounds, Order};
 use crate::spec_text::write_set;
 use lu_lang::{Component, read_component};
 use lu_parallel::{CheckFault, OpenGate, Options, check};
-use lu_replay::{Finding, ReplayFault, Report, replay, write_replay, write_report};
-use lu_serial::{Learnt, learn};
+use lu_replay::{
+    Finding, ReplayFault, Report, replay, set_or_offence, write_replay, write_report,
+};
+use lu_serial::learn;
 use lu_test::{Matrix, Schedule, ScheduleFault, read_matrix, read_schedule};
 use lu_text::Fault;
 use lu_trie::Trie;
@@ -141,10 +143,11 @@ fn offence(
     bounds: Bounds,
     finding: Finding,
 ) -> Result<Answer, AllocError>
-    requires offence { spec.IsOfOffence finding }
+    requires offence { IsOfOffence finding }
     requires found { (s : State) → IsStart component.now matrix.now s → IsFinding s bounds.bound bounds.serial finding }
     ensures { IfOk result (spec.IsRunSerially component.now matrix.now bounds) }
 {
+    // Its clause says that the matrix is within its limits.
     let _threads = matrix.threads();
     reported(
         alloc,
@@ -162,30 +165,10 @@ fn run_serially(
     requires { IsOf matrix.now component.now }
     ensures { IfOk result (spec.IsRunSerially component.now matrix.now bounds) }
 {
-    match learn(alloc, alloc, component, matrix, bounds.serial())? {
-        Learnt::Set(set) => shown(alloc, &set),
-        Learnt::Cut(schedule) => offence(
-            alloc,
-            component,
-            matrix,
-            bounds,
-            Finding::SerialCut(schedule),
-        ),
-        Learnt::Conflict {
-            schedule,
-            before,
-            earlier,
-        } => offence(
-            alloc,
-            component,
-            matrix,
-            bounds,
-            Finding::Nondeterministic {
-                schedule,
-                before,
-                earlier,
-            },
-        ),
+    let learnt = learn(alloc, alloc, component, matrix, bounds.serial())?;
+    match set_or_offence(learnt) {
+        Ok(set) => shown(alloc, &set),
+        Err(finding) => offence(alloc, component, matrix, bounds, finding),
     }
 }
 

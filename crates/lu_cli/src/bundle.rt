@@ -1,34 +1,12 @@
 //! The parts of a bundle.
 
-ghost use Rattle.std.specs.Prelude.{◌≡◌, ◌<◌, ◌∷◌, ◌++◌, length, IfOk};
+ghost use Rattle.std.specs.Prelude.{◌≡◌, IfOk};
 ghost use Rattle.lu_text.specs.Lines.{texts};
-ghost use Rattle.lu_cli.specs.Bundle.{first_len, kept_lines, parts_of};
+ghost use Rattle.lu_cli.specs.Bundle.{parts_of};
 ghost use Rattle.lu_cli.specs.Bundle as spec;
 
+use lu_text::cut_line;
 use std::alloc::{AllocError, Global};
-
-/// How many bytes the first line has, with its LF.
-fn line_len(text: &[u8]) -> usize
-    ensures { result ≡ first_len text.now }
-{
-    for (i, byte) in text.iter().enumerate() {
-        if *byte == b'\n' {
-            return i + 1;
-        }
-    }
-    text.len()
-}
-
-/// The first line, with its LF, and what follows it.
-#[tactic(auto, using(crate::proofs::Lines::first_line, crate::proofs::Lines::first_len_le, crate::proofs::Lines::first_len_some))]
-fn cut_line(text: &[u8]) -> (&[u8], &[u8])
-    requires { 0 < length text.now }
-    ensures line { kept_lines text.now ≡ result.0.now ∷ kept_lines result.1.now }
-    ensures whole { text.now ≡ result.0.now ++ result.1.now }
-    ensures some { 0 < length result.0.now }
-{
-    text.split_at(line_len(text))
-}
 
 fn is_separator(line: &[u8]) -> bool
     ensures { result ≡ spec.is_separator line.now }

@@ -16,6 +16,7 @@ pub struct Counted<T> {
 }
 
 impl<T> Counted<T> {
+    /// The reader or the writer, none of whose calls failed so far.
     pub fn new(inner: T) -> Counted<T>
         ensures inner { result.inner ≡ inner }
         ensures failures { result.failures ≡ 0 }

@@ -1,9 +1,10 @@
 //! The whole program over a reader and a writer.
 
-ghost use Rattle.std.specs.Prelude.{◌≡◌, ◌<◌, ◌≤◌, ◌-◌, ◌^◌, ◌⊎◌, Some, None, map, IfOk, IfSome, IsErrOf};
+ghost use Rattle.std.specs.Prelude.{◌≡◌, ◌≢◌, ◌<◌, ◌≤◌, ◌-◌, ◌^◌, ◌⊎◌, Some, None, map, IfOk, IsErrOf};
 ghost use Rattle.lu_cli.specs.declared.program.Failure.TheVariants.{Memory};
 ghost use Rattle.lu_cli.specs.Args.{order_of};
-ghost use Rattle.lu_cli.specs.Replies.{Answers, Tells, IsAnswerOf, no_device, no_command};
+ghost use Rattle.lu_cli.specs.Outcomes.{Answer as AnAnswer};
+ghost use Rattle.lu_cli.specs.Replies.{Answers, Tells, IsAnswerFrom, no_device, no_command};
 ghost use Rattle.std.specs.Io.KnownBytes.{Appends};
 ghost use Rattle.lu_cli.specs.declared.order.Order.{Order as Orders};
 
@@ -19,14 +20,14 @@ use std::convert::AsStr;
 use std::io::{Read, Write};
 use std::sync::Wait;
 use std::thread::Threads;
-use thiserror::Error;
 
 /// Why there is no answer.
-#[derive(Clone, Copy, Debug, PartialEq, Eq, Error)]
-pub enum Failure {
-    #[error("memory")]
+#[derive(Clone, Copy, Debug, PartialEq, Eq)]
+enum Failure {
+    /// Memory was refused.
     Memory,
-    #[error("device")]
+
+    /// A read failed.
     Device,
 }
 
@@ -38,13 +39,15 @@ impl From<AllocError> for Failure {
     }
 }
 
+/// The answer to what is read.
 fn answer_in<X: AllocGlobal + Threads + Wait, R: Read>(
     rt: &X,
     order: Order,
     input: &mut Counted<R>,
 ) -> Result<Answer, Failure>
     requires { input.old.failures < 2 ^ 64 - 1 }
-    ensures answer { IfOk result (λ r. IfSome (R.remaining input.old.inner) (λ given. IsAnswerOf order given r)) }
+    ensures answer { IfOk result (IsAnswerFrom order (R.remaining input.old.inner)) }
+    ensures blames_none { IfOk result (λ r. r ≢ no_device) }
     ensures device { IsErrOf result Failure.Device → input.old.failures < input.new.failures }
     ensures unfailed { IsErrOf result Failure.Device ⊎ (input.new.failures ≡ input.old.failures) }
 {
@@ -59,14 +62,16 @@ fn answer_in<X: AllocGlobal + Threads + Wait, R: Read>(
     }
 }
 
+/// The answer to the words of a command line and to what is read for them.
 fn answer_for<X: AllocGlobal + Threads + Wait, S: AsStr, R: Read>(
     rt: &X,
     words: &[S],
     input: &mut Counted<R>,
 ) -> Result<Answer, Failure>
     requires { input.old.failures < 2 ^ 64 - 1 }
-    ensures answer { IfOk result (λ r. (order : Orders) → order_of (map S.text words.now) ≡ Some order → IfSome (R.remaining input.old.inner) (λ given. IsAnswerOf order given r)) }
+    ensures answer { IfOk result (λ r. (order : Orders) → order_of (map S.text words.now) ≡ Some order → IsAnswerFrom order (R.remaining input.old.inner) r) }
     ensures refused { IfOk result (λ r. order_of (map S.text words.now) ≡ None → r ≡ no_command) }
+    ensures blames_none { IfOk result (λ r. r ≢ no_device) }
     ensures early { order_of (map S.text words.now) ≡ None → input.new ≡ input.old }
     ensures device { IsErrOf result Failure.Device → input.old.failures < input.new.failures }
     ensures unfailed { IsErrOf result Failure.Device ⊎ (input.new.failures ≡ input.old.failures) }
@@ -78,13 +83,18 @@ fn answer_for<X: AllocGlobal + Threads + Wait, S: AsStr, R: Read>(
     }
 }
 
+/// That the command line is refused.
 fn command_refused(alloc: Global) -> Result<Answer, AllocError>
-    ensures { IfOk result (λ r. r ≡ no_command) }
+    ensures answer { IfOk result (λ r. r ≡ no_command) }
+    ensures blames_none { IfOk result (λ r. r ≢ no_device) }
 {
     refused(alloc, "command line")
 }
 
-/// Runs the program on the words behind its name, and answers its exit status.
+/// Runs the program on the words behind its name, and answers its exit status: 0 where all is well, 1 for a failure, for
+/// nondeterminism and for an infeasible schedule, 2 for a refusal, 3 for a serial cut, and 4 where memory, the start of a
+/// worker's thread or a device failed. No call of the reader or the writer that failed is tried again; both counts of
+/// failures have to be below 2^64 - 1. A check with two workers or more waits for them.
 pub fn run<X: AllocGlobal + Threads + Wait, S: AsStr, R: Read, W: Write>(
     rt: &X,
     words: &[S],
@@ -94,16 +104,17 @@ pub fn run<X: AllocGlobal + Threads + Wait, S: AsStr, R: Read, W: Write>(
     requires reads { input.old.failures < 2 ^ 64 - 1 }
     requires writes { output.old.failures < 2 ^ 64 - 1 }
     // Where the command line was accepted and no read and no write failed, the answer goes out.
-    ensures answer { (order : Orders) → order_of (map S.text words.now) ≡ Some order → input.new.failures ≡ input.old.failures → output.new.failures ≡ output.old.failures
-        → IfSome (R.remaining input.old.inner) (λ given. Answers (IsAnswerOf order given) (W.contents output.old.inner) (W.contents output.new.inner) result) }
+    ensures answer { (order : Orders) → order_of (map S.text words.now) ≡ Some order → input.new.failures ≡ input.old.failures → output.new.failures ≡ output.old.failures → Answers (IsAnswerFrom order (R.remaining input.old.inner)) (W.contents output.old.inner) (W.contents output.new.inner) result }
     // Where it was refused, that is said, and nothing is read.
     ensures refused { order_of (map S.text words.now) ≡ None → output.new.failures ≡ output.old.failures → Answers (λ answer. answer ≡ no_command) (W.contents output.old.inner) (W.contents output.new.inner) result }
     // The command line is judged before anything is read.
     ensures early { order_of (map S.text words.now) ≡ None → input.new ≡ input.old }
     // A write that failed shows in the status.
     ensures unwritten { output.old.failures < output.new.failures → result ≡ 4 }
-    // A device is blamed only where a read failed.
+    // A read that failed is told.
     ensures unread { output.new.failures ≡ output.old.failures → input.new.failures ≡ input.old.failures ⊎ Tells no_device (W.contents output.old.inner) (W.contents output.new.inner) result }
+    // And it is told only then.
+    ensures blamed { output.new.failures ≡ output.old.failures → input.new.failures ≡ input.old.failures → (a : AnAnswer) × (a ≢ no_device) × Tells a (W.contents output.old.inner) (W.contents output.new.inner) result }
 {
     match answer_for(rt, words, input) {
         Ok(answer) => say(output, answer.text.as_str(), answer.status),

@@ -7,7 +7,7 @@ use lu_lang::{LangFault, read_component};
 use lu_parallel::{CheckFault, OpenGate, Options, check};
 use lu_replay::write_report;
 use lu_test::{MatrixFault, read_matrix};
-use std::alloc::AllocError;
+use std::alloc::{AllocError, Global};
 use std::sync::Wait;
 use std::thread::Threads;
 use thiserror::Error;
@@ -70,14 +70,15 @@ impl From<AllocError> for Fault {
 }
 
 /// Checks the component and the matrix of two texts: answers the text of their report, which is the same for any number of
-/// workers and any depth. The component's text is read first.
+/// workers and any depth. The component's text is read first. With two workers or more the call waits for them.
 ///
 /// # Errors
 ///
 /// [`Fault::Component`] or [`Fault::Matrix`] with the fault of the first text that has one. [`Fault::Check`] where both are
 /// read, and memory was refused, or the start of a worker's thread, which one worker doesn't need.
-pub fn check_texts<X: AllocGlobal + Threads + Wait>(
+pub fn check_texts<X: Threads + Wait>(
     rt: &X,
+    alloc: Global,
     component: &[u8],
     matrix: &[u8],
     options: Options,
@@ -85,7 +86,6 @@ pub fn check_texts<X: AllocGlobal + Threads + Wait>(
     ensures report { IfOk result (λ text. IsReportOf component.now matrix.now options (string_bytes text)) }
     ensures fault { IfErr result (IsFaultOf component.now matrix.now options) }
 {
-    let alloc = rt.alloc();
     let component = read_component(alloc, component)?;
     let matrix = read_matrix(alloc, &component, matrix)?;
     let report = check(rt, alloc, &OpenGate, &component, &matrix, options)?;

@@ -2,7 +2,7 @@ use Rattle.std.proofs.Common.{◌≡◌, refl, subst}
 use Rattle.std.specs.Prelude.{IfOk}
 use Rattle.lu_machine.specs.Starts.{start_of}
 use Rattle.lu_replay.specs.Parts.{Parts}
-use Rattle.lu_parallel.proofs.Limits.{finding_within}
+use Rattle.lu_replay.proofs.Limits.{finding_within}
 use Rattle.lu_cli.specs.Replies.{reported}
 use Rattle.lu_cli.proofs.Reported.{report_serial}
 use Rattle.lu_cli.proofs.answer.offence.Goals as goal

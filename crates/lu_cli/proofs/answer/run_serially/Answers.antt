@@ -4,19 +4,12 @@ use Rattle.lu_cli.proofs.answer.run_serially.Goals as goal
 
 pub offence-requires-clause-found : goal.offence-requires-clause-found
 offence-requires-clause-found c s start =
-    let learnt = c.in_ok-set.ensures s start in
-    let cut = rw c.in-Cut.is at learnt in
-    rw (← c.serial.ensures.serial) cut
+    let finding = c.in-Err.ensures.offence s c.args.bounds.bound c.serial.result (c.in_ok-learnt.ensures s start) in
+    rw (← c.serial.ensures.serial) finding
 
-pub offence-requires-in-Conflict-clause-found : goal.offence-requires-in-Conflict-clause-found
-offence-requires-in-Conflict-clause-found c s start =
-    let learnt = c.in_ok-set.ensures s start in
-    let conflict = rw c.in-Conflict.is at learnt in
-    rw (← c.serial.ensures.serial) conflict
-
-pub returns-in-Set : goal.returns-in-Set
-returns-in-Set c =
-    let members = c.in-Set.set in
+pub returns-in-Ok : goal.returns-in-Ok
+returns-in-Ok c =
+    let members = c.in-Ok.set in
     set_serial c.args.component.now c.args.matrix.now c.args.bounds members
-    (λ s start. (let learnt = c.in_ok-set.ensures s start in let set = rw c.in-Set.is at learnt in rw (← c.serial.ensures.serial) set))
+    (λ s start. (let set = c.in-Ok.ensures.set s c.serial.result (c.in_ok-learnt.ensures s start) in rw (← c.serial.ensures.serial) set))
     c.shown.ensures.rise c.shown.result c.shown.ensures.answer

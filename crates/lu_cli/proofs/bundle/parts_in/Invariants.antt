@@ -1,6 +1,7 @@
 use Rattle.std.proofs.Common.{◌≡◌, ◌≤◌, ◌++◌, length, take}
 use Rattle.lu_text.specs.Lines.{texts}
-use Rattle.lu_cli.specs.Bundle.{kept_lines, parts_by, parts_of}
+use Rattle.lu_text.specs.Lines.{kept_lines}
+use Rattle.lu_cli.specs.Bundle.{parts_by, parts_of}
 use Rattle.lu_cli.proofs.Lines.{join_first}
 use Rattle.lu_cli.proofs.bundle.parts_in.Given as goal
 

@@ -1,21 +1,26 @@
 use Rattle.std.proofs.Common.{◌≡◌, ◌<◌, Err, inr, refl, ap, sym, ◌∙◌, arith}
-use Rattle.lu_cli.specs.Replies.{Answer, Answers, IsAnswerOf}
-use Rattle.lu_cli.proofs.Sayings.{some_weaker, some_all, said}
+use Rattle.lu_cli.specs.Replies.{Answer, IsAnswerFrom, no_memory}
+use Rattle.lu_cli.proofs.Sayings.{memory_else, said, said_else}
 use Rattle.lu_cli.proofs.program.run.Goals as goal
 
 pub returns-in-Ok-clause-answer : goal.returns-in-Ok-clause-answer
 returns-in-Ok-clause-answer g c = λ order e reads writes.
-    some_weaker (g.R.Read.remaining c.args.input.now.inner) (λ given. IsAnswerOf order given c.in-Ok.answer)
-    (λ given. Answers (IsAnswerOf order given) (g.W.Write.contents c.args.output.now.inner) (g.W.Write.contents c.say.new.output.inner) c.say.result)
-    (λ given is. said (IsAnswerOf order given) c.in-Ok.answer c.as_str.result.now _ _ _ is (c.as_str.ensures.value ∙ ap (λ (a : Answer). a.text) c.answer.view_is) (let told = c.say.ensures.told writes in (told.0, told.1 ∙ ap (λ (a : Answer). a.status) c.answer.view_is))) (c.in-Ok.ensures.answer order e)
+    let told = c.say.ensures.told writes in
+    said (IsAnswerFrom order (g.R.Read.remaining c.args.input.now.inner)) c.in-Ok.answer c.as_str.result.now _ _ _ (c.in-Ok.ensures.answer order e) (c.as_str.ensures.value ∙ ap (λ (a : Answer). a.text) c.answer.view_is) (told.0, told.1 ∙ ap (λ (a : Answer). a.status) c.answer.view_is)
+
+pub returns-in-Ok-clause-blamed : goal.returns-in-Ok-clause-blamed
+returns-in-Ok-clause-blamed g c = λ writes reads.
+    let told = c.say.ensures.told writes in
+    said_else c.in-Ok.answer c.as_str.result.now _ _ _ c.in-Ok.ensures.blames_none (c.as_str.ensures.value ∙ ap (λ (a : Answer). a.text) c.answer.view_is) (told.0, told.1 ∙ ap (λ (a : Answer). a.status) c.answer.view_is)
 
 pub returns-in-Err-Memory-clause-answer : goal.returns-in-Err-Memory-clause-answer
-returns-in-Err-Memory-clause-answer g c = λ order e reads writes. some_all (g.R.Read.remaining c.args.input.now.inner)
-    (λ given. Answers (IsAnswerOf order given) (g.W.Write.contents c.args.output.now.inner) (g.W.Write.contents c.say-in-Err-Memory.new.output.inner) c.say-in-Err-Memory.result)
-    (λ given. inr (c.say-in-Err-Memory.ensures.told writes))
+returns-in-Err-Memory-clause-answer g c = λ order e reads writes. inr (c.say-in-Err-Memory.ensures.told writes)
 
 pub returns-in-Err-Memory-clause-refused : goal.returns-in-Err-Memory-clause-refused
 returns-in-Err-Memory-clause-refused g c = λ e writes. inr (c.say-in-Err-Memory.ensures.told writes)
+
+pub returns-in-Err-Memory-clause-blamed : goal.returns-in-Err-Memory-clause-blamed
+returns-in-Err-Memory-clause-blamed g c = λ writes reads. (no_memory, memory_else, c.say-in-Err-Memory.ensures.told writes)
 
 pub returns-in-Err-Device-clause-refused : goal.returns-in-Err-Device-clause-refused
 returns-in-Err-Device-clause-refused g c = λ e writes.
@@ -25,3 +30,8 @@ returns-in-Err-Device-clause-refused g c = λ e writes.
 
 pub returns-in-Err-Device-clause-unread : goal.returns-in-Err-Device-clause-unread
 returns-in-Err-Device-clause-unread g c = λ writes. inr (c.say-in-Err-Device.ensures.told writes)
+
+pub returns-in-Err-Device-clause-blamed : goal.returns-in-Err-Device-clause-blamed
+returns-in-Err-Device-clause-blamed g c = λ writes reads.
+    let more : c.args.input.now.failures < c.answer_for.new.input.failures = c.answer_for.ensures.device (c.in-Err-Device.is ∙ ap Err c.in-Err-Device.field-0-is) in
+    absurd (omega arith)
