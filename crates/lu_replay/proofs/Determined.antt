@@ -17,7 +17,7 @@ use Rattle.lu_serial.specs.Serial.{HasOpen, IsByOpen, IsSerialFrom, EndsAs, IsSe
 use Rattle.lu_serial.specs.Offences.{IsOffence, IsConflict, IsFirstConflict, IsFirstCut}
 use Rattle.lu_serial.proofs.Opening.{step_turned, others, same_or_not, complete_not_open}
 use Rattle.lu_serial.proofs.CallsLeft.{none_at_start}
-use Rattle.lu_serial.proofs.Single.{one_learnt}
+use Rattle.lu_serial.proofs.Single.{AtMostOne, one_along, one_learnt}
 use Rattle.lu_witness.specs.declared.judgement.Why.{Why}
 use Rattle.lu_witness.specs.declared.judgement.Why.TheVariants.{Complete, Stuck}
 use Rattle.lu_witness.specs.declared.judgement.Verdict.TheVariants.{NoWitnessFor}
@@ -32,22 +32,6 @@ use Rattle.lu_replay.specs.Reports.{IsFinding, IsReport}
 use Rattle.lu_replay.proofs.Sets.{good_not_bad, first_bad_same}
 
 -- ---- a serial schedule is not both cut and ended
-
--- at most one operation is open
-abbrev AtMostOne : State → Type 0
-AtMostOne s = (t i : ℕ) → HasOpen s t → HasOpen s i → t ≡ i
-
-mover : (s : State) (m : Move) (new : State) (event : Option Event) → Step s m new event → IsByOpen s m → (t : ℕ) → HasOpen new t → t ≡ m.thread
-mover s m new event step by t h =
-    elim (same_or_not t m.thread) [
-      | inl e ↦ e
-      | inr e ↦ sym (by t (others s m new event (step_turned s m new event step) t e h))
-    ]
-
-one_along : (s : State) (u : List Move) (end : State) (h : List Event) → AtMostOne s → IsSerialFrom s u → Leads s u end h → AtMostOne end
-one_along s [] end h one f p = subst AtMostOne (sym p.0) one
-one_along s (m ∷ u) end h one f p =
-    one_along p.0 u end p.2 (λ t i a b. mover s m p.0 p.1 p.3 f.0 t a ∙ sym (mover s m p.0 p.1 p.3 f.0 i b)) (f.1 p.0 p.1 p.3) p.4
 
 not_ended : (end : State) (h : List Event) (q : List SerialOp) (t : ℕ) → AtMostOne end → HasOpen end t → 0 < picks_of end t → EndsAs end h q → ⊥
 not_ended end h q t one opened able (inl over) = complete_not_open end over.0 t opened

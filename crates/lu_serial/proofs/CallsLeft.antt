@@ -22,6 +22,7 @@ use Rattle.lu_machine.specs.declared.event.Event.{Event}
 use Rattle.lu_machine.specs.declared.thread.Thread.{Thread}
 use Rattle.lu_machine.specs.declared.thread.Activity.{Activity}
 use Rattle.lu_machine.specs.declared.thread.Activity.TheVariants.{Idle, Open}
+use Rattle.lu_machine.proofs.Moves.{feasible_is_move}
 use Rattle.lu_serial.specs.declared.node.OpenCall.{OpenCall}
 use Rattle.lu_serial.specs.Serial.{HasOpen, IsByOpen}
 use Rattle.lu_serial.specs.Walks.{AreCalls, IsOpenIn, IsFull, IsWithin, open_after, one_more, left_of, moves_left}
@@ -127,58 +128,6 @@ calls_keep s m new event step calls i x is busy =
           let lt = calls i x before busy in
           omega arith)
     ]
-
-few_choices : (arrays locks places : ℕ) (instr : Instr) → IsInstr arrays locks places instr → choices instr ≤ 8
-few_choices arrays locks places (Set to v) is = omega arith
-few_choices arrays locks places (Compute by to a b) is = omega arith
-few_choices arrays locks places (Load to w i) is = omega arith
-few_choices arrays locks places (Store w i v) is = omega arith
-few_choices arrays locks places (Cas to w i a b) is = omega arith
-few_choices arrays locks places (Lock l) is = omega arith
-few_choices arrays locks places (Unlock l) is = omega arith
-few_choices arrays locks places (Await w i v) is = omega arith
-few_choices arrays locks places (AwaitNot w i v) is = omega arith
-few_choices arrays locks places (Pick to count) is = is.2
-few_choices arrays locks places (Jump target) is = omega arith
-few_choices arrays locks places (JumpIfZero v target) is = omega arith
-few_choices arrays locks places (ReturnInstr v) is = omega arith
-
-all_at : {A : Type 0} (P : A → Type 0) (xs : List A) (i : ℕ) (x : A) → All P xs → slice_get xs i ≡ Some x → P x
-all_at P xs i x all at = subst P (get_or_from_slice_get xs i x x at) (All-get_or P xs i x (slice_get_within xs i x at) all)
-
-unless_blocked : (blocked : Bool) (n : ℕ) → n ≤ 8 → (if blocked then 0 else n) ≤ 8
-unless_blocked true n h = omega arith
-unless_blocked false n h = h
-
-one_at_most : (b : Bool) → (if b then 1 else 0) ≤ 8
-one_at_most true = omega arith
-one_at_most false = omega arith
-
-instr_is : (c : Declarations) → IsComponent c → (op : ℕ) (o : Option Op) → slice_get c.operations op ≡ o → (blocked : Instr → Bool) (place : ℕ) (i : Option Instr) → instr_at c op place ≡ i → option_map_or (λ instr. if blocked instr then 0 else choices instr) i 0 ≤ 8
-unfolding instr_at
-instr_is c is op o at blocked place None e = omega arith
-instr_is c is op None at blocked place (Some instr) e = (let e' = rw at at e in cc)
-instr_is c is op (Some op') at blocked place (Some instr) e =
-    let e' : slice_get op'.code place ≡ Some instr = rw at at e in
-    let isop = all_at (IsOp (length c.arrays) (length c.locks)) c.operations op op' is.operations at in
-    let isin = all_at (IsInstr (length c.arrays) (length c.locks) (length op'.code)) op'.code place instr isop.code.instrs e' in
-    unless_blocked (blocked instr) (choices instr) (few_choices (length c.arrays) (length c.locks) (length op'.code) instr isin)
-
-activity_few : (s : State) → IsComponent s.component → (t done : ℕ) (activity : Activity) → activity_picks s t done activity ≤ 8
-activity_few s is t done Idle = one_at_most (nat_lt done (call_count s t))
-activity_few s is t done (Open f) = instr_is s.component is f.op (slice_get s.component.operations f.op) refl (is_blocked s f) f.place (instr_at s.component f.op f.place) refl
-
--- a move is one of 8 threads and of one of its 8 picks
-feasible_is_move : (s : State) → IsComponent s.component → length s.threads ≤ 8 → (m : Move) → IsFeasible s m → IsMove m
-feasible_is_move s is few m f = by_thread (slice_get s.threads m.thread) refl
-  where
-    by_thread : (o : Option Thread) → slice_get s.threads m.thread ≡ o → IsMove m
-    by_thread None at = (let f' = rw at at f in absurd (omega (arith, f')))
-    by_thread (Some x) at =
-        let within : m.thread < length s.threads = slice_get_within s.threads m.thread x at in
-        let f' : m.pick < activity_picks s m.thread x.done x.activity = rw at at f in
-        let le = activity_few s is m.thread x.done x.activity in
-        (omega arith, omega arith)
 
 -- the path of a kid is within the limits
 pub within_kid : (bound : ℕ) (u : List Move) (s : State) (current : Option OpenCall) → IsWithin bound u s current → (m : Move) (new : State) (event : Option Event) → Step s m new event → IsFeasible s m → IsByOpen s m → IsOpenIn s current → (IsFull current bound → ⊥) → ((o : OpenCall) → current ≡ Some o → o.taken ≤ bound) → IsWithin bound (u ++ m ∷ []) new (open_after current m.thread event)

@@ -35,14 +35,10 @@ use Rattle.lu_serial.specs.Offences.{IsOffence, IsConflict, IsSetOf, IsFirstCut}
 use Rattle.lu_serial.specs.Walks.{AreLearnt, AreTurns, Adding, HasSerialMove, HasTakenOf, IsAt, IsFull, IsOpenIn, IsSerialMove, IsReady, IsUpTo, Walks, ended_entries, entry_if, open_after}
 use Rattle.lu_machine.proofs.Orders.{between, same_move, smaller_begins, smaller_last, smaller_longer, smaller_on, smaller_trans}
 use Rattle.lu_serial.proofs.CallsLeft.{none_at_start, within_kid, within_start}
+use Rattle.lu_machine.proofs.Ahead.{begins_itself, begins_shorter}
+use Rattle.lu_machine.proofs.Moves.{next_same}
 use Rattle.lu_serial.proofs.Opening.{step_turned, one_open, taken_after, no_open_complete, complete_not_open}
 use Rattle.lu_serial.proofs.SerialPaths.{here, run_here, at_here, serial_child, taken_same}
-
-pub begins_itself : (u : List Move) → BeginsWith u u
-begins_itself u = ([], sym (append-nil u))
-
-begins_shorter : (v u : List Move) (m : Move) → BeginsWith v (u ++ m ∷ []) → BeginsWith v u
-begins_shorter v u m b = (m ∷ b.0, b.1 ∙ append_assoc u (m ∷ []) b.0)
 
 begins_longer : (v u : List Move) (m : Move) → BeginsWith v (u ++ m ∷ []) → v ≡ u → ⊥
 begins_longer v u m b is =
@@ -51,10 +47,6 @@ begins_longer v u m b is =
     let g : length (u ++ m ∷ []) ≡ length u + 1 = length-append u (m ∷ []) in
     let h : length v ≡ length u = ap length is in
     omega arith
-
-next_same : (u : List Move) (m n : Move) (x y : List Move) → (u ++ m ∷ []) ++ x ≡ (u ++ n ∷ []) ++ y → m ≡ n
-next_same [] m n x y e = cc
-next_same (k ∷ u) m n x y e = next_same u m n x y (cc)
 
 or_right : (a b : Bool) → b ≡ true → (a || b) ≡ true
 or_right true b e = refl

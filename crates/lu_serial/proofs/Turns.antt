@@ -6,15 +6,9 @@ use Rattle.lu_machine.specs.States.{State}
 use Rattle.lu_machine.specs.Steps.{IsEnabled, IsFeasible, picks_of}
 use Rattle.lu_machine.specs.Ends.{HasMove}
 use Rattle.lu_machine.proofs.Ended.{picks_past}
+use Rattle.lu_machine.proofs.Moves.{feasible_within}
 use Rattle.lu_serial.specs.declared.node.OpenCall.{OpenCall}
 use Rattle.lu_serial.specs.Walks.{AreTurns, HasSerialMove, IsOpenIn}
-
-feasible_within : (s : State) (m : Move) → IsFeasible s m → m.thread < length s.threads
-feasible_within s m f =
-    elim (cases_lt m.thread (length s.threads)) [
-      | inl lt ↦ lt
-      | inr ge ↦ (let none = picks_past s m.thread ge in absurd (omega (arith, f, none)))
-    ]
 
 -- nothing is open
 pub turns_free : (s : State) (n : ℕ) → n ≡ length s.threads → IsOpenIn s None → AreTurns s 0 n

@@ -10,7 +10,7 @@ use Rattle.lu_machine.specs.Ends.{HasMove, HasNoMove}
 use Rattle.lu_machine.specs.Order.{IsMoveBelow}
 use Rattle.lu_machine.proofs.Orders.{same_move}
 use Rattle.lu_tree.specs.Pieces.{AreMovesOf, HasKids, with_each}
-use Rattle.lu_tree.proofs.Walking.{feasible_within}
+use Rattle.lu_machine.proofs.Moves.{feasible_within}
 
 slice_get_push : {A : Type 0} (xs : List A) (y : A) (k : ℕ) (m : A) → slice_get (xs ++ y ∷ []) k ≡ Some m → (slice_get xs k ≡ Some m) ⊎ ((k ≡ length xs) × (y ≡ m))
 slice_get_push [] y zero m h = inr (refl, same_Some y m h)

@@ -14,7 +14,8 @@ use Rattle.lu_machine.specs.Schedules.{BeginsWith, Reaches, IsNumber, IsComplete
 use Rattle.lu_machine.proofs.Ahead.{begins_itself, begins_shorter, begins_longer, no_move, ended_no_move, not_both, here, reaches_here}
 use Rattle.lu_machine.proofs.Ended.{complete_no_move, picks_past}
 use Rattle.lu_machine.proofs.Numbers.{number_none, number_one, number_same, number_join}
-use Rattle.lu_machine.proofs.Orders.{same_move, smaller_asym, smaller_branch, smaller_cases}
+use Rattle.lu_machine.proofs.Moves.{feasible_within, next_same}
+use Rattle.lu_machine.proofs.Orders.{move_cases, same_move, smaller_asym, smaller_branch}
 use Rattle.lu_history.specs.declared.serial.SerialOp.{SerialOp}
 use Rattle.lu_witness.specs.declared.judgement.Why.{Why}
 use Rattle.lu_witness.specs.Goodness.{IsGoodAt, IsWhyAt, AreGood, IsFirstBad, AreAllGood}
@@ -28,10 +29,6 @@ pub record GoesOnBelow (u : List Move) (limit : Move) (v : List Move) : Type 0 w
   pub move : Move
   pub below : IsMoveBelow move limit
   pub begins : BeginsWith v (u ++ move ∷ [])
-
-next_same : (u : List Move) (m n : Move) (x y : List Move) → (u ++ m ∷ []) ++ x ≡ (u ++ n ∷ []) ++ y → m ≡ n
-next_same [] m n x y e = cc
-next_same (k ∷ u) m n x y e = next_same u m n x y (cc)
 
 -- the first move of the first thread has none below it
 none_below_first : (m : Move) → IsMoveBelow m (record { thread = 0; pick = 0 }) → ⊥
@@ -69,24 +66,6 @@ below_turned s t p all m f (inl lt) =
           inr (e, omega arith))
     ]
 below_turned s t p all m f (inr b) = absurd (omega (arith, b.1))
-
-move_cases : (m n : Move) → (IsMoveBelow m n ⊎ IsMoveBelow n m) ⊎ (m ≡ n)
-move_cases m n =
-    elim (smaller_cases (m ∷ []) (n ∷ [])) [
-      | inl x ↦ elim x [
-        | inl a ↦ elim a [ inl lt ↦ inl (inl lt) | inr e ↦ absurd e.1 ]
-        | inr b ↦ elim b [ inl lt ↦ inl (inr lt) | inr e ↦ absurd e.1 ]
-      ]
-      | inr e ↦ inr (cc)
-    ]
-
--- a feasible move is one of a thread
-pub feasible_within : (s : State) (m : Move) → IsFeasible s m → m.thread < length s.threads
-feasible_within s m f =
-    elim (cases_lt m.thread (length s.threads)) [
-      | inl lt ↦ lt
-      | inr ge ↦ (let none : picks_of s m.thread ≡ 0 = picks_past s m.thread ge in absurd (omega arith))
-    ]
 
 -- a schedule that is complete or stuck within the bound is ended, and no longer than it
 ended_within : (s : State) (bound : ℕ) (v : List Move) → IsEndedWithin s bound v → (length v ≤ bound) × Reaches s v (λ end _. IsEnded end)

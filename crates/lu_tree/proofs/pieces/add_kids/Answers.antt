@@ -3,7 +3,7 @@ use Rattle.lu_test.specs.declared.schedule.Move.{Move}
 use Rattle.lu_test.specs.Schedule.{IsMove}
 use Rattle.lu_machine.specs.Steps.{IsFeasible, picks_of}
 use Rattle.lu_tree.proofs.Kids.{kids_none, kids_push, kids_turn, kids_itself, kids_each}
-use Rattle.lu_tree.proofs.Limits.{feasible_is_move}
+use Rattle.lu_machine.proofs.Moves.{feasible_is_move}
 use Rattle.lu_tree.proofs.pieces.add_kids.Goals as goal
 
 pub loop-thread-init : goal.loop-thread-init
