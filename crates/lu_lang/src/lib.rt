@@ -10,8 +10,6 @@ mod keyword;
 mod laws;
 mod reading;
 #[cfg(test)]
-mod rows;
-#[cfg(test)]
 mod tests;
 mod writing;
 

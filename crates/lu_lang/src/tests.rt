@@ -1,10 +1,10 @@
 //! Which component a text is, and which fault a text has.
 
-use crate::rows::ROWS;
 use crate::{
     Arithmetic, Component, Instr, LangFault, LangFaultKind, Operand, read_component,
     write_component,
 };
+use lu_examples::ROWS;
 use lu_text::Fault;
 use std::alloc::{AllocError, Global};
 use std::process::Abort;

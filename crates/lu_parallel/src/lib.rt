@@ -35,6 +35,4 @@ pub use parts::{FoundPiece, Work};
 pub use worker::work;
 
 #[cfg(test)]
-mod rows;
-#[cfg(test)]
 mod tests;

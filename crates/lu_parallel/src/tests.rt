@@ -7,10 +7,10 @@ ghost use Rattle.lu_machine.specs.Starts.{IsStart};
 ghost use Rattle.lu_parallel.specs.Works.{IsFresh, IsOver, IsPiece};
 
 use crate::laws::{cover_sums, found_is_reported, works_conclude};
-use crate::rows::ROWS;
 use crate::{CheckFault, Gate, OpenGate, Options, Work, check, check_one, conclude, work};
 use lu_board::board::{Board, Seat};
 use lu_board::view::Kind;
+use lu_examples::ROWS;
 use lu_lang::{Component, read_component};
 use lu_machine::Counts;
 use lu_replay::{Finding, Report};

@@ -1,6 +1,6 @@
 //! Texts that end too early.
 
-use crate::ROWS;
+use lu_examples::ROWS;
 use lu_lang::{LangFault, read_component, write_component};
 use std::process::Abort;
 use std::test::Fail;

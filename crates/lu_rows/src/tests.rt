@@ -1,5 +1,6 @@
-use crate::{ROWS, SMALL};
+use crate::SMALL;
 use lu_cli::{Counted, run};
+use lu_examples::ROWS;
 use std::process::Abort;
 use std::sync::Wait;
 use std::test::Fail;
@@ -37,25 +38,19 @@ fn replays<X: AllocGlobal + Abort + Threads + Wait>(
 #[test]
 fn a_counter_is_replayed(rt: HostRuntime) -> Result<(), Fail> {
     let matrix = "thread inc\nthread inc\n";
-    replays(
-        &rt,
-        SMALL,
-        matrix,
-        "schedule 0 0 0 1 1 0 0 1 1 1\n",
-        "replay complete\ncall 0 0\ncall 1 0\nreturn 0 0 ret 1\nreturn 1 0 ret 1\n",
-        0,
-    )?;
-    replays(&rt, SMALL, matrix, "schedule\n", "replay running\n", 0)?;
-    replays(&rt, SMALL, matrix, "schedule 0 0 2\n", "infeasible 2\n", 1)?;
-    replays(&rt, SMALL, matrix, "schedule 0:1\n", "infeasible 0\n", 1)?;
-    replays(
-        &rt,
-        SMALL,
-        matrix,
-        "schedule 0 0\n",
-        "replay running\ncall 0 0\n",
-        0,
-    )
+    let lost = "replay complete\ncall 0 0\ncall 1 0\nreturn 0 0 ret 1\nreturn 1 0 ret 1\n";
+    for component in [SMALL, ROWS] {
+        for (schedule, wanted, status) in [
+            ("schedule 0 0 0 1 1 0 0 1 1 1\n", lost, 0),
+            ("schedule\n", "replay running\n", 0),
+            ("schedule 0 0 2\n", "infeasible 2\n", 1),
+            ("schedule 0:1\n", "infeasible 0\n", 1),
+            ("schedule 0 0\n", "replay running\ncall 0 0\n", 0),
+        ] {
+            replays(&rt, component, matrix, schedule, wanted, status)?;
+        }
+    }
+    Ok(())
 }
 
 #[test]

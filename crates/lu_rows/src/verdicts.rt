@@ -1,6 +1,6 @@
 //! Verdicts on the histories of schedules, over the serial histories of their matrix.
 
-use crate::ROWS;
+use lu_examples::ROWS;
 use lu_lang::read_component;
 use lu_replay::replay;
 use lu_serial::{Learnt, learn};

@@ -27,6 +27,4 @@ pub use found::Found;
 pub use pieces::frontier;
 
 #[cfg(test)]
-mod rows;
-#[cfg(test)]
 mod tests;

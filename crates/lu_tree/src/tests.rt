@@ -7,8 +7,8 @@ ghost use Rattle.lu_machine.specs.Schedules.{IsSchedule};
 ghost use Rattle.lu_machine.specs.Starts.{IsStart};
 ghost use Rattle.lu_history.specs.declared.serial.SerialOutcome.TheVariants.{Ret};
 
-use crate::rows::ROWS;
 use crate::{Found, frontier, search};
+use lu_examples::ROWS;
 use lu_history::{SerialOp, SerialOutcome};
 use lu_lang::{Component, read_component};
 use lu_machine::{Counts, Machine};

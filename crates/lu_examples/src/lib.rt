@@ -1,4 +1,5 @@
-//! The text of a component with as many operations as a component may have.
+//! Components that the tests of several crates share.
+#![tactic(auto)]
 
 /// Arrays, locks, waits, picks, jumps and traps in 16 operations. The text is canonical.
 pub const ROWS: &str = "\
