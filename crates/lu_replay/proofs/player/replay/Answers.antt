@@ -8,14 +8,14 @@ use Rattle.lu_replay.proofs.player.replay.Goals as goal
 pub loop-index-init : goal.loop-index-init
 loop-index-init c =
     rw c.new-history.ensures
-    (played_none c.args.component.now c.args.matrix.now c.in_ok-machine.machine c.moves-next-items.result.now c.in_ok-machine.ensures)
+    (played_none c.args.component.now c.args.matrix.now c.in_ok-machine.machine c.moves-next-items.result.now c.in_ok-machine.ensures.starts)
 
 pub returns-then-not-feasible-clause-fault : goal.returns-then-not-feasible-clause-fault
 returns-then-not-feasible-clause-fault c =
     let none : Move = record { thread = 0; pick = 0 } in
     let m : Move = get_or c.moves-next-items.result.now c.loop-index.index none in
     let infeasible : IsFeasible c.loop-index.machine m → ⊥ = search rules in
-    played_to c.args.component.now c.args.matrix.now c.in_ok-machine.machine c.moves-next-items.result.now c.args.schedule.now c.loop-index.index c.loop-index.machine c.loop-index.history m none c.in_ok-machine.ensures c.moves-next-items.ensures.moves c.loop-index-test.true refl c.loop-index.invariant infeasible
+    played_to c.args.component.now c.args.matrix.now c.in_ok-machine.machine c.moves-next-items.result.now c.args.schedule.now c.loop-index.index c.loop-index.machine c.loop-index.history m none c.in_ok-machine.ensures.starts c.moves-next-items.ensures.moves c.loop-index-test.true refl c.loop-index.invariant infeasible
 
 pub extend-requires : goal.extend-requires
 extend-requires c =
@@ -31,4 +31,4 @@ loop-index-preserved c =
 
 pub returns-clause-shows : goal.returns-clause-shows
 returns-clause-shows c =
-    (c.loop-index.machine, played_all c.args.component.now c.args.matrix.now c.in_ok-machine.machine c.moves-next-items.result.now c.args.schedule.now c.loop-index.index c.loop-index.machine c.loop-index.history c.in_ok-machine.ensures c.moves-next-items.ensures.moves c.loop-index-test.false c.loop-index.invariant, c.status-status.ensures)
+    (c.loop-index.machine, played_all c.args.component.now c.args.matrix.now c.in_ok-machine.machine c.moves-next-items.result.now c.args.schedule.now c.loop-index.index c.loop-index.machine c.loop-index.history c.in_ok-machine.ensures.starts c.moves-next-items.ensures.moves c.loop-index-test.false c.loop-index.invariant, c.status-status.ensures)

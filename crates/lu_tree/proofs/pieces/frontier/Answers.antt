@@ -9,7 +9,7 @@ pub loop-level-init : goal.loop-level-init
 loop-level-init c =
     let one : c.push.new.self.items ≡ [] ∷ [] = c.in_ok-push.ensures.items ∙ (ap (λ x. x ++ c.new-2.result ∷ []) c.new-pieces.ensures.items ∙ ap (λ x. x ∷ []) (c.new-2.ensures ∙ c.new.ensures.items)) in
     record {
-      start = c.in_ok-machine.ensures;
+      start = c.in_ok-machine.ensures.starts;
       few = (let k = ap length one in omega arith);
       all = rw one (level_start c.in_ok-machine.machine);
     }
