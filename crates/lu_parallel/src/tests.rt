@@ -526,6 +526,21 @@ fn assert_turns<R: AllocGlobal + Abort>(
     assert_worked_in_turn(rt, component, matrix, &set, &pieces)
 }
 
+/// The same over a set.
+fn concluded_over<R: AllocGlobal>(
+    rt: &R,
+    component: &Component,
+    matrix: &Matrix,
+    set: &Trie<Global>,
+    pieces: &[Schedule],
+) -> Result<Option<Found>, Fail>
+    requires of { IsOf matrix.now component.now }
+    requires few { length pieces.now ≤ 65536 }
+    requires pieces { (s : State) → IsStart component.now matrix.now s → All (IsPiece s 40) pieces.now }
+{
+    concluded_in_turn(rt, component, matrix, &set, pieces)
+}
+
 /// What two workers conclude that take turns on the pieces of a matrix.
 fn concluded_of<R: AllocGlobal + Abort>(
     rt: &R,
@@ -536,7 +551,7 @@ fn concluded_of<R: AllocGlobal + Abort>(
 {
     let set = serial_histories(rt, component, matrix)?;
     let pieces = four_moves(rt, component, matrix)?;
-    concluded_in_turn(rt, component, matrix, &&set, &pieces)
+    concluded_over(rt, component, matrix, &set, &pieces)
 }
 
 /// Where no piece is bad, the numbers are concluded.
