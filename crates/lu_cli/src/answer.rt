@@ -16,9 +16,7 @@ use crate::order::{Bounds, Order};
 use crate::spec_text::write_set;
 use lu_lang::{Component, read_component};
 use lu_parallel::{CheckFault, OpenGate, Options, check};
-use lu_replay::{
-    Finding, ReplayFault, Report, replay, set_or_offence, write_replay, write_report,
-};
+use lu_replay::{Finding, ReplayFault, Report, replay, set_or_offence, write_replay, write_report};
 use lu_serial::learn;
 use lu_test::{Matrix, Schedule, ScheduleFault, read_matrix, read_schedule};
 use lu_text::Fault;

@@ -120,7 +120,13 @@ fn texts_are_checked(rt: HostRuntime) -> Result<(), Fail> {
     let Some(options) = Options::new(40, 40, 2, 4) else {
         panic!(rt; "options");
     };
-    let text = check_texts(&rt, rt.alloc(), COUNTER, b"thread inc\nthread inc\n", options)?;
+    let text = check_texts(
+        &rt,
+        rt.alloc(),
+        COUNTER,
+        b"thread inc\nthread inc\n",
+        options,
+    )?;
     assert_eq!(rt;
         text.as_str(),
         "lineup report 1\nbound 40\nserial 40\nfail complete\nschedule 0 0 0 1 1 0 0 1 1 1\n"
