@@ -1,4 +1,4 @@
-use Rattle.std.proofs.Common.{◌≡◌, ◌∙◌, length, refl, sym, ap}
+use Rattle.std.proofs.Common.{◌≡◌, ◌∙◌, refl, sym, ap}
 use Rattle.lu_board.specs.declared.view.View.{View}
 use Rattle.lu_board.specs.Events.{with_held, with_spent}
 use Rattle.lu_board.specs.Pieces.{without}

@@ -1,5 +1,4 @@
-use Rattle.std.proofs.Common.{List, get_or, refl}
-use Rattle.lu_test.specs.declared.schedule.Move.{Move}
+use Rattle.std.proofs.Common.{get_or, refl}
 use Rattle.lu_machine.specs.Starts.{start_of}
 use Rattle.lu_witness.specs.Goodness.{IsFirstBad, AreAllGood}
 use Rattle.lu_witness.specs.Witnesses.{IsMember}
