@@ -1,5 +1,5 @@
 -- One write, and one read, after another.
-use Rattle.std.proofs.Common.{◌≡◌, ℕ, false, ◌<◌, ◌≤◌, ◌-◌, [], ◌∷◌, length, take, drop, refl, arith, List, ◌++◌, Option, Some, None, sym, ap, ◌∙◌, append_assoc}
+use Rattle.std.proofs.Common.{◌≡◌, ℕ, false, ◌<◌, ◌≤◌, ◌-◌, [], ◌∷◌, length, take, drop, refl, arith, List, ◌++◌, Option, Some, None, sym, append_assoc}
 use Rattle.std.specs.Io.KnownBytes.{Appends, Consumes, IsAtEnd}
 use Rattle.std.specs.Prelude.{IfSome, ◌==◌, ◌&&◌, not}
 use Rattle.std.proofs.lemmas.List.{length-append, length-drop, length-take-le, take_all, take-append-drop, append-nil}

@@ -1,5 +1,5 @@
 -- What words ask for, from what the crate for command lines says of them.
-use Rattle.std.proofs.Common.{◌≡◌, ℕ, ◌<◌, ◌^◌, Bool, true, false, List, [], ◌∷◌, length, Option, Some, None, Result, Ok, Err, refl, sym, ap, subst, ◌∙◌, ◌⊎◌, inl, inr, arith}
+use Rattle.std.proofs.Common.{◌≡◌, ℕ, ◌^◌, Bool, true, false, List, [], ◌∷◌, length, Option, Some, None, Result, Ok, Err, refl, ap, subst, ◌⊎◌, inl, inr}
 use Rattle.std.specs.Prelude.{IfOk, IsErrOf, nat_lt, ◌&&◌}
 use Rattle.std.specs.Option.{ok_or}
 use Rattle.std.specs.Result.{result_ok}
@@ -14,7 +14,6 @@ use Rattle.clap.specs.declared.error.kind.ErrorKind.TheVariants.{OutOfMemory}
 use Rattle.clap.proofs.OnLiterals.{clap_on_literals}
 use Rattle.clap.proofs.WalkLemmas.{both}
 use Rattle.lu_cli.specs.declared.order.Order.{Order}
-use Rattle.lu_cli.specs.declared.order.ArgsFault.{ArgsFault}
 use Rattle.lu_cli.specs.declared.order.ArgsFault.TheVariants.{Refused}
 use Rattle.lu_cli.specs.Args.{lineup, number_by, number_said, order_without, order_in, order_of}
 

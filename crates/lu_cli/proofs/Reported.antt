@@ -1,5 +1,5 @@
 -- Answers to checks and serial runs.
-use Rattle.std.proofs.Common.{◌≡◌, ◌≢◌, List, Result, Ok, Err, inl, inr, refl, ◌∙◌, sym}
+use Rattle.std.proofs.Common.{◌≡◌, ◌≢◌, List, Result, Ok, Err, inl, inr, refl}
 use Rattle.std.specs.Prelude.{IfOk}
 use Rattle.std.specs.List.Sorted.{IsStrictlySortedBy}
 use Rattle.lu_lang.specs.Component.{Declarations}

@@ -1,5 +1,5 @@
 -- The lines of the histories below a place, kid after kid.
-use Rattle.std.proofs.Common.{◌≡◌, ℕ, ◌+◌, ◌≤◌, Bool, true, false, suc, List, [], ◌∷◌, ◌++◌, length, take, Option, Some, slice_get, refl, sym, ap, subst, ◌∙◌, append_assoc, arith}
+use Rattle.std.proofs.Common.{◌≡◌, ℕ, ◌+◌, ◌≤◌, Bool, true, false, suc, List, [], ◌∷◌, ◌++◌, length, take, Some, slice_get, refl, sym, ap, ◌∙◌, append_assoc, arith}
 use Rattle.std.specs.List.{flat_map}
 use Rattle.std.proofs.lemmas.List.{append-nil, take_all}
 use Rattle.std.proofs.lemmas.List.Concat.{flat_map-cons}
@@ -7,7 +7,7 @@ use Rattle.std.proofs.lemmas.Grind.{flat_map-append}
 use Rattle.lu_history.specs.declared.serial.SerialOp.{SerialOp}
 use Rattle.lu_history.proofs.Events.{take_next}
 use Rattle.lu_trie.specs.Members.{behind, empty_if, contains}
-use Rattle.lu_trie.specs.Branches.{Branch, joined, members_from, branches_of, IsBranching}
+use Rattle.lu_trie.specs.Branches.{Branch, joined, branches_of, IsBranching}
 use Rattle.lu_cli.specs.SpecText.{history_line}
 
 -- a line for each history behind the path

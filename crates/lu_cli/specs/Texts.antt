@@ -1,6 +1,5 @@
 -- Checks of the texts of a component and a matrix.
-use Rattle.std.specs.Prelude.{◌≡◌, ◌⊎◌, ℕ, List, Result, Ok, Err}
-use Rattle.lu_text.specs.declared.fault.Fault.{Fault}
+use Rattle.std.specs.Prelude.{◌≡◌, ℕ, List, Ok}
 use Rattle.lu_text.specs.Faults.{value_of, IsUnlessMemory}
 use Rattle.lu_lang.specs.Component.{Declarations}
 use Rattle.lu_lang.specs.Grammar.{component_grammar}

@@ -1,4 +1,3 @@
-use Rattle.std.proofs.Common.{◌≡◌}
 use Rattle.lu_cli.proofs.Reported.{report_checked, worker_refused}
 use Rattle.lu_cli.proofs.answer.checked.Goals as goal
 

@@ -1,4 +1,3 @@
-use Rattle.std.proofs.Common.{◌≡◌}
 use Rattle.lu_cli.proofs.Reported.{set_serial}
 use Rattle.lu_cli.proofs.answer.run_serially.Goals as goal
 

@@ -1,6 +1,4 @@
-use Rattle.std.proofs.Common.{◌≡◌, ap, subst, ◌∙◌, sym}
-use Rattle.std.specs.Prelude.{IfOk, IsErrOf}
-use Rattle.lu_cli.specs.declared.order.ArgsFault.TheVariants.{Refused}
+use Rattle.std.proofs.Common.{◌∙◌}
 use Rattle.lu_cli.proofs.Orders.{order_is, faulty, order_found, order_refused}
 use Rattle.lu_cli.proofs.args.read_order.Goals as goal
 use Rattle.lu_cli.proofs.args.read_order.Goals.{in-OutOfMemory, in_default-kind}

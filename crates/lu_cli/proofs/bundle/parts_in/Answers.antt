@@ -1,4 +1,4 @@
-use Rattle.std.proofs.Common.{rules, ◌≡◌, ◌+◌, ◌-◌, length, ◌++◌, ◌∷◌, [], ◌∙◌, refl, take, sym, arith}
+use Rattle.std.proofs.Common.{rules, ◌≡◌, ◌+◌, ◌-◌, length, ◌∙◌, refl, take, sym, arith}
 use Rattle.std.proofs.lemmas.List.{map_push}
 use Rattle.lu_text.specs.Lines.{texts}
 use Rattle.lu_cli.proofs.Lines.{start, grown, ended}

@@ -1,5 +1,4 @@
-use Rattle.std.proofs.Common.{◌≡◌, ◌<◌, ◌≤◌, ◌++◌, length, take, refl, arith}
-use Rattle.std.proofs.lemmas.List.{length-append}
+use Rattle.std.proofs.Common.{refl, arith}
 use Rattle.lu_cli.proofs.Known.{all_came, consumes_then, more_were, passes}
 use Rattle.lu_cli.proofs.input.read_input.Goals as goal
 

@@ -1,4 +1,4 @@
-use Rattle.std.proofs.Common.{◌≡◌, ◌≤◌, ◌-◌, take, length, ℕ, ◌++◌, List}
+use Rattle.std.proofs.Common.{◌≡◌, length, ℕ, ◌++◌, List}
 use Rattle.std.specs.Io.KnownBytes.{Appends}
 use Rattle.lu_cli.proofs.output.write_text.Given as goal
 

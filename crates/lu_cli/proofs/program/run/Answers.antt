@@ -1,4 +1,4 @@
-use Rattle.std.proofs.Common.{◌≡◌, ◌<◌, Err, inr, refl, ap, sym, ◌∙◌, arith}
+use Rattle.std.proofs.Common.{◌≡◌, ◌<◌, Err, inr, refl, ap, ◌∙◌, arith}
 use Rattle.lu_cli.specs.Replies.{Answer, IsAnswerFrom, no_memory}
 use Rattle.lu_cli.proofs.Sayings.{memory_else, said, said_else}
 use Rattle.lu_cli.proofs.program.run.Goals as goal
