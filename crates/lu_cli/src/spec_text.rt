@@ -60,10 +60,15 @@ fn write_below<T: SerialTree>(
 }
 
 /// The text of a set of serial histories: its first line, and a line for each history that is not empty, in order.
+///
+/// # Errors
+///
+/// `AllocError` where memory was refused.
 pub fn write_set<A: Allocator>(alloc: Global, set: &Trie<A>) -> Result<String, AllocError>
     ensures text { IfOk result (λ text. string_bytes text ≡ spec_text set.now) }
     ensures rise { IsStrictlySortedBy history_cmp set.now }
 {
+    // Its clause says that the members are in order.
     let _members = set.len();
     let mut text = String::from_str(alloc, "lineup spec 1\n")?;
     let tree = &set;

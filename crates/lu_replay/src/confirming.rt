@@ -88,6 +88,7 @@ fn fails(
     }
     match replay(alloc, component, matrix, schedule) {
         Ok(shown) => {
+            // Its clause says that the history is well-formed.
             let _events = shown.history.events();
             let verdict = verdict(&set, &shown.history);
             Ok(is_reason(shown.status, verdict, why))
@@ -129,6 +130,10 @@ fn is_shown(
 /// serial runs show the same one; a failure where there is no serial offence and its schedule, run anew, ends within the
 /// bound without its serial witnesses, for the same reason. That it is the least such schedule is not asked. A pass is
 /// never confirmed, since no single run shows it.
+///
+/// # Errors
+///
+/// `AllocError` where memory was refused.
 pub fn confirm(
     alloc: Global,
     component: &Component,

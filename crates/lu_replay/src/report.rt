@@ -16,7 +16,7 @@ pub enum Finding {
     SerialCut(Schedule),
 
     /// The least serial offence is a schedule that ends with a history in conflict with that of a smaller one: the first
-    /// `before` operations agree, and then the smaller one goes on with the outcome `earlier`.
+    /// `before` operations agree, 0 to 15, and then the smaller one goes on with the outcome `earlier`.
     Nondeterministic {
         schedule: Schedule,
         before: usize,

@@ -18,6 +18,7 @@ fn put_schedule(alloc: Global, text: &mut String, schedule: &Schedule) -> Result
     ensures text { OnOk result (string_bytes text.new ≡ string_bytes text.old ++ schedule_text schedule.now) }
     ensures moves { OnOk result (AreMoves schedule.now) }
 {
+    // Its clause says that the moves are those of threads.
     let _moves = schedule.moves();
     let line = write_schedule(alloc, schedule)?;
     text.push_str(line.as_str())

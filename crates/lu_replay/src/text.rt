@@ -21,6 +21,10 @@ fn status_line(status: Status) -> &'static str
 
 /// The text of a replay: a line `replay complete`, `replay stuck` or `replay running`, and then the
 /// lines of the history. Each line ends with LF.
+///
+/// # Errors
+///
+/// `AllocError` where memory was refused.
 pub fn write_replay(alloc: Global, replay: &Replay) -> Result<String, AllocError>
     ensures { IfOk result (λ text. string_bytes text ≡ replay_text replay.now.history replay.now.status) }
 {

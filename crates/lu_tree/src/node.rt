@@ -91,6 +91,7 @@ impl<'a> Node<'a> {
         requires ended { IsEnded self.now.machine }
         ensures { Judges (IsMember (T.members tree.now)) self.now.machine self.now.history one result }
     {
+        // Its clause says that the history is well-formed.
         let _events = self.history.events();
         match verdict(tree, &self.history) {
             Verdict::Good => Walked::Passed(one),

@@ -13,6 +13,7 @@ use lu_trie::SerialTree;
 pub fn verdict<T: SerialTree>(tree: &T, history: &History) -> Verdict
     ensures { IsVerdict (IsMember (T.members tree.now)) history.now result }
 {
+    // Its clause says that the history is well-formed.
     let _events = history.events();
     let mut is_stuck = false;
     for t in 0..8 {

@@ -37,6 +37,7 @@ impl<'a> Kept<'a> {
         ensures events { result ≡ history.now }
         ensures well_formed { IsWellFormed result }
     {
+        // Its clause says that the history is well-formed.
         let _events = history.events();
         Kept {
             history,
@@ -49,6 +50,7 @@ impl<'a> Kept<'a> {
         ensures events { result ≡ keep_pending t history.now }
         ensures well_formed { IsWellFormed result }
     {
+        // Its clause says that the history is well-formed.
         let _events = history.events();
         Kept {
             history,
