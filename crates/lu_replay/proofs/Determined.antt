@@ -1,21 +1,20 @@
 -- A component and a matrix have one report.
-use Rattle.std.proofs.Common.{◌≡◌, ℕ, ◌<◌, List, [], ◌∷◌, Option, refl, sym, ◌∙◌, ap, subst, inl, inr, arith}
+use Rattle.std.proofs.Common.{◌≡◌, ℕ, ◌<◌, List, refl, sym, ◌∙◌, ap, subst, inl, inr, arith}
 use Rattle.lu_lang.specs.Component.{Declarations}
 use Rattle.lu_test.specs.declared.matrix.Call.{Call as ACall}
 use Rattle.lu_test.specs.declared.schedule.Move.{Move}
 use Rattle.lu_machine.specs.declared.event.Event.{Event}
 use Rattle.lu_machine.specs.States.{State}
-use Rattle.lu_machine.specs.Steps.{Step, picks_of}
+use Rattle.lu_machine.specs.Steps.{picks_of}
 use Rattle.lu_machine.specs.Starts.{IsStart, start_of}
-use Rattle.lu_machine.specs.Runs.{Leads}
 use Rattle.lu_machine.specs.Ends.{IsComplete, IsStuck}
 use Rattle.lu_machine.proofs.Paths.{leads_same}
 use Rattle.lu_machine.proofs.Numbers.{least_same, numbers_same}
 use Rattle.lu_history.specs.declared.serial.SerialOutcome.{SerialOutcome}
 use Rattle.lu_history.specs.declared.serial.SerialOp.{SerialOp}
-use Rattle.lu_serial.specs.Serial.{HasOpen, IsByOpen, IsSerialFrom, EndsAs, IsSeriallyEnded, IsSeriallyCut, IsSerialHistory}
+use Rattle.lu_serial.specs.Serial.{HasOpen, EndsAs, IsSeriallyEnded, IsSeriallyCut, IsSerialHistory}
 use Rattle.lu_serial.specs.Offences.{IsOffence, IsConflict, IsFirstConflict, IsFirstCut}
-use Rattle.lu_serial.proofs.Opening.{step_turned, others, same_or_not, complete_not_open}
+use Rattle.lu_serial.proofs.Opening.{others, complete_not_open}
 use Rattle.lu_serial.proofs.CallsLeft.{none_at_start}
 use Rattle.lu_serial.proofs.Single.{AtMostOne, one_along, one_learnt}
 use Rattle.lu_witness.specs.declared.judgement.Why.{Why}

@@ -1,7 +1,7 @@
-use Rattle.std.proofs.Common.{◌≡◌, None, Some, arith}
+use Rattle.std.proofs.Common.{None, Some, arith}
 use Rattle.std.proofs.lemmas.Bool.Decides.{Decides-eqb}
 use Rattle.std.proofs.lemmas.Slice.Eq.{strip_prefix_is, strip_suffix_is}
-use Rattle.lu_replay.proofs.Numbers.{if_none, no_front, no_end, said, not_said}
+use Rattle.lu_replay.proofs.Numbers.{if_none, no_front, said, not_said}
 use Rattle.lu_replay.proofs.report_line.number_behind.Goals as goal
 
 pub returns-in_err-strip_prefix-clause-none : goal.returns-in_err-strip_prefix-clause-none
