@@ -28,6 +28,4 @@
 
 pub mod board;
 pub mod board_core;
-#[cfg(test)]
-mod tests;
 pub mod view;

@@ -1,8 +1,8 @@
--- Answers to checks and serial runs.
-use Rattle.std.proofs.Common.{◌≡◌, ◌≢◌, List, Result, Ok, Err, inl, inr, refl}
+-- Answers to serial runs and to removals.
+use Rattle.std.proofs.Common.{◌≡◌, ℕ, subst, List, Result, Ok, Err, inl, inr, refl}
 use Rattle.std.specs.Prelude.{IfOk}
 use Rattle.std.specs.List.Sorted.{IsStrictlySortedBy}
-use Rattle.lu_lang.specs.Component.{Declarations}
+use Rattle.lu_component.specs.Component.{Declarations}
 use Rattle.lu_test.specs.declared.matrix.Call.{Call}
 use Rattle.lu_machine.specs.States.{State}
 use Rattle.lu_machine.specs.Starts.{IsStart, start_of}
@@ -11,18 +11,11 @@ use Rattle.lu_trie.specs.Members.{history_cmp}
 use Rattle.lu_serial.specs.Offences.{IsSetOf}
 use Rattle.lu_replay.specs.Parts.{Parts}
 use Rattle.lu_replay.specs.Reports.{IsReport, IsOfOffence}
-use Rattle.lu_parallel.specs.Ranges.{Choice}
+use Rattle.lu_refine.specs.declared.shrink_fault.ShrinkFault.{ShrinkFault}
+use Rattle.lu_refine.specs.declared.shrink_fault.ShrinkFault.TheVariants.{NotFailing}
+use Rattle.lu_refine.specs.Removals.{IsShrinkFault}
 use Rattle.lu_cli.specs.Orders.{Limits}
-use Rattle.lu_cli.specs.Replies.{Answer, IsChecked, IsRunSerially, no_worker, reported, shown}
-
-module _ {E : Type 0} (c : Declarations) (matrix : List (List Call)) (choice : Choice) where
-  pub report_checked : (r : Parts) → IsReport c matrix choice.bound choice.serial r → (result : Result Answer E) → IfOk result (λ answer. answer ≡ reported r) → IfOk result (IsChecked c matrix choice)
-  report_checked r is (Ok answer) e = inl (r, is, e)
-  report_checked r is (Err e) h = tt
-
-  pub worker_refused : (choice.workers ≢ 1) → (result : Result Answer E) → IfOk result (λ answer. answer ≡ no_worker) → IfOk result (IsChecked c matrix choice)
-  worker_refused many (Ok answer) e = inr (many, e)
-  worker_refused many (Err e) h = tt
+use Rattle.lu_cli.specs.Replies.{Answer, IsRunSerially, IsShrinkAnswer, reported, shown}
 
 module _ {E : Type 0} (c : Declarations) (matrix : List (List Call)) (limits : Limits) where
   pub report_serial : (r : Parts) → IsReport c matrix limits.bound limits.serial r → IsOfOffence r.finding → (result : Result Answer E) → IfOk result (λ answer. answer ≡ reported r) → IfOk result (IsRunSerially c matrix limits)
@@ -34,3 +27,10 @@ module _ {E : Type 0} (c : Declarations) (matrix : List (List Call)) (limits : L
       let set = is (start_of c matrix) refl in
       inl (start_of c matrix, refl, set.none, (members, record { rise = rise; are = set.are }, e))
   set_serial members is rise (Err e) h = tt
+
+  -- a matrix that does not fail is not shrunk
+  pub not_failing : (bound serial : ℕ) → bound ≡ limits.bound → serial ≡ limits.serial → (fault : ShrinkFault) (r : Parts) → fault ≡ NotFailing r → IsShrinkFault c matrix bound serial fault → (result : Result Answer E) → IfOk result (λ answer. answer ≡ reported r) → IfOk result (IsShrinkAnswer c matrix limits)
+  not_failing bound serial b s fault r f is (Ok answer) e =
+      let told = subst (IsShrinkFault c matrix bound serial) f is in
+      inr (r, subst (λ x. IsReport c matrix x limits.serial r) b (subst (λ x. IsReport c matrix bound x r) s told.0), told.1, e)
+  not_failing bound serial b s fault r f is (Err e) h = tt

@@ -7,7 +7,8 @@ use Rattle.std.proofs.lemmas.List.{length-replicate}
 use Rattle.lu_text.specs.declared.fault.Fault.{Fault}
 use Rattle.lu_text.specs.declared.fault.Fault.TheVariants.{At, Memory}
 use Rattle.lu_text.specs.Faults.{value_of}
-use Rattle.lu_lang.specs.Component.{Declarations}
+use Rattle.lu_text.specs.Words.{two, three}
+use Rattle.lu_component.specs.Component.{Declarations}
 use Rattle.lu_lang.specs.Kinds.{code_of}
 use Rattle.lu_lang.specs.Grammar.{component_grammar}
 use Rattle.lu_test.specs.declared.matrix.Call.{Call}
@@ -20,11 +21,14 @@ use Rattle.lu_replay.specs.declared.report.Finding.{Finding}
 use Rattle.lu_replay.specs.declared.report.Finding.TheVariants.{SerialCut, Nondeterministic, Fail, Pass}
 use Rattle.lu_replay.specs.Parts.{Parts}
 use Rattle.lu_parallel.specs.Ranges.{Choice}
+use Rattle.lu_refine.specs.declared.campaigns.Campaign.{Campaign}
+use Rattle.lu_refine.specs.declared.campaigns.Campaign.TheVariants.{AllPass, First}
+use Rattle.lu_cli.specs.declared.order.CampaignOptions.{CampaignOptions}
 use Rattle.lu_cli.specs.declared.order.Order.{Order}
-use Rattle.lu_cli.specs.declared.order.Order.TheVariants.{Replay, Serial, Check}
+use Rattle.lu_cli.specs.declared.order.Order.TheVariants.{Replay, Serial, Check, Shrink, Campaign as Campaigning}
 use Rattle.lu_cli.specs.Bundle.{parts_of}
 use Rattle.lu_cli.specs.Orders.{Limits}
-use Rattle.lu_cli.specs.Replies.{Answer, Answers, IsAnswerFrom, IsAnswerOf, IsAnswerTo, IsChecked, IsReplayed, IsReplayOf, IsRunSerially, Tells, ToMatrix, ToParts, ToSchedule, ToTexts, ToValue, no_command, no_device, no_memory, refused, reported, status_of}
+use Rattle.lu_cli.specs.Replies.{Answer, Answers, IsAnswerFrom, IsAnswerOf, IsAnswerTo, IsCampaignAnswer, IsCampaignFrom, IsChecked, IsReplayed, IsReplayOf, IsRunSerially, IsShrinkAnswer, Tells, ToMatrix, ToParts, ToSchedule, ToTexts, ToValue, found_answer, no_command, no_device, no_memory, refused, reported, status_of, with_matrix}
 
 -- an answer that was made and said
 pub said : (IsAnswer : Answer → Type 0) (answer : Answer) (text : List ℕ) (old new : Option (List ℕ)) (status : ℕ) → IsAnswer answer → text ≡ answer.text → Appends old new text × (status ≡ answer.status) → Answers IsAnswer old new status
@@ -108,24 +112,45 @@ texts_else component matrix IsAnswer answer h is =
     value_else code_of (value_of component_grammar component) (λ c. ToMatrix c matrix (IsAnswer c)) answer
     (λ c more. value_else matrix_code_of (value_of (matrix_grammar c) matrix) (IsAnswer c) answer (h c) more) is
 
-parts_else : (parts : List (List ℕ)) (IsAnswer : Declarations → List (List Call) → Answer → Type 0) (answer : Answer) → ((c : Declarations) (m : List (List Call)) → IsAnswer c m answer → IsElse answer) → ToParts parts IsAnswer answer → IsElse answer
-parts_else [] IsAnswer answer h is = refused_else (codes "B1") answer is
-parts_else (a ∷ []) IsAnswer answer h is = refused_else (codes "B1") answer is
-parts_else (a ∷ b ∷ []) IsAnswer answer h is = texts_else a b IsAnswer answer h is
-parts_else (a ∷ b ∷ c ∷ rest) IsAnswer answer h is = refused_else (codes "B1") answer is
+parts_else : {A : Type 0} (parts : Option A) (IsAnswer : A → Answer → Type 0) (answer : Answer) → ((p : A) → IsAnswer p answer → IsElse answer) → ToParts parts IsAnswer answer → IsElse answer
+parts_else None IsAnswer answer h is = refused_else (codes "B1") answer is
+parts_else (Some parts) IsAnswer answer h is = h parts is
+
+two_else : (parts : List (List ℕ)) (IsAnswer : Declarations → List (List Call) → Answer → Type 0) (answer : Answer) → ((c : Declarations) (m : List (List Call)) → IsAnswer c m answer → IsElse answer) → ToParts (two parts) (λ p. ToTexts p.0 p.1 IsAnswer) answer → IsElse answer
+two_else parts IsAnswer answer h is =
+    parts_else (two parts) (λ p. ToTexts p.0 p.1 IsAnswer) answer (λ p more. texts_else p.0 p.1 IsAnswer answer h more) is
 
 replay_else : (parts : List (List ℕ)) (answer : Answer) → IsReplayOf parts answer → IsElse answer
-replay_else [] answer is = refused_else (codes "B1") answer is
-replay_else (a ∷ []) answer is = refused_else (codes "B1") answer is
-replay_else (a ∷ b ∷ []) answer is = refused_else (codes "B1") answer is
-replay_else (a ∷ b ∷ c ∷ []) answer is =
-    texts_else a b (λ x m. ToSchedule (schedule_of c) (IsReplayed x m)) answer (λ x m more. scheduled_else x m (schedule_of c) answer more) is
-replay_else (a ∷ b ∷ c ∷ d ∷ rest) answer is = refused_else (codes "B1") answer is
+replay_else parts answer is =
+    parts_else (three parts) (λ p. ToTexts p.0 p.1 (λ c m. ToSchedule (schedule_of p.2) (IsReplayed c m))) answer
+    (λ p more. texts_else p.0 p.1 (λ c m. ToSchedule (schedule_of p.2) (IsReplayed c m)) answer (λ c m play. scheduled_else c m (schedule_of p.2) answer play) more) is
+
+matrix_else : (c : Declarations) (m : List (List Call)) (r : Parts) (answer : Answer) → answer ≡ with_matrix c m r → IsElse answer
+matrix_else c m r answer is = status_else answer (status_of r.finding) (ap (λ (a : Answer). a.status) is) (status_of_else r.finding)
+
+shrink_else : (c : Declarations) (m : List (List Call)) (limits : Limits) (answer : Answer) → IsShrinkAnswer c m limits answer → IsElse answer
+shrink_else c m limits answer (inl is) = matrix_else c is.0 is.1 answer is.3
+shrink_else c m limits answer (inr is) = reported_else is.0 answer is.3
+
+found_else : (c : Declarations) (found : Campaign) (answer : Answer) → answer ≡ found_answer c found → IsElse answer
+found_else c (AllPass count) answer is = status_else answer 0 (ap (λ (a : Answer). a.status) is) (λ e. omega arith)
+found_else c (First m r) answer is = matrix_else c m r answer is
+
+campaign_else : (c : Declarations) (options : CampaignOptions) (candidates : List Call) (answer : Answer) → IsCampaignAnswer c candidates options answer → IsElse answer
+campaign_else c options candidates answer (inl is) = found_else c is.0 answer is.2
+campaign_else c options candidates answer (inr is) = refused_else _ answer is.3
+
+candidates_else : (c : Declarations) (options : CampaignOptions) (m : List (List Call)) (answer : Answer) → IsCampaignFrom c options m answer → IsElse answer
+candidates_else c options [] answer is = refused_else (codes "G2") answer is
+candidates_else c options (candidates ∷ []) answer is = campaign_else c options candidates answer is
+candidates_else c options (a ∷ b ∷ m) answer is = refused_else (codes "G2") answer is
 
 order_else : (order : Order) (parts : List (List ℕ)) (answer : Answer) → IsAnswerTo order parts answer → IsElse answer
 order_else Replay parts answer is = replay_else parts answer is
-order_else (Serial limits) parts answer is = parts_else parts (λ c m. IsRunSerially c m limits) answer (λ c m more. serial_else c m limits answer more) is
-order_else (Check choice) parts answer is = parts_else parts (λ c m. IsChecked c m choice) answer (λ c m more. checked_else c m choice answer more) is
+order_else (Serial limits) parts answer is = two_else parts (λ c m. IsRunSerially c m limits) answer (λ c m more. serial_else c m limits answer more) is
+order_else (Check choice) parts answer is = two_else parts (λ c m. IsChecked c m choice) answer (λ c m more. checked_else c m choice answer more) is
+order_else (Shrink limits) parts answer is = two_else parts (λ c m. IsShrinkAnswer c m limits) answer (λ c m more. shrink_else c m limits answer more) is
+order_else (Campaigning options) parts answer is = two_else parts (λ c m. IsCampaignFrom c options m) answer (λ c m more. candidates_else c options m answer more) is
 
 either_else : (long : Bool) (order : Order) (parts : List (List ℕ)) (answer : Answer) → MatchBool long (answer ≡ refused (codes "B2")) (IsAnswerTo order parts answer) → IsElse answer
 either_else true order parts answer is = refused_else (codes "B2") answer is

@@ -9,8 +9,9 @@ use Rattle.clap.specs.Words.{App, Row, Rule, Text, new_app, new_rule, with_rule,
 pub use Rattle.clap.specs.Words.{one_of}
 use Rattle.clap.specs.declared.builder.value_parser.ValueParser.TheVariants as vp
 use Rattle.clap.specs.declared.error.kind.ErrorKind.{ErrorKind}
+use Rattle.lu_cli.specs.declared.order.CampaignOptions.{CampaignOptions}
 use Rattle.lu_cli.specs.declared.order.Order.{Order}
-use Rattle.lu_cli.specs.declared.order.Order.TheVariants.{Replay, Serial, Check}
+use Rattle.lu_cli.specs.declared.order.Order.TheVariants.{Replay, Serial, Check, Shrink, Campaign}
 use Rattle.lu_cli.specs.Orders.{Limits, limits_of, choice_of}
 use Rattle.lu_parallel.specs.Ranges.{Choice}
 
@@ -41,12 +42,25 @@ check_command =
     with_rule (with_rule (bounded (codes "check")) (number_option (codes "workers") 1 16 (codes "1")))
     (number_option (codes "depth") 0 8 (codes "4"))
 
+abbrev pub shrink_command : App
+shrink_command = bounded (codes "shrink")
+
+abbrev pub campaign_command : App
+campaign_command =
+    with_rule (with_rule (bounded (codes "campaign")) (number_option (codes "threads") 1 8 (codes "2")))
+    (number_option (codes "calls") 1 8 (codes "1"))
+
 -- the program, which takes the words behind its name, and wants a command
 abbrev pub program : App
 program = record (new_app (codes "lineup")) { top = record ((new_app (codes "lineup")).top) { no_binary_name = true; subcommand_required = true } }
 
+-- the program with the commands that look at one matrix
+abbrev pub single_commands : App
+single_commands =
+    with_subcommand (with_subcommand (with_subcommand program replay_command.top) serial_command.top) check_command.top
+
 abbrev pub lineup : App
-lineup = with_subcommand (with_subcommand (with_subcommand program replay_command.top) serial_command.top) check_command.top
+lineup = with_subcommand (with_subcommand single_commands shrink_command.top) campaign_command.top
 
 -- ---- what words ask for
 
@@ -81,11 +95,21 @@ choice_in rows =
     choice_with (number_in (codes "bound") rows) (number_in (codes "serial") rows) (number_in (codes "workers") rows)
     (number_in (codes "depth") rows)
 
+abbrev pub campaign_with : Option Limits → Option ℕ → Option ℕ → Option CampaignOptions
+campaign_with (Some limits) (Some threads) (Some calls) =
+    if nat_lt threads 256 && nat_lt calls 256 then Some (record { bounds = limits; threads = threads; calls = calls }) else None
+campaign_with _ _ _ = None
+
+abbrev pub campaign_in : List Row → Option CampaignOptions
+campaign_in rows = campaign_with (limits_in rows) (number_in (codes "threads") rows) (number_in (codes "calls") rows)
+
 abbrev pub order_by : Text → List Row → Option Order
 order_by name rows =
     if bytes_eq name (codes "replay") then Some Replay
     else (if bytes_eq name (codes "serial") then option_map Serial (limits_in rows)
-    else (if bytes_eq name (codes "check") then option_map Check (choice_in rows) else None))
+    else (if bytes_eq name (codes "check") then option_map Check (choice_in rows)
+    else (if bytes_eq name (codes "shrink") then option_map Shrink (limits_in rows)
+    else (if bytes_eq name (codes "campaign") then option_map Campaign (campaign_in rows) else None))))
 
 abbrev pub order_in : Option (Text × List Row) → Option Order
 order_in entered = option_and_then (λ e. order_by e.0 e.1) entered

@@ -3,7 +3,7 @@ pub mod Bundle
 pub mod Counted
 pub mod Orders
 pub mod Outcomes
+pub mod Refusals
 pub mod Replies
 pub mod SpecText
-pub mod Tasks
 pub mod Texts

@@ -6,7 +6,7 @@ ghost use Rattle.clap.specs.declared.builder.command.Command.TheViews.{out-Comma
 ghost use Rattle.lu_cli.specs.Args as spec;
 ghost use Rattle.lu_cli.specs.Args.{lineup, order_of};
 
-use crate::order::{ArgsFault, Bounds, Order};
+use crate::order::{ArgsFault, Bounds, CampaignOptions, Order};
 use clap::builder::ValueParserFactory;
 use clap::error::ErrorKind;
 use clap::{Arg, ArgMatches, Command};
@@ -51,6 +51,15 @@ fn check_command<'a>(alloc: Global) -> Result<Command<'a>, AllocError>
         .arg(number_option(alloc, "depth", 0, 8, "4"))
 }
 
+fn campaign_command<'a>(alloc: Global) -> Result<Command<'a>, AllocError>
+    ensures app { IfOk result (λ command. app_of command ≡ spec.campaign_command) }
+    ensures local { IfOk result (λ command. (out-Command command).has_globals ≡ false) }
+{
+    bounded(alloc, "campaign")?
+        .arg(number_option(alloc, "threads", 1, 8, "2"))?
+        .arg(number_option(alloc, "calls", 1, 8, "1"))
+}
+
 fn replay_command<'a>(alloc: Global) -> Command<'a>
     ensures app { app_of result ≡ spec.replay_command }
     ensures local { (out-Command result).has_globals ≡ false }
@@ -58,8 +67,10 @@ fn replay_command<'a>(alloc: Global) -> Command<'a>
     Command::new(alloc, "replay")
 }
 
-fn lineup_command<'a>(alloc: Global) -> Result<Command<'a>, AllocError>
-    ensures { IfOk result (λ command. app_of command ≡ lineup) }
+/// The program with the commands that look at one matrix.
+fn single_commands<'a>(alloc: Global) -> Result<Command<'a>, AllocError>
+    ensures app { IfOk result (λ command. app_of command ≡ spec.single_commands) }
+    ensures local { IfOk result (λ command. (out-Command command).has_globals ≡ false) }
 {
     Command::new(alloc, "lineup")
         .no_binary_name(true)
@@ -67,6 +78,14 @@ fn lineup_command<'a>(alloc: Global) -> Result<Command<'a>, AllocError>
         .subcommand(replay_command(alloc))?
         .subcommand(bounded(alloc, "serial")?)?
         .subcommand(check_command(alloc)?)
+}
+
+fn lineup_command<'a>(alloc: Global) -> Result<Command<'a>, AllocError>
+    ensures { IfOk result (λ command. app_of command ≡ lineup) }
+{
+    single_commands(alloc)?
+        .subcommand(bounded(alloc, "shrink")?)?
+        .subcommand(campaign_command(alloc)?)
 }
 
 fn number_in(given: &ArgMatches<'_>, name: &str) -> Option<u16>
@@ -95,6 +114,21 @@ fn options_in(given: &ArgMatches<'_>) -> Option<Options>
     Options::new(bound, serial, workers, depth)
 }
 
+fn campaign_in(given: &ArgMatches<'_>) -> Option<CampaignOptions>
+    ensures { result ≡ spec.campaign_in (rows_of (found_of given.now)) }
+{
+    let bounds = bounds_in(given)?;
+    let threads = number_in(given, "threads")?;
+    let calls = number_in(given, "calls")?;
+    let threads = u8::try_from(threads).ok()?;
+    let calls = u8::try_from(calls).ok()?;
+    Some(CampaignOptions {
+        bounds,
+        threads,
+        calls,
+    })
+}
+
 /// The order of a parse.
 fn order_in(matches: &ArgMatches<'_>) -> Option<Order>
     ensures { result ≡ spec.order_in (subcommand_rows_of matches.now) }
@@ -108,6 +142,12 @@ fn order_in(matches: &ArgMatches<'_>) -> Option<Order>
     }
     if name == "check" {
         return Some(Order::Check(options_in(given)?));
+    }
+    if name == "shrink" {
+        return Some(Order::Shrink(bounds_in(given)?));
+    }
+    if name == "campaign" {
+        return Some(Order::Campaign(campaign_in(given)?));
     }
     None
 }

@@ -4,17 +4,16 @@
 mod answer;
 mod args;
 mod bundle;
+mod commands;
 mod counted;
 mod input;
 mod order;
 mod output;
 mod program;
+mod refusal;
 mod spec_text;
 mod texts;
 
 pub use counted::Counted;
 pub use program::run;
 pub use texts::{Fault, check_texts};
-
-#[cfg(test)]
-mod tests;

@@ -56,6 +56,18 @@ impl Bounds {
     }
 }
 
+/// The options of a campaign.
+#[derive(Clone, Copy, Debug, PartialEq, Eq)]
+pub struct CampaignOptions {
+    pub bounds: Bounds,
+
+    /// The threads of each matrix.
+    pub threads: u8,
+
+    /// The calls of each thread.
+    pub calls: u8,
+}
+
 /// A command with its options.
 #[derive(Clone, Copy, Debug, PartialEq, Eq)]
 pub enum Order {
@@ -67,6 +79,12 @@ pub enum Order {
 
     /// `lineup check`: report the first fault of a component and a matrix.
     Check(Options),
+
+    /// `lineup shrink`: take calls away from a matrix that fails.
+    Shrink(Bounds),
+
+    /// `lineup campaign`: check all small matrices over some calls.
+    Campaign(CampaignOptions),
 }
 
 /// Why a command line gives no order.

@@ -8,9 +8,10 @@ ghost use Rattle.lu_cli.specs.Replies.{Answers, Tells, IsAnswerFrom, no_device, 
 ghost use Rattle.std.specs.Io.KnownBytes.{Appends};
 ghost use Rattle.lu_cli.specs.declared.order.Order.{Order as Orders};
 
-use crate::answer::{Answer, answer_to, refused};
+use crate::answer::{Answer, refused};
 use crate::args::read_order;
 use crate::bundle::parts_in;
+use crate::commands::answer_to;
 use crate::counted::Counted;
 use crate::input::{InputFault, read_input};
 use crate::order::{ArgsFault, Order};

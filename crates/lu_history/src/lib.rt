@@ -23,6 +23,3 @@ pub use history::History;
 pub use operation::OpId;
 pub use serial::{SerialOp, SerialOutcome};
 pub use text::write_history;
-
-#[cfg(test)]
-mod tests;

@@ -12,24 +12,25 @@ use Rattle.lu_text.specs.Names.{has_name_form, is_long, IsName}
 use Rattle.lu_text.specs.Lines.{is_allowed, words_of}
 use Rattle.lu_text.specs.Words.{Word, one, two, three}
 use Rattle.lu_text.specs.Faults.{Tests, says, or_else}
-use Rattle.lu_lang.specs.declared.instr.Instr.{Instr}
-use Rattle.lu_lang.specs.declared.instr.Instr.TheVariants as instr
-use Rattle.lu_lang.specs.declared.component.Array.{Array}
-use Rattle.lu_lang.specs.declared.component.Op.{Op}
+use Rattle.lu_component.specs.declared.instr.Instr.{Instr}
+use Rattle.lu_component.specs.declared.instr.Instr.TheVariants as instr
+use Rattle.lu_component.specs.declared.component.Array.{Array}
+use Rattle.lu_component.specs.declared.component.Op.{Op}
 use Rattle.lu_lang.specs.declared.draft.Label.{Label}
 use Rattle.lu_lang.specs.declared.draft.Statement.{Statement}
 use Rattle.lu_lang.specs.declared.draft.Statement.TheVariants.{Plain, Jump, JumpIfZero}
 use Rattle.lu_lang.specs.declared.fault.LangFaultKind.{LangFaultKind}
 use Rattle.lu_lang.specs.declared.fault.LangFaultKind.TheVariants.{Byte, Missing, Form, Number, Limit, Flow, Name}
-use Rattle.lu_lang.specs.Component.{operation_place, AreDistinct, EndsWell, IsArray, IsComponent, IsInstr, IsOp}
+use Rattle.lu_component.specs.Component.{operation_place, AreDistinct, EndsWell, IsArray, IsComponent, IsInstr, IsOp}
 use Rattle.lu_lang.specs.Draft.{Begun, Drafted, nothing, named}
-use Rattle.lu_lang.specs.Grammar.{value, is_value, array_place, lock_place, component_line, array_line, lock_line, op_line, declaration, statement, sooner, place_fault, with_label, with_statement, placed, instr_line, labelled, are_there, is_last, ends_well, target, resolved, op_of, end_line, inside, by_state, closed, by_words, line_of, label_in}
+use Rattle.lu_lang.specs.Grammar.{value, is_value, array_place, lock_place, component_line, local_line, array_line, lock_line, op_line, declaration, statement, sooner, place_fault, with_label, with_statement, placed, instr_line, labelled, are_there, is_last, ends_well, target, resolved, op_of, end_line, inside, by_state, closed, by_words, line_of, label_in}
 use Rattle.lu_lang.specs.Words.{keyword_in}
 use Rattle.lu_lang.specs.Sound.{IsStatement, IsBegun, IsDraft}
 use Rattle.lu_text.proofs.Says.{NoneHold, said}
 use Rattle.lu_text.proofs.NameText.{name_from}
 use Rattle.lu_text.proofs.Written.{All-last}
-use Rattle.lu_lang.proofs.Statements.{statement_sound, value_small}
+use Rattle.lu_text.proofs.NumberText.{value_small}
+use Rattle.lu_lang.proofs.Statements.{statement_sound}
 use Rattle.lu_lang.proofs.Placing.{has_room}
 
 -- ---- lists
@@ -133,6 +134,31 @@ component_keeps d h (Some name) = kept
       begun = h.begun;
     })
 
+local_keeps : (d : Drafted) → IsDraft d → d.begun ≡ None → (o : Option Word) → Keeps (local_line d o)
+local_keeps d h none None = refused _
+local_keeps d h none (Some most) = kept
+    ((is_some d.local || nat_le 1 (length d.operations), Form)
+    ∷ (not (is_value most), Number)
+    ∷ (nat_lt 16 (value most), Limit) ∷ [])
+    (record d { local = Some (value most) })
+    (λ n. record {
+      name = h.name;
+      declared = λ own is. let c = h.declared own is in record {
+        name = is;
+        local_few = ltb-false 16 (value most) n.1.1.0;
+        arrays_few = c.arrays_few;
+        arrays = c.arrays;
+        arrays_apart = c.arrays_apart;
+        locks_few = c.locks_few;
+        locks = c.locks;
+        locks_apart = c.locks_apart;
+        operations_few = c.operations_few;
+        operations = c.operations;
+        operations_apart = c.operations_apart;
+      };
+      begun = rw none tt;
+    })
+
 array_keeps : (d : Drafted) → IsDraft d → d.begun ≡ None → (o : Option (Word × Word × Word)) → Keeps (array_line d o)
 array_keeps d h none None = refused _
 array_keeps d h none (Some (name, len, init)) = kept
@@ -152,6 +178,7 @@ array_keeps d h none (Some (name, len, init)) = kept
       name = h.name;
       declared = λ own is. let c = h.declared own is in record {
         name = is;
+        local_few = c.local_few;
         arrays_few = omega arith;
         arrays = All-last IsArray d.arrays new c.arrays (record { name = name_from name n.0 long.0; some = ltb-false (value len) 1 size.0; few = ltb-false 64 (value len) size.1; init = value_small init });
         arrays_apart = distinct_more (λ a. a.name) d.arrays new c.arrays_apart n.1.1.1.0;
@@ -180,6 +207,7 @@ lock_keeps d h none (Some name) = kept
       name = h.name;
       declared = λ own is. let c = h.declared own is in record {
         name = is;
+        local_few = c.local_few;
         arrays_few = c.arrays_few;
         arrays = c.arrays;
         arrays_apart = c.arrays_apart;
@@ -226,7 +254,8 @@ declaration_keeps : (d : Drafted) → IsDraft d → d.begun ≡ None → (word :
 declaration_keeps d h none word words =
     keeps_if (bytes_eq word (codes "word")) (array_line d (three words)) _ (array_keeps d h none (three words))
     (keeps_if (bytes_eq word (codes "lock")) (lock_line d (one words)) _ (lock_keeps d h none (one words))
-    (keeps_if (bytes_eq word (codes "op")) (op_line d (two words)) (Err Form) (op_keeps d h (two words)) (refused Form)))
+    (keeps_if (bytes_eq word (codes "op")) (op_line d (two words)) _ (op_keeps d h (two words))
+    (keeps_if (bytes_eq word (codes "local")) (local_line d (one words)) (Err Form) (local_keeps d h none (one words)) (refused Form))))
 
 -- ---- instructions
 
@@ -346,6 +375,7 @@ end_keeps d h none b begun [] = kept
       name = h.name;
       declared = λ own is. let c = h.declared own is in record {
         name = is;
+        local_few = c.local_few;
         arrays_few = c.arrays_few;
         arrays = c.arrays;
         arrays_apart = c.arrays_apart;
@@ -399,6 +429,7 @@ nothing_draft = record {
   name = tt;
   declared = λ own is. record {
     name = is;
+    local_few = omega arith;
     arrays_few = omega arith;
     arrays = All-nil IsArray;
     arrays_apart = tt;

@@ -2,7 +2,6 @@ pub mod Placing
 pub mod Statements
 pub mod Drafts
 pub mod Lines
-pub mod Named
 pub mod WrittenWords
 pub mod WrittenLines
 pub mod WrittenInstrs

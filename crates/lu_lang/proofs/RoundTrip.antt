@@ -8,19 +8,19 @@ use Rattle.std.proofs.lemmas.List.Elements.{recursion_from_All}
 use Rattle.lu_text.specs.Names.{IsName}
 use Rattle.lu_text.specs.Faults.{value_of}
 use Rattle.lu_text.proofs.Written.{Reads, reads_nothing, reads_on, reads_value}
-use Rattle.lu_lang.specs.declared.component.Op.{Op}
-use Rattle.lu_lang.specs.Component.{Declarations, IsComponent, IsArray, IsOp, AreDistinct}
+use Rattle.lu_component.specs.declared.component.Op.{Op}
+use Rattle.lu_component.specs.Component.{Declarations, IsComponent, IsArray, IsOp, AreDistinct}
 use Rattle.lu_lang.specs.Draft.{Drafted, nothing}
 use Rattle.lu_lang.specs.Grammar.{component_grammar}
-use Rattle.lu_lang.specs.ComponentText.{line_text, array_text, lock_text, code_text, op_text, component_text}
-use Rattle.lu_lang.proofs.Named.{not_yet}
-use Rattle.lu_lang.proofs.WrittenLines.{so_far, component_reads, arrays_read, locks_read, op_reads}
+use Rattle.lu_lang.specs.ComponentText.{line_text, local_text, array_text, lock_text, code_text, op_text, component_text}
+use Rattle.lu_component.proofs.Named.{not_yet}
+use Rattle.lu_lang.proofs.WrittenLines.{so_far, said_local, component_reads, local_reads, local_said, arrays_read, locks_read, op_reads}
 use Rattle.lu_lang.proofs.WrittenInstrs.{same_locks}
 use Rattle.lu_lang.proofs.WrittenCode.{operation_read}
 
 -- the draft outside an operation
 abbrev with_ops : Declarations → List Op → Drafted
-with_ops c operations = so_far c.name c.arrays c.locks operations None
+with_ops c operations = so_far c.name (said_local c.local) c.arrays c.locks operations None
 
 op_read : (c : Declarations) → IsComponent c → (done rest : List Op) (op : Op) → c.operations ≡ done ++ op ∷ rest → IsOp (length c.arrays) (length c.locks) op
     → Reads component_grammar (with_ops c done) (op_text c op) (with_ops c (done ++ op ∷ []))
@@ -31,10 +31,10 @@ op_read c is done rest op cut h =
     let here : length done < 16 = omega arith in
     let distinct : AreDistinct (map (λ o. o.name) (done ++ op ∷ rest)) = rw cut at is.operations_apart in
     let first : List ℕ = line_text (codes "op" ∷ op.name ∷ decimal op.args ∷ []) in
-    let between : Drafted = so_far c.name c.arrays c.locks done (Some (record { name = op.name; args = op.args; statements = []; labels = [] })) in
+    let between : Drafted = so_far c.name (said_local c.local) c.arrays c.locks done (Some (record { name = op.name; args = op.args; statements = []; labels = [] })) in
     rw (append_assoc first (code_text c op.code) (line_text (codes "end" ∷ [])))
     (reads_on component_grammar (with_ops c done) between (with_ops c (done ++ op ∷ [])) first (code_text c op.code ++ line_text (codes "end" ∷ []))
-    (op_reads c.name c.arrays c.locks done op.name op.args h.name h.args here (not_yet (λ o. o.name) done rest op distinct))
+    (op_reads c.name (said_local c.local) c.arrays c.locks done op.name op.args h.name h.args here (not_yet (λ o. o.name) done rest op distinct))
     (operation_read c is done op h))
 
 ops_read : (c : Declarations) → IsComponent c → (done rest : List Op) → c.operations ≡ done ++ rest → AllByRecursion (IsOp (length c.arrays) (length c.locks)) rest
@@ -50,22 +50,26 @@ ops_read c is done (op ∷ rest) cut each =
 pub component_again : (c : Declarations) → IsComponent c → value_of component_grammar (component_text c) ≡ Ok c
 component_again c is =
     let first : List ℕ = line_text (codes "component" ∷ c.name ∷ []) in
+    let local : List ℕ = local_text c.local in
     let arrays : List ℕ = flat_map array_text c.arrays in
     let locks : List ℕ = flat_map lock_text c.locks in
-    let named : Drafted = so_far c.name [] [] [] None in
-    let with_arrays : Drafted = so_far c.name c.arrays [] [] None in
-    let with_locks : Drafted = so_far c.name c.arrays c.locks [] None in
-    let arrays_are = arrays_read c.name c.arrays [] c.arrays refl (recursion_from_All IsArray c.arrays is.arrays) is.arrays_few is.arrays_apart in
+    let named : Drafted = so_far c.name None [] [] [] None in
+    let with_local : Drafted = so_far c.name (said_local c.local) [] [] [] None in
+    let with_arrays : Drafted = so_far c.name (said_local c.local) c.arrays [] [] None in
+    let with_locks : Drafted = so_far c.name (said_local c.local) c.arrays c.locks [] None in
+    let arrays_are = arrays_read c.name (said_local c.local) c.arrays [] c.arrays refl (recursion_from_All IsArray c.arrays is.arrays) is.arrays_few is.arrays_apart in
     let locks_apart : AreDistinct (map (λ l. l) c.locks) = rw (same_locks c.locks) is.locks_apart in
-    let locks_are = locks_read c.name c.arrays c.locks [] c.locks refl (recursion_from_All IsName c.locks is.locks) is.locks_few locks_apart in
+    let locks_are = locks_read c.name (said_local c.local) c.arrays c.locks [] c.locks refl (recursion_from_All IsName c.locks is.locks) is.locks_few locks_apart in
     let ops_are = ops_read c is [] c.operations refl (recursion_from_All (IsOp (length c.arrays) (length c.locks)) c.operations is.operations) in
     reads_value component_grammar (component_text c) (with_ops c c.operations) c
-    (reads_on component_grammar nothing with_locks (with_ops c c.operations) (first ++ arrays ++ locks) (flat_map (op_text c) c.operations)
-    (reads_on component_grammar nothing with_arrays with_locks (first ++ arrays) locks
-    (reads_on component_grammar nothing named with_arrays first arrays (component_reads c.name is.name) arrays_are)
+    (reads_on component_grammar nothing with_locks (with_ops c c.operations) (first ++ local ++ arrays ++ locks) (flat_map (op_text c) c.operations)
+    (reads_on component_grammar nothing with_arrays with_locks (first ++ local ++ arrays) locks
+    (reads_on component_grammar nothing with_local with_arrays (first ++ local) arrays
+    (reads_on component_grammar nothing named with_local first local (component_reads c.name is.name) (local_reads c.name c.local is.local_few))
+    arrays_are)
     locks_are)
     ops_are)
-    refl
+    (ap (λ (n : ℕ). let x : Declarations = record c { local = n } in Ok x) (local_said c.local))
 
 -- the same of a text that is the component's
 pub written_again : (c : Declarations) → IsComponent c → (text : List ℕ) → text ≡ component_text c → value_of component_grammar text ≡ Ok c

@@ -9,19 +9,21 @@ use Rattle.lu_text.specs.Names.{has_name_form, is_long}
 use Rattle.lu_text.specs.Numbers.{number_in, value_in, below}
 use Rattle.lu_text.specs.Words.{Word, one, two, three, five}
 use Rattle.lu_text.specs.Faults.{Tests, says}
+use Rattle.lu_text.proofs.NumberText.{value_small}
 use Rattle.lu_text.proofs.Says.{NoneHold, said}
-use Rattle.lu_lang.specs.declared.instr.Operand.{Operand}
-use Rattle.lu_lang.specs.declared.instr.Operand.TheVariants.{Num}
-use Rattle.lu_lang.specs.declared.instr.Arithmetic.{Arithmetic}
-use Rattle.lu_lang.specs.declared.instr.Instr.{Instr}
-use Rattle.lu_lang.specs.declared.instr.Instr.TheVariants as instr
+use Rattle.lu_component.specs.declared.instr.Operand.{Operand}
+use Rattle.lu_component.specs.declared.instr.Operand.TheVariants.{Num}
+use Rattle.lu_component.specs.declared.instr.Arithmetic.{Arithmetic}
+use Rattle.lu_component.specs.declared.instr.Instr.{Instr}
+use Rattle.lu_component.specs.declared.instr.Instr.TheVariants as instr
 use Rattle.lu_lang.specs.declared.draft.Statement.{Statement}
 use Rattle.lu_lang.specs.declared.draft.Statement.TheVariants.{Plain, Jump, JumpIfZero}
 use Rattle.lu_lang.specs.declared.keyword.Keyword.{Keyword}
 use Rattle.lu_lang.specs.declared.keyword.Keyword.TheVariants as keyword
 use Rattle.lu_lang.specs.declared.fault.LangFaultKind.{LangFaultKind}
 use Rattle.lu_lang.specs.declared.fault.LangFaultKind.TheVariants.{Form, Number, Limit, Name}
-use Rattle.lu_lang.specs.Component.{IsRegister, IsOperand, IsInstr}
+use Rattle.lu_component.specs.Component.{IsRegister, IsOperand, IsInstr}
+use Rattle.lu_component.proofs.Named.{place_small}
 use Rattle.lu_lang.specs.Draft.{Drafted}
 use Rattle.lu_lang.specs.Words.{register_in, or_number, as_number}
 use Rattle.lu_lang.specs.Grammar.{value, is_value, register, is_register, operand, is_operand, array_place, lock_place, array_number, lock_number, set_line, compute_line, load_line, cas_line, locked, cell_and_value, as_plain, pick_line, jump_line, jump_if_zero_line, return_line, statement}
@@ -41,17 +43,6 @@ register_small (r ∷ d ∷ []) = go (r == 114 && (nat_le 48 d && nat_le d 55)) 
     go false e = omega arith
 register_small (r ∷ d ∷ e ∷ word) = omega arith
 
-below_small : (limit : ℕ) (o : Option ℕ) → 0 < limit → unwrap_or (below limit o) 0 < limit
-below_small limit None h = h
-below_small limit (Some n) h = go (nat_lt n limit) refl
-  where
-    go : (b : Bool) → nat_lt n limit ≡ b → unwrap_or (cond b (Some n) None) 0 < limit
-    go true e = ltb-true n limit e
-    go false e = h
-
-pub value_small : (word : Word) → value word < 2 ^ 32
-value_small word = below_small (2 ^ 32) (number_in word) (omega arith)
-
 below_is : (limit : ℕ) (o : Option ℕ) (n : ℕ) → below limit o ≡ Some n → n < limit
 below_is limit None n e = absurd cc
 below_is limit (Some k) n e = go (nat_lt k limit) refl e
@@ -70,14 +61,6 @@ operand_sound word = by_register (register_in word) refl
     by_register : (o : Option ℕ) → register_in word ≡ o → IsOperand (unwrap_or (or_number o word) (Num 0))
     by_register None e = by_number (value_in word) refl
     by_register (Some r) e = let small = register_small word in let same : register word ≡ r = ap (λ (x : Option ℕ). unwrap_or x 0) e in omega arith
-
--- a place that is found is below the length
-pub place_small : {X : Type 0} (p : X → Bool) (xs : List X) → is_some (position p xs) ≡ true → unwrap_or (position p xs) 0 < length xs
-place_small p xs e = go (nat_lt (position_or_len p xs) (length xs)) refl e
-  where
-    go : (b : Bool) → nat_lt (position_or_len p xs) (length xs) ≡ b → is_some (cond b (Some (position_or_len p xs)) None) ≡ true → unwrap_or (cond b (Some (position_or_len p xs)) None) 0 < length xs
-    go true t f = ltb-true (position_or_len p xs) (length xs) t
-    go false t f = absurd cc
 
 array_there : (d : Drafted) (name : Word) → not (is_some (array_place d name)) ≡ false → array_number d name < length d.arrays
 array_there d name e = place_small (λ a. bytes_eq a.name name) d.arrays (not-false (is_some (array_place d name)) e)

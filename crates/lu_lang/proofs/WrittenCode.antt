@@ -13,19 +13,19 @@ use Rattle.lu_text.specs.Words.{Word}
 use Rattle.lu_text.proofs.NumberText.{bytes_self}
 use Rattle.lu_text.proofs.Written.{Reads, reads_nothing, reads_on, each_weaker}
 use Rattle.lu_text.proofs.WordText.{literal_text}
-use Rattle.lu_lang.specs.declared.instr.Instr.{Instr}
-use Rattle.lu_lang.specs.declared.instr.Instr.TheVariants as instr
-use Rattle.lu_lang.specs.declared.component.Op.{Op}
+use Rattle.lu_component.specs.declared.instr.Instr.{Instr}
+use Rattle.lu_component.specs.declared.instr.Instr.TheVariants as instr
+use Rattle.lu_component.specs.declared.component.Op.{Op}
 use Rattle.lu_lang.specs.declared.draft.Label.{Label}
 use Rattle.lu_lang.specs.declared.draft.Statement.{Statement}
-use Rattle.lu_lang.specs.Component.{Declarations, IsComponent, IsInstr, EndsWell, IsOp}
+use Rattle.lu_component.specs.Component.{Declarations, IsComponent, IsInstr, EndsWell, IsOp}
 use Rattle.lu_lang.specs.Draft.{Begun, Drafted}
 use Rattle.lu_lang.specs.Words.{keyword_word}
 use Rattle.lu_lang.specs.Grammar.{component_grammar, label_place, label_used, is_there, are_there, is_last, ends_well, target, resolved, op_of}
 use Rattle.lu_lang.specs.ComponentText.{label_word, leads_to, instr_words, instr_line, code_text, line_text}
-use Rattle.lu_lang.proofs.Named.{is_found, find_first, find_later}
+use Rattle.lu_component.proofs.Named.{is_found, find_first, find_later}
 use Rattle.lu_lang.proofs.WrittenWords.{is_keyword_word, is_name_word, label_name, labels_apart, label_text_is, label_again}
-use Rattle.lu_lang.proofs.WrittenLines.{so_far, line_reads}
+use Rattle.lu_lang.proofs.WrittenLines.{so_far, said_local, line_reads}
 use Rattle.lu_lang.proofs.WrittenInstrs.{keyword_of, arguments_of, statement_of, IsSaid, is_said}
 
 -- ---- labels
@@ -74,7 +74,7 @@ no_label code n labels none are = record {
 
 -- the draft inside an operation
 abbrev in_op : Declarations → List Op → Begun → Drafted
-in_op c operations b = so_far c.name c.arrays c.locks operations (Some b)
+in_op c operations b = so_far c.name (said_local c.local) c.arrays c.locks operations (Some b)
 
 abbrev begun : Word → ℕ → List Statement → Labels → Begun
 begun name args statements labels = record { name = name; args = args; statements = statements; labels = labels }
@@ -230,24 +230,24 @@ last_again (Some (instr.JumpIfZero v t)) h = absurd h
 last_again (Some (instr.Return v)) h = refl
 
 end_reads : (c : Declarations) (operations : List Op) (op : Op) (labels : Labels) → AllByRecursion (IsResolved labels) op.code → EndsWell (slice_get op.code (length op.code - 1))
-    → Reads component_grammar (in_op c operations (begun op.name op.args (map statement_of op.code) labels)) (line_text (codes "end" ∷ [])) (so_far c.name c.arrays c.locks (operations ++ op ∷ []) None)
+    → Reads component_grammar (in_op c operations (begun op.name op.args (map statement_of op.code) labels)) (line_text (codes "end" ∷ [])) (so_far c.name (said_local c.local) c.arrays c.locks (operations ++ op ∷ []) None)
 end_reads c operations op labels each ends =
     let b : Begun = begun op.name op.args (map statement_of op.code) labels in
     let n : length (map statement_of op.code) ≡ length op.code = simp length-map in
     let well : ends_well b ≡ true = rw (n, slice_get-map statement_of op.code (length op.code - 1)) (last_again (slice_get op.code (length op.code - 1)) ends) in
     let found : are_there b ≡ true = all_there labels op.code each in
     let same : op_of b ≡ op = ap (λ (code : List Instr). record { name = op.name; args = op.args; code = code }) (code_again labels op.code each) in
-    line_reads (in_op c operations b) (so_far c.name c.arrays c.locks (operations ++ op ∷ []) None) (codes "end" ∷ []) (literal_text (codes "end") (omega arith) refl, tt)
-    (rw (well, found) (ap (λ (o : Op). Ok (so_far c.name c.arrays c.locks (operations ++ o ∷ []) None)) same))
+    line_reads (in_op c operations b) (so_far c.name (said_local c.local) c.arrays c.locks (operations ++ op ∷ []) None) (codes "end" ∷ []) (literal_text (codes "end") (omega arith) refl, tt)
+    (rw (well, found) (ap (λ (o : Op). Ok (so_far c.name (said_local c.local) c.arrays c.locks (operations ++ o ∷ []) None)) same))
 
 -- ---- operations
 
 pub operation_read : (c : Declarations) → IsComponent c → (operations : List Op) (op : Op) → IsOp (length c.arrays) (length c.locks) op
-    → Reads component_grammar (so_far c.name c.arrays c.locks operations (Some (record { name = op.name; args = op.args; statements = []; labels = [] }))) (code_text c op.code ++ line_text (codes "end" ∷ [])) (so_far c.name c.arrays c.locks (operations ++ op ∷ []) None)
+    → Reads component_grammar (so_far c.name (said_local c.local) c.arrays c.locks operations (Some (record { name = op.name; args = op.args; statements = []; labels = [] }))) (code_text c op.code ++ line_text (codes "end" ∷ [])) (so_far c.name (said_local c.local) c.arrays c.locks (operations ++ op ∷ []) None)
 operation_read c is operations op h =
     let instrs = recursion_from_All (IsInstr (length c.arrays) (length c.locks) (length op.code)) op.code h.code.instrs in
     let said : AllByRecursion (IsSaid c operations) op.code = each_weaker (IsInstr (length c.arrays) (length c.locks) (length op.code)) (IsSaid c operations) (is_said c is operations (length op.code) h.code.few) op.code instrs in
     let read = code_read c operations op.name op.args op.code [] op.code [] refl said h.code.few (no_labels op.code) in
     let each = each_resolved (length c.arrays) (length c.locks) op.code read.to read.are h.code.few op.code instrs (each_target op.code op.code (λ t e. e)) in
-    reads_on component_grammar (in_op c operations (begun op.name op.args [] [])) (in_op c operations (begun op.name op.args (map statement_of op.code) read.to)) (so_far c.name c.arrays c.locks (operations ++ op ∷ []) None) (code_text c op.code) (line_text (codes "end" ∷ []))
+    reads_on component_grammar (in_op c operations (begun op.name op.args [] [])) (in_op c operations (begun op.name op.args (map statement_of op.code) read.to)) (so_far c.name (said_local c.local) c.arrays c.locks (operations ++ op ∷ []) None) (code_text c op.code) (line_text (codes "end" ∷ []))
     read.reads (end_reads c operations op read.to each h.code.ends)

@@ -12,24 +12,25 @@ use Rattle.lu_text.specs.Numbers.{value_in}
 use Rattle.lu_text.specs.Words.{Word}
 use Rattle.lu_text.proofs.Written.{AreText, each_weaker}
 use Rattle.lu_text.proofs.WordText.{number_text, value_again}
-use Rattle.lu_lang.specs.declared.instr.Operand.{Operand}
-use Rattle.lu_lang.specs.declared.instr.Arithmetic.{Arithmetic}
-use Rattle.lu_lang.specs.declared.instr.Instr.{Instr}
-use Rattle.lu_lang.specs.declared.instr.Instr.TheVariants as instr
-use Rattle.lu_lang.specs.declared.component.Array.{Array}
-use Rattle.lu_lang.specs.declared.component.Op.{Op}
+use Rattle.lu_component.specs.declared.instr.Operand.{Operand}
+use Rattle.lu_component.specs.declared.instr.Arithmetic.{Arithmetic}
+use Rattle.lu_component.specs.declared.instr.Instr.{Instr}
+use Rattle.lu_component.specs.declared.instr.Instr.TheVariants as instr
+use Rattle.lu_component.specs.declared.component.Array.{Array}
+use Rattle.lu_component.specs.declared.component.Op.{Op}
 use Rattle.lu_lang.specs.declared.draft.Statement.{Statement}
 use Rattle.lu_lang.specs.declared.draft.Statement.TheVariants.{Plain, Jump, JumpIfZero}
 use Rattle.lu_lang.specs.declared.keyword.Keyword.{Keyword}
 use Rattle.lu_lang.specs.declared.keyword.Keyword.TheVariants as keyword
-use Rattle.lu_lang.specs.Component.{Declarations, IsComponent, IsArray, IsInstr}
+use Rattle.lu_component.specs.Component.{Declarations, IsComponent, IsArray, IsInstr}
 use Rattle.lu_lang.specs.Draft.{Drafted}
 use Rattle.lu_lang.specs.Words.{keyword_word, register_in, operand_in}
 use Rattle.lu_lang.specs.Grammar.{set_line, compute_line, load_line, cas_line, locked, cell_and_value, pick_line, jump_line, jump_if_zero_line, return_line, statement}
-use Rattle.lu_lang.specs.ComponentText.{register_word, operand_word, array_word, lock_word, label_word, instr_words}
-use Rattle.lu_lang.proofs.Named.{name_at, name_has, place_at}
+use Rattle.lu_component.specs.Operands.{register_word, operand_word}
+use Rattle.lu_lang.specs.ComponentText.{array_word, lock_word, label_word, instr_words}
+use Rattle.lu_component.proofs.Named.{name_at, name_has, place_at}
 use Rattle.lu_lang.proofs.WrittenWords.{is_register_word, is_operand_word, IsNameWord, is_name_word, label_name}
-use Rattle.lu_lang.proofs.WrittenLines.{so_far}
+use Rattle.lu_lang.proofs.WrittenLines.{so_far, said_local}
 
 -- ---- lines
 
@@ -148,7 +149,7 @@ statement_of (instr.Return v) = Plain (instr.Return v)
 pub record IsSaid (c : Declarations) (operations : List Op) (i : Instr) : Type 0 where
   pub words : instr_words c i ≡ keyword_word (keyword_of i) ∷ arguments_of c i
   pub text : AreText (arguments_of c i)
-  pub says : statement (so_far c.name c.arrays c.locks operations None) (Some (keyword_of i)) (arguments_of c i) ≡ Ok (statement_of i)
+  pub says : statement (so_far c.name (said_local c.local) c.arrays c.locks operations None) (Some (keyword_of i)) (arguments_of c i) ≡ Ok (statement_of i)
 
 label_is_word : (target places : ℕ) → target < places → places ≤ 64 → IsNameWord (label_word target)
 label_is_word target places h few = is_name_word (label_word target) (label_name target (omega arith))
@@ -167,35 +168,35 @@ is_said c is operations places few (instr.Load to array i) (h, k, p) =
     let r = is_register_word to h in
     let a = is_array_word c is array k in
     let x = is_operand_word i p in
-    record { words = refl; text = (r.text, (a.name.text, (x.text, tt))); says = load_says (so_far c.name c.arrays c.locks operations None) (register_word to) (array_word c array) (operand_word i) to array i r.again a x.again }
+    record { words = refl; text = (r.text, (a.name.text, (x.text, tt))); says = load_says (so_far c.name (said_local c.local) c.arrays c.locks operations None) (register_word to) (array_word c array) (operand_word i) to array i r.again a x.again }
 is_said c is operations places few (instr.Store array i v) (k, p, q) =
     let a = is_array_word c is array k in
     let x = is_operand_word i p in
     let y = is_operand_word v q in
-    record { words = refl; text = (a.name.text, (x.text, (y.text, tt))); says = rw (cell_says (so_far c.name c.arrays c.locks operations None) (array_word c array) (operand_word i) (operand_word v) array i v a x.again y.again) refl }
+    record { words = refl; text = (a.name.text, (x.text, (y.text, tt))); says = rw (cell_says (so_far c.name (said_local c.local) c.arrays c.locks operations None) (array_word c array) (operand_word i) (operand_word v) array i v a x.again y.again) refl }
 is_said c is operations places few (instr.Cas to array i old new) (h, k, p, q, s) =
     let r = is_register_word to h in
     let a = is_array_word c is array k in
     let x = is_operand_word i p in
     let y = is_operand_word old q in
     let z = is_operand_word new s in
-    record { words = refl; text = (r.text, (a.name.text, (x.text, (y.text, (z.text, tt))))); says = cas_says (so_far c.name c.arrays c.locks operations None) (register_word to) (array_word c array) (operand_word i) (operand_word old) (operand_word new) to array i old new r.again a x.again y.again z.again }
+    record { words = refl; text = (r.text, (a.name.text, (x.text, (y.text, (z.text, tt))))); says = cas_says (so_far c.name (said_local c.local) c.arrays c.locks operations None) (register_word to) (array_word c array) (operand_word i) (operand_word old) (operand_word new) to array i old new r.again a x.again y.again z.again }
 is_said c is operations places few (instr.Lock lock) h =
     let l = is_lock_word c is lock h in
-    record { words = refl; text = (l.name.text, tt); says = rw (lock_says (so_far c.name c.arrays c.locks operations None) (lock_word c lock) lock l) refl }
+    record { words = refl; text = (l.name.text, tt); says = rw (lock_says (so_far c.name (said_local c.local) c.arrays c.locks operations None) (lock_word c lock) lock l) refl }
 is_said c is operations places few (instr.Unlock lock) h =
     let l = is_lock_word c is lock h in
-    record { words = refl; text = (l.name.text, tt); says = rw (lock_says (so_far c.name c.arrays c.locks operations None) (lock_word c lock) lock l) refl }
+    record { words = refl; text = (l.name.text, tt); says = rw (lock_says (so_far c.name (said_local c.local) c.arrays c.locks operations None) (lock_word c lock) lock l) refl }
 is_said c is operations places few (instr.Await array i v) (k, p, q) =
     let a = is_array_word c is array k in
     let x = is_operand_word i p in
     let y = is_operand_word v q in
-    record { words = refl; text = (a.name.text, (x.text, (y.text, tt))); says = rw (cell_says (so_far c.name c.arrays c.locks operations None) (array_word c array) (operand_word i) (operand_word v) array i v a x.again y.again) refl }
+    record { words = refl; text = (a.name.text, (x.text, (y.text, tt))); says = rw (cell_says (so_far c.name (said_local c.local) c.arrays c.locks operations None) (array_word c array) (operand_word i) (operand_word v) array i v a x.again y.again) refl }
 is_said c is operations places few (instr.AwaitNot array i v) (k, p, q) =
     let a = is_array_word c is array k in
     let x = is_operand_word i p in
     let y = is_operand_word v q in
-    record { words = refl; text = (a.name.text, (x.text, (y.text, tt))); says = rw (cell_says (so_far c.name c.arrays c.locks operations None) (array_word c array) (operand_word i) (operand_word v) array i v a x.again y.again) refl }
+    record { words = refl; text = (a.name.text, (x.text, (y.text, tt))); says = rw (cell_says (so_far c.name (said_local c.local) c.arrays c.locks operations None) (array_word c array) (operand_word i) (operand_word v) array i v a x.again y.again) refl }
 is_said c is operations places few (instr.Pick to count) (h, some, most) =
     let r = is_register_word to h in
     record { words = refl; text = (r.text, (number_text count (omega arith), tt)); says = pick_says (register_word to) (decimal count) to count r.again (value_again count (omega arith)) some most }

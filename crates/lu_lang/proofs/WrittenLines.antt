@@ -1,23 +1,24 @@
 -- The lines of a component's declarations are read as they were written.
 use Rattle.std.proofs.Common.{◌≡◌, ℕ, ◌+◌, ◌<◌, ◌≤◌, true, false, List, [], ◌∷◌, ◌++◌, length, Option, Some, None, Ok, refl, sym, ap, ◌∙◌, append_assoc, arith}
-use Rattle.std.specs.Prelude.{codes, map}
+use Rattle.std.specs.Prelude.{codes, map, Bool, ◌==◌, if◌then◌else◌}
+use Rattle.std.specs.Option.{unwrap_or}
 use Rattle.std.specs.List.{flat_map, position, AllByRecursion}
 use Rattle.std.specs.Str.{bytes_eq}
 use Rattle.std.specs.Fmt.{decimal}
-use Rattle.std.proofs.lemmas.Bool.{le-ltb, lt-leb}
+use Rattle.std.proofs.lemmas.Bool.{eqb-true, le-ltb, lt-leb}
 use Rattle.std.proofs.lemmas.List.{append-nil, length-append}
 use Rattle.lu_text.specs.Names.{has_name_form, is_long, IsName}
 use Rattle.lu_text.specs.Numbers.{value_in}
 use Rattle.lu_text.specs.Words.{Word}
 use Rattle.lu_text.proofs.Written.{AreText, Reads, reads_nothing, reads_line, reads_on, allowed_line, one_line, words_line, words_again}
 use Rattle.lu_text.proofs.WordText.{literal_text, number_text, value_again}
-use Rattle.lu_lang.specs.declared.component.Array.{Array}
-use Rattle.lu_lang.specs.declared.component.Op.{Op}
-use Rattle.lu_lang.specs.Component.{AreDistinct, IsArray}
+use Rattle.lu_component.specs.declared.component.Array.{Array}
+use Rattle.lu_component.specs.declared.component.Op.{Op}
+use Rattle.lu_component.specs.Component.{AreDistinct, IsArray}
 use Rattle.lu_lang.specs.Draft.{Begun, Drafted, nothing}
-use Rattle.lu_lang.specs.Grammar.{by_words, line_of, array_line, lock_line, op_line, component_line, component_grammar}
-use Rattle.lu_lang.specs.ComponentText.{line_text, array_text, lock_text}
-use Rattle.lu_lang.proofs.Named.{not_yet}
+use Rattle.lu_lang.specs.Grammar.{by_words, line_of, local_line, array_line, lock_line, op_line, component_line, component_grammar}
+use Rattle.lu_lang.specs.ComponentText.{line_text, local_text, array_text, lock_text}
+use Rattle.lu_component.proofs.Named.{not_yet}
 use Rattle.lu_lang.proofs.WrittenWords.{is_name_word}
 
 -- ---- one line
@@ -30,19 +31,46 @@ line_reads d to words are e =
     reads_line component_grammar d to _ (one_line _ bytes) (rw (allowed_line _ bytes, words_again words are) e)
 
 -- what is declared so far
-abbrev pub so_far : Word → List Array → List Word → List Op → Option Begun → Drafted
-so_far name arrays locks operations begun = record { name = Some name; arrays = arrays; locks = locks; operations = operations; begun = begun }
+abbrev pub so_far : Word → Option ℕ → List Array → List Word → List Op → Option Begun → Drafted
+so_far name local arrays locks operations begun = record { name = Some name; local = local; arrays = arrays; locks = locks; operations = operations; begun = begun }
 
 -- ---- `component`
 
 component_says : (d : Drafted) (name : Word) → has_name_form name ≡ true → is_long name ≡ false → component_line d (Some name) ≡ Ok (record d { name = Some name })
 component_says d name form short = rw (form, short) refl
 
-pub component_reads : (name : Word) → IsName name → Reads component_grammar nothing (line_text (codes "component" ∷ name ∷ [])) (so_far name [] [] [] None)
+pub component_reads : (name : Word) → IsName name → Reads component_grammar nothing (line_text (codes "component" ∷ name ∷ [])) (so_far name None [] [] [] None)
 component_reads name is =
     let w = is_name_word name is in
-    line_reads nothing (so_far name [] [] [] None) (codes "component" ∷ name ∷ []) (literal_text (codes "component") (omega arith) refl, (w.text, tt))
+    line_reads nothing (so_far name None [] [] [] None) (codes "component" ∷ name ∷ []) (literal_text (codes "component") (omega arith) refl, (w.text, tt))
     (component_says nothing name w.form w.short)
+
+-- ---- `local`
+
+-- the line `local` that is written, if any
+abbrev pub said_local : ℕ → Option ℕ
+said_local local = if local == 0 then None else Some local
+
+local_says : (name most : Word) (n : ℕ) → value_in most ≡ Some n → n ≤ 16 → local_line (so_far name None [] [] [] None) (Some most) ≡ Ok (so_far name (Some n) [] [] [] None)
+local_says name most n value few = rw (value, le-ltb 16 n few) refl
+
+pub local_reads : (name : Word) (local : ℕ) → local ≤ 16 → Reads component_grammar (so_far name None [] [] [] None) (local_text local) (so_far name (said_local local) [] [] [] None)
+local_reads name local few = by_test (local == 0)
+  where
+    by_test : (none : Bool) → Reads component_grammar (so_far name None [] [] [] None) (if none then [] else line_text (codes "local" ∷ decimal local ∷ [])) (so_far name (if none then None else Some local) [] [] [] None)
+    by_test true = reads_nothing component_grammar (so_far name None [] [] [] None)
+    by_test false =
+        line_reads (so_far name None [] [] [] None) (so_far name (Some local) [] [] [] None) (codes "local" ∷ decimal local ∷ [])
+        (literal_text (codes "local") (omega arith) refl, (number_text local (omega arith), tt))
+        (local_says name (decimal local) local (value_again local (omega arith)) few)
+
+-- what is said is what was written
+pub local_said : (local : ℕ) → unwrap_or (said_local local) 0 ≡ local
+local_said local = by_test (local == 0) refl
+  where
+    by_test : (none : Bool) → (local == 0) ≡ none → unwrap_or (if none then None else Some local) 0 ≡ local
+    by_test true e = sym (eqb-true local 0 e)
+    by_test false e = refl
 
 -- ---- `word`
 
@@ -51,28 +79,28 @@ array_says : (d : Drafted) (name len init : Word) (a b : ℕ) → has_name_form 
 array_says d name len init a b form short l i room some few new =
     rw (form, short, l, i, lt-leb 16 (length d.arrays) room, le-ltb a 1 some, le-ltb 64 a few, new) refl
 
-array_reads : (name : Word) (done : List Array) (array : Array) → IsArray array → length done < 16 → position (λ x. bytes_eq x.name array.name) done ≡ None
-    → Reads component_grammar (so_far name done [] [] None) (array_text array) (so_far name (done ++ array ∷ []) [] [] None)
-array_reads name done array is room new =
+array_reads : (name : Word) (local : Option ℕ) (done : List Array) (array : Array) → IsArray array → length done < 16 → position (λ x. bytes_eq x.name array.name) done ≡ None
+    → Reads component_grammar (so_far name local done [] [] None) (array_text array) (so_far name local (done ++ array ∷ []) [] [] None)
+array_reads name local done array is room new =
     let w = is_name_word array.name is.name in
-    line_reads (so_far name done [] [] None) (so_far name (done ++ array ∷ []) [] [] None)
+    line_reads (so_far name local done [] [] None) (so_far name local (done ++ array ∷ []) [] [] None)
     (codes "word" ∷ array.name ∷ decimal array.len ∷ decimal array.init ∷ [])
     (literal_text (codes "word") (omega arith) refl, (w.text, (number_text array.len (let few = is.few in omega arith), (number_text array.init (let few = is.init in omega arith), tt))))
-    (array_says (so_far name done [] [] None) array.name (decimal array.len) (decimal array.init) array.len array.init w.form w.short (value_again array.len (let few = is.few in omega arith)) (value_again array.init is.init) room is.some is.few new)
+    (array_says (so_far name local done [] [] None) array.name (decimal array.len) (decimal array.init) array.len array.init w.form w.short (value_again array.len (let few = is.few in omega arith)) (value_again array.init is.init) room is.some is.few new)
 
-pub arrays_read : (name : Word) (all done rest : List Array) → all ≡ done ++ rest → AllByRecursion IsArray rest → length all ≤ 16 → AreDistinct (map (λ a. a.name) all)
-    → Reads component_grammar (so_far name done [] [] None) (flat_map array_text rest) (so_far name all [] [] None)
-arrays_read name all done [] is each few apart =
+pub arrays_read : (name : Word) (local : Option ℕ) (all done rest : List Array) → all ≡ done ++ rest → AllByRecursion IsArray rest → length all ≤ 16 → AreDistinct (map (λ a. a.name) all)
+    → Reads component_grammar (so_far name local done [] [] None) (flat_map array_text rest) (so_far name local all [] [] None)
+arrays_read name local all done [] is each few apart =
     let same : all ≡ done = is ∙ append-nil done in
-    rw same (reads_nothing component_grammar (so_far name done [] [] None))
-arrays_read name all done (array ∷ rest) is each few apart =
+    rw same (reads_nothing component_grammar (so_far name local done [] [] None))
+arrays_read name local all done (array ∷ rest) is each few apart =
     let n : length (done ++ array ∷ rest) ≡ length done + length (array ∷ rest) = simp length-append in
     let whole : length all ≡ length (done ++ array ∷ rest) = ap length is in
     let here : length done < 16 = omega arith in
     let distinct : AreDistinct (map (λ a. a.name) (done ++ array ∷ rest)) = rw is at apart in
-    reads_on component_grammar (so_far name done [] [] None) (so_far name (done ++ array ∷ []) [] [] None) (so_far name all [] [] None) (array_text array) (flat_map array_text rest)
-    (array_reads name done array each.0 here (not_yet (λ a. a.name) done rest array distinct))
-    (arrays_read name all (done ++ array ∷ []) rest (is ∙ sym (append_assoc done (array ∷ []) rest)) each.1 few apart)
+    reads_on component_grammar (so_far name local done [] [] None) (so_far name local (done ++ array ∷ []) [] [] None) (so_far name local all [] [] None) (array_text array) (flat_map array_text rest)
+    (array_reads name local done array each.0 here (not_yet (λ a. a.name) done rest array distinct))
+    (arrays_read name local all (done ++ array ∷ []) rest (is ∙ sym (append_assoc done (array ∷ []) rest)) each.1 few apart)
 
 -- ---- `lock`
 
@@ -80,27 +108,27 @@ lock_says : (d : Drafted) (name : Word) → has_name_form name ≡ true → is_l
     → lock_line d (Some name) ≡ Ok (record d { locks = d.locks ++ name ∷ [] })
 lock_says d name form short room new = rw (form, short, lt-leb 8 (length d.locks) room, new) refl
 
-lock_reads : (name : Word) (arrays : List Array) (done : List Word) (lock : Word) → IsName lock → length done < 8 → position (λ x. bytes_eq x lock) done ≡ None
-    → Reads component_grammar (so_far name arrays done [] None) (lock_text lock) (so_far name arrays (done ++ lock ∷ []) [] None)
-lock_reads name arrays done lock is room new =
+lock_reads : (name : Word) (local : Option ℕ) (arrays : List Array) (done : List Word) (lock : Word) → IsName lock → length done < 8 → position (λ x. bytes_eq x lock) done ≡ None
+    → Reads component_grammar (so_far name local arrays done [] None) (lock_text lock) (so_far name local arrays (done ++ lock ∷ []) [] None)
+lock_reads name local arrays done lock is room new =
     let w = is_name_word lock is in
-    line_reads (so_far name arrays done [] None) (so_far name arrays (done ++ lock ∷ []) [] None)
+    line_reads (so_far name local arrays done [] None) (so_far name local arrays (done ++ lock ∷ []) [] None)
     (codes "lock" ∷ lock ∷ []) (literal_text (codes "lock") (omega arith) refl, (w.text, tt))
-    (lock_says (so_far name arrays done [] None) lock w.form w.short room new)
+    (lock_says (so_far name local arrays done [] None) lock w.form w.short room new)
 
-pub locks_read : (name : Word) (arrays : List Array) (all done rest : List Word) → all ≡ done ++ rest → AllByRecursion IsName rest → length all ≤ 8 → AreDistinct (map (λ x. x) all)
-    → Reads component_grammar (so_far name arrays done [] None) (flat_map lock_text rest) (so_far name arrays all [] None)
-locks_read name arrays all done [] is each few apart =
+pub locks_read : (name : Word) (local : Option ℕ) (arrays : List Array) (all done rest : List Word) → all ≡ done ++ rest → AllByRecursion IsName rest → length all ≤ 8 → AreDistinct (map (λ x. x) all)
+    → Reads component_grammar (so_far name local arrays done [] None) (flat_map lock_text rest) (so_far name local arrays all [] None)
+locks_read name local arrays all done [] is each few apart =
     let same : all ≡ done = is ∙ append-nil done in
-    rw same (reads_nothing component_grammar (so_far name arrays done [] None))
-locks_read name arrays all done (lock ∷ rest) is each few apart =
+    rw same (reads_nothing component_grammar (so_far name local arrays done [] None))
+locks_read name local arrays all done (lock ∷ rest) is each few apart =
     let n : length (done ++ lock ∷ rest) ≡ length done + length (lock ∷ rest) = simp length-append in
     let whole : length all ≡ length (done ++ lock ∷ rest) = ap length is in
     let here : length done < 8 = omega arith in
     let distinct : AreDistinct (map (λ x. x) (done ++ lock ∷ rest)) = rw is at apart in
-    reads_on component_grammar (so_far name arrays done [] None) (so_far name arrays (done ++ lock ∷ []) [] None) (so_far name arrays all [] None) (lock_text lock) (flat_map lock_text rest)
-    (lock_reads name arrays done lock each.0 here (not_yet (λ x. x) done rest lock distinct))
-    (locks_read name arrays all (done ++ lock ∷ []) rest (is ∙ sym (append_assoc done (lock ∷ []) rest)) each.1 few apart)
+    reads_on component_grammar (so_far name local arrays done [] None) (so_far name local arrays (done ++ lock ∷ []) [] None) (so_far name local arrays all [] None) (lock_text lock) (flat_map lock_text rest)
+    (lock_reads name local arrays done lock each.0 here (not_yet (λ x. x) done rest lock distinct))
+    (locks_read name local arrays all (done ++ lock ∷ []) rest (is ∙ sym (append_assoc done (lock ∷ []) rest)) each.1 few apart)
 
 -- ---- `op`
 
@@ -109,10 +137,10 @@ op_says : (d : Drafted) (name args : Word) (n : ℕ) → has_name_form name ≡ 
 op_says d name args n form short value room few new =
     rw (form, short, value, lt-leb 16 (length d.operations) room, le-ltb 4 n few, new) refl
 
-pub op_reads : (name : Word) (arrays : List Array) (locks : List Word) (done : List Op) (op : Word) (args : ℕ) → IsName op → args ≤ 4 → length done < 16 → position (λ o. bytes_eq o.name op) done ≡ None
-    → Reads component_grammar (so_far name arrays locks done None) (line_text (codes "op" ∷ op ∷ decimal args ∷ [])) (so_far name arrays locks done (Some (record { name = op; args = args; statements = []; labels = [] })))
-op_reads name arrays locks done op args is few room new =
+pub op_reads : (name : Word) (local : Option ℕ) (arrays : List Array) (locks : List Word) (done : List Op) (op : Word) (args : ℕ) → IsName op → args ≤ 4 → length done < 16 → position (λ o. bytes_eq o.name op) done ≡ None
+    → Reads component_grammar (so_far name local arrays locks done None) (line_text (codes "op" ∷ op ∷ decimal args ∷ [])) (so_far name local arrays locks done (Some (record { name = op; args = args; statements = []; labels = [] })))
+op_reads name local arrays locks done op args is few room new =
     let w = is_name_word op is in
-    line_reads (so_far name arrays locks done None) (so_far name arrays locks done (Some (record { name = op; args = args; statements = []; labels = [] })))
+    line_reads (so_far name local arrays locks done None) (so_far name local arrays locks done (Some (record { name = op; args = args; statements = []; labels = [] })))
     (codes "op" ∷ op ∷ decimal args ∷ []) (literal_text (codes "op") (omega arith) refl, (w.text, (number_text args (omega arith), tt)))
-    (op_says (so_far name arrays locks done None) op (decimal args) args w.form w.short (value_again args (omega arith)) room few new)
+    (op_says (so_far name local arrays locks done None) op (decimal args) args w.form w.short (value_again args (omega arith)) room few new)

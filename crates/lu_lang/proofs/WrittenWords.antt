@@ -12,15 +12,16 @@ use Rattle.lu_text.specs.Words.{Word}
 use Rattle.lu_text.proofs.NumberText.{bytes_same}
 use Rattle.lu_text.proofs.Written.{IsWordByte, IsText, each_append}
 use Rattle.lu_text.proofs.WordText.{IsDigit, digits_each, digit_parts, literal_text, name_text, number_text, value_again}
-use Rattle.lu_lang.specs.declared.instr.Operand.{Operand}
-use Rattle.lu_lang.specs.declared.instr.Operand.TheVariants.{Reg, Num}
-use Rattle.lu_lang.specs.declared.instr.Arithmetic.TheVariants.{Add, Sub, Mul, Eq, Lt}
+use Rattle.lu_component.specs.declared.instr.Operand.{Operand}
+use Rattle.lu_component.specs.declared.instr.Operand.TheVariants.{Reg, Num}
+use Rattle.lu_component.specs.declared.instr.Arithmetic.TheVariants.{Add, Sub, Mul, Eq, Lt}
 use Rattle.lu_lang.specs.declared.keyword.Keyword.{Keyword}
 use Rattle.lu_lang.specs.declared.keyword.Keyword.TheVariants.{Set, Compute, Load, Store, Cas, Lock, Unlock, Await, AwaitNot, Pick, Jump, JumpIfZero, Return}
-use Rattle.lu_lang.specs.Component.{IsOperand}
+use Rattle.lu_component.specs.Component.{IsOperand}
 use Rattle.lu_lang.specs.Words.{keyword_in, keyword_word, register_in, operand_in}
 use Rattle.lu_lang.specs.Grammar.{label_in}
-use Rattle.lu_lang.specs.ComponentText.{register_word, operand_word, label_word}
+use Rattle.lu_component.specs.Operands.{register_word, operand_word}
+use Rattle.lu_lang.specs.ComponentText.{label_word}
 
 -- ---- keywords
 

@@ -5,24 +5,16 @@ use Rattle.std.specs.List.{flat_map, join_with_byte, list_any, enumerate_from}
 use Rattle.std.specs.Option.{unwrap_or, option_map}
 use Rattle.std.specs.Fmt.{decimal}
 use Rattle.lu_text.specs.Words.{Word}
-use Rattle.lu_lang.specs.declared.instr.Operand.{Operand}
-use Rattle.lu_lang.specs.declared.instr.Operand.TheVariants.{Reg, Num}
-use Rattle.lu_lang.specs.declared.instr.Instr.{Instr}
-use Rattle.lu_lang.specs.declared.instr.Instr.TheVariants.{Set, Compute, Load, Store, Cas, Lock, Unlock, Await, AwaitNot, Pick, Jump, JumpIfZero, Return}
+use Rattle.lu_component.specs.declared.instr.Instr.{Instr}
+use Rattle.lu_component.specs.declared.instr.Instr.TheVariants.{Set, Compute, Load, Store, Cas, Lock, Unlock, Await, AwaitNot, Pick, Jump, JumpIfZero, Return}
 use Rattle.lu_lang.specs.declared.keyword.Keyword.TheVariants as keyword
-use Rattle.lu_lang.specs.declared.component.Array.{Array}
-use Rattle.lu_lang.specs.declared.component.Op.{Op}
-use Rattle.lu_lang.specs.Component.{Declarations}
+use Rattle.lu_component.specs.declared.component.Array.{Array}
+use Rattle.lu_component.specs.declared.component.Op.{Op}
+use Rattle.lu_component.specs.Component.{Declarations}
+use Rattle.lu_component.specs.Operands.{register_word, operand_word}
 use Rattle.lu_lang.specs.Words.{keyword_word}
 
 -- ---- words
-
-abbrev pub register_word : ℕ → Word
-register_word r = codes "r" ++ decimal r
-
-abbrev pub operand_word : Operand → Word
-operand_word (Reg r) = register_word r
-operand_word (Num n) = decimal n
 
 abbrev pub array_word : Declarations → ℕ → Word
 array_word c array = unwrap_or (option_map (λ a. a.name) (slice_get c.arrays array)) []
@@ -74,6 +66,10 @@ line_text words = join_with_byte 32 words ++ 10 ∷ []
 abbrev pub label_text : List Instr → ℕ → List ℕ
 label_text code place = if list_any (leads_to place) code then label_word place ++ codes ": " else []
 
+-- where local instructions run with a move
+abbrev pub local_text : ℕ → List ℕ
+local_text local = if local == 0 then [] else line_text (codes "local" ∷ decimal local ∷ [])
+
 abbrev pub array_text : Array → List ℕ
 array_text array = line_text (codes "word" ∷ array.name ∷ decimal array.len ∷ decimal array.init ∷ [])
 
@@ -96,6 +92,7 @@ op_text c op =
 abbrev pub component_text : Declarations → List ℕ
 component_text c =
     line_text (codes "component" ∷ c.name ∷ [])
+    ++ local_text c.local
     ++ flat_map array_text c.arrays
     ++ flat_map lock_text c.locks
     ++ flat_map (op_text c) c.operations

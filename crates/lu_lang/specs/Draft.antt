@@ -1,10 +1,11 @@
 -- What the lines of a component's text have declared so far.
 use Rattle.std.specs.Prelude.{ℕ, List, [], Option, None}
-use Rattle.lu_lang.specs.declared.component.Array.{Array}
-use Rattle.lu_lang.specs.declared.component.Op.{Op}
+use Rattle.std.specs.Option.{unwrap_or}
+use Rattle.lu_component.specs.declared.component.Array.{Array}
+use Rattle.lu_component.specs.declared.component.Op.{Op}
 use Rattle.lu_lang.specs.declared.draft.Label.{Label}
 use Rattle.lu_lang.specs.declared.draft.Statement.{Statement}
-use Rattle.lu_lang.specs.Component.{Declarations}
+use Rattle.lu_component.specs.Component.{Declarations, declarations}
 
 -- an operation that has no `end` yet
 pub record Begun : Type 0 where
@@ -16,14 +17,15 @@ pub record Begun : Type 0 where
 -- what is declared, and the operation that has no `end` yet
 pub record Drafted : Type 0 where
   pub name : Option (List ℕ)
+  pub local : Option ℕ
   pub arrays : List Array
   pub locks : List (List ℕ)
   pub operations : List Op
   pub begun : Option Begun
 
 abbrev pub nothing : Drafted
-nothing = record { name = None; arrays = []; locks = []; operations = []; begun = None }
+nothing = record { name = None; local = None; arrays = []; locks = []; operations = []; begun = None }
 
--- what is declared, under this name
+-- what is declared, under this name; without a line `local` no local instruction runs with a move
 abbrev pub named : Drafted → List ℕ → Declarations
-named d name = record { name = name; arrays = d.arrays; locks = d.locks; operations = d.operations }
+named d name = declarations name (unwrap_or d.local 0) d.arrays d.locks d.operations

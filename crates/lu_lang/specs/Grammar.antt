@@ -8,12 +8,12 @@ use Rattle.lu_text.specs.Numbers.{value_in}
 use Rattle.lu_text.specs.Lines.{words_of, is_allowed}
 use Rattle.lu_text.specs.Words.{Word, one, two, three, five}
 use Rattle.lu_text.specs.Faults.{Grammar, says, or_else}
-use Rattle.lu_lang.specs.declared.instr.Operand.{Operand}
-use Rattle.lu_lang.specs.declared.instr.Operand.TheVariants.{Num}
-use Rattle.lu_lang.specs.declared.instr.Arithmetic.{Arithmetic}
-use Rattle.lu_lang.specs.declared.instr.Instr.{Instr}
-use Rattle.lu_lang.specs.declared.instr.Instr.TheVariants as instr
-use Rattle.lu_lang.specs.declared.component.Op.{Op}
+use Rattle.lu_component.specs.declared.instr.Operand.{Operand}
+use Rattle.lu_component.specs.declared.instr.Operand.TheVariants.{Num}
+use Rattle.lu_component.specs.declared.instr.Arithmetic.{Arithmetic}
+use Rattle.lu_component.specs.declared.instr.Instr.{Instr}
+use Rattle.lu_component.specs.declared.instr.Instr.TheVariants as instr
+use Rattle.lu_component.specs.declared.component.Op.{Op}
 use Rattle.lu_lang.specs.declared.draft.Label.{Label}
 use Rattle.lu_lang.specs.declared.draft.Statement.{Statement}
 use Rattle.lu_lang.specs.declared.draft.Statement.TheVariants.{Plain, Jump, JumpIfZero}
@@ -22,7 +22,7 @@ use Rattle.lu_lang.specs.declared.keyword.Keyword.TheVariants as keyword
 use Rattle.lu_lang.specs.declared.fault.LangFaultKind.{LangFaultKind}
 use Rattle.lu_lang.specs.declared.fault.LangFaultKind.TheVariants.{Byte, Missing, Form, Number, Limit, Flow, Name}
 use Rattle.lu_lang.specs.Kinds.{rank}
-use Rattle.lu_lang.specs.Component.{Declarations, operation_place}
+use Rattle.lu_component.specs.Component.{Declarations, operation_place}
 use Rattle.lu_lang.specs.Draft.{Begun, Drafted, nothing, named}
 use Rattle.lu_lang.specs.Words.{keyword_in, register_in, operand_in}
 
@@ -73,6 +73,15 @@ component_line d (Some name) =
     says ((not (has_name_form name), Form) ∷ (is_long name, Limit) ∷ [])
     (record d { name = Some name })
 
+-- `local L`, once, and before the first operation
+abbrev pub local_line : Drafted → Option Word → Result Drafted LangFaultKind
+local_line d None = Err Form
+local_line d (Some most) =
+    says ((is_some d.local || nat_le 1 (length d.operations), Form)
+    ∷ (not (is_value most), Number)
+    ∷ (nat_lt 16 (value most), Limit) ∷ [])
+    (record d { local = Some (value most) })
+
 -- `word NAME LEN INIT`
 abbrev pub array_line : Drafted → Option (Word × Word × Word) → Result Drafted LangFaultKind
 array_line d None = Err Form
@@ -107,7 +116,8 @@ declaration d word words =
     if bytes_eq word (codes "word") then array_line d (three words)
     else (if bytes_eq word (codes "lock") then lock_line d (one words)
     else (if bytes_eq word (codes "op") then op_line d (two words)
-    else Err Form))
+    else (if bytes_eq word (codes "local") then local_line d (one words)
+    else Err Form)))
 
 -- ---- instructions
 

@@ -1,7 +1,7 @@
 -- What holds of the language of components.
 use Rattle.std.specs.Prelude.{◌≡◌, Ok}
 use Rattle.lu_text.specs.Faults.{value_of}
-use Rattle.lu_lang.specs.Component.{Declarations, IsComponent}
+use Rattle.lu_component.specs.Component.{Declarations, IsComponent}
 use Rattle.lu_lang.specs.ComponentText.{component_text}
 use Rattle.lu_lang.specs.Grammar.{component_grammar}
 

@@ -1,4 +1,3 @@
-pub mod Component
 pub mod Kinds
 pub mod Draft
 pub mod Words

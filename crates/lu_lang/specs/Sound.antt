@@ -1,10 +1,10 @@
 -- What holds of the lines read so far: what they declare obeys the rules of components.
 use Rattle.std.specs.Prelude.{◌≡◌, ℕ, ◌<◌, ◌≤◌, List, length, All, is_some, false, IfSome}
 use Rattle.lu_text.specs.Names.{IsName}
-use Rattle.lu_lang.specs.declared.component.Op.{Op}
+use Rattle.lu_component.specs.declared.component.Op.{Op}
 use Rattle.lu_lang.specs.declared.draft.Statement.{Statement}
 use Rattle.lu_lang.specs.declared.draft.Statement.TheVariants.{Plain, Jump, JumpIfZero}
-use Rattle.lu_lang.specs.Component.{operation_place, IsComponent, IsInstr, IsOperand}
+use Rattle.lu_component.specs.Component.{operation_place, IsComponent, IsInstr, IsOperand}
 use Rattle.lu_lang.specs.Draft.{Begun, Drafted, named}
 
 -- among so many arrays and locks, what the instruction names is there, but for its label

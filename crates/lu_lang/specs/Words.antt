@@ -2,21 +2,14 @@
 use Rattle.std.specs.Prelude.{find, ℕ, ◌-◌, List, [], ◌∷◌, Option, Some, None, codes, ◌==◌, ◌&&◌, nat_le, if◌then◌else◌}
 use Rattle.std.specs.Str.{bytes_eq}
 use Rattle.lu_text.specs.Numbers.{value_in}
-use Rattle.lu_lang.specs.declared.instr.Operand.{Operand}
-use Rattle.lu_lang.specs.declared.instr.Operand.TheVariants.{Reg, Num}
-use Rattle.lu_lang.specs.declared.instr.Arithmetic.{Arithmetic}
-use Rattle.lu_lang.specs.declared.instr.Arithmetic.TheVariants.{Add, Sub, Mul, Eq, Lt}
+use Rattle.lu_component.specs.declared.instr.Operand.{Operand}
+use Rattle.lu_component.specs.declared.instr.Operand.TheVariants.{Reg, Num}
+use Rattle.lu_component.specs.declared.instr.Arithmetic.TheVariants.{Add, Sub, Mul, Eq, Lt}
+use Rattle.lu_component.specs.Operands.{arithmetic_word}
 use Rattle.lu_lang.specs.declared.keyword.Keyword.{Keyword}
 use Rattle.lu_lang.specs.declared.keyword.Keyword.TheVariants.{Set, Compute, Load, Store, Cas, Lock, Unlock, Await, AwaitNot, Pick, Jump, JumpIfZero, Return}
 
 -- ---- keywords
-
-abbrev pub arithmetic_word : Arithmetic → List ℕ
-arithmetic_word Add = codes "add"
-arithmetic_word Sub = codes "sub"
-arithmetic_word Mul = codes "mul"
-arithmetic_word Eq = codes "eq"
-arithmetic_word Lt = codes "lt"
 
 abbrev pub keyword_word : Keyword → List ℕ
 keyword_word Set = codes "set"

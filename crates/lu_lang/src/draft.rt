@@ -3,8 +3,7 @@
 ghost use Rattle.std.specs.Prelude.{◌≡◌};
 ghost use Rattle.lu_lang.specs.Draft.{nothing};
 
-use crate::component::{Array, Op};
-use crate::instr::{Instr, Operand};
+use lu_component::{Array, Instr, Op, Operand};
 use lu_text::Name;
 use std::alloc::Global;
 use std::marker::Model;
@@ -47,6 +46,9 @@ impl Model for OpenOp {
 #[derive(Debug, Drop)]
 pub struct Draft {
     pub name: Option<Name>,
+
+    /// Of the line `local`, where there was one.
+    pub local: Option<u8>,
     pub arrays: Vec<Array>,
     pub locks: Vec<Name>,
     pub operations: Vec<Op>,
@@ -59,7 +61,7 @@ impl Model for Draft {
 
     ghost Value = { Drafted };
 
-    ghost view = { λ d. record { name = d.name; arrays = d.arrays.items; locks = d.locks.items; operations = d.operations.items; begun = d.begun } };
+    ghost view = { λ d. record { name = d.name; local = d.local; arrays = d.arrays.items; locks = d.locks.items; operations = d.operations.items; begun = d.begun } };
 
     ghost invariant = { λ d. (length d.arrays.items ≤ 16) × (length d.locks.items ≤ 8) };
 }
@@ -71,6 +73,7 @@ impl Draft {
     {
         Draft {
             name: None,
+            local: None,
             arrays: Vec::new(alloc),
             locks: Vec::new(alloc),
             operations: Vec::new(alloc),

@@ -10,11 +10,10 @@ ghost use Rattle.lu_text.specs.Faults.{says};
 ghost use Rattle.lu_lang.specs.declared.fault.LangFaultKind.TheVariants.{Limit, Name as FaultName};
 ghost use Rattle.lu_lang.specs.Grammar as spec;
 
-use crate::component::Array;
 use crate::draft::{Draft, Statement};
 use crate::fault::LangFaultKind;
-use crate::instr::{Arithmetic, Instr, MOST_PICKS, Operand};
 use crate::keyword::{Keyword, operand_in, register_in};
+use lu_component::{Arithmetic, Array, Instr, MOST_PICKS, Operand};
 use lu_text::{Name, five, has_name_form, is_long, one, three, two, value_in};
 use std::alloc::{AllocError, Global};
 

@@ -3,7 +3,7 @@
 ghost use Rattle.std.specs.Prelude.{◌≡◌};
 ghost use Rattle.lu_lang.specs.Words as spec;
 
-use crate::instr::{Arithmetic, Operand};
+use lu_component::{Arithmetic, Operand};
 use lu_text::value_in;
 
 /// The keyword of an instruction.
@@ -22,21 +22,6 @@ pub enum Keyword {
     Jump,
     JumpIfZero,
     Return,
-}
-
-impl Arithmetic {
-    /// The keyword of the instruction that computes it.
-    pub(crate) fn word(self) -> &'static str
-        ensures { result.now ≡ spec.arithmetic_word self }
-    {
-        match self {
-            Arithmetic::Add => "add",
-            Arithmetic::Sub => "sub",
-            Arithmetic::Mul => "mul",
-            Arithmetic::Eq => "eq",
-            Arithmetic::Lt => "lt",
-        }
-    }
 }
 
 /// The keyword that a word is, where it is one.

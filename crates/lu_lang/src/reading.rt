@@ -14,15 +14,14 @@ ghost use Rattle.lu_lang.specs.Sound.{IsDraft};
 ghost use Rattle.lu_lang.specs.Grammar as spec;
 ghost use Rattle.lu_lang.specs.Grammar.{component_grammar};
 
-use crate::component::{
-    Array, Code, Component, MOST_ARGUMENTS, MOST_ARRAYS, MOST_CELLS, MOST_INSTRS, MOST_LOCKS,
-    MOST_OPS, Op, operation_place,
-};
 use crate::draft::{Draft, Label, OpenOp, Statement};
 use crate::fault::{LangFault, LangFaultKind};
-use crate::instr::Instr;
 use crate::instructions::{array_number, lock_number, statement};
 use crate::keyword::keyword_in;
+use lu_component::{
+    Array, Code, Component, Instr, MOST_ARGUMENTS, MOST_ARRAYS, MOST_CELLS, MOST_INSTRS,
+    MOST_LOCAL, MOST_LOCKS, MOST_OPS, Op, operation_place,
+};
 use lu_text::{
     Fault, Name, are_allowed, has_name_form, is_long, lines_of, one, three, two, value_in, words_of,
 };
@@ -47,6 +46,26 @@ fn component_line(
         return Err(Fault::At(LangFaultKind::Limit, line));
     }
     draft.name = Some(Name::new(alloc, name)?);
+    Ok(draft)
+}
+
+/// `local L`
+fn local_line(line: usize, mut draft: Draft, words: &[&[u8]]) -> Result<Draft, LangFault>
+    ensures { Gives result (on_line line (spec.local_line draft (one (texts words.now)))) }
+{
+    let Some(most) = one(words) else {
+        return Err(Fault::At(LangFaultKind::Form, line));
+    };
+    if draft.local.is_some() || !draft.operations.is_empty() {
+        return Err(Fault::At(LangFaultKind::Form, line));
+    }
+    let Some(most) = value_in(most) else {
+        return Err(Fault::At(LangFaultKind::Number, line));
+    };
+    if most > MOST_LOCAL {
+        return Err(Fault::At(LangFaultKind::Limit, line));
+    }
+    draft.local = Some(most as u8);
     Ok(draft)
 }
 
@@ -173,6 +192,8 @@ fn declaration(
         lock_line(alloc, line, draft, words)
     } else if word == b"op".as_slice() {
         op_line(alloc, line, draft, words)
+    } else if word == b"local".as_slice() {
+        local_line(line, draft, words)
     } else {
         Err(Fault::At(LangFaultKind::Form, line))
     }
@@ -505,13 +526,20 @@ fn finished(line: usize, draft: Draft) -> Result<Component, LangFault>
 {
     let Draft {
         name,
+        local,
         arrays,
         locks,
         operations,
         begun,
     } = draft;
     match (name, begun) {
-        (Some(name), None) => Ok(Component::new(name, arrays, locks, operations)),
+        (Some(name), None) => Ok(Component::new(
+            name,
+            local.unwrap_or(0),
+            arrays,
+            locks,
+            operations,
+        )),
         _ => Err(Fault::At(LangFaultKind::Missing, line)),
     }
 }

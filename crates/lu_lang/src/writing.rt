@@ -6,8 +6,7 @@ ghost use Rattle.lu_text.specs.Faults.{value_of};
 ghost use Rattle.lu_lang.specs.ComponentText as spec;
 ghost use Rattle.lu_lang.specs.Grammar.{component_grammar};
 
-use crate::component::{Array, Component, Op};
-use crate::instr::Instr;
+use lu_component::{Array, Component, Instr, Op};
 use lu_text::Name;
 use std::alloc::{AllocError, Global};
 
@@ -147,6 +146,16 @@ fn write_code(text: &mut String, component: &Component, code: &[Instr]) -> Resul
     Ok(())
 }
 
+/// Adds the line of the local instructions that run with a move at the end of a text, where there are some.
+fn write_local(text: &mut String, local: u8) -> Result<(), AllocError>
+    ensures { OnOk result (string_bytes text.new ≡ string_bytes text.old ++ spec.local_text local) }
+{
+    if local > 0 {
+        writeln!(text, "local {local}")?;
+    }
+    Ok(())
+}
+
 fn write_array(text: &mut String, array: &Array) -> Result<(), AllocError>
     ensures { OnOk result (string_bytes text.new ≡ string_bytes text.old ++ spec.array_text array.now) }
 {
@@ -198,8 +207,8 @@ fn write_operations(text: &mut String, component: &Component) -> Result<(), Allo
 
 /// The canonical text of a component.
 ///
-/// It has no comments and no empty lines. The line `component` comes first, then arrays, locks and
-/// operations, each kind in its order. One space stands between two words, and a label `Lk:` exactly at
+/// It has no comments and no empty lines. The line `component` comes first, then `local` where it is not 0,
+/// and then arrays, locks and operations, each kind in its order. One space stands between two words, and a label `Lk:` exactly at
 /// the places k, from 0, that some jump of the operation leads to. Each line ends with LF. Read again it
 /// is the same component.
 ///
@@ -212,6 +221,7 @@ pub fn write_component(alloc: Global, component: &Component) -> Result<String, A
 {
     let mut text = String::new(alloc);
     writeln!(text, "component {}", component.name().as_str())?;
+    write_local(&mut text, component.local())?;
     write_arrays(&mut text, component.arrays())?;
     write_locks(&mut text, component.locks())?;
     write_operations(&mut text, component)?;

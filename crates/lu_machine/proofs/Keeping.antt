@@ -1,8 +1,8 @@
 -- What a move changes and what stays.
-use Rattle.std.proofs.Common.{◌≡◌, ℕ, ◌==◌, Bool, true, false, List, Option, Some, None, MatchOption, MatchBool, slice_get, slice_set, length, refl, ◌∙◌, ap}
-use Rattle.std.proofs.lemmas.List.{length-set}
-use Rattle.lu_lang.specs.declared.instr.Instr.{Instr}
-use Rattle.lu_lang.specs.declared.instr.Instr.TheVariants.{Set, Compute, Load, Store, Cas, Lock, Unlock, Await, AwaitNot, Pick, Jump, JumpIfZero, Return}
+use Rattle.std.proofs.Common.{◌≡◌, ℕ, ◌+◌, ◌==◌, Bool, true, false, List, Option, Some, None, MatchOption, MatchBool, slice_get, slice_set, length, refl, ◌∙◌, ap, sym, subst}
+use Rattle.std.proofs.lemmas.List.{length-set, set-set}
+use Rattle.lu_component.specs.declared.instr.Instr.{Instr}
+use Rattle.lu_component.specs.declared.instr.Instr.TheVariants.{Set, Compute, Load, Store, Cas, Lock, Unlock, Await, AwaitNot, Pick, Jump, JumpIfZero, Return}
 use Rattle.lu_test.specs.declared.matrix.Call.{Call}
 use Rattle.lu_test.specs.declared.schedule.Move.{Move}
 use Rattle.lu_test.specs.Matrix.{calls_of}
@@ -13,11 +13,13 @@ use Rattle.lu_machine.specs.declared.thread.Frame.{Frame}
 use Rattle.lu_machine.specs.declared.thread.Activity.{Activity}
 use Rattle.lu_machine.specs.declared.thread.Activity.TheVariants.{Idle, Open}
 use Rattle.lu_machine.specs.Effects.{Effect}
-use Rattle.lu_machine.specs.Effects.Effect.{Ends}
+use Rattle.lu_machine.specs.Effects.Effect.{GoesOn, Ends}
 use Rattle.lu_machine.specs.declared.thread.Thread.{Thread}
 use Rattle.lu_machine.specs.Effects.{value_of, onward, onward_with}
-use Rattle.lu_machine.specs.States.{State, cell_at, value_at, with_cell, with_owner}
-use Rattle.lu_machine.specs.Steps.{Carries, ByActivity, Step, event_after, opened, owns, thread_after}
+use Rattle.lu_machine.specs.States.{State, cell_at, value_at, with_cell, with_owner, with_thread}
+use Rattle.lu_machine.specs.Steps.{Carries, ByActivity, OneStep, Step, event_after, more_local, opened, owns, thread_after}
+use Rattle.lu_machine.proofs.Running.{GoesOnTo, ran}
+use Rattle.lu_machine.proofs.Undoing.{moved_there}
 
 -- cells and locks may differ, and nothing else
 pub record AreAlike (s new : State) : Type 0 where
@@ -77,11 +79,11 @@ carries_alike s m f (Jump target) new e h = alike s new h.0
 carries_alike s m f (JumpIfZero v target) new e h = alike s new h.0
 carries_alike s m f (Return v) new e h = alike s new h.0
 
--- Where thread t stands after its move, with which event: an idle one opens its next call, and an open operation goes on or ends.
+-- Where thread t stands after its move, with which event: an idle one opens its next call and may go on in it, and an open operation goes on or ends.
 abbrev pub Turns : State → ℕ → ℕ → Activity → Thread → Option Event → Type 0
 Turns s t done Idle now event =
     (call : Call) × (slice_get (calls_of s.matrix t) done ≡ Some call)
-    × (now ≡ record { done = done; activity = Open (opened call) }) × (event ≡ Some (Called t done))
+    × (f : Frame) × (now ≡ record { done = done; activity = Open f }) × (event ≡ Some (Called t done))
 Turns s t done (Open f) now event =
     (effect : Effect) × (now ≡ thread_after done effect) × (event ≡ event_after t done effect)
 
@@ -103,7 +105,7 @@ activity_moved s m standing stands Idle is new event h = record {
   stands = stands;
   now = record { done = standing.done; activity = Open (opened h.0) };
   threads = ap (λ (x : State). x.threads) h.3;
-  turns = rw is (h.0, h.1, refl, h.4);
+  turns = rw is (h.0, h.1, opened h.0, refl, h.4);
 }
 activity_moved s m standing stands (Open f) is new event h =
     let mid = carries_alike s m f h.0 h.1 h.2 h.5 in
@@ -119,8 +121,41 @@ activity_moved s m standing stands (Open f) is new event h =
       turns = rw is (h.2, refl, h.7);
     }
 
+one_moved : (s : State) (m : Move) (new : State) (event : Option Event) → OneStep s m new event → Moved s m new event
+one_moved s m new event h = activity_moved s m h.0 h.1 h.0.activity refl new event h.2
+
+-- a thread that runs on after its call or instruction has turned in the same way
+effect_on : (t done : ℕ) (effect : Effect) (now end : Thread) (event : Option Event) → now ≡ thread_after done effect → event ≡ event_after t done effect → GoesOnTo now.done now.activity end → (then : Effect) × (end ≡ thread_after done then) × (event ≡ event_after t done then)
+effect_on t done (GoesOn f) now end event is then goes =
+    let on : GoesOnTo done (Open f) end = subst (λ (x : Thread). GoesOnTo x.done x.activity end) is goes in
+    (GoesOn on.0, on.1, then)
+effect_on t done (Ends outcome) now end event is then goes =
+    let on : GoesOnTo (done + 1) Idle end = subst (λ (x : Thread). GoesOnTo x.done x.activity end) is goes in
+    (Ends outcome, on, then)
+
+turns_on : (s : State) (t done : ℕ) (activity : Activity) (now end : Thread) (event : Option Event) → Turns s t done activity now event → GoesOnTo now.done now.activity end → Turns s t done activity end event
+turns_on s t done Idle now end event h goes =
+    let on : GoesOnTo done (Open h.2) end = subst (λ (x : Thread). GoesOnTo x.done x.activity end) h.3 goes in
+    (h.0, h.1, on.0, on.1, h.4)
+turns_on s t done (Open f) now end event h goes = effect_on t done h.0 now end event h.1 h.2 goes
+
 pub step_moved : (s : State) (m : Move) (new : State) (event : Option Event) → Step s m new event → Moved s m new event
-step_moved s m new event h = activity_moved s m h.0 h.1 h.0.activity refl new event h.2
+step_moved s m new event h =
+    let one = one_moved s m h.0 event h.1 in
+    let there : slice_get h.0.threads m.thread ≡ Some one.now = ap (λ x. slice_get x m.thread) one.threads ∙ moved_there s m.thread one.now one.standing one.stands in
+    let on = ran (more_local s m.thread) h.0 m.thread new one.now there h.2 in
+    record {
+      component = ap (λ (x : State). x.component) on.moved ∙ one.component;
+      matrix = ap (λ (x : State). x.matrix) on.moved ∙ one.matrix;
+      standing = one.standing;
+      stands = one.stands;
+      now = on.now;
+      threads =
+          ap (λ (x : State). x.threads) on.moved
+          ∙ ap (λ (x : List Thread). slice_set x m.thread on.now) one.threads
+          ∙ set-set s.threads m.thread one.now on.now;
+      turns = turns_on s m.thread one.standing.done one.standing.activity one.now on.now event one.turns on.goes;
+    }
 
 pub step_keeps_threads : (s : State) (m : Move) (new : State) (event : Option Event) → Step s m new event → length new.threads ≡ length s.threads
 step_keeps_threads s m new event h =

@@ -5,9 +5,9 @@ use Rattle.std.proofs.lemmas.List.Concat.{flat_map-append}
 use Rattle.std.proofs.lemmas.List.Sums.{sum_by-cons}
 use Rattle.std.proofs.lemmas.Bool.{lt-ltb, le-ltb}
 use Rattle.std.proofs.lemmas.Option.{same_Some, slice_get-get_or, get_or_from_slice_get}
-use Rattle.lu_lang.specs.declared.component.Array.{Array}
+use Rattle.lu_component.specs.declared.component.Array.{Array}
 use Rattle.lu_machine.specs.declared.span.Span.{Span}
-use Rattle.lu_lang.specs.Component.{Declarations}
+use Rattle.lu_component.specs.Component.{Declarations}
 use Rattle.lu_machine.specs.States.{State, first_cell, cell_of}
 use Rattle.lu_machine.specs.Starts.{initial_cells}
 use Rattle.lu_machine.specs.Layout.{IsLaidOut, spans_of}

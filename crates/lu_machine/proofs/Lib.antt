@@ -4,8 +4,11 @@ pub mod Keeping
 pub mod Layouts
 pub mod Moves
 pub mod Numbers
+pub mod OneStepLaws
 pub mod Orders
 pub mod Paths
 pub mod Progress
+pub mod Running
 pub mod StepLaws
 pub mod Undoing
+pub mod Unseen

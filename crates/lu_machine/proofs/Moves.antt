@@ -4,10 +4,10 @@ use Rattle.std.proofs.lemmas.Bool.{cases_lt}
 use Rattle.std.proofs.lemmas.List.Elements.{All-get_or}
 use Rattle.std.proofs.lemmas.Option.{slice_get_within, get_or_from_slice_get}
 use Rattle.std.specs.Option.{option_map_or}
-use Rattle.lu_lang.specs.declared.component.Op.{Op}
-use Rattle.lu_lang.specs.declared.instr.Instr.{Instr}
-use Rattle.lu_lang.specs.declared.instr.Instr.TheVariants.{Set, Compute, Load, Store, Cas, Lock, Unlock, Await, AwaitNot, Pick, Jump, JumpIfZero, Return}
-use Rattle.lu_lang.specs.Component.{Declarations, IsComponent, IsInstr, IsOp}
+use Rattle.lu_component.specs.declared.component.Op.{Op}
+use Rattle.lu_component.specs.declared.instr.Instr.{Instr}
+use Rattle.lu_component.specs.declared.instr.Instr.TheVariants.{Set, Compute, Load, Store, Cas, Lock, Unlock, Await, AwaitNot, Pick, Jump, JumpIfZero, Return}
+use Rattle.lu_component.specs.Component.{Declarations, IsComponent, IsInstr, IsOp}
 use Rattle.lu_test.specs.declared.schedule.Move.{Move}
 use Rattle.lu_test.specs.Schedule.{IsMove}
 use Rattle.lu_machine.specs.declared.thread.Activity.{Activity}

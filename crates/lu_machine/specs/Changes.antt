@@ -1,6 +1,6 @@
 -- How a thread is changed where it stands, and put back.
 use Rattle.std.specs.Prelude.{◌≡◌, ℕ, slice_set}
-use Rattle.lu_lang.specs.Component.{IsRegister}
+use Rattle.lu_component.specs.Component.{IsRegister}
 use Rattle.lu_machine.specs.declared.thread.Activity.{Activity}
 use Rattle.lu_machine.specs.declared.thread.Activity.TheVariants.{Idle, Open}
 use Rattle.lu_machine.specs.declared.thread.Change.{Change}

@@ -1,9 +1,9 @@
 -- What an instruction makes of the operation that carries it out.
 use Rattle.std.specs.Prelude.{ℕ, ◌+◌, ◌-◌, ◌*◌, ◌%◌, ◌^◌, ◌==◌, nat_lt, if◌then◌else◌, slice_index, slice_set}
-use Rattle.lu_lang.specs.declared.instr.Operand.{Operand}
-use Rattle.lu_lang.specs.declared.instr.Operand.TheVariants.{Reg, Num}
-use Rattle.lu_lang.specs.declared.instr.Arithmetic.{Arithmetic}
-use Rattle.lu_lang.specs.declared.instr.Arithmetic.TheVariants.{Add, Sub, Mul, Eq, Lt}
+use Rattle.lu_component.specs.declared.instr.Operand.{Operand}
+use Rattle.lu_component.specs.declared.instr.Operand.TheVariants.{Reg, Num}
+use Rattle.lu_component.specs.declared.instr.Arithmetic.{Arithmetic}
+use Rattle.lu_component.specs.declared.instr.Arithmetic.TheVariants.{Add, Sub, Mul, Eq, Lt}
 use Rattle.lu_machine.specs.declared.event.Outcome.{Outcome}
 use Rattle.lu_machine.specs.declared.thread.Frame.{Frame}
 

@@ -1,12 +1,12 @@
 -- Laws of steps, starts and ends.
-use Rattle.std.specs.Prelude.{◌≡◌, ◌⊎◌, List, Option}
-use Rattle.lu_lang.specs.Component.{Declarations}
+use Rattle.std.specs.Prelude.{◌≡◌, ◌≢◌, ◌↔◌, ◌⊎◌, ℕ, List, Option, slice_get}
+use Rattle.lu_component.specs.Component.{Declarations}
 use Rattle.lu_test.specs.declared.matrix.Call.{Call}
 use Rattle.lu_test.specs.declared.schedule.Move.{Move}
 use Rattle.lu_machine.specs.declared.event.Event.{Event}
 use Rattle.lu_machine.specs.declared.event.Status.{Status}
 use Rattle.lu_machine.specs.States.{State}
-use Rattle.lu_machine.specs.Steps.{Step, IsFeasible}
+use Rattle.lu_machine.specs.Steps.{OneStep, RunsOn, Step, IsFeasible}
 use Rattle.lu_machine.specs.Starts.{IsStart}
 use Rattle.lu_machine.specs.Ends.{HasMove, HasStatus, HasNoMove, IsComplete}
 
@@ -26,6 +26,22 @@ FeasibleOnly = (s : State) (m : Move) (new : State) (event : Option Event) → S
 -- a feasible move leads somewhere
 abbrev pub AllFeasible : Type 0
 AllFeasible = (s : State) (m : Move) → IsFeasible s m → (new : State) × (event : Option Event) × Step s m new event
+
+-- where no local instructions run with a move, it is one call or instruction
+abbrev pub OneWithoutLocal : Type 0
+OneWithoutLocal =
+    (s : State) (m : Move) (new : State) (event : Option Event) →
+    s.component.local ≡ 0 → (Step s m new event ↔ OneStep s m new event)
+
+-- all that other threads than t could see stays: cells, locks, and where they stand
+pub record LooksAlike (t : ℕ) (s new : State) : Type 0 where
+  pub cells : new.cells ≡ s.cells
+  pub locks : new.locks ≡ s.locks
+  pub others : (i : ℕ) → i ≢ t → slice_get new.threads i ≡ slice_get s.threads i
+
+-- no other thread could see that a thread runs on by local instructions
+abbrev pub LocalUnseen : Type 0
+LocalUnseen = (n : ℕ) (s : State) (t : ℕ) (end : State) → RunsOn n s t end → LooksAlike t s end
 
 -- no thread of a complete state is enabled
 abbrev pub CompleteIsOver : Type 0

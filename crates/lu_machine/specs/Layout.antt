@@ -1,8 +1,8 @@
 -- How a machine keeps its state.
 use Rattle.std.specs.Prelude.{◌≡◌, ℕ, ◌+◌, ◌^◌, ◌<◌, List, [], ◌∷◌, length, Option, All}
-use Rattle.lu_lang.specs.declared.component.Array.{Array}
-use Rattle.lu_lang.specs.declared.instr.Instr.{Instr}
-use Rattle.lu_lang.specs.Component.{Declarations, IsComponent, IsInstr}
+use Rattle.lu_component.specs.declared.component.Array.{Array}
+use Rattle.lu_component.specs.declared.instr.Instr.{Instr}
+use Rattle.lu_component.specs.Component.{Declarations, IsComponent, IsInstr}
 use Rattle.lu_test.specs.declared.matrix.Call.{Call}
 use Rattle.lu_test.specs.Matrix.{IsMatrix}
 use Rattle.lu_machine.specs.declared.span.Span.{Span}

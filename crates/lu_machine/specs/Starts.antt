@@ -1,8 +1,8 @@
 -- Where a run starts.
 use Rattle.std.specs.Prelude.{◌≡◌, ℕ, List, length, replicate, None}
 use Rattle.std.specs.List.{flat_map}
-use Rattle.lu_lang.specs.declared.component.Array.{Array}
-use Rattle.lu_lang.specs.Component.{Declarations}
+use Rattle.lu_component.specs.declared.component.Array.{Array}
+use Rattle.lu_component.specs.Component.{Declarations}
 use Rattle.lu_test.specs.declared.matrix.Call.{Call}
 use Rattle.lu_machine.specs.declared.thread.Activity.TheVariants.{Idle}
 use Rattle.lu_machine.specs.States.{State}

@@ -1,10 +1,10 @@
 -- The states of a component and a matrix as they are run.
 use Rattle.std.specs.Prelude.{ℕ, ◌+◌, Bool, true, false, List, length, map, take, sum_by, nat_lt, if◌then◌else◌, Option, Some, None, slice_get, slice_set, slice_index, option_and_then}
 use Rattle.std.specs.List.{slice_index_or}
-use Rattle.lu_lang.specs.declared.component.Array.{Array}
-use Rattle.lu_lang.specs.declared.instr.Instr.{Instr}
-use Rattle.lu_lang.specs.declared.instr.Operand.{Operand}
-use Rattle.lu_lang.specs.Component.{Declarations}
+use Rattle.lu_component.specs.declared.component.Array.{Array}
+use Rattle.lu_component.specs.declared.instr.Instr.{Instr}
+use Rattle.lu_component.specs.declared.instr.Operand.{Operand}
+use Rattle.lu_component.specs.Component.{Declarations}
 use Rattle.lu_test.specs.declared.matrix.Call.{Call}
 use Rattle.lu_test.specs.Matrix.{calls_of}
 use Rattle.lu_machine.specs.declared.thread.Activity.{Activity}

@@ -1,8 +1,8 @@
 -- The moves of a state: what each leads to, and how many picks a thread has.
-use Rattle.std.specs.Prelude.{◌≡◌, ◌≢◌, ℕ, ◌+◌, ◌-◌, ◌<◌, ◌==◌, nat_lt, not, if◌then◌else◌, ◌++◌, length, replicate, Bool, false, MatchBool, Option, Some, None, is_some, slice_get, MatchOption}
+use Rattle.std.specs.Prelude.{◌≡◌, ◌≢◌, ℕ, ◌+◌, ◌-◌, ◌<◌, ◌==◌, nat_lt, not, if◌then◌else◌, ◌++◌, length, replicate, zero, suc, Bool, true, false, MatchBool, Option, Some, None, is_some, slice_get, MatchOption}
 use Rattle.std.specs.Option.{option_map_or}
-use Rattle.lu_lang.specs.declared.instr.Instr.{Instr}
-use Rattle.lu_lang.specs.declared.instr.Instr.TheVariants.{Set, Compute, Load, Store, Cas, Lock, Unlock, Await, AwaitNot, Pick, Jump, JumpIfZero, Return}
+use Rattle.lu_component.specs.declared.instr.Instr.{Instr}
+use Rattle.lu_component.specs.declared.instr.Instr.TheVariants.{Set, Compute, Load, Store, Cas, Lock, Unlock, Await, AwaitNot, Pick, Jump, JumpIfZero, Return}
 use Rattle.lu_test.specs.declared.matrix.Call.{Call}
 use Rattle.lu_test.specs.declared.schedule.Move.{Move}
 use Rattle.lu_test.specs.Matrix.{calls_of}
@@ -25,6 +25,14 @@ owns s t l = option_map_or (λ owner. owner == t) (owner_of s l) false
 abbrev pub choices : Instr → ℕ
 choices (Pick to count) = count
 choices _ = 1
+
+-- whether an instruction is local: it reads and writes registers alone, or jumps
+abbrev pub is_local : Instr → Bool
+is_local (Set to v) = true
+is_local (Compute by to a b) = true
+is_local (Jump target) = true
+is_local (JumpIfZero v target) = true
+is_local _ = false
 
 -- The move m carries out the instruction of the operation f: the state becomes `new`, but for the
 -- thread itself, and the operation does as `effect` says. An index at or past the array's length traps.
@@ -99,12 +107,41 @@ ByActivity s m done (Open f) new event =
     × (new ≡ with_thread mid m.thread (thread_after done effect))
     × (event ≡ event_after m.thread done effect)
 
--- The move m leads from the state s to the state `new`, with this event or none: its thread makes one
--- call or carries out one instruction.
-abbrev pub Step : State → Move → State → Option Event → Type 0
-Step s m new event =
+-- By the move m the state s becomes `new`, with this event or none: the thread of m makes one call or
+-- carries out one instruction.
+abbrev pub OneStep : State → Move → State → Option Event → Type 0
+OneStep s m new event =
     (thread : Thread) × (slice_get s.threads m.thread ≡ Some thread)
     × ByActivity s m thread.done thread.activity new event
+
+-- whether the next instruction of a thread that stands so is local
+abbrev pub activity_is_local : State → Activity → Bool
+activity_is_local s Idle = false
+activity_is_local s (Open f) = option_map_or is_local (instr_at s.component f.op f.place) false
+
+-- whether the next instruction of thread t is local: not where no operation of t is open
+abbrev pub is_at_local : State → ℕ → Bool
+is_at_local s t = option_map_or (λ thread. activity_is_local s thread.activity) (slice_get s.threads t) false
+
+-- Thread t runs on from the state s to the state `end` by at most n local instructions: by all that
+-- come, up to n.
+abbrev pub RunsOn : ℕ → State → ℕ → State → Type 0
+RunsOn zero s t end = end ≡ s
+RunsOn (suc n) s t end =
+    MatchBool (is_at_local s t)
+    ((next : State) × OneStep s (record { thread = t; pick = 0 }) next None × RunsOn n next t end)
+    (end ≡ s)
+
+-- how many local instructions may follow the first step of a move of thread t: as many as the component
+-- says, that first step counted where it is local
+abbrev pub more_local : State → ℕ → ℕ
+more_local s t = s.component.local - (if is_at_local s t then 1 else 0)
+
+-- The move m leads from the state s to the state `new`, with this event or none: its thread makes one
+-- call or carries out one instruction, and then runs on by local instructions.
+abbrev pub Step : State → Move → State → Option Event → Type 0
+Step s m new event =
+    (mid : State) × OneStep s m mid event × RunsOn (more_local s m.thread) mid m.thread new
 
 -- whether an instruction of the operation f is blocked
 abbrev pub is_blocked : State → Frame → Instr → Bool

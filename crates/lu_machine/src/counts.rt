@@ -25,6 +25,7 @@ impl Counts {
     };
 
     /// The sums of both, each at most 2^64 - 1.
+    #[inline(always)]
     pub fn plus(self, other: Counts) -> Counts
         ensures { result ≡ plus self other }
     {

@@ -1,7 +1,7 @@
 //! What a move shows of an operation, and how a state stands.
 
 /// How an operation returned.
-#[derive(Clone, Copy, Debug, PartialEq, Eq)]
+#[derive(Clone, Copy, Debug, PartialEq, Eq, Hash)]
 pub enum Outcome {
     /// It returned this value.
     Ret(u32),
@@ -11,7 +11,7 @@ pub enum Outcome {
 }
 
 /// The call or the return of an operation: call number `k`, 0 to 7, of thread `t`, 0 to 7.
-#[derive(Clone, Copy, Debug, PartialEq, Eq)]
+#[derive(Clone, Copy, Debug, PartialEq, Eq, Hash)]
 pub enum Event {
     /// The operation is opened.
     Call { t: u8, k: u8 },

@@ -2,7 +2,7 @@
 
 ghost use Rattle.std.specs.Prelude.{◌≡◌, ◌<◌, ◌==◌, length, MatchOption};
 ghost use Rattle.std.specs.Option.{option_map};
-ghost use Rattle.lu_lang.specs.Component.{IsOperand};
+ghost use Rattle.lu_component.specs.Component.{IsOperand};
 ghost use Rattle.lu_test.specs.declared.schedule.Move.{Move as AMove};
 ghost use Rattle.lu_machine.specs.declared.event.Outcome.TheVariants.{Trap};
 ghost use Rattle.lu_machine.specs.Changes.{IsChange, effect_of};
@@ -10,14 +10,14 @@ ghost use Rattle.lu_machine.specs.Effects.{onward, value_of};
 ghost use Rattle.lu_machine.specs.Effects.Effect.{Ends};
 ghost use Rattle.lu_machine.specs.Layout.{IsSound};
 ghost use Rattle.lu_machine.specs.States.{cell_at, value_at};
-ghost use Rattle.lu_machine.specs.Steps.{Carries, choices, instr_picks, is_blocked};
+ghost use Rattle.lu_machine.specs.Steps.{Carries, choices, instr_picks, is_blocked, is_local};
 ghost use Rattle.lu_machine.specs.Undoes.{IsThere, with_shared};
 
 use crate::event::Outcome;
 use crate::machine::Machine;
 use crate::thread::{Change, Frame, compute};
 use crate::undo::Shared;
-use lu_lang::{Instr, Operand};
+use lu_component::{Instr, Operand};
 use lu_test::Move;
 
 /// What an instruction does: to its operation, and to what all threads share.
@@ -28,6 +28,7 @@ pub(crate) struct Act {
 }
 
 /// The instruction does this to its operation, and nothing else.
+#[inline(always)]
 fn alone(change: Change) -> Act
     ensures change { result.change ≡ change }
     ensures shared { result.shared ≡ Shared.Nothing }
@@ -39,6 +40,7 @@ fn alone(change: Change) -> Act
 }
 
 /// How many choices the instruction leaves to the move.
+#[inline(always)]
 fn choices(instr: &Instr) -> u8
     ensures { result ≡ choices instr.now }
 {
@@ -48,8 +50,19 @@ fn choices(instr: &Instr) -> u8
     }
 }
 
+/// Whether the instruction is local: it reads and writes registers alone, or jumps.
+pub(crate) fn is_local(instr: &Instr) -> bool
+    ensures { result ≡ is_local instr.now }
+{
+    matches!(
+        *instr,
+        Instr::Set { .. } | Instr::Compute { .. } | Instr::Jump(_) | Instr::JumpIfZero { .. }
+    )
+}
+
 impl Machine<'_> {
     /// How many picks the instruction has: none where it is blocked.
+    #[inline(always)]
     pub(crate) fn instr_picks(&self, frame: &Frame, instr: &Instr) -> u8
         requires { IsSound self.now frame.now instr.now }
         ensures { result ≡ instr_picks self.now frame.now instr.now }
@@ -62,6 +75,7 @@ impl Machine<'_> {
     }
 
     /// Whether the instruction is blocked.
+    #[inline(always)]
     fn is_blocked(&self, frame: &Frame, instr: &Instr) -> bool
         requires { IsSound self.now frame.now instr.now }
         ensures { result ≡ is_blocked self.now frame.now instr.now }
@@ -83,6 +97,7 @@ impl Machine<'_> {
     }
 
     /// Whether cell `index` of the array equals the value: none at or past the array's length.
+    #[inline(always)]
     fn equals(&self, frame: &Frame, array: u8, index: Operand, value: Operand) -> Option<bool>
         requires array { array < length self.now.component.arrays }
         requires index { IsOperand index }
@@ -96,6 +111,7 @@ impl Machine<'_> {
     }
 
     /// What the instruction does where it is carried out.
+    #[inline(always)]
     pub(crate) fn act(&self, next: Move, frame: &Frame, instr: &Instr) -> Act
         requires sound { IsSound self.now frame.now instr.now }
         requires feasible { next.pick < instr_picks self.now frame.now instr.now }
@@ -149,6 +165,7 @@ impl Machine<'_> {
         }
     }
 
+    #[inline(always)]
     fn load(&self, frame: &Frame, to: u8, array: u8, index: Operand) -> Change
         requires { IsSound self.now frame.now (Instr.Load to array index) }
         ensures carries { (m : AMove) → Carries self.now m frame.now (Instr.Load to array index) self.now (effect_of frame.now result) }
@@ -160,6 +177,7 @@ impl Machine<'_> {
         }
     }
 
+    #[inline(always)]
     fn store(&self, frame: &Frame, array: u8, index: Operand, value: Operand) -> Act
         requires { IsSound self.now frame.now (Instr.Store array index value) }
         ensures carries { (m : AMove) → Carries self.now m frame.now (Instr.Store array index value) (with_shared self.now result.shared) (effect_of frame.now result.change) }
@@ -178,6 +196,7 @@ impl Machine<'_> {
         }
     }
 
+    #[inline(always)]
     fn cas(
         &self,
         frame: &Frame,
@@ -205,6 +224,7 @@ impl Machine<'_> {
         }
     }
 
+    #[inline(always)]
     fn unlock(&self, thread: u8, frame: &Frame, lock: u8) -> Act
         requires { IsSound self.now frame.now (Instr.Unlock lock) }
         ensures carries { (m : AMove) → m.thread ≡ thread → Carries self.now m frame.now (Instr.Unlock lock) (with_shared self.now result.shared) (effect_of frame.now result.change) }
@@ -222,6 +242,7 @@ impl Machine<'_> {
     }
 
     /// What `await` and `awaitne` do where they are not blocked.
+    #[inline(always)]
     fn pass(&self, frame: &Frame, array: u8, index: Operand) -> Change
         requires room { frame.now.place < 64 }
         requires array { array < length self.now.component.arrays }

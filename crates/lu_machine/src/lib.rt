@@ -29,9 +29,6 @@ mod undo;
 
 pub use counts::Counts;
 pub use event::{Event, Outcome, Status};
-pub use laws::step_laws;
+pub use laws::{local_laws, step_laws};
 pub use machine::Machine;
 pub use undo::Undo;
-
-#[cfg(test)]
-mod tests;

@@ -2,14 +2,14 @@
 
 ghost use Rattle.std.specs.Prelude.{◌≡◌, ℕ, ◌+◌, ◌<◌, ◌≤◌, ◌↔◌, length, IsTrue, IsSome, IfSome, IfOk, slice_get, Some};
 ghost use Rattle.std.specs.Option.{option_copied};
-ghost use Rattle.lu_lang.specs.Component.{IsComponent};
+ghost use Rattle.lu_component.specs.Component.{IsComponent};
 ghost use Rattle.lu_test.specs.declared.schedule.Move.{Move as AMove};
 ghost use Rattle.lu_test.specs.Matrix.{IsMatrix, IsOf};
 ghost use Rattle.lu_machine.specs.declared.thread.Frame.{Frame as AFrame};
 ghost use Rattle.lu_machine.specs.declared.thread.Thread.{Thread as AThread};
-ghost use Rattle.lu_machine.specs.Changes.{CanStand, IsChange, IsChanged, at_work, effect_of, idle};
+ghost use Rattle.lu_machine.specs.Changes.{CanStand, IsChange, IsChanged, at_work, before, effect_of, idle};
 ghost use Rattle.lu_machine.specs.States.{call_count, cell_of, instr_at, owner_of, value_at, with_cell, with_owner, with_thread};
-ghost use Rattle.lu_machine.specs.Steps.{IsEnabled, IsFeasible, Step, event_after, picks_of, thread_after};
+ghost use Rattle.lu_machine.specs.Steps.{IsEnabled, IsFeasible, OneStep, RunsOn, Step, event_after, is_at_local, more_local, picks_of, thread_after};
 ghost use Rattle.lu_machine.specs.Layout.{IsSound, IsStanding};
 ghost use Rattle.lu_machine.specs.Events.{IsInRange};
 ghost use Rattle.lu_machine.specs.Ends.{HasStatus, IsFinished};
@@ -17,11 +17,11 @@ ghost use Rattle.lu_machine.specs.Undoes.{CanTake, IsThere, restored, with_share
 ghost use Rattle.lu_machine.specs.Starts.{IsStart};
 
 use crate::event::{Event, Status};
-use crate::instructions::Act;
+use crate::instructions::{Act, is_local};
 use crate::span::{Span, lay_out};
 use crate::thread::{Activity, Change, Frame, Thread, Was, event_after, first_registers};
 use crate::undo::{Shared, Undo};
-use lu_lang::{Component, Instr};
+use lu_component::{Component, Instr};
 use lu_test::{Matrix, Move};
 use std::alloc::{AllocError, Global};
 use std::marker::Model;
@@ -81,6 +81,7 @@ impl<'a> Machine<'a> {
     }
 
     /// The number of threads, 1 to 8.
+    #[inline(always)]
     pub fn threads(&self) -> u8
         ensures value { result ≡ length self.now.threads }
         ensures few { length self.now.threads ≤ 8 }
@@ -89,6 +90,7 @@ impl<'a> Machine<'a> {
     }
 
     /// Where the thread stands.
+    #[inline(always)]
     fn standing(&self, thread: u8) -> Option<&Thread>
         ensures value { option_copied result ≡ slice_get self.now.threads thread }
         ensures stands { IfSome result (λ standing. IsStanding standing.now) }
@@ -99,6 +101,7 @@ impl<'a> Machine<'a> {
 
     /// The instruction at the operation's place.
     #[tactic(auto, unfolding(crate::specs::States::instr_at))]
+    #[inline(always)]
     fn instr(&self, frame: &Frame) -> Option<&Instr>
         ensures value { option_copied result ≡ instr_at self.now.component frame.now.op frame.now.place }
         ensures sound { IfSome result (λ instr. IsSound self.now frame.now instr.now) }
@@ -108,6 +111,7 @@ impl<'a> Machine<'a> {
     }
 
     /// The place of cell `index` of the array: none at or past the array's length.
+    #[inline(always)]
     pub(crate) fn cell(&self, array: u8, index: u32) -> Option<usize>
         requires { array < length self.now.component.arrays }
         ensures cell { result ≡ cell_of self.now.component array index }
@@ -123,6 +127,7 @@ impl<'a> Machine<'a> {
     }
 
     /// The value of the cell at this place.
+    #[inline(always)]
     pub(crate) fn value_at(&self, place: usize) -> u32
         requires { place < length self.now.cells }
         ensures { result ≡ value_at self.now place }
@@ -131,6 +136,7 @@ impl<'a> Machine<'a> {
     }
 
     /// The owner of the lock, if it has one.
+    #[inline(always)]
     pub(crate) fn owner(&self, lock: u8) -> Option<u8>
         requires { lock < length self.now.component.locks }
         ensures { result ≡ owner_of self.now lock }
@@ -139,6 +145,7 @@ impl<'a> Machine<'a> {
     }
 
     /// Writes the cell at this place, and says what that overwrote.
+    #[inline(always)]
     pub(crate) fn set_cell(&mut self, place: usize, value: u32) -> Shared
         requires { place < length self.old.cells }
         ensures cell { self.new ≡ with_cell self.old place value }
@@ -154,6 +161,7 @@ impl<'a> Machine<'a> {
     }
 
     /// Gives the lock this owner, or none, and says what that overwrote.
+    #[inline(always)]
     pub(crate) fn set_owner(&mut self, lock: u8, owner: Option<u8>) -> Shared
         requires { lock < length self.old.component.locks }
         ensures owner { self.new ≡ with_owner self.old lock owner }
@@ -169,6 +177,7 @@ impl<'a> Machine<'a> {
     }
 
     /// Writes this, and says what that overwrote.
+    #[inline(always)]
     fn write(&mut self, shared: Shared) -> Shared
         requires { IsThere self.old shared }
         ensures shared { self.new ≡ with_shared self.old shared }
@@ -182,6 +191,7 @@ impl<'a> Machine<'a> {
         }
     }
 
+    #[inline(always)]
     fn set_thread(&mut self, thread: u8, standing: Thread)
         requires there { thread < length self.old.threads }
         requires stands { IsStanding standing }
@@ -191,6 +201,7 @@ impl<'a> Machine<'a> {
     }
 
     /// Changes the open operation of the thread, and says what that overwrote.
+    #[inline(always)]
     fn change(&mut self, thread: u8, change: Change) -> Was
         requires there { thread < length self.old.threads }
         requires sound { IsChange change }
@@ -200,6 +211,7 @@ impl<'a> Machine<'a> {
     }
 
     /// Puts back where the thread stood.
+    #[inline(always)]
     fn put_back(&mut self, thread: u8, was: Was)
         requires there { thread < length self.old.threads }
         requires stands { CanStand was }
@@ -210,6 +222,7 @@ impl<'a> Machine<'a> {
 
     /// How many picks thread `t` has: 0 where there is no such thread, no call is left or the instruction is
     /// blocked; K at `pick rD K`; else 1.
+    #[inline(always)]
     pub fn picks(&self, t: u8) -> u8
         ensures { result ≡ picks_of self.now t }
     {
@@ -226,6 +239,7 @@ impl<'a> Machine<'a> {
     }
 
     /// Whether thread `t` is enabled: it is there, and has a pick.
+    #[inline(always)]
     pub fn enabled(&self, t: u8) -> bool
         ensures { IsTrue result ↔ IsEnabled self.now t }
     {
@@ -240,6 +254,7 @@ impl<'a> Machine<'a> {
     }
 
     /// Whether thread `t` is idle and has made all its calls.
+    #[inline(always)]
     fn is_finished(&self, t: u8) -> bool
         ensures { IsTrue result ↔ IsFinished self.now t }
     {
@@ -253,6 +268,7 @@ impl<'a> Machine<'a> {
     }
 
     /// How the state stands.
+    #[inline(always)]
     pub fn status(&self) -> Status
         ensures { HasStatus self.now result }
     {
@@ -282,9 +298,88 @@ impl<'a> Machine<'a> {
 
     /// Makes the move, and says how to take it back. The move is asked to be feasible
     /// ([`Machine::feasible`]).
+    #[inline(always)]
     pub fn apply(&mut self, next: Move) -> Undo
         requires { IsFeasible self.old next }
         ensures step { Step self.old next self.new result.event }
+        ensures range { IfSome result.event IsInRange }
+        ensures back { restored result self.new ≡ self.old }
+        ensures fits { CanTake self.new result }
+    {
+        let more = self.more_local(next.thread);
+        let first = self.one_step(next);
+        if more == 0 {
+            return first;
+        }
+        let was = Was::Standing(self.stood(next.thread, first.was));
+        self.run_on(next.thread, more);
+        Undo {
+            thread: next.thread,
+            was,
+            overwritten: first.overwritten,
+            event: first.event,
+        }
+    }
+
+    /// How many local instructions may follow the first step of a move of thread `t`.
+    #[inline(always)]
+    fn more_local(&self, t: u8) -> u8
+        ensures { result ≡ more_local self.now t }
+    {
+        let local = self.component.local();
+        if local == 0 {
+            return 0;
+        }
+        local - u8::from(self.is_at_local(t))
+    }
+
+    /// Where the thread stood before a change that overwrote this.
+    #[inline(always)]
+    fn stood(&self, thread: u8, was: Was) -> Thread
+        requires there { thread < length self.now.threads }
+        requires fits { CanStand was }
+        ensures stood { (now : AThread) → slice_get self.now.threads thread ≡ Some now → result ≡ before was now }
+        ensures stands { IsStanding result }
+    {
+        let mut standing = self.threads[usize::from(thread)];
+        standing.put_back(was);
+        standing
+    }
+
+    /// Whether the next instruction of thread `t` is local: not where no operation of it is open.
+    fn is_at_local(&self, t: u8) -> bool
+        ensures { result ≡ is_at_local self.now t }
+    {
+        let Some(standing) = self.standing(t) else {
+            return false;
+        };
+        match &standing.activity {
+            Activity::Idle => false,
+            Activity::Open(frame) => match self.instr(frame) {
+                None => false,
+                Some(instr) => is_local(instr),
+            },
+        }
+    }
+
+    /// Carries out the local instructions that come next in thread `t`, up to `most` of them.
+    #[inline(never)]
+    #[tactic(auto, using(crate::proofs::Running::local_feasible))]
+    fn run_on(&mut self, t: u8, most: u8)
+        ensures { RunsOn most self.old t self.new }
+    {
+        if most > 0 && self.is_at_local(t) {
+            self.one_step(Move { thread: t, pick: 0 });
+            self.run_on(t, most - 1);
+        }
+    }
+
+    /// Opens the thread's next call or carries out its next instruction, and says how to take it back.
+    #[inline(always)]
+    fn one_step(&mut self, next: Move) -> Undo
+        requires { IsFeasible self.old next }
+        ensures step { OneStep self.old next self.new result.event }
+        ensures thread { result.thread ≡ next.thread }
         ensures range { IfSome result.event IsInRange }
         ensures back { restored result self.new ≡ self.old }
         ensures fits { CanTake self.new result }
@@ -306,11 +401,13 @@ impl<'a> Machine<'a> {
     }
 
     /// Opens the next call of an idle thread, which has made `done` of them.
+    #[inline(always)]
     fn open(&mut self, thread: u8, done: u8) -> Undo
         requires few { thread < 8 }
         requires stands { slice_get self.old.threads thread ≡ Some (idle done) }
         requires left { done < call_count self.old thread }
-        ensures step { (m : AMove) → m.thread ≡ thread → m.pick ≡ 0 → Step self.old m self.new result.event }
+        ensures step { (m : AMove) → m.thread ≡ thread → m.pick ≡ 0 → OneStep self.old m self.new result.event }
+        ensures thread { result.thread ≡ thread }
         ensures range { IfSome result.event IsInRange }
         ensures back { restored result self.new ≡ self.old }
         ensures fits { CanTake self.new result }
@@ -337,6 +434,7 @@ impl<'a> Machine<'a> {
     }
 
     /// Carries out what an instruction does in the open operation of a thread, which is number `done`.
+    #[inline(always)]
     fn go_on(&mut self, thread: u8, done: u8, act: Act) -> Undo
         requires few { thread < 8 }
         requires counted { done < 8 }
@@ -344,6 +442,7 @@ impl<'a> Machine<'a> {
         requires there { IsThere self.old act.shared }
         requires sound { IsChange act.change }
         ensures after { (f : AFrame) → slice_get self.old.threads thread ≡ Some (at_work done f) → self.new ≡ with_thread (with_shared self.old act.shared) thread (thread_after done (effect_of f act.change)) }
+        ensures thread { result.thread ≡ thread }
         ensures event { (f : AFrame) → result.event ≡ event_after thread done (effect_of f act.change) }
         ensures range { IfSome result.event IsInRange }
         ensures back { restored result self.new ≡ self.old }
@@ -361,6 +460,7 @@ impl<'a> Machine<'a> {
 
     /// Takes back the move that was made last. The state is asked to have what is put back, as the one has
     /// that its `apply` left: the thread, and the cell or the lock.
+    #[inline(always)]
     pub fn undo(&mut self, undo: Undo)
         requires { CanTake self.old undo }
         ensures { self.new ≡ restored undo self.old }

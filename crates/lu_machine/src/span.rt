@@ -4,7 +4,7 @@ ghost use Rattle.std.specs.Prelude.{◌≡◌, ◌^◌, ◌<◌, ◌++◌, lengt
 ghost use Rattle.lu_machine.specs.Layout.{spans_of};
 ghost use Rattle.lu_machine.specs.Starts.{initial_cells};
 
-use lu_lang::Array;
+use lu_component::Array;
 use std::alloc::{AllocError, Global};
 
 /// The cells of one array among those of all.

@@ -1,7 +1,7 @@
 //! Where a thread stands.
 
 ghost use Rattle.std.specs.Prelude.{◌≡◌, ◌-◌, ◌<◌, ◌≤◌, ◌++◌, length, replicate, IfSome};
-ghost use Rattle.lu_lang.specs.Component.{IsRegister, IsOperand};
+ghost use Rattle.lu_component.specs.Component.{IsRegister, IsOperand};
 ghost use Rattle.lu_machine.specs.declared.thread.Activity.TheVariants.{Open};
 ghost use Rattle.lu_machine.specs.declared.thread.Frame.{Frame as AFrame};
 ghost use Rattle.lu_machine.specs.Changes.{CanStand, IsChange, before, effect_of};
@@ -11,7 +11,7 @@ ghost use Rattle.lu_machine.specs.Layout.{IsStanding};
 ghost use Rattle.lu_machine.specs.Steps.{event_after, thread_after};
 
 use crate::event::{Event, Outcome};
-use lu_lang::{Arithmetic, Operand};
+use lu_component::{Arithmetic, Operand};
 
 /// The registers of an operation, `r0` to `r7`.
 pub(crate) type Registers = [u32; 8];
@@ -75,6 +75,7 @@ pub(crate) enum Was {
 
 impl Frame {
     /// The value of an operand.
+    #[inline(always)]
     pub(crate) fn value(&self, operand: Operand) -> u32
         requires { IsOperand operand }
         ensures { result ≡ value_of self.now operand }
@@ -86,6 +87,7 @@ impl Frame {
     }
 
     /// It goes on at the next place.
+    #[inline(always)]
     pub(crate) fn onward(&self) -> Change
         requires { self.now.place < 64 }
         ensures effect { effect_of self.now result ≡ onward self.now }
@@ -95,6 +97,7 @@ impl Frame {
     }
 
     /// It goes on at the next place, with this value in a register.
+    #[inline(always)]
     pub(crate) fn onward_with(&self, register: u8, value: u32) -> Change
         requires in_code { self.now.place < 64 }
         requires register { IsRegister register }
@@ -111,6 +114,7 @@ impl Frame {
 
 impl Thread {
     /// Changes its open operation, and says what that overwrote.
+    #[inline(always)]
     pub(crate) fn change(&mut self, change: Change) -> Was
         requires stands { IsStanding self.old }
         requires sound { IsChange change }
@@ -152,6 +156,7 @@ impl Thread {
     }
 
     /// Puts back what a change overwrote.
+    #[inline(always)]
     pub(crate) fn put_back(&mut self, was: Was)
         requires { CanStand was }
         ensures before { self.new ≡ before was self.old }
@@ -180,6 +185,7 @@ impl Thread {
 }
 
 /// The event of the change of operation number `done` of thread `t`.
+#[inline(always)]
 pub(crate) fn event_after(t: u8, done: u8, change: Change) -> Option<Event>
     requires thread { t < 8 }
     requires operation { done < 8 }
@@ -197,6 +203,7 @@ pub(crate) fn event_after(t: u8, done: u8, change: Change) -> Option<Event>
 }
 
 /// The registers of a call as it is opened: the arguments stand in the first, and all others are 0.
+#[inline(always)]
 pub(crate) fn first_registers(args: &[u32]) -> Registers
     requires { length args.now ≤ 8 }
     ensures { result ≡ args.now ++ replicate (8 - length args.now) 0 }

@@ -1,5 +1,6 @@
 -- From a set of serial histories and what a search finds over it to a finding.
-use Rattle.std.proofs.Common.{ℕ, List, [], refl}
+use Rattle.std.proofs.Common.{◌≡◌, ℕ, List, [], Option, Some, IsSome, IsSomeAnd, refl}
+use Rattle.lu_replay.specs.declared.report.Finding.{Finding}
 use Rattle.lu_test.specs.declared.schedule.Move.{Move}
 use Rattle.lu_machine.specs.States.{State}
 use Rattle.lu_machine.specs.Schedules.{IsSchedule, IsNumber}
@@ -9,10 +10,12 @@ use Rattle.lu_serial.specs.Offences.{IsSetOf}
 use Rattle.lu_witness.specs.Goodness.{Any}
 use Rattle.lu_witness.specs.Witnesses.{IsMember}
 use Rattle.lu_tree.specs.declared.found.Found.{Found}
-use Rattle.lu_tree.specs.declared.found.Found.TheVariants.{Clean, Bad}
+use Rattle.lu_tree.specs.declared.found.Found.TheVariants.{Clean, Bad, Abandoned}
 use Rattle.lu_tree.specs.Trees.{Below, IsFound}
 use Rattle.lu_replay.specs.Reports.{IsFinding}
 use Rattle.lu_replay.proofs.Sets.{first_bad_alike, all_good_alike}
+use Rattle.lu_parallel.specs.declared.parts.Work.{Work}
+use Rattle.lu_parallel.specs.Conclusions.{IsAnswer}
 use Rattle.lu_parallel.specs.Findings.{finding_of}
 
 -- the empty schedule leads nowhere else
@@ -24,11 +27,21 @@ pub below_empty : (u : List Move) → Below [] u
 below_empty u = (u, refl)
 
 -- what is found over the set of all serial histories is what the check finds
-pub found_finding : (members : List (List SerialOp)) (s : State) (bound serial : ℕ) (found : Found) → IsSetOf s serial members → IsFound (IsMember members) s bound Any found → IsFinding s bound serial (finding_of found)
+pub found_finding : (members : List (List SerialOp)) (s : State) (bound serial : ℕ) (found : Found) → IsSetOf s serial members → IsFound (IsMember members) s bound Any found → IsSomeAnd (finding_of found) (IsFinding s bound serial)
 found_finding members s bound serial (Clean counts) set is =
     (set.none, all_good_alike (IsMember members) (IsSerialHistory s) set.are s bound Any counts is)
 found_finding members s bound serial (Bad schedule why) set is =
     (set.none, first_bad_alike (IsMember members) (IsSerialHistory s) set.are s bound Any schedule why is)
+found_finding members s bound serial Abandoned set is = elim is [ ]
+
+-- what is found was not abandoned
+pub some_finding : (Set : List SerialOp → Type 0) (s : State) (bound : ℕ) (Part : List Move → Type 0) (found : Found) → IsFound Set s bound Part found → IsSome (finding_of found)
+some_finding Set s bound Part (Clean counts) is = refl
+some_finding Set s bound Part (Bad schedule why) is = refl
+some_finding Set s bound Part Abandoned is = elim is [ ]
+
+pub same_finding : (s : State) (bound serial : ℕ) (found : Option Finding) (finding : Finding) → found ≡ Some finding → IsSomeAnd found (IsFinding s bound serial) → IsFinding s bound serial finding
+same_finding s bound serial found finding is h = rw is at h
 
 number_of : (P Q : List Move → Type 0) (n : ℕ) → ((u : List Move) → P u → Q u) → ((u : List Move) → Q u → P u) → IsNumber P n → IsNumber Q n
 number_of P Q n into back is = record {
@@ -53,7 +66,14 @@ all_below Set s bound (Bad schedule why) is = record {
   before = λ v at ended. is.before v (below_empty v, at.1) ended;
   why_is = is.why_is;
 }
+all_below Set s bound Abandoned is = elim is [ ]
 
 -- what is found below the empty schedule, over the set of all serial histories
-pub whole_finding : (members : List (List SerialOp)) (s : State) (bound serial : ℕ) (found : Found) → IsSetOf s serial members → IsFound (IsMember members) s bound (Below []) found → IsFinding s bound serial (finding_of found)
+pub whole_finding : (members : List (List SerialOp)) (s : State) (bound serial : ℕ) (found : Found) → IsSetOf s serial members → IsFound (IsMember members) s bound (Below []) found → IsSomeAnd (finding_of found) (IsFinding s bound serial)
 whole_finding members s bound serial found set is = found_finding members s bound serial found set (all_below (IsMember members) s bound found is)
+
+-- what works conclude was not abandoned
+pub concluded_finding : (works : List Work) (found : Found) → IsAnswer works found → IsSome (finding_of found)
+concluded_finding works (Clean counts) is = refl
+concluded_finding works (Bad schedule why) is = refl
+concluded_finding works Abandoned is = elim is [ ]

@@ -6,7 +6,7 @@ use Rattle.std.proofs.lemmas.List.Concat.{flat_map-cons}
 use Rattle.std.proofs.lemmas.List.Elements.{Contains-append_cases}
 use Rattle.std.proofs.lemmas.List.Sums.{sum_by-append, sum_by-cons}
 use Rattle.atomic_table.specs.Seated.{TableId}
-use Rattle.lu_lang.specs.Component.{Declarations}
+use Rattle.lu_component.specs.Component.{Declarations}
 use Rattle.lu_test.specs.declared.matrix.Call.{Call}
 use Rattle.lu_test.specs.declared.schedule.Move.{Move}
 use Rattle.lu_machine.specs.declared.counts.Counts.{Counts}
@@ -21,7 +21,7 @@ use Rattle.lu_history.specs.declared.serial.SerialOp.{SerialOp}
 use Rattle.lu_witness.specs.declared.judgement.Why.{Why}
 use Rattle.lu_witness.specs.Goodness.{IsFirstBad, AreGood, AreAllGood, Any}
 use Rattle.lu_witness.specs.Witnesses.{IsMember}
-use Rattle.lu_tree.specs.declared.found.Found.TheVariants.{Clean, Bad}
+use Rattle.lu_tree.specs.declared.found.Found.TheVariants.{Clean, Bad, Abandoned}
 use Rattle.lu_tree.specs.Trees.{Below}
 use Rattle.lu_tree.proofs.Covers.{first_of_cover, sums_of_cover}
 use Rattle.lu_board.specs.Close.{clean_by, found_by, skipped_by, given_by, SharesOut}
@@ -268,3 +268,4 @@ concluded c matrix members s bound pieces board works (Clean counts) start cover
     clean_found c matrix members s bound pieces board start works all cover shares skips conclusion.0 counts conclusion.1.0 conclusion.1.1
 concluded c matrix members s bound pieces board works (Bad u why) start cover all shares skips conclusion =
     bad_found c matrix members s bound pieces board start works all cover shares skips conclusion.0 conclusion.1.0 u why conclusion.1.1.0 conclusion.1.1.1 conclusion.1.2
+concluded c matrix members s bound pieces board works Abandoned start cover all shares skips conclusion = elim (conclusion.1) [ ]

@@ -3,3 +3,4 @@ pub mod Concluding
 pub mod Ends
 pub mod Frontiers
 pub mod Tallies
+mod Watching

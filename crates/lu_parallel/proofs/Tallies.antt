@@ -84,6 +84,17 @@ no_pieces v none =
     let d = no_parts v.held v.clean c.0 in
     (d.0, d.1, c.1)
 
+-- no piece is clean or found
+pub holds_empty : (Set : List SerialOp → Type 0) (s : State) (bound : ℕ) (pieces : List (List Move)) (v : View) (found : List FoundPiece) → v.clean ≡ [] → v.found ≡ [] → found ≡ [] → Holds Set s bound pieces v (record { complete = 0; stuck = 0; cut = 0 }) found
+holds_empty Set s bound pieces v found clean none empty =
+    rw empty (record {
+      numbers = [];
+      clean = subst (λ (x : List ℕ). AllZip (IsClean Set s bound pieces) x []) (sym clean) tt;
+      sums = refl;
+      listed = sym none;
+      right = All-nil (IsFound Set s bound pieces);
+    })
+
 -- nothing is claimed
 pub holds_nothing : (Set : List SerialOp → Type 0) (s : State) (bound : ℕ) (pieces : List (List Move)) (v : View) (counts : Counts) (found : List FoundPiece) → seat_pieces v ≡ [] → counts ≡ record { complete = 0; stuck = 0; cut = 0 } → found ≡ [] → Holds Set s bound pieces v counts found
 holds_nothing Set s bound pieces v counts found new none empty =

@@ -4,7 +4,7 @@ use Rattle.std.specs.List.{flat_map}
 use Rattle.lu_machine.specs.declared.counts.Counts.{Counts}
 use Rattle.lu_machine.specs.Sums.{total}
 use Rattle.lu_tree.specs.declared.found.Found.{Found}
-use Rattle.lu_tree.specs.declared.found.Found.TheVariants.{Clean, Bad}
+use Rattle.lu_tree.specs.declared.found.Found.TheVariants.{Clean, Bad, Abandoned}
 use Rattle.lu_board.specs.Close.{found_by, skipped_by, given_by}
 use Rattle.lu_board.specs.Pieces.{IsLeast}
 use Rattle.lu_board.specs.Seats.{SeatModel}
@@ -27,6 +27,7 @@ IsAnswer works (Clean counts) = IsLeast (found_by (seats_of works)) None × (cou
 IsAnswer works (Bad schedule why) =
     (i : ℕ) × IsLeast (found_by (seats_of works)) (Some i)
     × Contains (founds_of works) (record { piece = i; schedule = schedule; why = why })
+IsAnswer works Abandoned = ⊥
 
 -- nothing, where a piece was given up
 abbrev pub IsConclusion : List Work → Option Found → Type 0

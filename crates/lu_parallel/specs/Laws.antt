@@ -1,7 +1,7 @@
 -- What works over the pieces of a cover come to.
-use Rattle.std.specs.Prelude.{ℕ, List, length, Some, All}
+use Rattle.std.specs.Prelude.{ℕ, List, length, Some, IsSomeAnd, All}
 use Rattle.atomic_table.specs.Seated.{TableId}
-use Rattle.lu_lang.specs.Component.{Declarations}
+use Rattle.lu_component.specs.Component.{Declarations}
 use Rattle.lu_test.specs.declared.matrix.Call.{Call}
 use Rattle.lu_test.specs.declared.schedule.Move.{Move}
 use Rattle.lu_machine.specs.States.{State}
@@ -32,4 +32,4 @@ Concludes =
 abbrev pub IsReported : Type 0
 IsReported =
     (s : State) (bound serial : ℕ) (members : List (List SerialOp)) (found : Found) →
-    IsSetOf s serial members → IsFound (IsMember members) s bound Any found → IsFinding s bound serial (finding_of found)
+    IsSetOf s serial members → IsFound (IsMember members) s bound Any found → IsSomeAnd (finding_of found) (IsFinding s bound serial)

@@ -4,3 +4,4 @@ pub mod Findings
 pub mod Laws
 pub mod Ranges
 pub mod Works
+pub mod Watches

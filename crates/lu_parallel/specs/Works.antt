@@ -2,7 +2,7 @@
 use Rattle.std.specs.Prelude.{◌≡◌, ℕ, ◌≤◌, List, [], map, length, All}
 use Rattle.std.specs.List.{AllZip, slice_index_or}
 use Rattle.atomic_table.specs.Seated.{TableId}
-use Rattle.lu_lang.specs.Component.{Declarations}
+use Rattle.lu_component.specs.Component.{Declarations}
 use Rattle.lu_test.specs.declared.matrix.Call.{Call}
 use Rattle.lu_test.specs.declared.schedule.Move.{Move}
 use Rattle.lu_test.specs.Matrix.{IsOf as IsMatrixOf}

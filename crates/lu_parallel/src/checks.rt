@@ -16,7 +16,7 @@ use crate::one::{finding_of, search_all};
 use crate::options::Options;
 use crate::threads::run_workers;
 use lu_board::board::Board;
-use lu_lang::Component;
+use lu_component::Component;
 use lu_replay::{Finding, Report, set_or_offence};
 use lu_serial::learn;
 use lu_test::Matrix;
@@ -117,5 +117,10 @@ pub fn check<R: Threads + Wait, G: Gate>(
     // Its clause says that the matrix is within its limits.
     let _threads = matrix.threads();
     let finding = find(rt, alloc, gate, component, matrix, options)?;
-    Ok(Report::new(options.bound(), options.serial(), finding))
+    Ok(Report::new(
+        options.bound(),
+        options.serial(),
+        component.local(),
+        finding,
+    ))
 }

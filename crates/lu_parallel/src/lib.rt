@@ -22,6 +22,7 @@ pub mod laws;
 mod one;
 mod options;
 mod parts;
+mod seat_watch;
 mod threads;
 mod worker;
 
@@ -33,6 +34,3 @@ pub use one::check_one;
 pub use options::Options;
 pub use parts::{FoundPiece, Work};
 pub use worker::work;
-
-#[cfg(test)]
-mod tests;

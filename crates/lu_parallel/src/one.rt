@@ -1,6 +1,6 @@
 //! A check on the calling thread.
 
-ghost use Rattle.std.specs.Prelude.{◌≡◌, ◌≤◌, ℕ, IfOk};
+ghost use Rattle.std.specs.Prelude.{◌≡◌, ◌≤◌, ℕ, IfOk, IsSome, Some};
 ghost use Rattle.lu_test.specs.Matrix.{IsOf};
 ghost use Rattle.lu_machine.specs.States.{State};
 ghost use Rattle.lu_machine.specs.Starts.{IsStart};
@@ -8,7 +8,7 @@ ghost use Rattle.lu_serial.specs.Offences.{IsSetOf};
 ghost use Rattle.lu_replay.specs.Reports.{IsReport, IsFinding};
 ghost use Rattle.lu_parallel.specs.Findings.{finding_of};
 
-use lu_lang::Component;
+use lu_component::Component;
 use lu_replay::{Finding, Report, set_or_offence};
 use lu_serial::learn;
 use lu_test::{Matrix, Schedule};
@@ -16,13 +16,15 @@ use lu_tree::{Found, search};
 use lu_trie::SerialTree;
 use std::alloc::{AllocError, Allocator, Global};
 
-/// What a search of all schedules finds, where no serial run offends.
+/// What a search of all schedules finds that was not abandoned, where no serial run offends.
 pub(crate) fn finding_of(found: Found) -> Finding
-    ensures { result ≡ finding_of found }
+    requires { IsSome (finding_of found) }
+    ensures { finding_of found ≡ Some result }
 {
     match found {
         Found::Clean(counts) => Finding::Pass(counts),
         Found::Bad { schedule, why } => Finding::Fail { schedule, why },
+        Found::Abandoned => unreachable!(),
     }
 }
 
@@ -86,5 +88,5 @@ pub fn check_one<A: Allocator + Clone>(
     // Its clause says that the matrix is within its limits.
     let _threads = matrix.threads();
     let finding = find(alloc, set_alloc, component, matrix, bound, serial)?;
-    Ok(Report::new(bound, serial, finding))
+    Ok(Report::new(bound, serial, component.local(), finding))
 }

@@ -9,7 +9,7 @@ use crate::gate::Gate;
 use crate::parts::Work;
 use crate::worker::work;
 use lu_board::board::{Board, Seat};
-use lu_lang::Component;
+use lu_component::Component;
 use lu_test::{Matrix, Schedule};
 use lu_trie::PackedTrie;
 use std::alloc::{AllocError, Global};

@@ -1,30 +1,38 @@
 //! The life of a worker.
 
-ghost use Rattle.std.specs.Prelude.{◌≡◌, ◌<◌, ◌≤◌, [], All, Contains, length};
+ghost use Rattle.std.specs.Prelude.{◌≡◌, ◌<◌, ◌≤◌, ◌∷◌, [], List, All, IfOk, length};
 ghost use Rattle.lu_test.specs.Matrix.{IsOf};
 ghost use Rattle.lu_machine.specs.States.{State};
 ghost use Rattle.lu_machine.specs.Starts.{IsStart};
+ghost use Rattle.lu_history.specs.declared.serial.SerialOp.{SerialOp};
+ghost use Rattle.lu_witness.specs.Caches.{SameButEntries};
 ghost use Rattle.lu_witness.specs.Witnesses.{IsMember};
-ghost use Rattle.lu_parallel.specs.Works.{Holds, IsFresh, IsJob, IsPiece, IsWork, PutsAway};
+ghost use Rattle.lu_tree.specs.Trees.{Below, IsFoundWatched, is_abandoned};
+ghost use Rattle.lu_parallel.specs.Watches.{held_piece, rest_of};
+ghost use Rattle.lu_parallel.specs.Works.{Holds, IsFresh, IsJob, IsPiece, IsWork, PutsAway, piece_at};
 
 use crate::gate::Gate;
 use crate::parts::{FoundPiece, Work};
+use crate::seat_watch::SeatWatch;
 use lu_board::board::{Board, Seat};
 use lu_board::view::{Kind, Look};
-use lu_lang::Component;
+use lu_component::Component;
 use lu_machine::Counts;
 use lu_test::{Matrix, Schedule};
-use lu_tree::{Found, search};
+use lu_tree::{Found, search_watched};
 use lu_trie::SerialTree;
-use std::alloc::Global;
+use lu_witness::Cache;
+use std::alloc::{AllocError, Global};
+
+/// How many verdicts a worker remembers.
+const REMEMBERED: usize = 1024;
 
 /// What a worker is lent.
 #[derive(Drop)]
-struct Job<'a, T> {
+struct Job<'a> {
     alloc: Global,
     component: &'a Component,
     matrix: &'a Matrix,
-    tree: &'a T,
     pieces: &'a [Schedule],
     bound: u16,
     board: &'a Board,
@@ -40,6 +48,46 @@ struct Tally {
     starved: bool,
 }
 
+/// What the search of a piece came to, and the seat.
+#[derive(Drop)]
+struct Searched {
+    found: Result<Found, AllocError>,
+    seat: Seat,
+}
+
+/// Searches a piece that the seat holds, until a lesser piece was found bad, and then the piece is skipped.
+fn search_held<'t, T: SerialTree>(
+    job: &Job<'_>,
+    cache: &mut Cache<'t, T>,
+    seat: Seat,
+    piece: u64,
+) -> Searched
+    requires job { IsJob job.now.component.now job.now.matrix.now job.now.bound job.now.pieces.now job.now.board.now }
+    requires board { seat.board ≡ job.now.board.now.board }
+    requires piece { piece < length job.now.pieces.now }
+    requires held { seat.view.held ≡ piece ∷ [] }
+    ensures cache { SameButEntries cache.old cache.new }
+    ensures found { (s : State) → IsStart job.now.component.now job.now.matrix.now s → IfOk result.found (IsFoundWatched (IsMember (T.members cache.old.tree)) s job.now.bound (Below (piece_at job.now.pieces.now piece))) }
+    ensures board { result.seat.board ≡ seat.board }
+    ensures rest { rest_of piece result.seat.view ≡ rest_of piece seat.view }
+    ensures held { result.seat.view.held ≡ held_piece (is_abandoned result.found) piece }
+{
+    let mut watch = SeatWatch::new(job.board, seat, piece);
+    let found = search_watched(
+        job.alloc,
+        job.component,
+        job.matrix,
+        cache,
+        &job.pieces[piece as usize],
+        job.bound,
+        &mut watch,
+    );
+    Searched {
+        found,
+        seat: watch.into_seat(),
+    }
+}
+
 impl Tally {
     fn new(alloc: Global) -> Tally
         ensures counts { result.counts ≡ record { complete = 0; stuck = 0; cut = 0 } }
@@ -53,82 +101,135 @@ impl Tally {
     }
 
     /// Searches a piece that the seat holds, and tells the board what came of it.
-    fn search<T: SerialTree>(&mut self, job: &Job<'_, T>, seat: &mut Seat, piece: u64)
+    fn search<'t, T: SerialTree>(
+        &mut self,
+        job: &Job<'_>,
+        cache: &mut Cache<'t, T>,
+        seat: Seat,
+        piece: u64,
+    ) -> Seat
         requires job { IsJob job.now.component.now job.now.matrix.now job.now.bound job.now.pieces.now job.now.board.now }
-        requires board { seat.old.board ≡ job.now.board.now.board }
+        requires board { seat.board ≡ job.now.board.now.board }
         requires piece { piece < length job.now.pieces.now }
-        requires held { Contains seat.old.view.held piece }
-        ensures board { seat.new.board ≡ seat.old.board }
-        ensures away { PutsAway piece seat.old.view seat.new.view }
-        ensures holds { (s : State) → IsStart job.now.component.now job.now.matrix.now s → Holds (IsMember (T.members job.now.tree.now)) s job.now.bound job.now.pieces.now seat.old.view self.old.counts self.old.found.items → Holds (IsMember (T.members job.now.tree.now)) s job.now.bound job.now.pieces.now seat.new.view self.new.counts self.new.found.items }
+        requires held { seat.view.held ≡ piece ∷ [] }
+        ensures cache { SameButEntries cache.old cache.new }
+        ensures board { result.board ≡ seat.board }
+        ensures away { PutsAway piece seat.view result.view }
+        ensures holds { (s : State) → IsStart job.now.component.now job.now.matrix.now s → Holds (IsMember (T.members cache.old.tree)) s job.now.bound job.now.pieces.now seat.view self.old.counts self.old.found.items → Holds (IsMember (T.members cache.old.tree)) s job.now.bound job.now.pieces.now result.view self.new.counts self.new.found.items }
     {
-        match search(
-            job.alloc,
-            job.component,
-            job.matrix,
-            job.tree,
-            &job.pieces[piece as usize],
-            job.bound,
-        ) {
+        let Searched { found, mut seat } = search_held(job, cache, seat, piece);
+        match found {
             Ok(Found::Clean(counts)) => {
                 self.counts = self.counts.plus(counts);
-                job.board.settle(seat, piece, Kind::Clean);
+                job.board.settle(&mut seat, piece, Kind::Clean);
+                seat
             }
             Ok(Found::Bad { schedule, why }) => {
                 if self.found.reserve(1).is_err() {
                     self.starved = true;
-                    job.board.settle(seat, piece, Kind::GivenUp);
-                    return;
+                    job.board.settle(&mut seat, piece, Kind::GivenUp);
+                    return seat;
                 }
                 self.found.push_reserved(FoundPiece {
                     piece,
                     schedule,
                     why,
                 });
-                job.board.lower(seat, piece);
+                job.board.lower(&mut seat, piece);
+                seat
             }
+            Ok(Found::Abandoned) => seat,
             Err(_) => {
                 self.starved = true;
-                job.board.settle(seat, piece, Kind::GivenUp);
+                job.board.settle(&mut seat, piece, Kind::GivenUp);
+                seat
             }
         }
     }
 
     /// Goes with a piece that the seat holds from the gate to the end: it is skipped, found bad, found clean or given up.
-    fn serve<T: SerialTree, G: Gate>(
+    fn serve<'t, T: SerialTree, G: Gate>(
         &mut self,
-        job: &Job<'_, T>,
-        seat: &mut Seat,
+        job: &Job<'_>,
+        cache: &mut Cache<'t, T>,
+        seat: Seat,
         gate: &G,
         worker: u8,
         piece: u64,
-    )
+    ) -> Seat
         requires job { IsJob job.now.component.now job.now.matrix.now job.now.bound job.now.pieces.now job.now.board.now }
-        requires board { seat.old.board ≡ job.now.board.now.board }
+        requires board { seat.board ≡ job.now.board.now.board }
         requires piece { piece < length job.now.pieces.now }
-        requires held { Contains seat.old.view.held piece }
-        ensures board { seat.new.board ≡ seat.old.board }
-        ensures away { PutsAway piece seat.old.view seat.new.view }
-        ensures holds { (s : State) → IsStart job.now.component.now job.now.matrix.now s → Holds (IsMember (T.members job.now.tree.now)) s job.now.bound job.now.pieces.now seat.old.view self.old.counts self.old.found.items → Holds (IsMember (T.members job.now.tree.now)) s job.now.bound job.now.pieces.now seat.new.view self.new.counts self.new.found.items }
+        requires held { seat.view.held ≡ piece ∷ [] }
+        ensures cache { SameButEntries cache.old cache.new }
+        ensures board { result.board ≡ seat.board }
+        ensures away { PutsAway piece seat.view result.view }
+        ensures holds { (s : State) → IsStart job.now.component.now job.now.matrix.now s → Holds (IsMember (T.members cache.old.tree)) s job.now.bound job.now.pieces.now seat.view self.old.counts self.old.found.items → Holds (IsMember (T.members cache.old.tree)) s job.now.bound job.now.pieces.now result.view self.new.counts self.new.found.items }
     {
+        let mut seat = seat;
         if self.starved {
-            job.board.settle(seat, piece, Kind::GivenUp);
-            return;
+            job.board.settle(&mut seat, piece, Kind::GivenUp);
+            return seat;
         }
         gate.pass(worker, piece);
-        match job.board.look(seat, piece) {
-            Look::Skip(_) => {}
-            Look::Go(_) => self.search(job, seat, piece),
+        match job.board.look(&mut seat, piece) {
+            Look::Skip(_) => {
+                gate.done(worker, piece);
+                seat
+            }
+            Look::Go(_) => {
+                let seat = self.search(job, cache, seat, piece);
+                gate.done(worker, piece);
+                seat
+            }
         }
-        gate.done(worker, piece);
+    }
+}
+
+/// The life of a worker that remembers verdicts.
+fn serve_all<'t, T: SerialTree, G: Gate>(
+    job: &Job<'_>,
+    mut cache: Cache<'t, T>,
+    mut seat: Seat,
+    gate: &G,
+    worker: u8,
+) -> Work
+    requires job { IsJob job.now.component.now job.now.matrix.now job.now.bound job.now.pieces.now job.now.board.now }
+    requires fresh { IsFresh job.now.board.now.board seat }
+    ensures { IsWork job.now.component.now job.now.matrix.now (T.members cache.entry.tree) job.now.bound job.now.pieces.now job.now.board.now.board result }
+{
+    let mut tally = Tally::new(job.alloc);
+    while let Some(piece) = job.board.claim(&mut seat) {
+        seat = tally.serve(job, &mut cache, seat, gate, worker, piece);
+    }
+    Work {
+        seat,
+        counts: tally.counts,
+        found: tally.found,
+    }
+}
+
+/// The life of a worker that found no memory before its first claim.
+fn give_up_all(job: &Job<'_>, mut seat: Seat) -> Work
+    requires job { IsJob job.now.component.now job.now.matrix.now job.now.bound job.now.pieces.now job.now.board.now }
+    requires fresh { IsFresh job.now.board.now.board seat }
+    ensures { (members : List (List SerialOp)) → IsWork job.now.component.now job.now.matrix.now members job.now.bound job.now.pieces.now job.now.board.now.board result }
+{
+    while let Some(piece) = job.board.claim(&mut seat) {
+        job.board.settle(&mut seat, piece, Kind::GivenUp);
+    }
+    Work {
+        seat,
+        counts: Counts::NONE,
+        found: Vec::new(job.alloc),
     }
 }
 
 /// The life of one worker, on the calling thread: it claims pieces with its seat until none is left. It passes the gate with
 /// each, looks whether the piece is still worth its work, and searches it for bad schedules, those that end within `bound`
 /// moves, 0 to 256, and are not good for the set of the tree (Burckhardt, Dern, Musuvathi and Tan, 2010). Pieces are schedules of
-/// no more moves than that. A piece is given up where memory is refused, and from then on each that is claimed, without gate and
-/// search.
+/// no more moves than that. The search of a piece stops where a lesser one was found bad meanwhile. A piece is given up where
+/// memory is refused, and from then on each that is claimed, without gate and search.
 pub fn work<T: SerialTree, G: Gate>(
     alloc: Global,
     component: &Component,
@@ -137,7 +238,7 @@ pub fn work<T: SerialTree, G: Gate>(
     pieces: &[Schedule],
     bound: u16,
     board: &Board,
-    mut seat: Seat,
+    seat: Seat,
     gate: &G,
     worker: u8,
 ) -> Work
@@ -152,18 +253,12 @@ pub fn work<T: SerialTree, G: Gate>(
         alloc,
         component,
         matrix,
-        tree,
         pieces,
         bound,
         board,
     };
-    let mut tally = Tally::new(alloc);
-    while let Some(piece) = board.claim(&mut seat) {
-        tally.serve(&job, &mut seat, gate, worker, piece);
-    }
-    Work {
-        seat,
-        counts: tally.counts,
-        found: tally.found,
+    match Cache::new(alloc, tree, REMEMBERED) {
+        Ok(cache) => serve_all(&job, cache, seat, gate, worker),
+        Err(_) => give_up_all(&job, seat),
     }
 }

@@ -1,6 +1,6 @@
 -- A component and a matrix have one report.
 use Rattle.std.proofs.Common.{◌≡◌, ℕ, ◌<◌, List, refl, sym, ◌∙◌, ap, subst, inl, inr, arith}
-use Rattle.lu_lang.specs.Component.{Declarations}
+use Rattle.lu_component.specs.Component.{Declarations}
 use Rattle.lu_test.specs.declared.matrix.Call.{Call as ACall}
 use Rattle.lu_test.specs.declared.schedule.Move.{Move}
 use Rattle.lu_machine.specs.declared.event.Event.{Event}
@@ -26,7 +26,7 @@ use Rattle.lu_witness.proofs.Verdicts.{one_verdict}
 use Rattle.lu_replay.specs.declared.report.Finding.{Finding}
 use Rattle.lu_replay.specs.declared.report.Finding.TheVariants.{SerialCut, Nondeterministic, Fail, Pass}
 use Rattle.lu_replay.specs.declared.report.Report.{Report}
-use Rattle.lu_replay.specs.Parts.{Parts}
+use Rattle.lu_replay.specs.Parts.{Parts, parts_of}
 use Rattle.lu_replay.specs.Reports.{IsFinding, IsReport}
 use Rattle.lu_replay.proofs.Sets.{good_not_bad, first_bad_same}
 
@@ -103,14 +103,15 @@ module _ (c : Declarations) (matrix : List (List ACall)) (s : State) (is : IsSta
   one_finding bound most (Pass counts) (Fail v why) x y = absurd (good_not_bad (IsSerialHistory s) s bound Any v x.1.good tt y.1.bad)
   one_finding bound most (Pass counts) (Pass others) x y = ap Pass (numbers_same s bound Any counts others x.1.numbers y.1.numbers)
 
-pub same_parts : (a b : Parts) → a.bound ≡ b.bound → a.serial ≡ b.serial → a.finding ≡ b.finding → a ≡ b
-same_parts a b e f g =
-    ap (λ (x : ℕ). let y : Parts = record { bound = x; serial = a.serial; finding = a.finding } in y) e
-    ∙ (ap (λ (x : ℕ). let y : Parts = record { bound = b.bound; serial = x; finding = a.finding } in y) f
-    ∙ ap (λ (x : Finding). let y : Parts = record { bound = b.bound; serial = b.serial; finding = x } in y) g)
+pub same_parts : (a b : Parts) → a.bound ≡ b.bound → a.serial ≡ b.serial → a.local ≡ b.local → a.finding ≡ b.finding → a ≡ b
+same_parts a b e f g h =
+    ap (λ (x : ℕ). parts_of x a.serial a.local a.finding) e
+    ∙ (ap (λ (x : ℕ). parts_of b.bound x a.local a.finding) f
+    ∙ (ap (λ (x : ℕ). parts_of b.bound b.serial x a.finding) g
+    ∙ ap (λ (x : Finding). parts_of b.bound b.serial b.local x) h))
 
 pub one_report : (c : Declarations) (matrix : List (List ACall)) (bound serial : ℕ) (r other : Report) → IsReport c matrix bound serial r → IsReport c matrix bound serial other → r ≡ other
 one_report c matrix bound serial r other x y =
     let s : State = start_of c matrix in
-    let found : r.finding ≡ other.finding = one_finding c matrix s refl bound serial r.finding other.finding (x.2 s refl) (y.2 s refl) in
-    same_parts r other (x.0 ∙ sym y.0) (x.1 ∙ sym y.1) found
+    let found : r.finding ≡ other.finding = one_finding c matrix s refl bound serial r.finding other.finding (x.3 s refl) (y.3 s refl) in
+    same_parts r other (x.0 ∙ sym y.0) (x.1 ∙ sym y.1) (x.2 ∙ sym y.2) found

@@ -22,14 +22,16 @@ use Rattle.lu_witness.specs.declared.judgement.Why.TheVariants.{Complete, Stuck}
 use Rattle.lu_replay.specs.declared.report.Finding.{Finding}
 use Rattle.lu_replay.specs.declared.report.Finding.TheVariants.{SerialCut, Nondeterministic, Fail, Pass}
 use Rattle.lu_replay.specs.declared.report.Report.{Report}
+use Rattle.lu_replay.specs.declared.version.Version.{Version}
+use Rattle.lu_replay.specs.declared.version.Version.TheVariants.{One, Two}
 use Rattle.lu_replay.specs.declared.report_fault.ReportFault.{ReportFault}
 use Rattle.lu_replay.specs.declared.report_fault.ReportFault.TheVariants.{Form, Memory}
 use Rattle.lu_replay.specs.Parts.{AreLimits, IsThreadOf}
-use Rattle.lu_replay.specs.ReportText.{number_line, earlier_line, fail_line, finding_lines, report_lines, report_text}
+use Rattle.lu_replay.specs.ReportText.{number_line, earlier_line, fail_line, finding_lines, version_of, version_line, local_lines, report_lines, report_text}
 use Rattle.lu_text.specs.Lines.{kept_lines}
 use Rattle.lu_replay.specs.ReportForms.{IsOutcome, IsSound, IsFault, Gives, Spells}
 use Rattle.lu_replay.proofs.Determined.{same_parts}
-use Rattle.lu_replay.proofs.Exits.{byte_at, clash, fail_byte, same_number}
+use Rattle.lu_replay.proofs.Exits.{byte_at, clash, fail_byte, same_number, version_same}
 
 -- ---- the lines of a report's text are its lines
 
@@ -110,11 +112,20 @@ finding_are_lines (Fail u why) is = (fail_is_line why is.0, (schedule_is_line u 
 finding_are_lines (Pass counts) is =
     (record { front = codes "pass"; plain = refl; whole = refl }, (number_is_line (codes "complete ") counts.complete refl is.1.complete, (number_is_line (codes "stuck ") counts.stuck refl is.1.stuck, (number_is_line (codes "cut ") counts.cut refl is.1.cut, tt))))
 
+version_is_line : (version : Version) → IsLine (version_line version)
+version_is_line One = record { front = codes "lineup report 1"; plain = refl; whole = refl }
+version_is_line Two = record { front = codes "lineup report 2"; plain = refl; whole = refl }
+
+local_are_lines : (version : Version) (local : ℕ) → local ≤ 16 → (t : List (List ℕ)) → AllByRecursion IsLine t → AllByRecursion IsLine (local_lines version local ++ t)
+local_are_lines One local low t are = are
+local_are_lines Two local low t are = (number_is_line (codes "local ") local refl (omega arith), are)
+
 pub report_again : (r : Report) → AreLimits r → IsSound r.finding → kept_lines (report_text r) ≡ report_lines r
 report_again r limits is =
     let most = limits.most in
     let few = limits.few in
-    lines_again (report_lines r) (record { front = codes "lineup report 1"; plain = refl; whole = refl }, (number_is_line (codes "bound ") r.bound refl (omega arith), (number_is_line (codes "serial ") r.serial refl (omega arith), finding_are_lines r.finding is)))
+    let version : Version = version_of r.local in
+    lines_again (report_lines r) (version_is_line version, (number_is_line (codes "bound ") r.bound refl (omega arith), (number_is_line (codes "serial ") r.serial refl (omega arith), local_are_lines version r.local limits.local_few (finding_lines r.finding) (finding_are_lines r.finding is))))
 
 -- ---- reports with the same lines are the same
 
@@ -179,16 +190,26 @@ finding_same (Pass a) (Pass b) is also e =
     (same_number (codes "stuck ") a.stuck b.stuck is.1.stuck also.1.stuck (ap (line_at 2) e))
     (same_number (codes "cut ") a.cut b.cut is.1.cut also.1.cut (ap (line_at 3) e)))
 
+-- the lines of local instructions, and those behind them
+locals_same : (a b : ℕ) (t u : List (List ℕ)) → a ≤ 16 → b ≤ 16 → version_of a ≡ version_of b → local_lines (version_of a) a ++ t ≡ local_lines (version_of b) b ++ u → (a ≡ b) × (t ≡ u)
+locals_same zero zero t u low less is e = (refl, e)
+locals_same zero (suc b) t u low less is e = absurd cc
+locals_same (suc a) zero t u low less is e = absurd cc
+locals_same (suc a) (suc b) t u low less is e = (same_number (codes "local ") (suc a) (suc b) (omega arith) (omega arith) (ap (line_at 0) e), ap (λ (x : List (List ℕ)). drop 1 x) e)
+
 pub report_same : (r s : Report) → AreLimits r → IsSound r.finding → AreLimits s → IsSound s.finding → report_lines r ≡ report_lines s → r ≡ s
 report_same r s limits is others also e =
     let most = limits.most in
     let few = limits.few in
     let most' = others.most in
     let few' = others.few in
+    let version = version_same (version_of r.local) (version_of s.local) (ap (line_at 0) e) in
+    let rest = locals_same r.local s.local (finding_lines r.finding) (finding_lines s.finding) limits.local_few others.local_few version (ap (λ (x : List (List ℕ)). drop 3 x) e) in
     same_parts r s
     (same_number (codes "bound ") r.bound s.bound (omega arith) (omega arith) (ap (line_at 1) e))
     (same_number (codes "serial ") r.serial s.serial (omega arith) (omega arith) (ap (line_at 2) e))
-    (finding_same r.finding s.finding is also (ap (λ (x : List (List ℕ)). drop 3 x) e))
+    rest.0
+    (finding_same r.finding s.finding is also rest.1)
 
 -- a text spells one report
 pub one_spelt : (text : List ℕ) (r s : Report) → Spells text r → Spells text s → r ≡ s

@@ -2,7 +2,7 @@
 use Rattle.std.proofs.Common.{◌≡◌, ℕ, ◌≤◌, List, [], ◌∷◌, ◌++◌, length, refl, sym, ◌∙◌, ap, subst, inl, inr, append_assoc}
 use Rattle.std.specs.Prelude.{Bool, false, IsTrue, ◌↔◌}
 use Rattle.std.proofs.lemmas.List.{append-nil}
-use Rattle.lu_lang.specs.Component.{Declarations}
+use Rattle.lu_component.specs.Component.{Declarations}
 use Rattle.lu_test.specs.declared.matrix.Call.{Call as ACall}
 use Rattle.lu_test.specs.declared.schedule.Move.{Move}
 use Rattle.lu_machine.specs.declared.event.Event.{Event}
@@ -138,16 +138,19 @@ finding_shown s bound serial (Nondeterministic u before earlier) is no_pass = is
 finding_shown s bound serial (Fail u why) is no_pass = (is.0, (is.1.bad, is.1.why_is))
 finding_shown s bound serial (Pass counts) is no_pass = no_pass tt
 
-pub report_shown : (c : Declarations) (matrix : List (List ACall)) (bound serial : ℕ) (r : Report) → IsReport c matrix bound serial r → (IsPass r.finding → ⊥) → (s : State) → IsStart c matrix s → IsShown s r.bound r.serial r.finding
-report_shown c matrix bound serial r is no_pass s starts =
-    let found : IsFinding s r.bound r.serial r.finding = rw (is.0, is.1) (is.2 s starts) in
-    finding_shown s r.bound r.serial r.finding found no_pass
+pub report_shown : (c : Declarations) (matrix : List (List ACall)) (bound serial : ℕ) (r : Report) → IsReport c matrix bound serial r → (IsPass r.finding → ⊥) → IsConfirmed c matrix r
+report_shown c matrix bound serial r is no_pass = (
+  is.2,
+  λ s starts.
+      let found : IsFinding s r.bound r.serial r.finding = rw (is.0, is.1) (is.3 s starts) in
+      finding_shown s r.bound r.serial r.finding found no_pass,
+)
 
 -- what is shown from the one start, with the report's bounds, is confirmed
-pub confirmed_from : (c : Declarations) (matrix : List (List ACall)) (r : Report) (bound serial : ℕ) (f : Finding) (answer : Bool) → bound ≡ r.bound → serial ≡ r.serial → f ≡ r.finding → IsTrue answer ↔ IsShown (start_of c matrix) bound serial f → IsTrue answer ↔ IsConfirmed c matrix r
-confirmed_from c matrix r bound serial f answer b n g h = (
-  λ e s starts. rw (starts, ← b, ← n, ← g) (h.0 e),
-  λ is. h.1 (rw (b, n, g) (is (start_of c matrix) refl)),
+pub confirmed_from : (c : Declarations) (matrix : List (List ACall)) (r : Report) (bound serial : ℕ) (f : Finding) (answer : Bool) → r.local ≡ c.local → bound ≡ r.bound → serial ≡ r.serial → f ≡ r.finding → IsTrue answer ↔ IsShown (start_of c matrix) bound serial f → IsTrue answer ↔ IsConfirmed c matrix r
+confirmed_from c matrix r bound serial f answer same b n g h = (
+  λ e. (same, λ s starts. rw (starts, ← b, ← n, ← g) (h.0 e)),
+  λ is. h.1 (rw (b, n, g) (is.1 (start_of c matrix) refl)),
 )
 
 -- where a set was learnt, a failure is shown by its verdict

@@ -1,6 +1,6 @@
 -- Reports that a run confirms.
 use Rattle.std.specs.Prelude.{◌≡◌, ℕ, List}
-use Rattle.lu_lang.specs.Component.{Declarations}
+use Rattle.lu_component.specs.Component.{Declarations}
 use Rattle.lu_test.specs.declared.matrix.Call.{Call}
 use Rattle.lu_test.specs.declared.schedule.Move.{Move}
 use Rattle.lu_machine.specs.declared.event.Status.{Status}
@@ -30,9 +30,11 @@ IsShown s bound serial (Nondeterministic u before earlier) = IsFirstConflict s s
 IsShown s bound serial (Fail u why) = NoOffence s serial × IsBadFor (IsSerialHistory s) s bound u why
 IsShown s bound serial (Pass counts) = ⊥
 
--- what the report says is shown, with its own bounds
+-- as many local instructions of the component run with one move as the report says, and what else it says is shown, with its
+-- own bounds
 abbrev pub IsConfirmed : Declarations → List (List Call) → Report → Type 0
-IsConfirmed c matrix r = (s : State) → IsStart c matrix s → IsShown s r.bound r.serial r.finding
+IsConfirmed c matrix r =
+    (r.local ≡ c.local) × ((s : State) → IsStart c matrix s → IsShown s r.bound r.serial r.finding)
 
 abbrev pub IsPass : Finding → Type 0
 IsPass (SerialCut u) = ⊥

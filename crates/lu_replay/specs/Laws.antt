@@ -1,6 +1,6 @@
 -- Laws of replays and reports.
 use Rattle.std.specs.Prelude.{◌≡◌, ℕ, List}
-use Rattle.lu_lang.specs.Component.{Declarations}
+use Rattle.lu_component.specs.Component.{Declarations}
 use Rattle.lu_test.specs.declared.matrix.Call.{Call}
 use Rattle.lu_test.specs.declared.schedule.Move.{Move}
 use Rattle.lu_machine.specs.declared.event.Event.{Event}

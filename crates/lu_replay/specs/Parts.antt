@@ -5,11 +5,20 @@ use Rattle.lu_witness.specs.declared.judgement.Why.TheVariants.{Complete, Stuck}
 use Rattle.lu_replay.specs.declared.report.Finding.{Finding}
 use Rattle.lu_replay.specs.declared.report.Finding.TheVariants.{SerialCut, Nondeterministic, Fail, Pass}
 
--- the bounds, and what is found with them
+-- the bounds, how many local instructions run with one move at most, and what is found with them
 pub record Parts : Type 0 where
   pub bound : ℕ
   pub serial : ℕ
+  pub local : ℕ
   pub finding : Finding
+
+abbrev pub parts_of : ℕ → ℕ → ℕ → Finding → Parts
+parts_of bound serial local finding = record {
+  bound = bound;
+  serial = serial;
+  local = local;
+  finding = finding;
+}
 
 -- a thread is 0 to 7
 abbrev pub IsThreadOf : Why → Type 0
@@ -28,4 +37,5 @@ pub record AreLimits (r : Parts) : Type 0 where
   pub most : r.bound ≤ 256
   pub some : 1 ≤ r.serial
   pub few : r.serial ≤ 256
+  pub local_few : r.local ≤ 16
   pub within : IsWithin r.finding

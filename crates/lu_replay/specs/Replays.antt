@@ -1,6 +1,6 @@
 -- What a schedule of a component and a matrix shows.
 use Rattle.std.specs.Prelude.{◌≡◌, ℕ, List, take, Some, slice_get}
-use Rattle.lu_lang.specs.Component.{Declarations}
+use Rattle.lu_component.specs.Component.{Declarations}
 use Rattle.lu_test.specs.declared.matrix.Call.{Call}
 use Rattle.lu_test.specs.declared.schedule.Move.{Move}
 use Rattle.lu_machine.specs.declared.event.Event.{Event}

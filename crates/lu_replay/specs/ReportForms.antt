@@ -1,5 +1,5 @@
 -- The texts that are reports, and what is wrong with one that is none.
-use Rattle.std.specs.Prelude.{◌≡◌, ℕ, ◌+◌, ◌<◌, ◌≤◌, ◌^◌, List, [], ◌∷◌, take, codes, Result, Ok, Err}
+use Rattle.std.specs.Prelude.{◌≡◌, ℕ, ◌+◌, ◌<◌, ◌≤◌, ◌^◌, List, [], ◌∷◌, ◌++◌, take, codes, Result, Ok, Err}
 use Rattle.lu_test.specs.declared.schedule.Move.{Move}
 use Rattle.lu_test.specs.Schedule.{AreMoves}
 use Rattle.lu_test.specs.ScheduleText.{schedule_text}
@@ -10,10 +10,12 @@ use Rattle.lu_replay.specs.declared.report.Finding.{Finding}
 use Rattle.lu_replay.specs.declared.report.Finding.TheVariants.{SerialCut, Nondeterministic, Fail, Pass}
 use Rattle.lu_replay.specs.declared.report.Report.{Report}
 use Rattle.lu_replay.specs.declared.report_fault.ReportFault.{ReportFault}
+use Rattle.lu_replay.specs.declared.version.Version.{Version}
+use Rattle.lu_replay.specs.declared.version.Version.TheVariants.{One, Two}
 use Rattle.lu_replay.specs.declared.report_fault.ReportFault.TheVariants.{Form, Memory}
 use Rattle.lu_text.specs.Lines.{kept_lines}
 use Rattle.lu_replay.specs.Parts.{AreLimits, IsWithin}
-use Rattle.lu_replay.specs.ReportText.{number_line, earlier_line, finding_lines, report_lines, report_text}
+use Rattle.lu_replay.specs.ReportText.{number_line, earlier_line, finding_lines, version_of, version_line, local_lines, report_lines, report_text}
 
 -- ---- reports
 
@@ -100,7 +102,31 @@ AreCountLines lines =
 abbrev pub IsFirst : List ℕ → List ℕ → Type 0
 IsFirst text line = take 1 (kept_lines text) ≡ line ∷ []
 
--- the text begins with no line of a schedule, which is the fifth of a report
-abbrev pub HasNoSchedule : List ℕ → ReportFault → Type 0
-HasNoSchedule text (Form line) = (line ≡ 5) × ((u : List Move) → AreMoves u → IsFirst text (schedule_text u) → ⊥)
-HasNoSchedule text Memory = Unit {0}
+-- the text, whose first line has this number, begins with no line of a schedule
+abbrev pub HasNoSchedule : ℕ → List ℕ → ReportFault → Type 0
+HasNoSchedule first text (Form line) = (line ≡ first) × ((u : List Move) → AreMoves u → IsFirst text (schedule_text u) → ⊥)
+HasNoSchedule first text Memory = Unit {0}
+
+-- the text begins with no first line of a report
+abbrev pub HasNoVersion : List ℕ → Type 0
+HasNoVersion text = (version : Version) → IsFirst text (version_line version) → ⊥
+
+-- the text begins with no line that has a number of at least 1 and at most `most` behind this front
+abbrev pub HasNoNumber : List ℕ → ℕ → List ℕ → Type 0
+HasNoNumber front most text = (n : ℕ) → 1 ≤ n → n ≤ most → IsFirst text (number_line front n) → ⊥
+
+-- the text begins with the lines of so many local instructions in a report of this version, and goes on so
+abbrev pub SaysLocal : Version → List ℕ → ℕ → List ℕ → Type 0
+SaysLocal version text local rest =
+    (local ≤ 16) × (version_of local ≡ version)
+    × (kept_lines text ≡ local_lines version local ++ kept_lines rest)
+
+-- in a report of version 2, whose fourth line the text begins with, that line does not say how many local instructions
+abbrev pub HasNoLocal : Version → List ℕ → ReportFault → Type 0
+HasNoLocal version text fault =
+    (fault ≡ Form 4) × (version ≡ Two) × HasNoNumber (codes "local ") 16 text
+
+-- where a report of this version says what is found
+abbrev pub finding_line : Version → ℕ
+finding_line One = 4
+finding_line Two = 5

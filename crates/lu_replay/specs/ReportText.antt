@@ -1,5 +1,5 @@
 -- The text of a report.
-use Rattle.std.specs.Prelude.{ℕ, List, [], ◌∷◌, ◌++◌, codes}
+use Rattle.std.specs.Prelude.{ℕ, zero, suc, List, [], ◌∷◌, ◌++◌, codes}
 use Rattle.std.specs.Fmt.{decimal}
 use Rattle.std.specs.List.{concat}
 use Rattle.lu_test.specs.ScheduleText.{schedule_text}
@@ -10,6 +10,8 @@ use Rattle.lu_witness.specs.declared.judgement.Why.TheVariants.{Complete, Stuck}
 use Rattle.lu_replay.specs.declared.report.Finding.{Finding}
 use Rattle.lu_replay.specs.declared.report.Finding.TheVariants.{SerialCut, Nondeterministic, Fail, Pass}
 use Rattle.lu_replay.specs.declared.report.Report.{Report}
+use Rattle.lu_replay.specs.declared.version.Version.{Version}
+use Rattle.lu_replay.specs.declared.version.Version.TheVariants.{One, Two}
 
 -- a number behind these bytes
 abbrev pub number_line : List ℕ → ℕ → List ℕ
@@ -32,9 +34,29 @@ finding_lines (Fail u why) = fail_line why ∷ schedule_text u ∷ []
 finding_lines (Pass counts) =
     codes "pass\n" ∷ number_line (codes "complete ") counts.complete ∷ number_line (codes "stuck ") counts.stuck ∷ number_line (codes "cut ") counts.cut ∷ []
 
+-- version 1 where no local instruction runs with a move, else version 2
+abbrev pub version_of : ℕ → Version
+version_of zero = One
+version_of (suc n) = Two
+
+-- the first line
+abbrev pub version_line : Version → List ℕ
+version_line One = codes "lineup report 1\n"
+version_line Two = codes "lineup report 2\n"
+
+-- in version 2, how many local instructions run with one move at most
+abbrev pub local_lines : Version → ℕ → List (List ℕ)
+local_lines One local = []
+local_lines Two local = number_line (codes "local ") local ∷ []
+
 -- the lines of a report, each with its LF
 abbrev pub report_lines : Report → List (List ℕ)
-report_lines r = codes "lineup report 1\n" ∷ number_line (codes "bound ") r.bound ∷ number_line (codes "serial ") r.serial ∷ finding_lines r.finding
+report_lines r =
+    version_line (version_of r.local)
+    ∷ number_line (codes "bound ") r.bound
+    ∷ number_line (codes "serial ") r.serial
+    ∷ local_lines (version_of r.local) r.local
+    ++ finding_lines r.finding
 
 abbrev pub report_text : Report → List ℕ
 report_text r = concat (report_lines r)

@@ -1,6 +1,6 @@
 -- The report of a component and a matrix (Burckhardt, Dern, Musuvathi and Tan, 2010).
 use Rattle.std.specs.Prelude.{◌≡◌, ℕ, List}
-use Rattle.lu_lang.specs.Component.{Declarations}
+use Rattle.lu_component.specs.Component.{Declarations}
 use Rattle.lu_test.specs.declared.matrix.Call.{Call}
 use Rattle.lu_machine.specs.States.{State}
 use Rattle.lu_machine.specs.Starts.{IsStart}
@@ -25,8 +25,9 @@ IsOfOffence (Nondeterministic u before earlier) = Unit {0}
 IsOfOffence (Fail u why) = ⊥
 IsOfOffence (Pass counts) = ⊥
 
--- r is the report of the component and the matrix with these bounds
+-- r is the report of the component and the matrix with these bounds; it says how many of the component's
+-- local instructions run with one move
 abbrev pub IsReport : Declarations → List (List Call) → ℕ → ℕ → Report → Type 0
 IsReport c matrix bound serial r =
-    (r.bound ≡ bound) × (r.serial ≡ serial)
+    (r.bound ≡ bound) × (r.serial ≡ serial) × (r.local ≡ c.local)
     × ((s : State) → IsStart c matrix s → IsFinding s bound serial r.finding)

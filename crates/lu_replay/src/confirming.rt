@@ -12,8 +12,8 @@ ghost use Rattle.lu_replay.specs.Confirmed.{IsBadFor, IsConfirmed, IsReason, IsS
 use crate::fault::ReplayFault;
 use crate::player::replay;
 use crate::report::{Finding, Report};
+use lu_component::Component;
 use lu_history::SerialOutcome;
-use lu_lang::Component;
 use lu_machine::Status;
 use lu_serial::{Learnt, learn};
 use lu_test::{Matrix, Schedule};
@@ -126,7 +126,8 @@ fn is_shown(
     }
 }
 
-/// Whether the report holds of the component and the matrix, with its own bounds. A serial offence is confirmed where the
+/// Whether the report holds of the component and the matrix, with its own bounds. One that says another number of local
+/// instructions with a move than the component does not hold. A serial offence is confirmed where the
 /// serial runs show the same one; a failure where there is no serial offence and its schedule, run anew, ends within the
 /// bound without its serial witnesses, for the same reason. That it is the least such schedule is not asked. A pass is
 /// never confirmed, since no single run shows it.
@@ -143,6 +144,9 @@ pub fn confirm(
     requires { IsOf matrix.now component.now }
     ensures { IfOk result (λ yes. IsTrue yes ↔ IsConfirmed component.now matrix.now report.now) }
 {
+    if report.local() != component.local() {
+        return Ok(false);
+    }
     if let Finding::Pass(_) = report.finding() {
         return Ok(false);
     }

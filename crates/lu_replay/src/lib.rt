@@ -23,6 +23,7 @@ mod report_reader;
 mod report_text;
 mod shown;
 mod text;
+mod version;
 
 pub use confirming::confirm;
 pub use fault::ReplayFault;
@@ -35,8 +36,3 @@ pub use report_reader::read_report;
 pub use report_text::write_report;
 pub use shown::Replay;
 pub use text::write_replay;
-
-#[cfg(test)]
-mod report_tests;
-#[cfg(test)]
-mod tests;

@@ -8,8 +8,8 @@ ghost use Rattle.lu_replay.specs.Replays.{IsFaultOf, Shows};
 
 use crate::fault::ReplayFault;
 use crate::shown::Replay;
+use lu_component::Component;
 use lu_history::{History, HistoryFault};
-use lu_lang::Component;
 use lu_machine::{Event, Machine};
 use lu_test::{Matrix, Schedule};
 use std::alloc::Global;

@@ -1,7 +1,7 @@
 //! Reports of checks.
 
 ghost use Rattle.std.specs.Prelude.{◌≡◌, ◌≤◌};
-ghost use Rattle.lu_replay.specs.Parts.{IsWithin};
+ghost use Rattle.lu_replay.specs.Parts.{IsWithin, parts_of};
 
 use lu_history::SerialOutcome;
 use lu_machine::Counts;
@@ -39,32 +39,36 @@ pub enum Finding {
 pub struct Report {
     bound: u16,
     serial: u16,
+    local: u8,
     finding: Finding,
 }
 
 impl Model for Report {
-    ghost use Rattle.lu_replay.specs.Parts.{Parts, AreLimits};
+    ghost use Rattle.lu_replay.specs.Parts.{Parts, AreLimits, parts_of};
 
     ghost Value = { Parts };
 
-    ghost view = { λ r. record { bound = r.bound; serial = r.serial; finding = r.finding } };
+    ghost view = { λ r. parts_of r.bound r.serial r.local r.finding };
 
-    ghost invariant = { λ r. AreLimits (record { bound = r.bound; serial = r.serial; finding = r.finding }) };
+    ghost invariant = { λ r. AreLimits (parts_of r.bound r.serial r.local r.finding) };
 }
 
 impl Report {
-    /// The report of a check with these bounds. `bound` is at most 256, `serial` 1 to 256; a thread of `Why::Stuck` is at
-    /// most 7, and `before` at most 15.
-    pub fn new(bound: u16, serial: u16, finding: Finding) -> Report
+    /// The report of a check with these bounds. `bound` is at most 256, `serial` 1 to 256. `local` is how many local
+    /// instructions of the component run with one move at most, 0 to 16. A thread of `Why::Stuck` is at most 7, and `before`
+    /// at most 15.
+    pub fn new(bound: u16, serial: u16, local: u8, finding: Finding) -> Report
         requires most { bound ≤ 256 }
         requires some { 1 ≤ serial }
         requires few { serial ≤ 256 }
+        requires local_few { local ≤ 16 }
         requires within { IsWithin finding }
-        ensures { result ≡ record { bound = bound; serial = serial; finding = finding } }
+        ensures { result ≡ parts_of bound serial local finding }
     {
         Report {
             bound,
             serial,
+            local,
             finding,
         }
     }
@@ -84,6 +88,14 @@ impl Report {
         ensures few { result ≤ 256 }
     {
         self.serial
+    }
+
+    /// How many local instructions of the component run with one move at most, 0 to 16.
+    pub fn local(&self) -> u8
+        ensures local { result ≡ self.now.local }
+        ensures few { result ≤ 16 }
+    {
+        self.local
     }
 
     /// What was found.

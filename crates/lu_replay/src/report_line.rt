@@ -3,10 +3,12 @@
 ghost use Rattle.std.specs.Prelude.{◌≡◌, ◌≤◌, ℕ, IfSome, IfNone, IsTrue, ◌↔◌};
 ghost use Rattle.lu_history.specs.declared.serial.SerialOutcome.{SerialOutcome};
 ghost use Rattle.lu_witness.specs.declared.judgement.Why.{Why};
+ghost use Rattle.lu_replay.specs.declared.version.Version.{Version as AVersion};
 ghost use Rattle.lu_replay.specs.Parts.{IsThreadOf};
 ghost use Rattle.lu_replay.specs.ReportText as spec;
 ghost use Rattle.lu_replay.specs.ReportForms.{IsOutcome};
 
+use crate::version::Version;
 use lu_history::SerialOutcome;
 use lu_text::number_up_to;
 use lu_witness::Why;
@@ -16,6 +18,20 @@ pub(crate) fn is_line(line: &[u8], text: &str) -> bool
     ensures { IsTrue result ↔ (line.now ≡ text.now) }
 {
     line == text.as_bytes()
+}
+
+/// The version that the first line of a report says.
+pub(crate) fn version_in(line: &[u8]) -> Option<Version>
+    ensures some { IfSome result (λ version. line.now ≡ spec.version_line version) }
+    ensures none { IfNone result ((version : AVersion) → line.now ≡ spec.version_line version → ⊥) }
+{
+    if is_line(line, "lineup report 1\n") {
+        return Some(Version::One);
+    }
+    if is_line(line, "lineup report 2\n") {
+        return Some(Version::Two);
+    }
+    None
 }
 
 /// The number of a line that has one of at most `most` behind this front.

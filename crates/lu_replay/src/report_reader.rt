@@ -10,11 +10,12 @@ ghost use Rattle.lu_replay.specs.declared.report.Report.{Report};
 ghost use Rattle.lu_replay.specs.ReportText.{finding_lines};
 ghost use Rattle.lu_replay.specs.ReportText as spec;
 ghost use Rattle.lu_text.specs.Lines.{kept_lines};
-ghost use Rattle.lu_replay.specs.ReportForms.{AreConflict, AreCountLines, AreCounts, AreFinding, AreRun, Gives, HasNoSchedule, IsFault, IsFaultFrom, IsFirst, IsOutcome, IsSound, Spells};
+ghost use Rattle.lu_replay.specs.ReportForms.{AreConflict, AreCountLines, AreCounts, AreFinding, AreRun, Gives, HasNoLocal, HasNoNumber, HasNoSchedule, HasNoVersion, IsFault, IsFaultFrom, IsFirst, IsOutcome, IsSound, SaysLocal, Spells};
 
 use crate::report::{Finding, Report};
 use crate::report_fault::ReportFault;
-use crate::report_line::{earlier_in, is_line, number_behind, why_in};
+use crate::report_line::{earlier_in, is_line, number_behind, version_in, why_in};
+use crate::version::Version;
 use lu_history::SerialOutcome;
 use lu_machine::Counts;
 use lu_test::{Schedule, ScheduleFault, read_schedule};
@@ -38,30 +39,70 @@ fn number_line<'a>(
     }
 }
 
-/// The schedule on the first line, which is line 5 of a report, and what follows the line.
-fn schedule_line(alloc: Global, text: &[u8]) -> Result<(Schedule, &[u8]), ReportFault>
+/// The same of a number of at least 1.
+fn some_number_line<'a>(
+    text: &'a [u8],
+    front: &str,
+    most: u64,
+    line: usize,
+) -> Result<(u64, &'a [u8]), ReportFault>
+    ensures found { IfOk result (λ p. (1 ≤ p.0) × (p.0 ≤ most) × (kept_lines text.now ≡ spec.number_line front.now p.0 ∷ kept_lines p.1.now)) }
+    ensures fault { IfErr result (λ e. (e ≡ Form line) × HasNoNumber front.now most text.now) }
+{
+    let (number, rest) = number_line(text, front, most, line)?;
+    if number == 0 {
+        return Err(ReportFault::Form(line));
+    }
+    Ok((number, rest))
+}
+
+/// The version on the first line, and what follows the line.
+fn version_line(text: &[u8]) -> Result<(Version, &[u8]), ReportFault>
+    ensures found { IfOk result (λ p. kept_lines text.now ≡ spec.version_line p.0 ∷ kept_lines p.1.now) }
+    ensures fault { IfErr result (λ e. (e ≡ Form 1) × HasNoVersion text.now) }
+{
+    let (first, rest) = cut_line(text);
+    match version_in(first) {
+        Some(version) => Ok((version, rest)),
+        None => Err(ReportFault::Form(1)),
+    }
+}
+
+/// How many local instructions run with a move at most, which line 4 says in version 2, and what follows.
+fn local_line(version: Version, text: &[u8]) -> Result<(u64, &[u8]), ReportFault>
+    ensures found { IfOk result (λ p. SaysLocal version text.now p.0 p.1.now) }
+    ensures fault { IfErr result (HasNoLocal version text.now) }
+{
+    match version {
+        Version::One => Ok((0, text)),
+        Version::Two => some_number_line(text, "local ", 16, 4),
+    }
+}
+
+/// The schedule on the first line, which is line `line` of a report, and what follows the line.
+fn schedule_line(alloc: Global, text: &[u8], line: usize) -> Result<(Schedule, &[u8]), ReportFault>
     ensures found { IfOk result (λ p. AreMoves p.0 × (kept_lines text.now ≡ schedule_text p.0 ∷ kept_lines p.1.now)) }
-    ensures fault { IfErr result (HasNoSchedule text.now) }
+    ensures fault { IfErr result (HasNoSchedule line text.now) }
 {
     let (first, rest) = cut_line(text);
     match read_schedule(alloc, first) {
         Ok(schedule) => Ok((schedule, rest)),
         Err(ScheduleFault::Memory) => Err(ReportFault::Memory),
-        Err(ScheduleFault::Form) => Err(ReportFault::Form(5)),
-        Err(ScheduleFault::Number) => Err(ReportFault::Form(5)),
-        Err(ScheduleFault::Limit) => Err(ReportFault::Form(5)),
+        Err(ScheduleFault::Form) => Err(ReportFault::Form(line)),
+        Err(ScheduleFault::Number) => Err(ReportFault::Form(line)),
+        Err(ScheduleFault::Limit) => Err(ReportFault::Form(line)),
     }
 }
 
-/// The outcome on the first line, which is line 7 of a report, and what follows the line.
-fn earlier_line(text: &[u8]) -> Result<(SerialOutcome, &[u8]), ReportFault>
+/// The outcome on the first line, which is line `line` of a report, and what follows the line.
+fn earlier_line(text: &[u8], line: usize) -> Result<(SerialOutcome, &[u8]), ReportFault>
     ensures found { IfOk result (λ p. IsOutcome p.0 × (kept_lines text.now ≡ spec.earlier_line p.0 ∷ kept_lines p.1.now)) }
-    ensures fault { IfErr result (λ e. (e ≡ Form 7) × ((earlier : SerialOutcome) → IsOutcome earlier → IsFirst text.now (spec.earlier_line earlier) → ⊥)) }
+    ensures fault { IfErr result (λ e. (e ≡ Form line) × ((earlier : SerialOutcome) → IsOutcome earlier → IsFirst text.now (spec.earlier_line earlier) → ⊥)) }
 {
     let (first, rest) = cut_line(text);
     match earlier_in(first) {
         Some(earlier) => Ok((earlier, rest)),
-        None => Err(ReportFault::Form(7)),
+        None => Err(ReportFault::Form(line)),
     }
 }
 
@@ -77,25 +118,27 @@ fn end(text: &[u8], line: usize) -> Result<(), ReportFault>
     }
 }
 
-/// The schedule alone.
-fn run(alloc: Global, text: &[u8]) -> Result<Schedule, ReportFault>
+/// The schedule alone, on line `line` of a report.
+fn run(alloc: Global, text: &[u8], line: usize) -> Result<Schedule, ReportFault>
+    requires { line ≤ 6 }
     ensures found { IfOk result (λ u. AreMoves u × (kept_lines text.now ≡ schedule_text u ∷ [])) }
-    ensures fault { IfErr result (IsFaultFrom AreRun 5 text.now) }
+    ensures fault { IfErr result (IsFaultFrom AreRun line text.now) }
 {
-    let (schedule, rest) = schedule_line(alloc, text)?;
-    end(rest, 6)?;
+    let (schedule, rest) = schedule_line(alloc, text, line)?;
+    end(rest, line + 1)?;
     Ok(schedule)
 }
 
-/// The counts of a pass.
-fn counts(text: &[u8]) -> Result<Counts, ReportFault>
+/// The counts of a pass, from line `line` of a report on.
+fn counts(text: &[u8], line: usize) -> Result<Counts, ReportFault>
+    requires { line ≤ 6 }
     ensures found { IfOk result (λ counts. AreCounts counts × (kept_lines text.now ≡ spec.number_line (codes "complete ") counts.complete ∷ spec.number_line (codes "stuck ") counts.stuck ∷ spec.number_line (codes "cut ") counts.cut ∷ [])) }
-    ensures fault { IfErr result (IsFaultFrom AreCountLines 5 text.now) }
+    ensures fault { IfErr result (IsFaultFrom AreCountLines line text.now) }
 {
-    let (complete, rest) = number_line(text, "complete ", u64::MAX, 5)?;
-    let (stuck, rest) = number_line(rest, "stuck ", u64::MAX, 6)?;
-    let (cut, rest) = number_line(rest, "cut ", u64::MAX, 7)?;
-    end(rest, 8)?;
+    let (complete, rest) = number_line(text, "complete ", u64::MAX, line)?;
+    let (stuck, rest) = number_line(rest, "stuck ", u64::MAX, line + 1)?;
+    let (cut, rest) = number_line(rest, "cut ", u64::MAX, line + 2)?;
+    end(rest, line + 3)?;
     Ok(Counts {
         complete,
         stuck,
@@ -103,15 +146,16 @@ fn counts(text: &[u8]) -> Result<Counts, ReportFault>
     })
 }
 
-/// A schedule in conflict.
-fn conflict(alloc: Global, text: &[u8]) -> Result<Finding, ReportFault>
+/// A schedule in conflict, from line `line` of a report on.
+fn conflict(alloc: Global, text: &[u8], line: usize) -> Result<Finding, ReportFault>
+    requires { line ≤ 6 }
     ensures found { IfOk result (λ f. IsSound f × (codes "nondeterministic\n" ∷ kept_lines text.now ≡ finding_lines f)) }
-    ensures fault { IfErr result (IsFaultFrom AreConflict 5 text.now) }
+    ensures fault { IfErr result (IsFaultFrom AreConflict line text.now) }
 {
-    let (schedule, rest) = schedule_line(alloc, text)?;
-    let (before, rest) = number_line(rest, "before ", 15, 6)?;
-    let (earlier, rest) = earlier_line(rest)?;
-    end(rest, 8)?;
+    let (schedule, rest) = schedule_line(alloc, text, line)?;
+    let (before, rest) = number_line(rest, "before ", 15, line + 1)?;
+    let (earlier, rest) = earlier_line(rest, line + 2)?;
+    end(rest, line + 3)?;
     Ok(Finding::Nondeterministic {
         schedule,
         before: before as usize,
@@ -119,27 +163,28 @@ fn conflict(alloc: Global, text: &[u8]) -> Result<Finding, ReportFault>
     })
 }
 
-/// What was found, from line 4 of a report on.
-fn finding(alloc: Global, text: &[u8]) -> Result<Finding, ReportFault>
+/// What was found, from line `line` of a report on.
+fn finding(alloc: Global, text: &[u8], line: usize) -> Result<Finding, ReportFault>
+    requires { line ≤ 5 }
     ensures found { IfOk result (λ f. IsSound f × (kept_lines text.now ≡ finding_lines f)) }
-    ensures fault { IfErr result (IsFaultFrom AreFinding 4 text.now) }
+    ensures fault { IfErr result (IsFaultFrom AreFinding line text.now) }
 {
     let (first, rest) = cut_line(text);
     if is_line(first, "pass\n") {
-        let counts = counts(rest)?;
+        let counts = counts(rest, line + 1)?;
         return Ok(Finding::Pass(counts));
     }
     if is_line(first, "nondeterministic\n") {
-        return conflict(alloc, rest);
+        return conflict(alloc, rest, line + 1);
     }
     if is_line(first, "serial-cut\n") {
-        let schedule = run(alloc, rest)?;
+        let schedule = run(alloc, rest, line + 1)?;
         return Ok(Finding::SerialCut(schedule));
     }
     let Some(why) = why_in(first) else {
-        return Err(ReportFault::Form(4));
+        return Err(ReportFault::Form(line));
     };
-    let schedule = run(alloc, rest)?;
+    let schedule = run(alloc, rest, line + 1)?;
     Ok(Finding::Fail { schedule, why })
 }
 
@@ -148,17 +193,12 @@ fn report_in(alloc: Global, text: &[u8]) -> Result<Report, ReportFault>
     ensures found { IfOk result (Spells text.now) }
     ensures fault { IfErr result (IsFault text.now) }
 {
-    let (first, rest) = cut_line(text);
-    if !is_line(first, "lineup report 1\n") {
-        return Err(ReportFault::Form(1));
-    }
+    let (version, rest) = version_line(text)?;
     let (bound, rest) = number_line(rest, "bound ", 256, 2)?;
-    let (serial, rest) = number_line(rest, "serial ", 256, 3)?;
-    if serial == 0 {
-        return Err(ReportFault::Form(3));
-    }
-    let finding = finding(alloc, rest)?;
-    Ok(Report::new(bound as u16, serial as u16, finding))
+    let (serial, rest) = some_number_line(rest, "serial ", 256, 3)?;
+    let (local, rest) = local_line(version, rest)?;
+    let finding = finding(alloc, rest, version.finding_line())?;
+    Ok(Report::new(bound as u16, serial as u16, local as u8, finding))
 }
 
 /// Reads a report from its text. Each report has one spelling. The fault is [`ReportFault::Form`] with the first line, from 1,

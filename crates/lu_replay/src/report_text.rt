@@ -5,10 +5,11 @@ ghost use Rattle.std.specs.List.{concat};
 ghost use Rattle.lu_test.specs.Schedule.{AreMoves};
 ghost use Rattle.lu_test.specs.ScheduleText.{schedule_text};
 ghost use Rattle.lu_replay.specs.ReportForms.{HasParts, IsOutcome, Spells};
-ghost use Rattle.lu_replay.specs.ReportText.{finding_lines};
+ghost use Rattle.lu_replay.specs.ReportText.{finding_lines, local_lines, version_of};
 ghost use Rattle.lu_replay.specs.ReportText as spec;
 
 use crate::report::{Finding, Report};
+use crate::version::Version;
 use lu_history::SerialOutcome;
 use lu_test::{Schedule, write_schedule};
 use lu_witness::Why;
@@ -88,6 +89,16 @@ fn put_finding(alloc: Global, text: &mut String, finding: &Finding) -> Result<()
     Ok(())
 }
 
+/// Adds the line of the local instructions that run with a move, where the version has it.
+fn put_local(text: &mut String, local: u8) -> Result<(), AllocError>
+    ensures { OnOk result (string_bytes text.new ≡ string_bytes text.old ++ concat (local_lines (version_of local) local)) }
+{
+    match Version::of(local) {
+        Version::One => Ok(()),
+        Version::Two => put_number(text, "local ", u64::from(local)),
+    }
+}
+
 /// The text of a report. Each line ends with LF:
 ///
 /// ```text
@@ -98,6 +109,8 @@ fn put_finding(alloc: Global, text: &mut String, finding: &Finding) -> Result<()
 /// schedule 0 0 0 1 1 0 0 1 1 1
 /// ```
 ///
+/// Where local instructions run with a move, the first line is `lineup report 2`, and the fourth `local` with how many at most.
+///
 /// It is the one spelling of the report, which [`crate::read_report`] reads as the report again.
 ///
 /// # Errors
@@ -106,9 +119,11 @@ fn put_finding(alloc: Global, text: &mut String, finding: &Finding) -> Result<()
 pub fn write_report(alloc: Global, report: &Report) -> Result<String, AllocError>
     ensures { IfOk result (λ text. Spells (string_bytes text) report.now) }
 {
-    let mut text = String::from_str(alloc, "lineup report 1\n")?;
+    let version = Version::of(report.local());
+    let mut text = String::from_str(alloc, version.line())?;
     put_number(&mut text, "bound ", u64::from(report.bound()))?;
     put_number(&mut text, "serial ", u64::from(report.serial()))?;
+    put_local(&mut text, report.local())?;
     put_finding(alloc, &mut text, report.finding())?;
     Ok(text)
 }

@@ -17,6 +17,12 @@ end\n\
 #[cfg(test)]
 mod beginnings;
 #[cfg(test)]
+mod long_moves;
+#[cfg(test)]
+mod programs;
+#[cfg(test)]
+mod small_matrices;
+#[cfg(test)]
 mod tests;
 #[cfg(test)]
 mod verdicts;

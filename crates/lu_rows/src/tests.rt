@@ -7,7 +7,7 @@ use std::test::Fail;
 use std::thread::Threads;
 
 /// Runs the program on words and an input, and compares what it writes and its status.
-fn ran<X: AllocGlobal + Abort + Threads + Wait>(
+pub(crate) fn ran<X: AllocGlobal + Abort + Threads + Wait>(
     rt: &X,
     words: &[&str],
     given: &[u8],
@@ -358,6 +358,8 @@ fn components_are_refused(rt: HostRuntime) -> Result<(), Fail> {
         ("component c\nop f 0\njump Q\nend\n", "refused L3 line 4\n"),
         ("component c\nword x 65 0\n", "refused L5 line 2\n"),
         ("component c\nop f 5\n", "refused L5 line 2\n"),
+        ("component c\nlocal 17\n", "refused L5 line 2\n"),
+        ("component c\nlocal 1\nlocal 1\n", "refused L2 line 3\n"),
     ] {
         replays(&rt, component, "thread\n", "schedule\n", wanted, 2)?;
     }

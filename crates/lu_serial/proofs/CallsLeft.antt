@@ -7,10 +7,10 @@ use Rattle.std.proofs.lemmas.List.Elements.{All-nil, All-push, All-get_or}
 use Rattle.std.proofs.Math.Nat.{mul-le-mul_left, mul_comm}
 use Rattle.std.proofs.lemmas.List.Sums.{sum_by-cons}
 use Rattle.std.specs.Option.{option_map_or}
-use Rattle.lu_lang.specs.declared.instr.Instr.{Instr}
-use Rattle.lu_lang.specs.declared.instr.Instr.TheVariants.{Set, Compute, Load, Store, Cas, Lock, Unlock, Await, AwaitNot, Pick, Jump, JumpIfZero, Return as ReturnInstr}
-use Rattle.lu_lang.specs.declared.component.Op.{Op}
-use Rattle.lu_lang.specs.Component.{Declarations, IsComponent, IsInstr, IsOp}
+use Rattle.lu_component.specs.declared.instr.Instr.{Instr}
+use Rattle.lu_component.specs.declared.instr.Instr.TheVariants.{Set, Compute, Load, Store, Cas, Lock, Unlock, Await, AwaitNot, Pick, Jump, JumpIfZero, Return as ReturnInstr}
+use Rattle.lu_component.specs.declared.component.Op.{Op}
+use Rattle.lu_component.specs.Component.{Declarations, IsComponent, IsInstr, IsOp}
 use Rattle.lu_test.specs.declared.matrix.Call.{Call as ACall}
 use Rattle.lu_test.specs.declared.schedule.Move.{Move}
 use Rattle.lu_test.specs.Matrix.{IsMatrix, calls_of}

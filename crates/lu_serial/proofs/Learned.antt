@@ -3,7 +3,7 @@ use Rattle.std.proofs.Common.{◌≡◌, ◌<◌, ◌≤◌, ◌+◌, ◌||◌, 
 use Rattle.std.proofs.lemmas.Bool.{cases_lt}
 use Rattle.std.proofs.lemmas.List.{append-nil}
 use Rattle.std.proofs.lemmas.Option.{same_Some}
-use Rattle.lu_lang.specs.Component.{Declarations, IsComponent}
+use Rattle.lu_component.specs.Component.{Declarations, IsComponent}
 use Rattle.lu_test.specs.declared.matrix.Call.{Call as ACall}
 use Rattle.lu_test.specs.Matrix.{IsMatrix}
 use Rattle.lu_test.specs.declared.schedule.Move.{Move}

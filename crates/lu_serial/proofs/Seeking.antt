@@ -1,6 +1,6 @@
 -- What is sought at the state to which u leads.
 use Rattle.std.proofs.Common.{◌≡◌, ◌≤◌, ◌+◌, Bool, true, false, ℕ, List, [], ◌∷◌, ◌++◌, Option, Some, None, sym, ◌∙◌, ap, subst, inl, inr}
-use Rattle.lu_lang.specs.Component.{Declarations, IsComponent}
+use Rattle.lu_component.specs.Component.{Declarations, IsComponent}
 use Rattle.lu_test.specs.declared.matrix.Call.{Call as ACall}
 use Rattle.lu_test.specs.Matrix.{IsMatrix}
 use Rattle.lu_test.specs.declared.schedule.Move.{Move}

@@ -1,6 +1,6 @@
 -- What the steps of the walk promise one another.
 use Rattle.std.specs.Prelude.{◌≡◌, ◌≢◌, ℕ, ◌+◌, ◌-◌, ◌*◌, ◌^◌, ◌<◌, ◌≤◌, ◌⊎◌, true, List, [], ◌∷◌, ◌++◌, length, All, Option, Some, None, slice_get}
-use Rattle.lu_lang.specs.Component.{IsComponent}
+use Rattle.lu_component.specs.Component.{IsComponent}
 use Rattle.lu_test.specs.declared.matrix.Call.{Call as ACall}
 use Rattle.lu_test.specs.declared.schedule.Move.{Move}
 use Rattle.lu_test.specs.Schedule.{IsMove, AreMoves}

@@ -10,8 +10,8 @@ ghost use Rattle.lu_serial.specs.Offences.{IsLearnt};
 ghost use Rattle.lu_serial.specs.Walks.{Adding, IsBack, IsHome, IsReady, Walks, ended_entries};
 
 use crate::node::{Node, OpenCall, goes_on, is_full, limits, open_after, turns};
+use lu_component::Component;
 use lu_history::{SerialOp, SerialOutcome};
-use lu_lang::Component;
 use lu_test::{Matrix, Move, Schedule};
 use lu_trie::Trie;
 use std::alloc::{AllocError, Allocator, Global};

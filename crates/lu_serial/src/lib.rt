@@ -23,6 +23,3 @@ mod outside;
 pub use laws::{one_conflict, serial_short};
 pub use learning::{Learnt, learn};
 pub use outside::first_outside;
-
-#[cfg(test)]
-mod tests;

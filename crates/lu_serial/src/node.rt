@@ -1,7 +1,7 @@
 //! A node of the tree of serial schedules.
 
 ghost use Rattle.std.specs.Prelude.{◌≡◌, ◌↔◌, ◌++◌, [], IsTrue, IfOk, List};
-ghost use Rattle.lu_lang.specs.Component.{IsComponent};
+ghost use Rattle.lu_component.specs.Component.{IsComponent};
 ghost use Rattle.lu_test.specs.Matrix.{IsMatrix, IsOf};
 ghost use Rattle.lu_machine.specs.Ends.{HasMove};
 ghost use Rattle.lu_machine.specs.Starts.{IsStart};
@@ -10,8 +10,8 @@ ghost use Rattle.lu_machine.specs.Undoes.{CanTake, restored};
 ghost use Rattle.lu_history.specs.declared.serial.SerialOp.{SerialOp};
 ghost use Rattle.lu_serial.specs.Walks.{AreTurns, HasRoom, HasSerialMove, IsFull, IsOpenIn, entry_if, open_after};
 
+use lu_component::Component;
 use lu_history::{SerialOp, SerialOutcome};
-use lu_lang::Component;
 use lu_machine::{Event, Machine, Status, Undo};
 use lu_test::{Matrix, Move};
 use std::alloc::{AllocError, Global};

@@ -17,9 +17,9 @@ use Rattle.lu_text.specs.Words.{Word}
 use Rattle.lu_text.specs.Faults.{value_of}
 use Rattle.lu_text.proofs.Written.{IsText, IsLineByte, Reads, reads_nothing, reads_line, reads_on, reads_value, allowed_line, one_line, words_line, words_again, no_comment, split_joined, each_joined, each_weaker}
 use Rattle.lu_text.proofs.WordText.{IsDigit, digits_each, literal_text, name_text, number_text, value_again}
-use Rattle.lu_lang.specs.declared.component.Op.{Op}
-use Rattle.lu_lang.specs.Component.{Declarations, IsComponent, IsOp}
-use Rattle.lu_lang.proofs.Named.{name_has, place_at}
+use Rattle.lu_component.specs.declared.component.Op.{Op}
+use Rattle.lu_component.specs.Component.{Declarations, IsComponent, IsOp}
+use Rattle.lu_component.proofs.Named.{name_has, place_at}
 use Rattle.lu_test.specs.declared.matrix.Call.{Call}
 use Rattle.lu_test.specs.Matrix.{AreArguments, IsMatrix, IsOf, IsCallOf, total_calls}
 use Rattle.lu_test.specs.MatrixText.{has_name, has_operation, has_arguments, has_values, call_of, calls_after, with_calls, by_parts, parts_in, line_of, matrix_grammar, operation_name, arguments_text, call_text, others_text, calls_text, thread_text, matrix_text}

@@ -17,9 +17,10 @@ use Rattle.lu_text.specs.Faults.{on_line, Gives}
 use Rattle.lu_text.proofs.Says.{said}
 use Rattle.lu_text.proofs.Reading.{line_ok}
 use Rattle.lu_text.proofs.Written.{All-last}
-use Rattle.lu_lang.specs.declared.component.Op.{Op}
-use Rattle.lu_lang.specs.Component.{Declarations, IsComponent, IsOp, operation_place}
-use Rattle.lu_lang.proofs.Statements.{place_small, value_small}
+use Rattle.lu_component.specs.declared.component.Op.{Op}
+use Rattle.lu_component.specs.Component.{Declarations, IsComponent, IsOp, operation_place}
+use Rattle.lu_text.proofs.NumberText.{value_small}
+use Rattle.lu_component.proofs.Named.{place_small}
 use Rattle.lu_test.specs.declared.matrix.Call.{Call}
 use Rattle.lu_test.specs.declared.matrix_fault.MatrixFaultKind.{MatrixFaultKind}
 use Rattle.lu_test.specs.declared.matrix_fault.MatrixFaultKind.TheVariants.{Byte, Form, UnknownOp, Arguments, Number, Limit}

@@ -1,7 +1,7 @@
 -- What holds of the texts of matrices.
 use Rattle.std.specs.Prelude.{◌≡◌, List, Ok}
 use Rattle.lu_text.specs.Faults.{value_of}
-use Rattle.lu_lang.specs.Component.{Declarations, IsComponent}
+use Rattle.lu_component.specs.Component.{Declarations, IsComponent}
 use Rattle.lu_test.specs.declared.matrix.Call.{Call}
 use Rattle.lu_test.specs.Matrix.{IsMatrix, IsOf}
 use Rattle.lu_test.specs.MatrixText.{matrix_grammar, matrix_text}

@@ -9,7 +9,7 @@ use Rattle.lu_text.specs.Numbers.{value_in}
 use Rattle.lu_text.specs.Lines.{words_of, before_comment, is_allowed}
 use Rattle.lu_text.specs.Words.{Word}
 use Rattle.lu_text.specs.Faults.{Grammar, says}
-use Rattle.lu_lang.specs.Component.{Declarations, operation_place}
+use Rattle.lu_component.specs.Component.{Declarations, operation_place}
 use Rattle.lu_test.specs.declared.matrix.Call.{Call}
 use Rattle.lu_test.specs.declared.matrix_fault.MatrixFaultKind.{MatrixFaultKind}
 use Rattle.lu_test.specs.declared.matrix_fault.MatrixFaultKind.TheVariants.{Byte, Form, UnknownOp, Arguments, Number, Limit}

@@ -20,6 +20,3 @@ pub use matrix_writer::write_matrix;
 pub use schedule::{MOST_MOVES, Move, Schedule};
 pub use schedule_fault::ScheduleFault;
 pub use schedule_text::{read_schedule, write_schedule};
-
-#[cfg(test)]
-mod tests;

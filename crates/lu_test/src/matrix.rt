@@ -3,7 +3,7 @@
 ghost use Rattle.std.specs.Prelude.{◌≡◌, ◌<◌, ◌≤◌, ◌↔◌, IsTrue, length, slice_get, remove, All, Some};
 ghost use Rattle.lu_test.specs.Matrix.{IsMatrix, IsCallOf, IsOf, calls_of};
 
-use lu_lang::Component;
+use lu_component::Component;
 use std::marker::Model;
 
 /// The most threads that a matrix has.

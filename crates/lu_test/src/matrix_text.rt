@@ -8,7 +8,7 @@ ghost use Rattle.lu_text.specs.Lines.{texts, words_of};
 ghost use Rattle.lu_text.specs.Numbers.{value_in};
 ghost use Rattle.lu_text.specs.Faults.{Gives, IsFirstFault, on_line, value_of, lines_after};
 ghost use Rattle.lu_text.specs.declared.fault.Fault.TheVariants.{At};
-ghost use Rattle.lu_lang.specs.Component.{operation_place};
+ghost use Rattle.lu_component.specs.Component.{operation_place};
 ghost use Rattle.lu_test.specs.declared.matrix_fault.MatrixFaultKind.{MatrixFaultKind as Kind};
 ghost use Rattle.lu_test.specs.Matrix.{IsMatrix, IsOf, IsDraft, total_calls};
 ghost use Rattle.lu_test.specs.MatrixText as spec;
@@ -18,7 +18,7 @@ use crate::matrix::{
     Arguments, Call, Calls, MOST_CALLS, MOST_CALLS_OF_THREAD, MOST_THREADS, Matrix,
 };
 use crate::matrix_fault::{MatrixFault, MatrixFaultKind};
-use lu_lang::Component;
+use lu_component::Component;
 use lu_text::{Fault, are_allowed, before_comment, lines_of, parts_of, value_in, words_of};
 use std::alloc::{AllocError, Global};
 use std::marker::Model;

@@ -6,7 +6,7 @@ ghost use Rattle.lu_test.specs.Matrix.{IsOf};
 ghost use Rattle.lu_test.specs.MatrixText as spec;
 
 use crate::matrix::{Call, Matrix};
-use lu_lang::Component;
+use lu_component::Component;
 use std::alloc::{AllocError, Global};
 
 /// Adds the name of operation number `number` at the end of a text.

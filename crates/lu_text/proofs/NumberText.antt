@@ -1,12 +1,13 @@
 -- Bytes and numbers: what is read is spelled so, and what is spelled so is read.
 use Rattle.std.proofs.Common.{◌≡◌, ℕ, ◌^◌, ◌<◌, ◌≤◌, ◌⊎◌, Bool, true, false, cond, List, [], ◌∷◌, length, get_or, Some, None, refl, ap, arith, rules, inl, inr}
-use Rattle.std.specs.Prelude.{◌==◌, ◌||◌, not}
+use Rattle.std.specs.Prelude.{◌==◌, ◌||◌, not, nat_lt, Option}
+use Rattle.std.specs.Option.{unwrap_or}
 use Rattle.std.specs.Str.{all_ascii_digits, bytes_eq}
 use Rattle.std.specs.Fmt.{decimal}
-use Rattle.std.proofs.lemmas.Bool.{eqb-true, eq-eqb, ne_eqb, cases_lt, and_parts}
+use Rattle.std.proofs.lemmas.Bool.{eqb-true, eq-eqb, ne_eqb, cases_lt, and_parts, ltb-true}
 use Rattle.std.proofs.lemmas.Str.Parse.{IsNumeralModel, numerals_by_fold}
 use Rattle.std.proofs.lemmas.Fmt.{decimal-digits_value, digits_decimal, digits_value-decimal, decimal_digit, decimal_nonempty, first_decimal}
-use Rattle.lu_text.specs.Numbers.{read_on, is_number, number_in}
+use Rattle.lu_text.specs.Numbers.{read_on, is_number, number_in, value_in, below}
 
 pub some_if : {A : Type 0} (b : Bool) (x y : A) → cond b (Some x) None ≡ Some y → (b ≡ true) × (x ≡ y)
 some_if true x y e = (refl, cc)
@@ -59,3 +60,15 @@ number_again n h =
     go : (0 < n) ⊎ (n ≤ 0) → get_or (decimal n) 0 0 ≡ 48 → length (decimal n) ≡ 1
     go (inl some) e = absurd (omega (arith, first_decimal n some h))
     go (inr none) e = let z : n ≡ 0 = omega arith in rw z (ap length (decimal_digit 0 (omega arith)))
+
+below_small : (limit : ℕ) (o : Option ℕ) → 0 < limit → unwrap_or (below limit o) 0 < limit
+below_small limit None h = h
+below_small limit (Some n) h = go (nat_lt n limit) refl
+  where
+    go : (b : Bool) → nat_lt n limit ≡ b → unwrap_or (cond b (Some n) None) 0 < limit
+    go true e = ltb-true n limit e
+    go false e = h
+
+-- a number that is read is of 32 bits
+pub value_small : (word : List ℕ) → unwrap_or (value_in word) 0 < 2 ^ 32
+value_small word = below_small (2 ^ 32) (number_in word) (omega arith)

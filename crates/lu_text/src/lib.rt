@@ -8,8 +8,6 @@ mod fault;
 mod line;
 mod name;
 mod number;
-#[cfg(test)]
-mod tests;
 mod words;
 
 pub use fault::Fault;

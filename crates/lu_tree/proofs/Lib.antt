@@ -4,3 +4,4 @@ mod Limits
 mod Making
 mod PieceLists
 mod Walking
+mod Added

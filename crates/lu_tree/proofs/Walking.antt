@@ -12,17 +12,14 @@ use Rattle.lu_machine.specs.Order.{IsMoveBelow, IsSmaller}
 use Rattle.lu_machine.specs.Sums.{capped, plus}
 use Rattle.lu_machine.specs.Schedules.{BeginsWith, Reaches, IsNumber, IsCompleteWithin, IsStuckWithin, IsCutAt, IsEndedWithin}
 use Rattle.lu_machine.proofs.Ahead.{begins_itself, begins_shorter, begins_longer, no_move, ended_no_move, not_both, here, reaches_here}
-use Rattle.lu_machine.proofs.Ended.{complete_no_move, picks_past}
+use Rattle.lu_machine.proofs.Ended.{complete_no_move}
 use Rattle.lu_machine.proofs.Numbers.{number_none, number_one, number_same, number_join}
 use Rattle.lu_machine.proofs.Moves.{feasible_within, next_same}
 use Rattle.lu_machine.proofs.Orders.{move_cases, same_move, smaller_asym, smaller_branch}
 use Rattle.lu_history.specs.declared.serial.SerialOp.{SerialOp}
-use Rattle.lu_witness.specs.declared.judgement.Why.{Why}
-use Rattle.lu_witness.specs.Goodness.{IsGoodAt, IsWhyAt, AreGood, IsFirstBad, AreAllGood}
-use Rattle.lu_tree.specs.declared.node.Walked.{Walked}
-use Rattle.lu_tree.specs.declared.node.Walked.TheVariants.{Passed, Stopped}
+use Rattle.lu_witness.specs.Goodness.{IsGoodAt, AreGood, AreAllGood}
 use Rattle.lu_tree.specs.Trees.{Below}
-use Rattle.lu_tree.specs.Walks.{Judges, Stops, Walks, one_complete, one_stuck, one_cut}
+use Rattle.lu_tree.specs.Walks.{Counted, IsFirstAt, no_schedule, one_complete, one_stuck, one_cut}
 
 -- v goes on from u by a move below the limit
 pub record GoesOnBelow (u : List Move) (limit : Move) (v : List Move) : Type 0 where
@@ -149,33 +146,27 @@ module _ (start : State) (u : List Move) (s : State) (h : List Event) (at : Lead
         };
       }
 
-      bad_here : IsEnded s → (why : Why) → (IsGoodAt Set s h → ⊥) → IsWhyAt Set s h why → IsFirstBad Set start bound (Below u) u why
-      bad_here ended why not is = record {
+      -- where a schedule ends or is cut, it is counted
+      pub counted_here : (old new : Counts) → Counted Set s h old new → (below : Counts) × (new ≡ plus old below) × AreAllGood Set start bound (Below u) below
+      counted_here old new (inl cut) = (one_cut, cut.1, cut_counted cut.0)
+      counted_here old new (inr (inl complete)) = (one_complete, complete.2, complete_counted complete.0 complete.1)
+      counted_here old new (inr (inr stuck)) = (one_stuck, stuck.2, stuck_counted stuck.0 stuck.1)
+
+      -- or it is the first to end
+      pub first_here : IsEnded s → IsFirstAt Set start bound (Below u) u s h
+      first_here ended = record {
         part = begins_itself u;
-        bad = (short, reaches_here start u s h at (λ end history. IsEnded end × (IsGoodAt Set end history → ⊥)) (ended, not));
+        short = short;
+        leads = at;
+        ended = ended;
         before = λ v k e.
             (let same = ended_here v k.0 e in
             let w : IsSmaller u u = subst (λ y. IsSmaller y u) same.0 k.1 in
             absurd (smaller_asym u u w w));
-        why_is = reaches_here start u s h at (λ end history. IsWhyAt Set end history why) is;
       }
 
-      complete_walk : (walked : Walked) → IsComplete s → Judges Set s h one_complete walked → Walks Set start bound u walked u
-      complete_walk (Passed counts) complete j = subst (AreAllGood Set start bound (Below u)) (sym j.0) (complete_counted complete j.1)
-      complete_walk (Stopped why) complete j = bad_here (inl complete) why j.0 j.1
-
-      stuck_walk : (walked : Walked) → IsStuck s → Judges Set s h one_stuck walked → Walks Set start bound u walked u
-      stuck_walk (Passed counts) stuck j = subst (AreAllGood Set start bound (Below u)) (sym j.0) (stuck_counted stuck j.1)
-      stuck_walk (Stopped why) stuck j = bad_here (inr stuck) why j.0 j.1
-
-      -- where a walk stops
-      pub stop_walk : (walked : Walked) → Stops Set s h walked → Walks Set start bound u walked u
-      stop_walk walked (inl cut) = subst (λ w. Walks Set start bound u w u) (sym cut.1) (cut_counted cut.0)
-      stop_walk walked (inr (inl complete)) = complete_walk walked complete.0 complete.1
-      stop_walk walked (inr (inr stuck)) = stuck_walk walked stuck.0 stuck.1
-
     -- before all moves
-    pub kids_none : AreAllGood Set start bound (GoesOnBelow u (record { thread = 0; pick = 0 })) (record { complete = 0; stuck = 0; cut = 0 })
+    pub kids_none : AreAllGood Set start bound (GoesOnBelow u (record { thread = 0; pick = 0 })) no_schedule
     kids_none =
         let first : Move = record { thread = 0; pick = 0 } in
         record {
@@ -263,16 +254,17 @@ module _ (start : State) (u : List Move) (s : State) (h : List Event) (at : Lead
         };
       }
 
-    -- the first bad schedule of a move is the first of all, where those of the moves below it are good
-    pub kids_bad : (m : Move) → IsFeasible s m → (a : Counts) (w : List Move) (why : Why) → AreAllGood Set start bound (GoesOnBelow u m) a → IsFirstBad Set start bound (Below (u ++ m ∷ [])) w why → IsFirstBad Set start bound (Below u) w why
-    kids_bad m f a w why x y = record {
+    -- the first schedule of a move that is not passed is the first of all, where those of the moves below it are good
+    pub kids_stop : (m : Move) → IsFeasible s m → (a : Counts) (w : List Move) (end : State) (k : List Event) → AreAllGood Set start bound (GoesOnBelow u m) a → IsFirstAt Set start bound (Below (u ++ m ∷ [])) w end k → IsFirstAt Set start bound (Below u) w end k
+    kids_stop m f a w end k x y = record {
       part = begins_shorter w u m y.part;
-      bad = y.bad;
+      short = y.short;
+      leads = y.leads;
+      ended = y.ended;
       before = λ v k ended. elim (here start u s h at (λ end _. IsEnded end) v k.0 (ended_within start bound v ended).1) [
         | inl e ↦ absurd (no_move s m (ended_no_move s e.1) f)
         | inr n ↦ good_before v k.1 ended n.0 n.2
       ];
-      why_is = y.why_is;
     }
       where
         good_before : (v : List Move) → IsSmaller v w → IsEndedWithin start bound v → (n : Move) → BeginsWith v (u ++ n ∷ []) → Reaches start v (IsGoodAt Set)

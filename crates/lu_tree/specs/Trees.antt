@@ -1,5 +1,5 @@
 -- What is found below a schedule, and the frontier of a tree of schedules.
-use Rattle.std.specs.Prelude.{◌≡◌, ℕ, ◌<◌, ◌≤◌, ◌⊎◌, List, length}
+use Rattle.std.specs.Prelude.{◌≡◌, ℕ, ◌<◌, ◌≤◌, ◌⊎◌, Bool, true, false, List, length, Result, Ok, Err}
 use Rattle.lu_test.specs.declared.schedule.Move.{Move}
 use Rattle.lu_machine.specs.States.{State}
 use Rattle.lu_machine.specs.Ends.{IsEnded}
@@ -7,7 +7,7 @@ use Rattle.lu_machine.specs.Schedules.{BeginsWith, Reaches, IsSchedule, AreAll}
 use Rattle.lu_history.specs.declared.serial.SerialOp.{SerialOp}
 use Rattle.lu_witness.specs.Goodness.{IsFirstBad, AreAllGood}
 use Rattle.lu_tree.specs.declared.found.Found.{Found}
-use Rattle.lu_tree.specs.declared.found.Found.TheVariants.{Clean, Bad}
+use Rattle.lu_tree.specs.declared.found.Found.TheVariants.{Clean, Bad, Abandoned}
 
 -- the schedules that begin with this one
 abbrev pub Below : List Move → List Move → Type 0
@@ -17,6 +17,20 @@ Below from u = BeginsWith u from
 abbrev pub IsFound : (List SerialOp → Type 0) → State → ℕ → (List Move → Type 0) → Found → Type 0
 IsFound Set s bound Part (Clean counts) = AreAllGood Set s bound Part counts
 IsFound Set s bound Part (Bad schedule why) = IsFirstBad Set s bound Part schedule why
+IsFound Set s bound Part Abandoned = ⊥
+
+-- the same, unless the search was abandoned
+abbrev pub IsFoundWatched : (List SerialOp → Type 0) → State → ℕ → (List Move → Type 0) → Found → Type 0
+IsFoundWatched Set s bound Part (Clean counts) = AreAllGood Set s bound Part counts
+IsFoundWatched Set s bound Part (Bad schedule why) = IsFirstBad Set s bound Part schedule why
+IsFoundWatched Set s bound Part Abandoned = Unit {0}
+
+-- the search was abandoned
+abbrev pub is_abandoned : {E : Type 0} → Result Found E → Bool
+is_abandoned (Ok (Clean counts)) = false
+is_abandoned (Ok (Bad schedule why)) = false
+is_abandoned (Ok Abandoned) = true
+is_abandoned (Err e) = false
 
 -- u has d moves, or fewer and is ended
 abbrev pub IsPieceAt : State → ℕ → List Move → Type 0

@@ -1,18 +1,23 @@
 -- What the steps of the walk promise one another.
-use Rattle.std.specs.Prelude.{◌≡◌, ◌⊎◌, ℕ, List}
+use Rattle.std.specs.Prelude.{◌≡◌, ◌⊎◌, ℕ, ◌+◌, ◌≤◌, ◌++◌, List, [], length, reverse, vec_capacity}
 use Rattle.lu_test.specs.declared.schedule.Move.{Move}
 use Rattle.lu_machine.specs.declared.counts.Counts.{Counts}
 use Rattle.lu_machine.specs.declared.event.Event.{Event}
 use Rattle.lu_machine.specs.States.{State}
-use Rattle.lu_machine.specs.Ends.{HasMove, IsComplete, IsStuck}
+use Rattle.lu_machine.specs.Ends.{HasMove, IsComplete, IsStuck, IsEnded}
+use Rattle.lu_machine.specs.Order.{IsSmaller}
+use Rattle.lu_machine.specs.Runs.{Leads}
+use Rattle.lu_machine.specs.Sums.{plus}
 use Rattle.lu_history.specs.declared.serial.SerialOp.{SerialOp}
-use Rattle.lu_witness.specs.Goodness.{IsGoodAt, IsWhyAt, IsFirstBad, AreAllGood}
-use Rattle.lu_tree.specs.declared.node.Node.{Node}
-use Rattle.lu_tree.specs.declared.node.Walked.{Walked}
-use Rattle.lu_tree.specs.declared.node.Walked.TheVariants.{Passed, Stopped}
+use Rattle.lu_witness.specs.declared.judgement.Why.{Why}
+use Rattle.lu_witness.specs.Goodness.{IsGoodAt, IsWhyAt, AreGood, AreAllGood}
+use Rattle.lu_tree.specs.declared.tally.Tally.{Tally}
 use Rattle.lu_tree.specs.Trees.{Below}
 
--- one schedule that is complete, one that is stuck, one that is cut
+-- no schedule, one that is complete, one that is stuck, one that is cut
+abbrev pub no_schedule : Counts
+no_schedule = record { complete = 0; stuck = 0; cut = 0 }
+
 abbrev pub one_complete : Counts
 one_complete = record { complete = 1; stuck = 0; cut = 0 }
 
@@ -22,28 +27,44 @@ one_stuck = record { complete = 0; stuck = 1; cut = 0 }
 abbrev pub one_cut : Counts
 one_cut = record { complete = 0; stuck = 0; cut = 1 }
 
--- what a schedule comes to that ends here: these counts where it is good
-abbrev pub Judges : (List SerialOp → Type 0) → State → List Event → Counts → Walked → Type 0
-Judges Set s h one (Passed counts) = (counts ≡ one) × IsGoodAt Set s h
-Judges Set s h one (Stopped why) = (IsGoodAt Set s h → ⊥) × IsWhyAt Set s h why
+-- each number is at most 2^64 - 1
+abbrev pub AreCapped : Counts → Type 0
+AreCapped counts = plus counts no_schedule ≡ counts
 
--- what a schedule comes to that ends here or is cut here
-abbrev pub Stops : (List SerialOp → Type 0) → State → List Event → Walked → Type 0
-Stops Set s h walked =
-    (HasMove s × (walked ≡ Passed one_cut))
-    ⊎ ((IsComplete s × Judges Set s h one_complete walked) ⊎ (IsStuck s × Judges Set s h one_stuck walked))
+-- a tally with which a walk can go on: no path yet, and room for any
+pub record IsReady (tally : Tally) : Type 0 where
+  pub capped : AreCapped tally.counts
+  pub room : 256 ≤ vec_capacity tally.path
+  pub empty : tally.path.items ≡ []
 
--- a walk that passed leaves the path as it was
-abbrev pub IsBack : List Move → Walked → List Move → Type 0
-IsBack before (Passed counts) after = after ≡ before
-IsBack before (Stopped why) after = Unit {0}
+-- a schedule that is cut here, or ends here and is good, is counted
+abbrev pub Counted : (List SerialOp → Type 0) → State → List Event → Counts → Counts → Type 0
+Counted Set s h old new =
+    (HasMove s × (new ≡ plus old one_cut))
+    ⊎ ((IsComplete s × IsGoodAt Set s h × (new ≡ plus old one_complete))
+    ⊎ (IsStuck s × IsGoodAt Set s h × (new ≡ plus old one_stuck)))
 
--- and the machine and the history too
-abbrev pub IsHome : Node → Walked → Node → Type 0
-IsHome old (Passed counts) new = (new.machine ≡ old.machine) × (new.history ≡ old.history)
-IsHome old (Stopped why) new = Unit {0}
+-- The walk passed: each schedule that goes on from a path to s and h, with no more than `left` moves behind it, is good if it
+-- ends; their numbers were added.
+abbrev pub Passes : (List SerialOp → Type 0) → State → List Event → ℕ → Counts → Counts → Type 0
+Passes Set s h left old new =
+    (start : State) (u : List Move) → Leads start u s h →
+    (below : Counts) × (new ≡ plus old below) × AreAllGood Set start (length u + left) (Below u) below
 
--- a walk that stopped leaves the path at the first bad schedule that begins with the path before
-abbrev pub Walks : (List SerialOp → Type 0) → State → ℕ → List Move → Walked → List Move → Type 0
-Walks Set s bound before (Passed counts) after = AreAllGood Set s bound (Below before) counts
-Walks Set s bound before (Stopped why) after = IsFirstBad Set s bound (Below before) after why
+-- a schedule that ends here is not good, and why
+abbrev pub IsBadAt : (List SerialOp → Type 0) → State → List Event → Why → Type 0
+IsBadAt Set s h why = (IsGoodAt Set s h → ⊥) × IsWhyAt Set s h why
+
+-- u ends here within the bound, and each smaller schedule of the part that ends within it is good
+pub record IsFirstAt (Set : List SerialOp → Type 0) (start : State) (bound : ℕ) (Part : List Move → Type 0) (u : List Move) (end : State) (history : List Event) : Type 0 where
+  pub part : Part u
+  pub short : length u ≤ bound
+  pub leads : Leads start u end history
+  pub ended : IsEnded end
+  pub before : AreGood Set start bound (λ v. Part v × IsSmaller v u)
+
+-- The walk stopped at a schedule that ends: it goes on by these moves, the last one first, and those before it are good.
+abbrev pub StopsAt : (List SerialOp → Type 0) → State → List Event → ℕ → List Move → State → List Event → Type 0
+StopsAt Set s h left path end history =
+    (start : State) (u : List Move) → Leads start u s h →
+    IsFirstAt Set start (length u + left) (Below u) (u ++ reverse path) end history

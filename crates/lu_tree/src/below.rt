@@ -1,62 +1,30 @@
 //! The search below a schedule.
 
-ghost use Rattle.std.specs.Prelude.{◌≤◌, length, IfOk};
-ghost use Rattle.lu_lang.specs.Component.{IsComponent};
+ghost use Rattle.std.specs.Prelude.{◌≡◌, ◌≤◌, ◌+◌, ◌++◌, false, length, reverse, vec_capacity, IfOk};
+ghost use Rattle.lu_component.specs.Component.{IsComponent};
 ghost use Rattle.lu_test.specs.Matrix.{IsMatrix, IsOf};
 ghost use Rattle.lu_machine.specs.States.{State, progress};
 ghost use Rattle.lu_machine.specs.Runs.{Leads};
 ghost use Rattle.lu_machine.specs.Schedules.{IsSchedule};
 ghost use Rattle.lu_machine.specs.Starts.{IsStart};
 ghost use Rattle.lu_history.specs.Standing.{Agree};
+ghost use Rattle.lu_witness.specs.Caches.{SameButEntries};
 ghost use Rattle.lu_witness.specs.Witnesses.{IsMember};
-ghost use Rattle.lu_tree.specs.Trees.{Below, IsFound};
-ghost use Rattle.lu_tree.specs.Walks.{IsBack, IsHome, Walks};
+ghost use Rattle.lu_tree.specs.Trees.{Below, IsFound, IsFoundWatched, is_abandoned};
 
 use crate::found::Found;
-use crate::node::{Node, Walked};
-use lu_lang::Component;
-use lu_machine::Counts;
+use crate::node::Node;
+use crate::tally::Tally;
+use crate::walk::walk;
+use crate::watch::{Unwatched, Watch};
+use lu_component::Component;
 use lu_test::{Matrix, Move, Schedule};
 use lu_trie::SerialTree;
+use lu_witness::Cache;
 use std::alloc::{AllocError, Global};
 
-/// Walks the schedules that begin with the path, which led to this node.
-fn walk<T: SerialTree>(
-    tree: &T,
-    bound: u16,
-    node: &mut Node,
-    path: &mut Vec<Move>,
-) -> Result<Walked, AllocError>
-    requires short { length path.old.items ≤ bound }
-    requires agree { Agree (progress node.old.machine) node.old.history }
-    ensures back { IfOk result (λ walked. IsBack path.old.items walked path.new.items) }
-    ensures home { IfOk result (λ walked. IsHome node.old walked node.new) }
-    ensures answer { IfOk result (λ walked. (start : State) → Leads start path.old.items node.old.machine node.old.history → Walks (IsMember (T.members tree.now)) start bound path.old.items walked path.new.items) }
-{
-    if path.len() == usize::from(bound) {
-        return Ok(node.stop(tree));
-    }
-    let mut counts = Counts::NONE;
-    let mut is_ended = true;
-    for thread in 0..node.machine.threads() {
-        for pick in 0..node.machine.picks(thread) {
-            is_ended = false;
-            let next = Move { thread, pick };
-            let undo = node.enter(next)?;
-            path.push(next)?;
-            match walk(tree, bound, node, path)? {
-                Walked::Passed(below) => counts = counts.plus(below),
-                Walked::Stopped(why) => return Ok(Walked::Stopped(why)),
-            }
-            path.pop();
-            node.leave(undo);
-        }
-    }
-    if is_ended {
-        return Ok(node.stop(tree));
-    }
-    Ok(Walked::Passed(counts))
-}
+/// How many verdicts a search remembers beside those of its own histories.
+const REMEMBERED: usize = 1024;
 
 /// The limits of both hold. It does nothing.
 fn limits(component: &Component, matrix: &Matrix)
@@ -68,22 +36,80 @@ fn limits(component: &Component, matrix: &Matrix)
 }
 
 /// The node to which the schedule leads.
-fn node_after<'a>(
+fn node_after<'a, 't, T: SerialTree>(
     alloc: Global,
     component: &'a Component,
     matrix: &'a Matrix,
+    tree: &'t T,
     schedule: &[Move],
-) -> Result<Node<'a>, AllocError>
+) -> Result<Node<'a, 't, T>, AllocError>
     requires of { IsOf matrix.now component.now }
     requires leads { (s : State) → IsStart component.now matrix.now s → IsSchedule s schedule.now }
-    ensures leads { (s : State) → IsStart component.now matrix.now s → IfOk result (λ node. Leads s schedule.now node.machine node.history) }
-    ensures agree { IfOk result (λ node. Agree (progress node.machine) node.history) }
+    ensures leads { (s : State) → IsStart component.now matrix.now s → IfOk result (λ node. Leads s schedule.now node.machine node.trail.history) }
+    ensures agree { IfOk result (λ node. Agree (progress node.machine) node.trail.history) }
+    ensures tree { IfOk result (λ node. node.trail.tree ≡ tree.entry.now) }
 {
-    let mut node = Node::start(alloc, component, matrix)?;
+    let mut node = Node::start(alloc, component, matrix, tree)?;
     for next in schedule {
-        node.enter(*next)?;
+        node.enter(*next);
     }
     Ok(node)
+}
+
+/// The schedule of these moves, and then of those of the path, the last one of which comes first.
+fn joined(from: &[Move], path: Vec<Move>) -> Vec<Move>
+    requires { length from.now + length path.items ≤ vec_capacity path }
+    ensures { result.items ≡ from.now ++ reverse path.items }
+{
+    let mut moves = path;
+    for next in from.iter().rev() {
+        moves.push_reserved(*next);
+    }
+    moves.reverse();
+    moves
+}
+
+/// Searches as [`search`] does, over the tree of the cache, until the watch stops it. The watch is asked after each 64 further
+/// schedules that were judged good, or that are cut.
+///
+/// # Errors
+///
+/// `AllocError` where memory was refused.
+pub fn search_watched<'a, 't, T: SerialTree, W: Watch>(
+    alloc: Global,
+    component: &'a Component,
+    matrix: &'a Matrix,
+    cache: &mut Cache<'t, T>,
+    from: &Schedule,
+    bound: u16,
+    watch: &mut W,
+) -> Result<Found, AllocError>
+    requires of { IsOf matrix.now component.now }
+    requires few { bound ≤ 256 }
+    requires short { length from.now ≤ bound }
+    requires leads { (s : State) → IsStart component.now matrix.now s → IsSchedule s from.now }
+    requires running { W.is_stopped watch.old ≡ false }
+    ensures found { (s : State) → IsStart component.now matrix.now s → IfOk result (IsFoundWatched (IsMember (T.members cache.old.tree)) s bound (Below from.now)) }
+    ensures base { W.base watch.new ≡ W.base watch.old }
+    ensures cache { SameButEntries cache.old cache.new }
+    ensures stopped { W.is_stopped watch.new ≡ is_abandoned result }
+{
+    limits(component, matrix);
+    let moves = from.moves();
+    let mut node = node_after(alloc, component, matrix, cache.tree(), moves)?;
+    let mut tally = Tally::new(alloc)?;
+    let left = bound - moves.len() as u16;
+    if walk(cache, watch, left, &mut node, &mut tally) {
+        return Ok(Found::Clean(tally.counts));
+    }
+    if watch.stopped() {
+        return Ok(Found::Abandoned);
+    }
+    let why = node.why_bad(cache)?;
+    Ok(Found::Bad {
+        schedule: Schedule::new(joined(moves, tally.path)),
+        why,
+    })
 }
 
 /// Searches the schedules that begin with `from`: answers the least one that is ended within the bound, 0 to 256 moves, and
@@ -107,14 +133,9 @@ pub fn search<T: SerialTree>(
     requires leads { (s : State) → IsStart component.now matrix.now s → IsSchedule s from.now }
     ensures { (s : State) → IsStart component.now matrix.now s → IfOk result (IsFound (IsMember (T.members tree.now)) s bound (Below from.now)) }
 {
-    limits(component, matrix);
-    let mut node = node_after(alloc, component, matrix, from.moves())?;
-    let mut path = Vec::from_slice(alloc, from.moves())?;
-    match walk(tree, bound, &mut node, &mut path)? {
-        Walked::Passed(counts) => Ok(Found::Clean(counts)),
-        Walked::Stopped(why) => Ok(Found::Bad {
-            schedule: Schedule::new(path),
-            why,
-        }),
-    }
+    let mut cache = Cache::new(alloc, tree, REMEMBERED)?;
+    let mut watch = Unwatched;
+    search_watched(
+        alloc, component, matrix, &mut cache, from, bound, &mut watch,
+    )
 }

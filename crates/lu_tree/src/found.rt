@@ -12,4 +12,7 @@ pub enum Found {
 
     /// The least schedule that ends within the bound and is not good, and why it is not. Every smaller one is good.
     Bad { schedule: Schedule, why: Why },
+
+    /// The watch stopped the search.
+    Abandoned,
 }

@@ -21,10 +21,11 @@ mod below;
 mod found;
 mod node;
 mod pieces;
+mod tally;
+mod walk;
+mod watch;
 
-pub use below::search;
+pub use below::{search, search_watched};
 pub use found::Found;
 pub use pieces::frontier;
-
-#[cfg(test)]
-mod tests;
+pub use watch::{Unwatched, Watch};

@@ -1,6 +1,6 @@
 //! A node of the tree of schedules.
 
-ghost use Rattle.std.specs.Prelude.{◌≡◌, ◌++◌, [], IfOk, List};
+ghost use Rattle.std.specs.Prelude.{◌≡◌, ◌++◌, [], IfOk, IsTrue, List};
 ghost use Rattle.lu_test.specs.Matrix.{IsOf};
 ghost use Rattle.lu_machine.specs.declared.event.Event.{Event};
 ghost use Rattle.lu_machine.specs.Ends.{IsEnded};
@@ -10,120 +10,115 @@ ghost use Rattle.lu_machine.specs.States.{progress};
 ghost use Rattle.lu_machine.specs.Steps.{IsFeasible, Step};
 ghost use Rattle.lu_machine.specs.Undoes.{CanTake, restored};
 ghost use Rattle.lu_history.specs.Standing.{Agree};
+ghost use Rattle.lu_witness.specs.Caches.{SameButEntries};
+ghost use Rattle.lu_witness.specs.Goodness.{IsGoodAt};
 ghost use Rattle.lu_witness.specs.Witnesses.{IsMember};
-ghost use Rattle.lu_tree.specs.Walks.{Judges, Stops};
+ghost use Rattle.lu_tree.specs.Walks.{IsBadAt};
 
-use lu_history::{History, HistoryFault};
-use lu_lang::Component;
-use lu_machine::{Counts, Machine, Status, Undo};
+use lu_component::Component;
+use lu_machine::{Machine, Undo};
 use lu_test::{Matrix, Move};
+use lu_trail::Trail;
 use lu_trie::SerialTree;
-use lu_witness::{Verdict, Why, verdict};
+use lu_witness::{Cache, Verdict, Why};
 use std::alloc::{AllocError, Global};
-
-/// A walk passed all schedules of its part, which are good, or stopped at the first bad one.
-#[derive(Clone, Copy, Debug)]
-pub(crate) enum Walked {
-    Passed(Counts),
-    Stopped(Why),
-}
 
 /// A machine, with the history of the path that led to its state.
 #[derive(Drop)]
-pub(crate) struct Node<'a> {
+pub(crate) struct Node<'a, 't, T: SerialTree> {
     pub(crate) machine: Machine<'a>,
-    pub(crate) history: History,
+    pub(crate) trail: Trail<'t, T>,
 }
 
-impl<'a> Node<'a> {
-    /// The start of a run.
+impl<'a, 't, T: SerialTree> Node<'a, 't, T> {
+    /// The start of a run, whose histories are judged over the tree.
     pub(crate) fn start(
         alloc: Global,
         component: &'a Component,
         matrix: &'a Matrix,
-    ) -> Result<Node<'a>, AllocError>
+        tree: &'t T,
+    ) -> Result<Node<'a, 't, T>, AllocError>
         requires { IsOf matrix.now component.now }
         ensures machine { IfOk result (λ node. IsStart component.now matrix.now node.machine) }
-        ensures history { IfOk result (λ node. node.history ≡ []) }
+        ensures history { IfOk result (λ node. node.trail.history ≡ []) }
+        ensures tree { IfOk result (λ node. node.trail.tree ≡ tree.entry.now) }
     {
         Ok(Node {
             machine: Machine::start(alloc, component, matrix)?,
-            history: History::new(alloc),
+            trail: Trail::new(alloc, tree)?,
         })
     }
 
     /// Makes the move here.
-    pub(crate) fn enter(&mut self, next: Move) -> Result<Undo, AllocError>
+    #[inline(always)]
+    pub(crate) fn enter(&mut self, next: Move) -> Undo
         requires feasible { IsFeasible self.old.machine next }
-        requires agree { Agree (progress self.old.machine) self.old.history }
-        ensures step { IfOk result (λ undo. Step self.old.machine next self.new.machine undo.event) }
-        ensures history { IfOk result (λ undo. self.new.history ≡ self.old.history ++ with_event undo.event []) }
-        ensures agree { IfOk result (λ _. Agree (progress self.new.machine) self.new.history) }
-        ensures back { IfOk result (λ undo. restored undo self.new.machine ≡ self.old.machine) }
-        ensures fits { IfOk result (λ undo. CanTake self.new.machine undo) }
+        requires agree { Agree (progress self.old.machine) self.old.trail.history }
+        ensures step { Step self.old.machine next self.new.machine result.event }
+        ensures history { self.new.trail.history ≡ self.old.trail.history ++ with_event result.event [] }
+        ensures tree { self.new.trail.tree ≡ self.old.trail.tree }
+        ensures agree { Agree (progress self.new.machine) self.new.trail.history }
+        ensures back { restored result self.new.machine ≡ self.old.machine }
+        ensures fits { CanTake self.new.machine result }
     {
         let undo = self.machine.apply(next);
         match undo.event() {
-            None => Ok(undo),
-            Some(event) => match self.history.push(event) {
-                Ok(()) => Ok(undo),
-                Err(HistoryFault::Memory) => Err(AllocError),
-            },
+            None => undo,
+            Some(event) => {
+                self.trail.push(event);
+                undo
+            }
         }
     }
 
     /// Takes back the move that was made last.
+    #[inline(always)]
     pub(crate) fn leave(&mut self, undo: Undo)
         requires fits { CanTake self.old.machine undo }
-        requires made { (h : List Event) × (self.old.history ≡ h ++ with_event undo.event []) }
+        requires made { (h : List Event) × (self.old.trail.history ≡ h ++ with_event undo.event []) }
         ensures machine { self.new.machine ≡ restored undo self.old.machine }
-        ensures history { (h : List Event) → self.old.history ≡ h ++ with_event undo.event [] → self.new.history ≡ h }
+        ensures history { (h : List Event) → self.old.trail.history ≡ h ++ with_event undo.event [] → self.new.trail.history ≡ h }
+        ensures tree { self.new.trail.tree ≡ self.old.trail.tree }
     {
         if undo.event().is_some() {
-            self.history.pop();
+            self.trail.pop();
         }
         self.machine.undo(undo);
     }
 
-    /// What a schedule comes to that ends here: these counts, or why it is bad.
-    fn end<T: SerialTree>(&self, tree: &T, one: Counts) -> Walked
-        requires agree { Agree (progress self.now.machine) self.now.history }
-        requires ended { IsEnded self.now.machine }
-        ensures { Judges (IsMember (T.members tree.now)) self.now.machine self.now.history one result }
+    /// Whether a schedule that ends here is found good. It is not where memory is refused.
+    #[inline(always)]
+    pub(crate) fn is_good(&mut self, cache: &mut Cache<'t, T>) -> bool
+        requires agree { Agree (progress self.old.machine) self.old.trail.history }
+        requires tree { cache.old.tree ≡ self.old.trail.tree }
+        requires ended { IsEnded self.old.machine }
+        ensures same { self.new ≡ self.old }
+        ensures cache { SameButEntries cache.old cache.new }
+        ensures good { IsTrue result → IsGoodAt (IsMember (T.members self.old.trail.tree)) self.old.machine self.old.trail.history }
     {
-        // Its clause says that the history is well-formed.
-        let _events = self.history.events();
-        match verdict(tree, &self.history) {
-            Verdict::Good => Walked::Passed(one),
-            Verdict::NoWitness => Walked::Stopped(Why::Complete),
-            Verdict::NoWitnessFor(thread) => Walked::Stopped(Why::Stuck(thread)),
+        match self.trail.judge(cache) {
+            Ok(Verdict::Good) => true,
+            Ok(_) | Err(_) => false,
         }
     }
 
-    /// What a schedule comes to that ends here or is cut here: a count of one, or why it is bad.
-    pub(crate) fn stop<T: SerialTree>(&self, tree: &T) -> Walked
-        requires { Agree (progress self.now.machine) self.now.history }
-        ensures { Stops (IsMember (T.members tree.now)) self.now.machine self.now.history result }
+    /// Why a schedule is bad that ends here and was not found good.
+    ///
+    /// # Errors
+    ///
+    /// `AllocError` where memory was refused.
+    pub(crate) fn why_bad(&mut self, cache: &mut Cache<'t, T>) -> Result<Why, AllocError>
+        requires agree { Agree (progress self.old.machine) self.old.trail.history }
+        requires tree { cache.old.tree ≡ self.old.trail.tree }
+        requires ended { IsEnded self.old.machine }
+        ensures cache { SameButEntries cache.old cache.new }
+        ensures bad { IfOk result (IsBadAt (IsMember (T.members self.old.trail.tree)) self.old.machine self.old.trail.history) }
     {
-        match self.machine.status() {
-            Status::Running => Walked::Passed(Counts {
-                cut: 1,
-                ..Counts::NONE
-            }),
-            Status::Complete => self.end(
-                tree,
-                Counts {
-                    complete: 1,
-                    ..Counts::NONE
-                },
-            ),
-            Status::Stuck => self.end(
-                tree,
-                Counts {
-                    stuck: 1,
-                    ..Counts::NONE
-                },
-            ),
+        match self.trail.judge(cache)? {
+            // It was not found good since memory was refused.
+            Verdict::Good => Err(AllocError),
+            Verdict::NoWitness => Ok(Why::Complete),
+            Verdict::NoWitnessFor(thread) => Ok(Why::Stuck(thread)),
         }
     }
 }

@@ -1,7 +1,7 @@
 //! The frontier of the tree of schedules.
 
 ghost use Rattle.std.specs.Prelude.{◌≡◌, ◌+◌, ◌≤◌, ◌++◌, [], ◌∷◌, List, ℕ, min, length, drop, IfOk, IfNone, IfSome, OnOk};
-ghost use Rattle.lu_lang.specs.Component.{IsComponent};
+ghost use Rattle.lu_component.specs.Component.{IsComponent};
 ghost use Rattle.lu_test.specs.declared.schedule.Move.{Move as AMove};
 ghost use Rattle.lu_test.specs.Matrix.{IsOf};
 ghost use Rattle.lu_test.specs.Schedule.{IsMove};
@@ -11,7 +11,7 @@ ghost use Rattle.lu_machine.specs.Starts.{IsStart};
 ghost use Rattle.lu_tree.specs.Trees.{IsFrontier, IsPieceAt};
 ghost use Rattle.lu_tree.specs.Pieces.{AreKids, HasKids, TooMany};
 
-use lu_lang::Component;
+use lu_component::Component;
 use lu_machine::Machine;
 use lu_test::{Matrix, Move, Schedule};
 use std::alloc::{AllocError, Global};

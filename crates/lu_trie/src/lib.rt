@@ -18,6 +18,3 @@ mod trie;
 pub use packed::PackedTrie;
 pub use tree::SerialTree;
 pub use trie::Trie;
-
-#[cfg(test)]
-mod tests;

@@ -9,3 +9,5 @@ pub use walk::{contains, count, same_members};
 
 #[cfg(test)]
 mod tests;
+#[cfg(test)]
+mod tries;

@@ -1,5 +1,5 @@
 -- What a verdict says of an ended schedule.
-use Rattle.std.proofs.Common.{◌≡◌, ℕ, zero, suc, ◌+◌, ◌<◌, ◌≤◌, ◌⊎◌, Bool, true, false, List, length, map, get_or, if◌then◌else◌, Option, Some, None, slice_get, inl, inr, refl, sym, ap, subst, ◌∙◌, arith}
+use Rattle.std.proofs.Common.{◌≡◌, ℕ, zero, suc, ◌+◌, ◌<◌, ◌≤◌, ◌⊎◌, true, false, List, length, map, get_or, if◌then◌else◌, Option, Some, None, slice_get, inl, inr, refl, sym, ap, subst, ◌∙◌, arith}
 use Rattle.std.specs.Option.{option_map}
 use Rattle.std.proofs.lemmas.Bool.{cases_lt, lt-ltb, ltb-true}
 use Rattle.std.proofs.lemmas.List.{get_or_past, length-map}
@@ -17,7 +17,7 @@ use Rattle.lu_history.specs.Histories.{IsPending, IsWellFormed, calls, outcomes,
 use Rattle.lu_history.specs.Standing.{Standing, Agree, standing_of}
 use Rattle.lu_history.proofs.PartEntries.{pending_tells}
 use Rattle.lu_witness.specs.declared.judgement.Verdict.TheVariants.{Good, NoWitness, NoWitnessFor}
-use Rattle.lu_witness.specs.Witnesses.{IsLeastWithout, IsVerdict}
+use Rattle.lu_witness.specs.Witnesses.{IsVerdict}
 use Rattle.lu_witness.specs.Goodness.{IsGoodAt}
 
 standing_at : (threads : List Thread) (t : ℕ) (thread : Thread) → slice_get threads t ≡ Some thread → standing_of (map progress_of threads) t ≡ progress_of thread

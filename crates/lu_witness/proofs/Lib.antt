@@ -5,3 +5,6 @@ pub mod Nexts
 pub mod Keeping
 pub mod Verdicts
 pub mod Endings
+mod SameEvents
+pub mod Right
+mod Shown

@@ -2,7 +2,8 @@
 //!
 //! A serial history is a witness of a history where each thread has the same outcomes in both, in order, and where an
 //! operation that precedes another one in the history stands before it. [`has_witness`] searches a set of serial histories for
-//! one; [`verdict`] says whether a history has all the witnesses that it needs.
+//! one; [`verdict`] says whether a history has all the witnesses that it needs. A [`Cache`] remembers the verdicts that were asked
+//! for last.
 //!
 //! ```text
 //! match verdict(&&set, &history) {
@@ -13,14 +14,13 @@
 //! ```
 #![tactic(auto)]
 
+mod cache;
 mod judge;
 mod judgement;
 mod kept;
 mod search;
 
+pub use cache::Cache;
 pub use judge::verdict;
 pub use judgement::{Verdict, Why};
 pub use search::has_witness;
-
-#[cfg(test)]
-mod tests;

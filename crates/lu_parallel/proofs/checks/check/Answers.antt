@@ -15,5 +15,6 @@ pub returns-clause-report : goal.returns-clause-report
 returns-clause-report g c = (
   ap (λ (r : Parts). r.bound) c.new.ensures ∙ c.bound.ensures.bound,
   ap (λ (r : Parts). r.serial) c.new.ensures ∙ c.serial.ensures.serial,
+  ap (λ (r : Parts). r.local) c.new.ensures ∙ c.local.ensures.local,
   λ s is. subst (λ (f : Finding). IsFinding s c.args.options.bound c.args.options.serial f) (sym (ap (λ (r : Parts). r.finding) c.new.ensures)) (c.in_ok-finding.ensures.found s is),
 )

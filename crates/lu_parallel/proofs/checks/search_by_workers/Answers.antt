@@ -8,7 +8,7 @@ use Rattle.lu_replay.specs.Reports.{IsFinding}
 use Rattle.lu_parallel.specs.Findings.{finding_of}
 use Rattle.lu_parallel.specs.Works.{IsPiece}
 use Rattle.lu_parallel.specs.Conclusions.{seats_of, IsConclusion}
-use Rattle.lu_parallel.proofs.Answers.{found_finding}
+use Rattle.lu_parallel.proofs.Answers.{concluded_finding, found_finding, same_finding}
 use Rattle.lu_parallel.proofs.Concluding.{concluded}
 use Rattle.lu_parallel.proofs.Frontiers.{frontier_pieces}
 use Rattle.lu_parallel.proofs.checks.search_by_workers.Goals as goal
@@ -30,6 +30,11 @@ run_workers-requires-clause-job g c κs within = record {
   numbered = c.in_ok-board.ensures.board.0 ∙ (c.len.ensures ∙ sym c.deref.ensures.len);
 }
 
+pub finding_of-requires : goal.finding_of-requires
+finding_of-requires g c =
+    let conclusion : IsConclusion c.in_ok-works.works.items (Some c.in-Some.found) = rw c.in-Some.is at c.in_ok-found.ensures.conclusion in
+    concluded_finding c.in_ok-works.works.items c.in-Some.found conclusion.1
+
 pub returns-in-Some : goal.returns-in-Some
 returns-in-Some g c = λ s is serial set.
     let members = members_of c.args.tree.now in
@@ -42,4 +47,4 @@ returns-in-Some g c = λ s is serial set.
     let shares = subst (λ n. SharesOut n (seats_of works)) long c.in_ok-found.ensures.pieces in
     let conclusion : IsConclusion works (Some found) = rw c.in-Some.is at c.in_ok-found.ensures.conclusion in
     let all = concluded c.args.component.now c.args.matrix.now members s bound pieces c.in_ok-board.board.board works found is cover c.in_ok-works.ensures.each shares c.in_ok-found.ensures.skipped conclusion in
-    rw c.finding_of.ensures (subst (λ n. IsFinding s n serial (finding_of found)) c.bound-bound.ensures.bound (found_finding members s bound serial found set all))
+    subst (λ n. IsFinding s n serial c.finding_of.result) c.bound-bound.ensures.bound (same_finding s bound serial (finding_of found) c.finding_of.result c.finding_of.ensures (found_finding members s bound serial found set all))

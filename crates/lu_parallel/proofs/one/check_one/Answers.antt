@@ -1,4 +1,4 @@
-use Rattle.std.proofs.Common.{ap, refl, sym, subst}
+use Rattle.std.proofs.Common.{◌∙◌, ap, refl, sym, subst}
 use Rattle.lu_replay.specs.declared.report.Finding.{Finding}
 use Rattle.lu_replay.specs.Parts.{Parts}
 use Rattle.lu_replay.specs.Reports.{IsFinding}
@@ -15,5 +15,6 @@ pub returns : goal.returns
 returns g c = (
   ap (λ (r : Parts). r.bound) c.new.ensures,
   ap (λ (r : Parts). r.serial) c.new.ensures,
+  ap (λ (r : Parts). r.local) c.new.ensures ∙ c.local.ensures.local,
   λ s is. subst (λ (f : Finding). IsFinding s c.args.bound c.args.serial f) (sym (ap (λ (r : Parts). r.finding) c.new.ensures)) (c.in_ok-finding.ensures s is),
 )

@@ -1,5 +1,5 @@
 use Rattle.std.proofs.Common.{rules, arith, ◌+◌, ◌-◌, ◌<◌, length, drop, get_or, sym, subst}
-use Rattle.lu_lang.specs.Component.{IsComponent}
+use Rattle.lu_component.specs.Component.{IsComponent}
 use Rattle.lu_test.specs.declared.schedule.Move.{Move}
 use Rattle.lu_machine.specs.Schedules.{IsSchedule}
 use Rattle.lu_machine.specs.Steps.{Step, IsFeasible}

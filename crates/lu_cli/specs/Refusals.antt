@@ -1,0 +1,53 @@
+-- What is written of a refusal.
+use Rattle.std.specs.Prelude.{ℕ, List, Option, Some, None, Result, Ok, Err, IfSome, codes}
+use Rattle.lu_text.specs.declared.fault.Fault.{Fault}
+use Rattle.lu_text.specs.declared.fault.Fault.TheVariants.{At, Memory}
+use Rattle.lu_lang.specs.Kinds.{code_of}
+use Rattle.lu_test.specs.declared.schedule_fault.ScheduleFault.{ScheduleFault}
+use Rattle.lu_test.specs.declared.schedule_fault.ScheduleFault.TheVariants as schedule
+use Rattle.lu_test.specs.Codes.{matrix_code_of, schedule_code_of}
+use Rattle.lu_parallel.specs.declared.fault.CheckFault.{CheckFault}
+use Rattle.lu_parallel.specs.declared.fault.CheckFault.TheVariants as check
+use Rattle.lu_refine.specs.declared.campaigns.CampaignFault.{CampaignFault}
+use Rattle.lu_refine.specs.declared.campaigns.CampaignFault.TheVariants as campaign
+use Rattle.lu_refine.specs.Codes.{campaign_code_of}
+use Rattle.lu_cli.specs.declared.texts.Fault.{Fault as TextsFault}
+use Rattle.lu_cli.specs.declared.texts.Fault.TheVariants.{Component, Matrix, Check}
+use Rattle.lu_cli.specs.declared.refusal.Refusal.{Refusal}
+use Rattle.lu_cli.specs.declared.refusal.Refusal.TheVariants as refusal
+use Rattle.lu_cli.specs.Outcomes.{Answer, refused, refused_on_line, no_worker}
+
+-- a fault by line; nothing is written for want of memory here
+abbrev pub line_answer : {Kind : Type 0} → (Kind → List ℕ) → Fault Kind → Option Answer
+line_answer code (At kind n) = Some (refused_on_line (code kind) n)
+line_answer code Memory = None
+
+abbrev pub worker_answer : CheckFault → Option Answer
+worker_answer check.Worker = Some no_worker
+worker_answer check.Memory = None
+
+abbrev pub schedule_answer : ScheduleFault → Option Answer
+schedule_answer schedule.Memory = None
+schedule_answer fault = Some (refused (schedule_code_of fault))
+
+abbrev pub campaign_refusal : CampaignFault → Option Answer
+campaign_refusal campaign.Memory = None
+campaign_refusal fault = Some (refused (campaign_code_of fault))
+
+abbrev pub texts_answer : TextsFault → Option Answer
+texts_answer (Component fault) = line_answer code_of fault
+texts_answer (Matrix fault) = line_answer matrix_code_of fault
+texts_answer (Check fault) = worker_answer fault
+
+-- the line of a refusal, and its status; none for want of memory, of which the program tells in one place
+abbrev pub refusal_answer : Refusal → Option Answer
+refusal_answer refusal.Parts = Some (refused (codes "B1"))
+refusal_answer (refusal.Texts fault) = texts_answer fault
+refusal_answer (refusal.Schedule fault) = schedule_answer fault
+refusal_answer (refusal.Campaign fault) = campaign_refusal fault
+refusal_answer refusal.Memory = None
+
+-- an answer of this kind, or a refusal whose line is one
+abbrev pub Answered : (Answer → Type 0) → Result Answer Refusal → Type 0
+Answered IsAnswer (Ok answer) = IsAnswer answer
+Answered IsAnswer (Err refusal) = IfSome (refusal_answer refusal) IsAnswer

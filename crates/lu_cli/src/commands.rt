@@ -1,0 +1,234 @@
+//! What is answered to each command.
+
+ghost use Rattle.std.specs.Prelude.{◌≡◌, IfOk};
+ghost use Rattle.lu_text.specs.Lines.{texts};
+ghost use Rattle.lu_test.specs.Matrix.{IsOf};
+ghost use Rattle.lu_machine.specs.States.{State};
+ghost use Rattle.lu_machine.specs.Starts.{IsStart};
+ghost use Rattle.lu_replay.specs.Reports.{IsFinding, IsOfOffence};
+ghost use Rattle.lu_refine.specs.Campaigns.{AreCallsOf, HaveArguments};
+ghost use Rattle.lu_cli.specs.Refusals.{Answered};
+ghost use Rattle.lu_cli.specs.Replies as spec;
+
+use crate::answer::{
+    Answer, infeasible, show_count, show_matrix, show_refusal, show_report, show_set,
+};
+use crate::order::{Bounds, CampaignOptions, Order};
+use crate::refusal::Refusal;
+use crate::texts::{read_texts, report_of};
+use lu_lang::Component;
+use lu_parallel::Options;
+use lu_refine::{Campaign, CampaignFault, ShrinkFault, campaign, shrink};
+use lu_replay::{Finding, ReplayFault, Report, replay, set_or_offence, write_replay};
+use lu_serial::learn;
+use lu_test::{Call, Matrix, Schedule, read_schedule};
+use lu_text::{three, two};
+use std::alloc::{AllocError, Global};
+use std::sync::Wait;
+use std::thread::Threads;
+
+/// What the schedule shows, or where it is infeasible.
+fn play(
+    alloc: Global,
+    component: &Component,
+    matrix: &Matrix,
+    schedule: &Schedule,
+) -> Result<Answer, AllocError>
+    requires { IsOf matrix.now component.now }
+    ensures { IfOk result (spec.IsReplayed component.now matrix.now schedule.now) }
+{
+    match replay(alloc, component, matrix, schedule) {
+        Ok(shown) => Ok(Answer {
+            text: write_replay(alloc, &shown)?,
+            status: 0,
+        }),
+        Err(ReplayFault::Infeasible(index)) => infeasible(alloc, index),
+        Err(ReplayFault::Memory) => Err(AllocError),
+    }
+}
+
+/// `lineup replay`: component, matrix and schedule.
+fn answer_replay(alloc: Global, parts: &[&[u8]]) -> Result<Answer, Refusal>
+    ensures { Answered (spec.IsReplayOf (texts parts.now)) result }
+{
+    let (component, matrix, schedule) = three(parts).ok_or(Refusal::Parts)?;
+    let (component, matrix) = read_texts(alloc, component, matrix)?;
+    let schedule = read_schedule(alloc, schedule)?;
+    Ok(play(alloc, &component, &matrix, &schedule)?)
+}
+
+/// The report of a serial offence.
+fn show_offence(
+    alloc: Global,
+    component: &Component,
+    matrix: &Matrix,
+    bounds: Bounds,
+    finding: Finding,
+) -> Result<Answer, AllocError>
+    requires offence { IsOfOffence finding }
+    requires found { (s : State) → IsStart component.now matrix.now s → IsFinding s bounds.bound bounds.serial finding }
+    ensures { IfOk result (spec.IsRunSerially component.now matrix.now bounds) }
+{
+    // Its clause says that the matrix is within its limits.
+    let _threads = matrix.threads();
+    show_report(
+        alloc,
+        &Report::new(bounds.bound(), bounds.serial(), component.local(), finding),
+    )
+}
+
+/// The serial histories, or the report of the least serial offence.
+fn run_serially(
+    alloc: Global,
+    component: &Component,
+    matrix: &Matrix,
+    bounds: Bounds,
+) -> Result<Answer, AllocError>
+    requires { IsOf matrix.now component.now }
+    ensures { IfOk result (spec.IsRunSerially component.now matrix.now bounds) }
+{
+    let learnt = learn(alloc, alloc, component, matrix, bounds.serial())?;
+    match set_or_offence(learnt) {
+        Ok(set) => show_set(alloc, &set),
+        Err(finding) => show_offence(alloc, component, matrix, bounds, finding),
+    }
+}
+
+/// `lineup serial`: component and matrix.
+fn answer_serial(alloc: Global, bounds: Bounds, parts: &[&[u8]]) -> Result<Answer, Refusal>
+    ensures { Answered (spec.IsSerialOf bounds (texts parts.now)) result }
+{
+    let (component, matrix) = two(parts).ok_or(Refusal::Parts)?;
+    let (component, matrix) = read_texts(alloc, component, matrix)?;
+    Ok(run_serially(alloc, &component, &matrix, bounds)?)
+}
+
+/// `lineup check`: component and matrix.
+fn answer_check<X: AllocGlobal + Threads + Wait>(
+    rt: &X,
+    options: Options,
+    parts: &[&[u8]],
+) -> Result<Answer, Refusal>
+    ensures { Answered (spec.IsCheckOf options (texts parts.now)) result }
+{
+    let (component, matrix) = two(parts).ok_or(Refusal::Parts)?;
+    let report = report_of(rt, rt.alloc(), component, matrix, options)?;
+    Ok(show_report(rt.alloc(), &report)?)
+}
+
+/// The last matrix of the chain of removals, with its report; or the report of a matrix that does not fail.
+fn shrink_matrix(
+    alloc: Global,
+    component: &Component,
+    matrix: &Matrix,
+    bounds: Bounds,
+) -> Result<Answer, AllocError>
+    requires { IsOf matrix.now component.now }
+    ensures { IfOk result (spec.IsShrinkAnswer component.now matrix.now bounds) }
+{
+    match shrink(alloc, component, matrix, bounds.bound(), bounds.serial()) {
+        Ok((smaller, report)) => show_matrix(alloc, component, &smaller, &report),
+        Err(ShrinkFault::NotFailing(report)) => show_report(alloc, &report),
+        Err(ShrinkFault::Memory) => Err(AllocError),
+    }
+}
+
+/// `lineup shrink`: component and matrix.
+fn answer_shrink(alloc: Global, bounds: Bounds, parts: &[&[u8]]) -> Result<Answer, Refusal>
+    ensures { Answered (spec.IsShrinkOf bounds (texts parts.now)) result }
+{
+    let (component, matrix) = two(parts).ok_or(Refusal::Parts)?;
+    let (component, matrix) = read_texts(alloc, component, matrix)?;
+    Ok(shrink_matrix(alloc, &component, &matrix, bounds)?)
+}
+
+/// What the campaign over these calls finds.
+fn try_matrices(
+    alloc: Global,
+    component: &Component,
+    candidates: &[Call],
+    options: CampaignOptions,
+) -> Result<Answer, Refusal>
+    requires of { AreCallsOf component.now candidates.now }
+    requires arguments { HaveArguments candidates.now }
+    ensures { Answered (spec.IsCampaignAnswer component.now candidates.now options) result }
+{
+    let bounds = options.bounds;
+    let found = campaign(
+        alloc,
+        component,
+        candidates,
+        options.threads,
+        options.calls,
+        bounds.bound(),
+        bounds.serial(),
+    )?;
+    match found {
+        Campaign::AllPass(count) => Ok(show_count(alloc, count)?),
+        Campaign::First { matrix, report } => Ok(show_matrix(alloc, component, &matrix, &report)?),
+    }
+}
+
+/// What the campaign over the calls of the matrix's one thread finds.
+fn try_candidates(
+    alloc: Global,
+    component: &Component,
+    matrix: &Matrix,
+    options: CampaignOptions,
+) -> Result<Answer, Refusal>
+    requires { IsOf matrix.now component.now }
+    ensures { Answered (spec.IsCampaignFrom component.now options matrix.now) result }
+{
+    match matrix.as_slice() {
+        [candidates] => try_matrices(alloc, component, candidates.as_slice(), options),
+        _ => Err(Refusal::Campaign(CampaignFault::Candidates)),
+    }
+}
+
+/// `lineup campaign`: component, and a matrix whose one thread makes the calls to choose from.
+fn answer_campaign(
+    alloc: Global,
+    options: CampaignOptions,
+    parts: &[&[u8]],
+) -> Result<Answer, Refusal>
+    ensures { Answered (spec.IsCampaignOf options (texts parts.now)) result }
+{
+    let (component, matrix) = two(parts).ok_or(Refusal::Parts)?;
+    let (component, matrix) = read_texts(alloc, component, matrix)?;
+    try_candidates(alloc, &component, &matrix, options)
+}
+
+/// What is answered to an order, or why it is refused.
+fn carry_out<X: AllocGlobal + Threads + Wait>(
+    rt: &X,
+    order: Order,
+    parts: &[&[u8]],
+) -> Result<Answer, Refusal>
+    ensures { Answered (spec.IsAnswerTo order (texts parts.now)) result }
+{
+    match order {
+        Order::Replay => answer_replay(rt.alloc(), parts),
+        Order::Serial(bounds) => answer_serial(rt.alloc(), bounds, parts),
+        Order::Check(options) => answer_check(rt, options, parts),
+        Order::Shrink(bounds) => answer_shrink(rt.alloc(), bounds, parts),
+        Order::Campaign(options) => answer_campaign(rt.alloc(), options, parts),
+    }
+}
+
+/// The answer to an order and the parts of a bundle.
+///
+/// # Errors
+///
+/// `AllocError` where memory was refused.
+pub fn answer_to<X: AllocGlobal + Threads + Wait>(
+    rt: &X,
+    order: Order,
+    parts: &[&[u8]],
+) -> Result<Answer, AllocError>
+    ensures { IfOk result (spec.IsAnswerTo order (texts parts.now)) }
+{
+    match carry_out(rt, order, parts) {
+        Ok(answer) => Ok(answer),
+        Err(refusal) => show_refusal(rt.alloc(), refusal),
+    }
+}

@@ -1,0 +1,66 @@
+//! Why an order is refused.
+
+ghost use Rattle.std.specs.Prelude.{◌≡◌};
+ghost use Rattle.lu_cli.specs.declared.refusal.Refusal.TheVariants.{Memory};
+
+use crate::texts::Fault;
+use lu_refine::CampaignFault;
+use lu_test::ScheduleFault;
+use std::alloc::AllocError;
+
+/// Why there is no other answer to an order.
+#[derive(Clone, Copy, Debug, PartialEq, Eq)]
+pub(crate) enum Refusal {
+    /// `B1`: the bundle has another number of parts.
+    Parts,
+
+    /// What is wrong with the texts of the component and the matrix, or a worker's thread that could not start.
+    Texts(Fault),
+
+    /// What is wrong with the text of the schedule.
+    Schedule(ScheduleFault),
+
+    /// What is wrong with the calls or the size of a campaign.
+    Campaign(CampaignFault),
+
+    /// Memory was refused.
+    Memory,
+}
+
+impl From<Fault> for Refusal {
+    ghost use Rattle.lu_cli.specs.declared.refusal.Refusal.TheVariants.{Texts};
+
+    ghost from_gives = { λ fault e. e ≡ Texts fault };
+
+    fn from(fault: Fault) -> Refusal {
+        Refusal::Texts(fault)
+    }
+}
+
+impl From<ScheduleFault> for Refusal {
+    ghost use Rattle.lu_cli.specs.declared.refusal.Refusal.TheVariants.{Schedule};
+
+    ghost from_gives = { λ fault e. e ≡ Schedule fault };
+
+    fn from(fault: ScheduleFault) -> Refusal {
+        Refusal::Schedule(fault)
+    }
+}
+
+impl From<CampaignFault> for Refusal {
+    ghost use Rattle.lu_cli.specs.declared.refusal.Refusal.TheVariants.{Campaign};
+
+    ghost from_gives = { λ fault e. e ≡ Campaign fault };
+
+    fn from(fault: CampaignFault) -> Refusal {
+        Refusal::Campaign(fault)
+    }
+}
+
+impl From<AllocError> for Refusal {
+    ghost from_gives = { λ _ e. e ≡ Memory };
+
+    fn from(_refused: AllocError) -> Refusal {
+        Refusal::Memory
+    }
+}

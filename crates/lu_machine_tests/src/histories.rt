@@ -1,0 +1,226 @@
+//! What no clause says: that calls succeed, the printed forms, and that the definitions mean what was meant.
+
+ghost use Rattle.std.specs.Prelude.{◌≡◌};
+
+use lu_history::{History, HistoryFault, OpId, SerialOp, SerialOutcome, write_history};
+use lu_machine::{Event, Outcome};
+use std::alloc::Global;
+use std::process::Abort;
+use std::test::Fail;
+
+fn call(t: u8, k: u8) -> Event {
+    Event::Call { t, k }
+}
+
+fn returns(t: u8, k: u8, number: u32) -> Event {
+    Event::Return {
+        t,
+        k,
+        outcome: Outcome::Ret(number),
+    }
+}
+
+fn traps(t: u8, k: u8) -> Event {
+    Event::Return {
+        t,
+        k,
+        outcome: Outcome::Trap,
+    }
+}
+
+fn operation(t: u8, k: u8) -> OpId
+    ensures { (result.t ≡ t) × (result.k ≡ k) }
+{
+    OpId { t, k }
+}
+
+/// A history of the events, each of which has to fit.
+fn history_of<R: AllocGlobal + Abort>(
+    rt: &R,
+    alloc: Global,
+    events: &[Event],
+) -> Result<History, HistoryFault> {
+    let mut history = History::new(alloc);
+    for event in events {
+        assert!(rt; history.fits(*event));
+        history.push(*event)?;
+    }
+    Ok(history)
+}
+
+/// Two threads overlap, and a third one calls when both have returned.
+fn overlapping<R: AllocGlobal + Abort>(rt: &R, alloc: Global) -> Result<History, HistoryFault> {
+    history_of(
+        rt,
+        alloc,
+        &[
+            call(0, 0),
+            call(1, 0),
+            returns(0, 0, 0),
+            returns(1, 0, 0),
+            call(2, 0),
+            returns(2, 0, 0),
+        ],
+    )
+}
+
+/// Thread 0 has returned once and is called again, thread 1 has trapped, and thread 2 is called.
+fn half_done<R: AllocGlobal + Abort>(rt: &R, alloc: Global) -> Result<History, HistoryFault> {
+    history_of(
+        rt,
+        alloc,
+        &[
+            call(0, 0),
+            call(1, 0),
+            returns(0, 0, 7),
+            call(2, 0),
+            traps(1, 0),
+            call(0, 1),
+        ],
+    )
+}
+
+#[test]
+fn precedence_is_return_before_call(rt: HostRuntime) -> Result<(), Fail> {
+    let history = overlapping(&rt, rt.alloc())?;
+    for (a, b, want) in [
+        (0, 2, true),
+        (1, 2, true),
+        (0, 1, false),
+        (1, 0, false),
+        (2, 0, false),
+        (0, 0, false),
+    ] {
+        assert!(rt; a < 8 && b < 8);
+        assert_eq!(rt;
+            history.precedes(operation(a, 0), operation(b, 0)),
+            want,
+            "{a} before {b}"
+        );
+    }
+    assert!(rt;
+        !history.precedes(operation(0, 0), operation(3, 0)),
+        "no call"
+    );
+    assert!(rt;
+        !history.precedes(operation(0, 1), operation(2, 0)),
+        "no return"
+    );
+    assert_eq!(rt; history.before(operation(2, 0)), &[1, 1, 0, 0, 0, 0, 0, 0]);
+    Ok(())
+}
+
+#[test]
+fn parts_of_threads(rt: HostRuntime) -> Result<(), Fail> {
+    let history = half_done(&rt, rt.alloc())?;
+    assert_eq!(rt; history.outcomes(0), [Outcome::Ret(7)].as_slice());
+    assert_eq!(rt; history.outcomes(1), [Outcome::Trap].as_slice());
+    assert!(rt; history.outcomes(2).is_empty());
+    for (t, calls, pending) in [(0, 2, true), (1, 1, false), (2, 1, true), (3, 0, false)] {
+        assert!(rt; t < 8);
+        assert_eq!(rt; history.calls(t), calls, "thread {t}");
+        assert_eq!(rt; history.pending(t), pending, "thread {t}");
+    }
+    assert_eq!(rt; history.ended(operation(0, 0)), Some(SerialOutcome::Ret(7)));
+    assert_eq!(rt; history.ended(operation(0, 1)), Some(SerialOutcome::Stuck));
+    assert_eq!(rt; history.ended(operation(0, 2)), None);
+    assert_eq!(rt; history.ended(operation(1, 0)), Some(SerialOutcome::Trap));
+    Ok(())
+}
+
+#[test]
+fn one_pending_call_is_kept(rt: HostRuntime) -> Result<(), Fail> {
+    let history = half_done(&rt, rt.alloc())?;
+    let kept = history.keep_pending(2)?;
+    assert_eq!(rt;
+        kept.events(),
+        [
+            call(0, 0),
+            call(1, 0),
+            returns(0, 0, 7),
+            call(2, 0),
+            traps(1, 0)
+        ]
+        .as_slice()
+    );
+    let none = history.keep_pending(1)?;
+    assert_eq!(rt;
+        none.events(),
+        [call(0, 0), call(1, 0), returns(0, 0, 7), traps(1, 0)].as_slice()
+    );
+    Ok(())
+}
+
+#[test]
+fn events_come_and_go(rt: HostRuntime) -> Result<(), Fail> {
+    let mut history = overlapping(&rt, rt.alloc())?;
+    let copy = history.copy()?;
+    assert_eq!(rt; copy.events(), history.events());
+    assert!(rt; !history.fits(returns(2, 0, 0)), "returned already");
+    assert!(rt; !history.fits(call(2, 0)), "called already");
+    assert!(rt; history.fits(call(2, 1)));
+    assert!(rt; !history.events().is_empty());
+    assert_eq!(rt; history.pop(), returns(2, 0, 0));
+    assert!(rt; !history.fits(call(2, 1)), "one is pending");
+    assert!(rt; history.fits(traps(2, 0)));
+    assert_eq!(rt; history.events().len(), 5);
+    assert_eq!(rt; copy.events().len(), 6);
+    Ok(())
+}
+
+#[test]
+fn writes_a_line_for_each_event(rt: HostRuntime) -> Result<(), Fail> {
+    let alloc = rt.alloc();
+    let lost_update = history_of(
+        &rt,
+        alloc,
+        &[call(0, 0), call(1, 0), returns(0, 0, 1), returns(1, 0, 1)],
+    )?;
+    assert_eq!(rt;
+        write_history(alloc, &lost_update)?.as_str(),
+        "call 0 0\ncall 1 0\nreturn 0 0 ret 1\nreturn 1 0 ret 1\n"
+    );
+    let extremes = history_of(
+        &rt,
+        alloc,
+        &[call(7, 0), returns(7, 0, u32::MAX), call(7, 1), traps(7, 1)],
+    )?;
+    assert_eq!(rt;
+        write_history(alloc, &extremes)?.as_str(),
+        "call 7 0\nreturn 7 0 ret 4294967295\ncall 7 1\nreturn 7 1 trap\n"
+    );
+    assert_eq!(rt; write_history(alloc, &History::new(alloc))?.as_str(), "");
+    Ok(())
+}
+
+#[test]
+fn want_of_memory_is_shown(rt: HostRuntime) -> Result<(), Fail> {
+    assert_eq!(rt;
+        format!(in rt.alloc(); "{}", HistoryFault::Memory)?.as_str(),
+        "memory"
+    );
+    Ok(())
+}
+
+#[test]
+fn serial_operations_are_ordered(rt: HostRuntime) {
+    let outcomes = [
+        SerialOutcome::Ret(0),
+        SerialOutcome::Ret(1),
+        SerialOutcome::Ret(u32::MAX),
+        SerialOutcome::Trap,
+        SerialOutcome::Stuck,
+    ];
+    for pair in outcomes.windows(2) {
+        assert!(rt; pair[0] < pair[1], "{pair:?}");
+    }
+    let last = SerialOp {
+        thread: 0,
+        outcome: SerialOutcome::Stuck,
+    };
+    let next = SerialOp {
+        thread: 1,
+        outcome: SerialOutcome::Ret(0),
+    };
+    assert!(rt; last < next);
+}

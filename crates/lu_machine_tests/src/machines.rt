@@ -1,0 +1,349 @@
+//! Runs of small components, with the events that the step language asks for.
+
+use lu_lang::read_component;
+use lu_machine::{Counts, Event, Machine, Outcome, Status};
+use lu_test::{Move, read_matrix};
+use std::process::Abort;
+use std::test::Fail;
+
+/// Makes the moves of these threads from the start, each with pick 0, and answers the last event and
+/// how the state then stands.
+fn played(
+    rt: &(impl AllocGlobal + Abort),
+    component: &[u8],
+    matrix: &[u8],
+    threads: &[u8],
+) -> Result<(Option<Event>, Status), Fail> {
+    let component = read_component(rt.alloc(), component)?;
+    let matrix = read_matrix(rt.alloc(), &component, matrix)?;
+    let mut machine = Machine::start(rt.alloc(), &component, &matrix)?;
+    let mut last = None;
+    for thread in threads {
+        let next = Move {
+            thread: *thread,
+            pick: 0,
+        };
+        assert!(rt; machine.feasible(next), "{next:?}");
+        last = machine.step(next);
+    }
+    Ok((last, machine.status()))
+}
+
+fn called(t: u8, k: u8) -> Option<Event> {
+    Some(Event::Call { t, k })
+}
+
+fn returned(t: u8, k: u8, value: u32) -> Option<Event> {
+    let outcome = Outcome::Ret(value);
+    Some(Event::Return { t, k, outcome })
+}
+
+fn trapped(t: u8, k: u8) -> Option<Event> {
+    let outcome = Outcome::Trap;
+    Some(Event::Return { t, k, outcome })
+}
+
+const COUNTER: &[u8] = b"component c
+word x 1 0
+op inc 0
+load r0 x 0
+add r0 r0 1
+store x 0 r0
+return r0
+end
+";
+
+/// Two increments that read the counter before either writes it.
+#[test]
+fn an_update_is_lost(rt: HostRuntime) -> Result<(), Fail> {
+    let matrix = b"thread inc\nthread inc\n";
+    let start = played(&rt, COUNTER, matrix, &[])?;
+    assert_eq!(rt; start, (None, Status::Running));
+    let first = played(&rt, COUNTER, matrix, &[0])?;
+    assert_eq!(rt; first, (called(0, 0), Status::Running));
+    let half = played(&rt, COUNTER, matrix, &[0, 0, 1, 1, 0, 0, 0])?;
+    assert_eq!(rt; half, (returned(0, 0, 1), Status::Running));
+    let all = played(&rt, COUNTER, matrix, &[0, 0, 1, 1, 0, 0, 0, 1, 1, 1])?;
+    assert_eq!(rt; all, (returned(1, 0, 1), Status::Complete));
+    Ok(())
+}
+
+const COUNTER_OF_TWO_MOVES: &[u8] = b"component c
+local 16
+word x 1 0
+op inc 0
+load r0 x 0
+add r0 r0 1
+store x 0 r0
+return r0
+end
+op again 0
+L0: set r0 1
+jump L0
+end
+";
+
+/// The addition runs with the load, and makes no move of its own.
+#[test]
+fn local_instructions_run_with_a_move(rt: HostRuntime) -> Result<(), Fail> {
+    let matrix = b"thread inc\nthread inc\n";
+    let half = played(&rt, COUNTER_OF_TWO_MOVES, matrix, &[0, 0, 1, 1, 0, 0])?;
+    assert_eq!(rt; half, (returned(0, 0, 1), Status::Running));
+    let all = played(&rt, COUNTER_OF_TWO_MOVES, matrix, &[0, 0, 1, 1, 0, 0, 1, 1])?;
+    assert_eq!(rt; all, (returned(1, 0, 1), Status::Complete));
+    Ok(())
+}
+
+/// A move ends though its local instructions never do.
+#[test]
+fn local_instructions_of_a_move_end(rt: HostRuntime) -> Result<(), Fail> {
+    let round = played(&rt, COUNTER_OF_TWO_MOVES, b"thread again\n", &[0, 0, 0])?;
+    assert_eq!(rt; round, (None, Status::Running));
+    Ok(())
+}
+
+const SLOT: &[u8] = b"component c
+word x 2 5
+lock l
+op f 1
+lock l
+cas r1 x r0 5 9
+load r2 x r0
+unlock l
+return r2
+end
+";
+
+/// Takes back each move of a run of one thread and makes it again, and answers the last event.
+fn taken_back(
+    rt: &(impl AllocGlobal + Abort),
+    component: &[u8],
+    matrix: &[u8],
+    moves: u8,
+) -> Result<Option<Event>, Fail> {
+    let component = read_component(rt.alloc(), component)?;
+    let matrix = read_matrix(rt.alloc(), &component, matrix)?;
+    let mut machine = Machine::start(rt.alloc(), &component, &matrix)?;
+    let next = Move { thread: 0, pick: 0 };
+    let mut last = None;
+    for _turn in 0..moves {
+        assert!(rt; machine.feasible(next));
+        let undo = machine.apply(next);
+        let event = undo.event();
+        machine.undo(undo);
+        assert!(rt; machine.feasible(next));
+        last = machine.step(next);
+        assert_eq!(rt; last, event);
+    }
+    assert_eq!(rt; machine.threads(), 1);
+    assert!(rt; !machine.enabled(0));
+    Ok(last)
+}
+
+#[test]
+fn a_move_is_taken_back(rt: HostRuntime) -> Result<(), Fail> {
+    let last = taken_back(&rt, SLOT, b"thread f 1\n", 6)?;
+    assert_eq!(rt; last, returned(0, 0, 9));
+    Ok(())
+}
+
+/// Two registers are set with the call, and one with the load.
+const TWO_REGISTERS: &[u8] = b"component c
+local 3
+word x 1 5
+op f 1
+add r1 r0 r0
+mul r0 r1 r1
+load r2 x 0
+add r0 r0 r2
+store x 0 r0
+return r0
+end
+";
+
+#[test]
+fn a_move_is_taken_back_with_its_local_instructions(rt: HostRuntime) -> Result<(), Fail> {
+    let last = taken_back(&rt, TWO_REGISTERS, b"thread f 3\n", 4)?;
+    assert_eq!(rt; last, returned(0, 0, 41));
+    Ok(())
+}
+
+const LOCKS: &[u8] = b"component c
+lock l
+op take 0
+lock l
+return 0
+end
+op free 0
+unlock l
+return 1
+end
+";
+
+/// A lock blocks its own owner too, and only its owner may free it.
+#[test]
+fn locks(rt: HostRuntime) -> Result<(), Fail> {
+    let matrix = b"thread take; take\nthread free\n";
+    let stuck = played(&rt, LOCKS, matrix, &[0, 0, 0, 0, 1, 1])?;
+    assert_eq!(rt; stuck, (trapped(1, 0), Status::Stuck));
+    let freed = played(
+        &rt,
+        LOCKS,
+        b"thread take; free; take\n",
+        &[0, 0, 0, 0, 0, 0, 0, 0, 0],
+    )?;
+    assert_eq!(rt; freed, (returned(0, 2, 0), Status::Complete));
+    Ok(())
+}
+
+const INDICES: &[u8] = b"component c
+word x 2 7
+word y 1 3
+op get 1
+load r0 x r0
+return r0
+end
+op wait 2
+await x r0 r1
+return 0
+end
+op pass 2
+awaitne x r0 r1
+return 0
+end
+";
+
+/// An index past the end traps, also where it is awaited.
+#[test]
+fn indices(rt: HostRuntime) -> Result<(), Fail> {
+    let last = played(&rt, INDICES, b"thread get 1\n", &[0, 0, 0])?;
+    assert_eq!(rt; last, (returned(0, 0, 7), Status::Complete));
+    let past = played(&rt, INDICES, b"thread get 2\n", &[0, 0])?;
+    assert_eq!(rt; past, (trapped(0, 0), Status::Complete));
+    let past = played(&rt, INDICES, b"thread wait 2 3\n", &[0, 0])?;
+    assert_eq!(rt; past, (trapped(0, 0), Status::Complete));
+    let past = played(&rt, INDICES, b"thread pass 2 3\n", &[0, 0])?;
+    assert_eq!(rt; past, (trapped(0, 0), Status::Complete));
+    Ok(())
+}
+
+/// `await` is blocked at another value, and `awaitne` at the value.
+#[test]
+fn awaits(rt: HostRuntime) -> Result<(), Fail> {
+    let goes_on = played(&rt, INDICES, b"thread wait 0 7\n", &[0, 0, 0])?;
+    assert_eq!(rt; goes_on, (returned(0, 0, 0), Status::Complete));
+    let blocked = played(&rt, INDICES, b"thread wait 0 8\n", &[0])?;
+    assert_eq!(rt; blocked, (called(0, 0), Status::Stuck));
+    let goes_on = played(&rt, INDICES, b"thread pass 0 8\n", &[0, 0, 0])?;
+    assert_eq!(rt; goes_on, (returned(0, 0, 0), Status::Complete));
+    let blocked = played(&rt, INDICES, b"thread pass 0 7\n", &[0])?;
+    assert_eq!(rt; blocked, (called(0, 0), Status::Stuck));
+    Ok(())
+}
+
+const NUMBERS: &[u8] = b"component c
+op sum 2
+add r0 r0 r1
+return r0
+end
+op difference 2
+sub r0 r0 r1
+return r0
+end
+op product 2
+mul r0 r0 r1
+return r0
+end
+op below 2
+lt r0 r0 r1
+return r0
+end
+op differs 2
+eq r0 r0 r1
+jz r0 L3
+return 0
+L3: return 1
+end
+";
+
+/// The value of an operation's only instruction but for its `return`.
+fn value(rt: &(impl AllocGlobal + Abort), call: &[u8]) -> Result<Option<Event>, Fail> {
+    Ok(played(rt, NUMBERS, call, &[0, 0, 0])?.0)
+}
+
+/// Arithmetic is modulo 2^32, and values are compared as unsigned numbers.
+#[test]
+fn arithmetic(rt: HostRuntime) -> Result<(), Fail> {
+    assert_eq!(rt;
+        value(&rt, b"thread sum 4294967295 2\n")?,
+        returned(0, 0, 1)
+    );
+    assert_eq!(rt;
+        value(&rt, b"thread difference 2 3\n")?,
+        returned(0, 0, 4294967295)
+    );
+    assert_eq!(rt;
+        value(&rt, b"thread product 65536 65537\n")?,
+        returned(0, 0, 65536)
+    );
+    assert_eq!(rt;
+        value(&rt, b"thread below 2147483648 1\n")?,
+        returned(0, 0, 0)
+    );
+    assert_eq!(rt;
+        value(&rt, b"thread below 1 2147483648\n")?,
+        returned(0, 0, 1)
+    );
+    Ok(())
+}
+
+/// `jz` jumps at 0 alone.
+#[test]
+fn jumps(rt: HostRuntime) -> Result<(), Fail> {
+    let same = played(&rt, NUMBERS, b"thread differs 5 5\n", &[0, 0, 0, 0])?;
+    assert_eq!(rt; same, (returned(0, 0, 0), Status::Complete));
+    let apart = played(&rt, NUMBERS, b"thread differs 5 6\n", &[0, 0, 0, 0])?;
+    assert_eq!(rt; apart, (returned(0, 0, 1), Status::Complete));
+    Ok(())
+}
+
+const PICKS: &[u8] = b"component c
+op choose 0
+pick r3 3
+return r3
+end
+";
+
+/// A pick is one of its choices.
+#[test]
+fn picks(rt: HostRuntime) -> Result<(), Fail> {
+    let component = read_component(rt.alloc(), PICKS)?;
+    let matrix = read_matrix(rt.alloc(), &component, b"thread choose\n")?;
+    let mut machine = Machine::start(rt.alloc(), &component, &matrix)?;
+    assert_eq!(rt; (machine.picks(0), machine.picks(1)), (1, 0));
+    let first = Move { thread: 0, pick: 0 };
+    assert!(rt; machine.feasible(first));
+    assert_eq!(rt; machine.step(first), called(0, 0));
+    assert_eq!(rt; machine.picks(0), 3);
+    assert!(rt; !machine.feasible(Move { thread: 0, pick: 3 }));
+    let last = Move { thread: 0, pick: 2 };
+    assert!(rt; machine.feasible(last));
+    assert_eq!(rt; machine.step(last), None);
+    assert!(rt; machine.feasible(first));
+    assert_eq!(rt; machine.step(first), returned(0, 0, 2));
+    Ok(())
+}
+
+/// Sums stop at the last number.
+#[test]
+fn counts_are_added(rt: HostRuntime) {
+    let counts = Counts {
+        complete: u64::MAX,
+        stuck: 2,
+        cut: 3,
+    };
+    let sum = counts.plus(counts).plus(Counts::NONE);
+    assert_eq!(rt; sum.complete, u64::MAX);
+    assert_eq!(rt; sum.stuck, 4);
+    assert_eq!(rt; sum.cut, 6);
+}

@@ -1,0 +1,5 @@
+pub mod Copies
+pub mod Chained
+pub mod Places
+pub mod Filling
+pub mod Rounds

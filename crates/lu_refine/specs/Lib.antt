@@ -1,0 +1,4 @@
+pub mod Removals
+pub mod Choices
+pub mod Campaigns
+pub mod Codes

@@ -1,0 +1,29 @@
+//! Checks whose serial histories lie in an arena.
+
+ghost use Rattle.std.specs.Prelude.{◌≤◌, IfOk};
+ghost use Rattle.lu_test.specs.Matrix.{IsOf};
+ghost use Rattle.lu_replay.specs.Reports.{IsReport};
+
+use bumpalo::Bump;
+use lu_component::Component;
+use lu_parallel::check_one;
+use lu_replay::Report;
+use lu_test::Matrix;
+use std::alloc::{AllocError, Global};
+
+/// The report of the matrix. The set of its serial histories lies in an arena, which is given up with them.
+pub(crate) fn check_in_arena(
+    alloc: Global,
+    component: &Component,
+    matrix: &Matrix,
+    bound: u16,
+    serial: u16,
+) -> Result<Report, AllocError>
+    requires of { IsOf matrix.now component.now }
+    requires bound { bound ≤ 256 }
+    requires serial { (1 ≤ serial) × (serial ≤ 256) }
+    ensures { IfOk result (IsReport component.now matrix.now bound serial) }
+{
+    let arena = Bump::new(alloc);
+    check_one(alloc, &arena, component, matrix, bound, serial)
+}

@@ -1,0 +1,24 @@
+//! Small tests that fail: matrices with fewer calls, and all small matrices. Specifications that results are held against.
+//!
+//! [`shrink`] takes calls away from a matrix that fails, one after the other, as long as it goes on failing. [`campaign`] tries
+//! all matrices of a size over some calls, and answers the first that does not pass. Both stand on checks of one matrix
+//! (Burckhardt, Dern, Musuvathi and Tan, 2010).
+//!
+//! ```text
+//! let (smaller, report) = shrink(alloc, &component, &matrix, 40, 40)?;
+//! ```
+#![tactic(auto)]
+
+mod arena;
+mod campaigning;
+mod campaigns;
+mod choice;
+pub mod laws;
+mod shrink_fault;
+mod shrinking;
+
+pub use campaigning::campaign;
+pub use campaigns::{Campaign, CampaignFault};
+pub use lu_spec::{Spec, SpecFault, SpecFaultKind, read_spec, write_spec};
+pub use shrink_fault::ShrinkFault;
+pub use shrinking::shrink;

@@ -1,0 +1,7 @@
+//! Tests of replays and of reports.
+#![tactic(auto)]
+
+#[cfg(test)]
+mod replays;
+#[cfg(test)]
+mod reports;

@@ -1,0 +1,11 @@
+use Rattle.std.proofs.Common.{refl}
+use Rattle.lu_search_tests.proofs.trees.deadlock_beside_one_that_waits.Goals as goal
+
+pub same-set : goal.same-set
+same-set g c = refl
+
+pub same-set-2 : goal.same-set-2
+same-set-2 g c = refl
+
+pub same-set-3 : goal.same-set-3
+same-set-3 g c = refl

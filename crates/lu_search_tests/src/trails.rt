@@ -1,0 +1,109 @@
+//! Histories that are remembered, also where there are more of them than there is room for.
+
+ghost use Rattle.std.specs.Prelude.{◌≡◌, ◌<◌, [], ◌∷◌, ◌++◌, length, IfOk};
+ghost use Rattle.lu_machine.specs.declared.event.Event.TheVariants.{Call, Return};
+ghost use Rattle.lu_machine.specs.declared.event.Outcome.TheVariants.{Ret};
+ghost use Rattle.lu_history.specs.Histories.{calls, outcomes};
+ghost use Rattle.lu_history.specs.declared.serial.SerialOutcome.TheVariants.{Ret as Returned};
+
+use lu_history::{SerialOp, SerialOutcome};
+use lu_machine::{Event, Outcome};
+use lu_trail::Trail;
+use lu_trie::{SerialTree, Trie};
+use lu_witness::{Cache, Verdict};
+use std::alloc::AllocError;
+use std::process::Abort;
+use std::test::Fail;
+
+/// Adds a call of the thread and its return.
+fn push_operation<T: SerialTree>(trail: &mut Trail<'_, T>, t: u8, number: u32)
+    requires thread { t < 8 }
+    requires none { (calls t trail.old.history ≡ 0) × (length (outcomes t trail.old.history) ≡ 0) }
+    ensures tree { trail.new.tree ≡ trail.old.tree }
+    ensures history { trail.new.history ≡ trail.old.history ++ Call t 0 ∷ Return t 0 (Ret number) ∷ [] }
+{
+    trail.push(Event::Call { t, k: 0 });
+    trail.push(Event::Return {
+        t,
+        k: 0,
+        outcome: Outcome::Ret(number),
+    });
+}
+
+/// Threads 0, 1 and 2 return the numbers, one after the other. The trail is empty before and after.
+fn judge<'t, T: SerialTree>(
+    trail: &mut Trail<'t, T>,
+    cache: &mut Cache<'t, T>,
+    numbers: (u32, u32, u32),
+) -> Result<Verdict, AllocError>
+    requires empty { trail.old.history ≡ [] }
+    requires tree { cache.old.tree ≡ trail.old.tree }
+    ensures empty { IfOk result (λ _. trail.new.history ≡ []) }
+    ensures tree { IfOk result (λ _. cache.new.tree ≡ trail.new.tree) }
+{
+    push_operation(trail, 0, numbers.0);
+    push_operation(trail, 1, numbers.1);
+    push_operation(trail, 2, numbers.2);
+    let verdict = trail.judge(cache)?;
+    for _event in 0..6u8 {
+        trail.pop();
+    }
+    Ok(verdict)
+}
+
+fn ret(thread: u8, number: u32) -> SerialOp
+    ensures { result.outcome ≡ Returned number }
+{
+    SerialOp {
+        thread,
+        outcome: SerialOutcome::Ret(number),
+    }
+}
+
+fn judge_again<R: AllocGlobal + Abort, T: SerialTree>(rt: &R, tree: &T) -> Result<(), AllocError> {
+    let mut trail = Trail::new(rt.alloc(), tree)?;
+    let mut cache = Cache::new(rt.alloc(), tree, 16)?;
+    let good = judge(&mut trail, &mut cache, (7, 9, 5))?;
+    assert!(rt; good == Verdict::Good);
+    let bad = judge(&mut trail, &mut cache, (8, 9, 5))?;
+    assert!(rt; bad == Verdict::NoWitness);
+    let again = judge(&mut trail, &mut cache, (7, 9, 5))?;
+    assert!(rt; again == Verdict::Good);
+    Ok(())
+}
+
+#[test]
+fn verdicts_are_the_same_again(rt: HostRuntime) -> Result<(), Fail> {
+    let mut set = Trie::new(rt.alloc());
+    set.insert(&[ret(0, 7), ret(1, 9), ret(2, 5)])?;
+    judge_again(&rt, &&set)?;
+    Ok(())
+}
+
+fn judge_many<R: AllocGlobal + Abort, T: SerialTree>(rt: &R, tree: &T) -> Result<(), AllocError> {
+    let mut trail = Trail::new(rt.alloc(), tree)?;
+    let mut cache = Cache::new(rt.alloc(), tree, 16)?;
+    let mut good = 0u32;
+    for number in 0..270_000 {
+        let verdict = judge(
+            &mut trail,
+            &mut cache,
+            (number / 4096, number / 64 % 64, number % 64),
+        )?;
+        if verdict == Verdict::Good {
+            good = number;
+        }
+    }
+    assert_eq!(rt; good, 7 * 4096 + 9 * 64 + 5);
+    let again = judge(&mut trail, &mut cache, (7, 9, 5))?;
+    assert!(rt; again == Verdict::Good);
+    Ok(())
+}
+
+#[test]
+fn more_histories_than_there_is_room_for(rt: HostRuntime) -> Result<(), Fail> {
+    let mut set = Trie::new(rt.alloc());
+    set.insert(&[ret(0, 7), ret(1, 9), ret(2, 5)])?;
+    judge_many(&rt, &&set)?;
+    Ok(())
+}

@@ -1,0 +1,165 @@
+//! Searches that a watch may call off.
+
+ghost use Rattle.std.specs.Prelude.{◌≡◌, false};
+ghost use Rattle.lu_test.specs.Matrix.{IsOf};
+
+use crate::trees::beginning;
+use lu_component::Component;
+use lu_examples::ROWS;
+use lu_lang::read_component;
+use lu_machine::Counts;
+use lu_serial::{Learnt, learn};
+use lu_test::{Matrix, read_matrix, write_schedule};
+use lu_tree::{Found, Unwatched, Watch, search_watched};
+use lu_trie::{PackedTrie, SerialTree};
+use lu_witness::{Cache, Why};
+use std::process::Abort;
+use std::test::Fail;
+
+/// A watch that stops at a question, if it is asked so often.
+#[derive(Drop)]
+struct Patience {
+    last: u32,
+    asked: u32,
+    stopped: bool,
+}
+
+impl Watch for Patience {
+    ghost use Rattle.std.specs.Prelude.{false};
+
+    type Base = ();
+
+    ghost base = { λ _. tt };
+
+    ghost is_stopped = { λ w. w.stopped };
+
+    fn stop(&mut self) -> bool {
+        self.asked = self.asked.saturating_add(1);
+        self.stopped = self.asked == self.last;
+        self.stopped
+    }
+
+    fn stopped(&self) -> bool {
+        self.stopped
+    }
+}
+
+fn stops_at(last: u32) -> Patience
+    ensures { result.stopped ≡ false }
+{
+    Patience {
+        last,
+        asked: 0,
+        stopped: false,
+    }
+}
+
+/// What is found among all schedules of up to 40 moves, over the tree, with a cache of one verdict.
+fn found_watched<T: SerialTree, W: Watch>(
+    rt: &(impl AllocGlobal + Abort),
+    component: &Component,
+    matrix: &Matrix,
+    tree: &T,
+    watch: &mut W,
+) -> Result<Found, Fail>
+    requires of { IsOf matrix.now component.now }
+    requires running { W.is_stopped watch.old ≡ false }
+{
+    let from = beginning(rt, component, matrix, b"schedule\n")?;
+    assert!(rt; from.moves().len() <= 40);
+    let mut cache = Cache::new(rt.alloc(), tree, 1)?;
+    Ok(search_watched(rt.alloc(), component, matrix, &mut cache, &from, 40, watch)?)
+}
+
+/// The same over the packed set of all serial histories of the matrix.
+fn found_serially<W: Watch>(
+    rt: &(impl AllocGlobal + Abort),
+    matrix: &[u8],
+    watch: &mut W,
+) -> Result<Found, Fail>
+    requires { W.is_stopped watch.old ≡ false }
+{
+    let component = read_component(rt.alloc(), ROWS.as_bytes())?;
+    let matrix = read_matrix(rt.alloc(), &component, matrix)?;
+    assert!(rt; matrix.of(&component));
+    match learn(rt.alloc(), rt.alloc(), &component, &matrix, 40)? {
+        Learnt::Set(set) => {
+            let packed = PackedTrie::pack(rt.alloc(), &set)?;
+            found_watched(rt, &component, &matrix, &&packed, watch)
+        }
+        Learnt::Cut(_) | Learnt::Conflict { .. } => panic!(rt; "a serial offence"),
+    }
+}
+
+const EXCHANGES: &[u8] = b"thread cinc\nthread cinc\n";
+
+fn is_clean(found: &Found, complete: u64) -> bool {
+    let counts = Counts {
+        complete,
+        ..Counts::NONE
+    };
+    match found {
+        Found::Clean(got) => *got == counts,
+        Found::Bad { .. } | Found::Abandoned => false,
+    }
+}
+
+/// 2,564 schedules are 40 times 64 and some more.
+#[test]
+fn a_watch_is_asked_after_each_64(rt: HostRuntime) -> Result<(), Fail> {
+    let mut watch = stops_at(0);
+    let found = found_serially(&rt, EXCHANGES, &mut watch)?;
+    assert!(rt; is_clean(&found, 2564));
+    assert_eq!(rt; watch.asked, 40);
+    Ok(())
+}
+
+#[test]
+fn a_watch_stops_at_its_third_question(rt: HostRuntime) -> Result<(), Fail> {
+    let mut watch = stops_at(3);
+    let found = found_serially(&rt, EXCHANGES, &mut watch)?;
+    assert!(rt; matches!(found, Found::Abandoned));
+    assert_eq!(rt; watch.asked, 3);
+    Ok(())
+}
+
+/// The least bad schedule, and why it is bad.
+fn assert_bad(
+    rt: &(impl AllocGlobal + Abort),
+    matrix: &[u8],
+    text: &str,
+    reason: Why,
+) -> Result<(), Fail> {
+    match found_serially(rt, matrix, &mut Unwatched)? {
+        Found::Bad { schedule, why } => {
+            let got = write_schedule(rt.alloc(), &schedule)?;
+            assert_eq!(rt; got.as_str(), text);
+            assert_eq!(rt; why, reason);
+        }
+        Found::Clean(_) | Found::Abandoned => panic!(rt; "no bad schedule"),
+    }
+    Ok(())
+}
+
+#[test]
+fn searches_over_packed_sets(rt: HostRuntime) -> Result<(), Fail> {
+    let lost = "schedule 0 0 0 1 1 0 0 1 1 1\n";
+    assert_bad(&rt, b"thread inc\nthread inc\n", lost, Why::Complete)?;
+    let overtaken = "schedule 0 0 1 1 0 0 1 1 2 2 2\n";
+    assert_bad(
+        &rt,
+        b"thread hold\nthread put\nthread get\n",
+        overtaken,
+        Why::Complete,
+    )?;
+    let deadlock = "schedule 0 1 1 2 2\n";
+    assert_bad(
+        &rt,
+        b"thread take\nthread mn\nthread nm\n",
+        deadlock,
+        Why::Stuck(1),
+    )?;
+    let found = found_serially(&rt, EXCHANGES, &mut Unwatched)?;
+    assert!(rt; is_clean(&found, 2564));
+    Ok(())
+}

@@ -1,0 +1,13 @@
+pub mod Sets
+pub mod Below
+pub mod Rooms
+pub mod Closures
+pub mod Entries
+pub mod EntryLists
+pub mod HistoryLines
+pub mod Listings
+pub mod Nexts
+pub mod LinesRead
+pub mod Ends
+pub mod Spelling
+pub mod Faultless

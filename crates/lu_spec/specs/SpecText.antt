@@ -1,0 +1,125 @@
+-- The text of a specification: its first line, and a line for each history that it lists.
+use Rattle.std.specs.Prelude.{◌≡◌, ℕ, ◌+◌, ◌^◌, ◌<◌, ◌≤◌, ◌⊎◌, List, [], ◌∷◌, ◌++◌, length, map, All, codes}
+use Rattle.std.specs.Fmt.{decimal}
+use Rattle.std.specs.List.{flat_map, join_with_byte}
+use Rattle.std.specs.declared.cmp.Ordering.TheVariants.{Less}
+use Rattle.lu_text.specs.declared.fault.Fault.{Fault}
+use Rattle.lu_text.specs.declared.fault.Fault.TheVariants.{At, Memory}
+use Rattle.lu_text.specs.Lines.{kept_lines}
+use Rattle.lu_history.specs.declared.serial.SerialOutcome.{SerialOutcome}
+use Rattle.lu_history.specs.declared.serial.SerialOutcome.TheVariants.{Ret, Trap, Stuck}
+use Rattle.lu_history.specs.declared.serial.SerialOp.{SerialOp}
+use Rattle.lu_history.specs.Order.{op_cmp}
+use Rattle.lu_history.specs.Serial.{IsSerial}
+use Rattle.lu_test.specs.declared.matrix.Call.{Call}
+use Rattle.lu_trie.specs.Conflicts.{IsDeterministic, ConflictAt}
+use Rattle.lu_spec.specs.declared.fault.SpecFaultKind.{SpecFaultKind}
+use Rattle.lu_spec.specs.declared.fault.SpecFaultKind.TheVariants.{Form, Foreign, Nondeterministic}
+use Rattle.lu_spec.specs.Beginnings.{Has, IsClosureOf}
+use Rattle.lu_spec.specs.Specs.{Fits}
+
+-- ---- the spelling
+
+abbrev pub outcome_text : SerialOutcome → List ℕ
+outcome_text (Ret n) = decimal n
+outcome_text Trap = codes "trap"
+outcome_text Stuck = codes "stuck"
+
+-- `t=outcome`
+abbrev pub entry_text : SerialOp → List ℕ
+entry_text op = decimal op.thread ++ codes "=" ++ outcome_text op.outcome
+
+-- `history` and the entries
+abbrev pub words_of : List SerialOp → List (List ℕ)
+words_of q = codes "history" ∷ map entry_text q
+
+-- the words with one space between them
+abbrev pub history_line : List SerialOp → List ℕ
+history_line q = join_with_byte 32 (words_of q) ++ codes "\n"
+
+abbrev pub first_line : List ℕ
+first_line = codes "lineup spec 1\n"
+
+abbrev pub spec_text : List (List SerialOp) → List ℕ
+spec_text listed = first_line ++ flat_map history_line listed
+
+-- ---- what may be listed
+
+-- a returned value is a number of 32 bits
+abbrev pub IsOutcome : SerialOutcome → Type 0
+IsOutcome (Ret n) = n < 2 ^ 32
+IsOutcome Trap = Unit {0}
+IsOutcome Stuck = Unit {0}
+
+-- thread 0 to 7
+abbrev pub IsEntry : SerialOp → Type 0
+IsEntry op = (op.thread ≤ 7) × IsOutcome op.outcome
+
+-- 1 to 16 entries; `Stuck` stands only last
+pub record IsListable (q : List SerialOp) : Type 0 where
+  pub some : 1 ≤ length q
+  pub few : length q ≤ 16
+  pub serial : IsSerial q
+  pub entries : All IsEntry q
+
+-- At the first place where they differ q has the greater entry: so it is greater than p, and does not begin with it.
+abbrev pub ComesAfter : List SerialOp → List SerialOp → Type 0
+ComesAfter [] q = ⊥
+ComesAfter (a ∷ p) [] = ⊥
+ComesAfter (a ∷ p) (b ∷ q) = (op_cmp a b ≡ Less) ⊎ (a ≡ b) × ComesAfter p q
+
+-- q may stand behind the listed histories: it comes after the last one
+abbrev pub GoesOn : List (List SerialOp) → List SerialOp → Type 0
+GoesOn listed q = (before : List (List SerialOp)) (p : List SerialOp) → listed ≡ before ++ p ∷ [] → ComesAfter p q
+
+-- a list of histories of the matrix, in order and none a beginning of the next, without conflict
+pub record AreListed (matrix : List (List Call)) (listed : List (List SerialOp)) : Type 0 where
+  pub each : (q : List SerialOp) → Has listed q → IsListable q × Fits matrix q
+  pub order : (before : List (List SerialOp)) (q : List SerialOp) (after : List (List SerialOp)) → listed ≡ before ++ q ∷ after → GoesOn before q
+  pub deterministic : IsDeterministic listed
+
+-- ---- what is wrong with a line behind the listed histories
+
+-- the line is that of a history that may stand there
+abbrev pub IsLineOf : List (List SerialOp) → List ℕ → List SerialOp → Type 0
+IsLineOf listed line q = (line ≡ history_line q) × IsListable q × GoesOn listed q
+
+-- q conflicts with a listed history
+abbrev pub HasConflictIn : List (List SerialOp) → List SerialOp → Type 0
+HasConflictIn listed q = (p : List SerialOp) × Has listed p × (i : ℕ) × (o : SerialOutcome) × ConflictAt q p i o
+
+-- no history's line; that of a history that does not fit the matrix; or that of one that conflicts with a listed one
+abbrev pub IsFaultOfLine : List (List Call) → List (List SerialOp) → List ℕ → SpecFaultKind → Type 0
+IsFaultOfLine matrix listed line Form = (q : List SerialOp) → IsLineOf listed line q → ⊥
+IsFaultOfLine matrix listed line Foreign = (q : List SerialOp) × IsLineOf listed line q × (Fits matrix q → ⊥)
+IsFaultOfLine matrix listed line Nondeterministic =
+    (q : List SerialOp) × IsLineOf listed line q × Fits matrix q × HasConflictIn listed q
+
+-- among the lines behind the first line, those before line n are of listed histories, and line n has this fault
+pub record IsFaultAmong (matrix : List (List Call)) (lines : List (List ℕ)) (kind : SpecFaultKind) (n : ℕ) : Type 0 where
+  pub listed : List (List SerialOp)
+  pub are : AreListed matrix listed
+  pub line : List ℕ
+  pub rest : List (List ℕ)
+  pub parts : lines ≡ map history_line listed ++ line ∷ rest
+  pub numbered : n ≡ length listed + 2
+  pub fault : IsFaultOfLine matrix listed line kind
+
+-- the first line is there, and one behind it has this fault
+abbrev pub IsFaultBehind : List (List Call) → List ℕ → SpecFaultKind → ℕ → Type 0
+IsFaultBehind matrix text kind n =
+    (lines : List (List ℕ)) × (kept_lines text ≡ first_line ∷ lines) × IsFaultAmong matrix lines kind n
+
+-- the text does not begin with the first line
+abbrev pub HasNoFirstLine : List ℕ → SpecFaultKind → ℕ → Type 0
+HasNoFirstLine text kind n = (kind ≡ Form) × (n ≡ 1) × ((rest : List (List ℕ)) → kept_lines text ≡ first_line ∷ rest → ⊥)
+
+-- the first fault of a text that is no specification of the matrix, or want of memory
+abbrev pub IsSpecFault : List (List Call) → List ℕ → Fault SpecFaultKind → Type 0
+IsSpecFault matrix text (At kind n) = HasNoFirstLine text kind n ⊎ IsFaultBehind matrix text kind n
+IsSpecFault matrix text Memory = Unit {0}
+
+-- the text lists these histories, of which the set is the closure
+abbrev pub IsReadAs : List (List Call) → List ℕ → List (List SerialOp) → Type 0
+IsReadAs matrix text closed =
+    (listed : List (List SerialOp)) × AreListed matrix listed × (text ≡ spec_text listed) × IsClosureOf listed closed

@@ -1,0 +1,13 @@
+//! Laws of specifications, for the crates above.
+
+ghost use Rattle.lu_spec.specs.Laws.{NoFault, OneSpelling};
+
+/// What is read of a text is written as that text: a specification has one spelling. The function does nothing.
+pub fn one_spelling()
+    ensures { OneSpelling }
+{}
+
+/// A text that lists histories of the matrix has no fault: so it is read, unless memory is refused. The function does nothing.
+pub fn no_fault()
+    ensures { NoFault }
+{}

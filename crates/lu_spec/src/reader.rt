@@ -1,0 +1,149 @@
+//! Reading of specifications.
+
+ghost use Rattle.std.specs.Prelude.{◌≡◌, ◌≢◌, ◌↔◌, List, [], map, OnOk, IfOk, IfErr, IsTrue};
+ghost use Rattle.lu_text.specs.Lines.{kept_lines};
+ghost use Rattle.lu_test.specs.declared.matrix.Call.{Call};
+ghost use Rattle.lu_history.specs.declared.serial.SerialOp.{SerialOp};
+ghost use Rattle.lu_history.specs.Serial.{IsSerial};
+ghost use Rattle.lu_spec.specs.Beginnings.{AddsBeginnings};
+ghost use Rattle.lu_spec.specs.Reading.{IsDraft, IsNextDraft, IsNextOf, IsRefusal, IsRefusalAmong};
+ghost use Rattle.lu_spec.specs.Specs.{AreOf};
+ghost use Rattle.lu_spec.specs.SpecText.{ComesAfter, IsReadAs, IsSpecFault, history_line};
+
+use crate::fault::{SpecFault, SpecFaultKind};
+use crate::fitting::{calls_of, fits_in};
+use crate::history_line::{comes_after, history_in, is_word};
+use crate::spec::Spec;
+use lu_history::SerialOp;
+use lu_test::Matrix;
+use lu_text::{Fault, cut_line};
+use lu_trie::Trie;
+use std::alloc::{AllocError, Allocator, Global};
+
+/// The histories of the lines so far: all their beginnings, and the last of them.
+#[derive(Drop)]
+struct Draft {
+    set: Trie<Global>,
+    last: Vec<SerialOp>,
+}
+
+/// Adds all beginnings of a history, and the history.
+fn add_beginnings<A: Allocator + Clone>(
+    set: &mut Trie<A>,
+    history: &[SerialOp],
+) -> Result<(), AllocError>
+    requires { IsSerial history.now }
+    ensures { OnOk result (AddsBeginnings set.old set.new history.now) }
+{
+    for end in 0..history.len() {
+        set.insert(&history[..end])?;
+    }
+    set.insert(history)?;
+    Ok(())
+}
+
+/// Whether a history may stand behind `last`, where that is not empty.
+fn goes_on(last: &[SerialOp], history: &[SerialOp]) -> bool
+    ensures { IsTrue result ↔ (last.now ≢ [] → ComesAfter last.now history.now) }
+{
+    last.is_empty() || comes_after(last, history)
+}
+
+/// The history of a line, which is line `number` of the text, or what is wrong with it.
+fn next_history(
+    alloc: Global,
+    matrix: &Matrix,
+    draft: &Draft,
+    line: &[u8],
+    number: usize,
+) -> Result<Vec<SerialOp>, SpecFault>
+    requires { (listed : List (List SerialOp)) × IsDraft matrix.now listed draft.now.set draft.now.last.items }
+    ensures next { (listed : List (List SerialOp)) → IsDraft matrix.now listed draft.now.set draft.now.last.items → IfOk result (λ q. IsNextOf matrix.now listed line.now q.items) }
+    ensures fault { (listed : List (List SerialOp)) → IsDraft matrix.now listed draft.now.set draft.now.last.items → IfErr result (IsRefusal matrix.now listed line.now number) }
+{
+    match history_in(alloc, line)? {
+        None => Err(Fault::At(SpecFaultKind::Form, number)),
+        Some(history) => {
+            if !goes_on(&draft.last, &history) {
+                return Err(Fault::At(SpecFaultKind::Form, number));
+            }
+            if !fits_in(&history, calls_of(matrix)) {
+                return Err(Fault::At(SpecFaultKind::Foreign, number));
+            }
+            if draft.set.conflict(&history).is_some() {
+                return Err(Fault::At(SpecFaultKind::Nondeterministic, number));
+            }
+            Ok(history)
+        }
+    }
+}
+
+/// The draft with the history of one more line, which is line `number` of the text.
+fn read_line(
+    alloc: Global,
+    matrix: &Matrix,
+    mut draft: Draft,
+    line: &[u8],
+    number: usize,
+) -> Result<Draft, SpecFault>
+    requires { (listed : List (List SerialOp)) × IsDraft matrix.now listed draft.set draft.last.items }
+    ensures next { (listed : List (List SerialOp)) → IsDraft matrix.now listed draft.set draft.last.items → IfOk result (λ next. IsNextDraft matrix.now listed line.now next.set next.last.items) }
+    ensures fault { (listed : List (List SerialOp)) → IsDraft matrix.now listed draft.set draft.last.items → IfErr result (IsRefusal matrix.now listed line.now number) }
+{
+    let history = next_history(alloc, matrix, &draft, line, number)?;
+    add_beginnings(&mut draft.set, &history)?;
+    draft.last = history;
+    Ok(draft)
+}
+
+/// The draft before the first history.
+fn nothing_listed(alloc: Global) -> Result<Draft, AllocError>
+    ensures { (matrix : List (List Call)) → IfOk result (λ draft. IsDraft matrix [] draft.set draft.last.items) }
+{
+    let mut set = Trie::new(alloc);
+    add_beginnings(&mut set, &[])?;
+    Ok(Draft {
+        set,
+        last: Vec::new(alloc),
+    })
+}
+
+/// The draft of the histories of all lines; the text is what follows the first line.
+fn read_lines(alloc: Global, matrix: &Matrix, text: &[u8]) -> Result<Draft, SpecFault>
+    ensures read { IfOk result (λ draft. (listed : List (List SerialOp)) × IsDraft matrix.now listed draft.set draft.last.items × (kept_lines text.now ≡ map history_line listed)) }
+    ensures fault { IfErr result (IsRefusalAmong matrix.now (kept_lines text.now)) }
+{
+    let mut draft = nothing_listed(alloc)?;
+    let mut rest = text;
+    let mut number = 1;
+    while !rest.is_empty() {
+        let (line, others) = cut_line(rest);
+        number += 1;
+        draft = read_line(alloc, matrix, draft, line, number)?;
+        rest = others;
+    }
+    Ok(draft)
+}
+
+/// Reads a specification of a matrix from its text.
+///
+/// A fault is the first one of the text: by line, and on a line by the order of [`SpecFaultKind`].
+///
+/// # Errors
+///
+/// The first fault of the text, or that there is no memory for the specification.
+pub fn read_spec(alloc: Global, matrix: &Matrix, text: &[u8]) -> Result<Spec, SpecFault>
+    // The text lists histories of the matrix, and the specification is their closure.
+    ensures read { IfOk result (IsReadAs matrix.now text.now) }
+    // Which fault, and on which line.
+    ensures fault { IfErr result (IsSpecFault matrix.now text.now) }
+    // It is one of the matrix.
+    ensures of { IfOk result (AreOf matrix.now) }
+{
+    let (first, rest) = cut_line(text);
+    if !is_word(first, "lineup spec 1\n") {
+        return Err(Fault::At(SpecFaultKind::Form, 1));
+    }
+    let draft = read_lines(alloc, matrix, rest)?;
+    Ok(Spec::of_closed(draft.set))
+}

@@ -1,0 +1,87 @@
+//! Specifications.
+
+ghost use Rattle.std.specs.Prelude.{◌≡◌, ◌↔◌, List, IsTrue, IfOk};
+ghost use Rattle.lu_test.specs.declared.matrix.Call.{Call};
+ghost use Rattle.lu_trie.specs.Members.{AllSerial, contains};
+ghost use Rattle.lu_trie.specs.Conflicts.{IsDeterministic};
+ghost use Rattle.lu_spec.specs.Beginnings.{IsClosureOf};
+ghost use Rattle.lu_spec.specs.Specs.{AreOf, IsSpec};
+
+use crate::closing::add_below;
+use crate::fitting::{all_fit, calls_of};
+use lu_history::SerialOp;
+use lu_test::Matrix;
+use lu_trie::{SerialTree, Trie};
+use std::alloc::{AllocError, Allocator, Global};
+use std::marker::Model;
+
+/// A specification: a set of serial histories without conflict, closed under beginnings, which holds the empty one. In clauses
+/// it is the list of its members, in order.
+#[derive(Drop)]
+pub struct Spec {
+    set: Trie<Global>,
+}
+
+impl Model for Spec {
+    ghost use Rattle.std.specs.Prelude.{List};
+    ghost use Rattle.lu_history.specs.declared.serial.SerialOp.{SerialOp as AnOp};
+    ghost use Rattle.lu_spec.specs.Specs.{IsSpec};
+
+    ghost Value = { List (List AnOp) };
+
+    ghost view = { λ s. s.set };
+
+    ghost invariant = { λ s. IsSpec s.set };
+}
+
+impl Spec {
+    /// The specification of all beginnings of the members, and of the empty history. Asks for members that do not conflict, and
+    /// in which `Stuck` stands only last. It is one of each matrix of which the members are.
+    ///
+    /// # Errors
+    ///
+    /// `AllocError` where memory was refused.
+    pub fn closure<A: Allocator>(alloc: Global, set: &Trie<A>) -> Result<Spec, AllocError>
+        requires deterministic { IsDeterministic set.now }
+        requires serial { AllSerial set.now }
+        ensures closure { IfOk result (IsClosureOf set.now) }
+        ensures of { (matrix : List (List Call)) → AreOf matrix set.now → IfOk result (AreOf matrix) }
+    {
+        let mut closed = Trie::new(alloc);
+        let tree = &set;
+        add_below(&mut closed, tree, tree.root(), &mut Vec::new(alloc))?;
+        Ok(Spec { set: closed })
+    }
+
+    /// The specification of a set that is one.
+    pub(crate) fn of_closed(set: Trie<Global>) -> Spec
+        requires { IsSpec set }
+        ensures { result ≡ set }
+    {
+        Spec { set }
+    }
+
+    /// Whether this is a specification of the matrix: no history has more operations of a thread than the thread has calls, nor
+    /// any of a thread that the matrix does not have.
+    pub fn of(&self, matrix: &Matrix) -> bool
+        ensures { IsTrue result ↔ AreOf matrix.now self.now }
+    {
+        let tree = &&self.set;
+        all_fit(tree, tree.root(), calls_of(matrix))
+    }
+
+    /// Whether the history is a member.
+    pub fn contains(&self, history: &[SerialOp]) -> bool
+        ensures { result ≡ contains self.now history.now }
+    {
+        self.set.contains(history)
+    }
+
+    /// The set, to be read as a tree.
+    pub fn tree(&self) -> &Trie<Global>
+        ensures set { result.now ≡ self.now }
+        ensures sound { IsSpec self.now }
+    {
+        &self.set
+    }
+}

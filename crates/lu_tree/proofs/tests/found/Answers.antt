@@ -1,4 +1,0 @@
-use Rattle.lu_tree.proofs.tests.found.Goals as goal
-
-pub found_over-requires : goal.found_over-requires
-found_over-requires g c = c.in_ok-matrix.ensures.of

@@ -1,0 +1,38 @@
+use Rattle.std.proofs.Common.{◌≡◌, true, false}
+use Rattle.lu_witness.specs.Caches.{SameButEntries}
+use Rattle.lu_witness.specs.Witnesses.{IsMember}
+use Rattle.lu_tree.specs.Walks.{IsReady}
+use Rattle.lu_tree.proofs.Walking.{HasEnded}
+use Rattle.lu_tree.proofs.Added.{AreAdded}
+use Rattle.lu_tree.proofs.walk.+walk.Given as goal
+
+abbrev pub decreases-walk : goal.decreases-walk
+decreases-walk g l = l.left
+
+abbrev pub invariant-loop-thread : goal.invariant-loop-thread
+invariant-loop-thread g l = record {
+  machine : l.node.machine ≡ l.fn.node.machine;
+  history : l.node.trail.history ≡ l.fn.node.trail.history;
+  tree : l.node.trail.tree ≡ l.fn.node.trail.tree;
+  cache : SameButEntries l.fn.cache l.cache;
+  base : g.W.Watch.base l.watch ≡ g.W.Watch.base l.fn.watch;
+  running : g.W.Watch.is_stopped l.watch ≡ false;
+  ready : IsReady l.tally;
+  ended : HasEnded l.fn.node.machine (record { thread = l.thread; pick = 0 }) l.is_ended;
+  still : l.is_ended ≡ true → l.tally.counts ≡ l.fn.tally.counts;
+  counted : AreAdded (IsMember (g.T.SerialTree.members l.fn.node.trail.tree)) l.fn.node.machine l.fn.node.trail.history l.left (record { thread = l.thread; pick = 0 }) l.fn.tally.counts l.tally.counts;
+}
+
+abbrev pub invariant-loop-pick : goal.invariant-loop-pick
+invariant-loop-pick g l = record {
+  machine : l.node.machine ≡ l.fn.node.machine;
+  history : l.node.trail.history ≡ l.fn.node.trail.history;
+  tree : l.node.trail.tree ≡ l.fn.node.trail.tree;
+  cache : SameButEntries l.fn.cache l.cache;
+  base : g.W.Watch.base l.watch ≡ g.W.Watch.base l.fn.watch;
+  running : g.W.Watch.is_stopped l.watch ≡ false;
+  ready : IsReady l.tally;
+  ended : HasEnded l.fn.node.machine (record { thread = l.thread; pick = l.pick }) l.is_ended;
+  still : l.is_ended ≡ true → l.tally.counts ≡ l.fn.tally.counts;
+  counted : AreAdded (IsMember (g.T.SerialTree.members l.fn.node.trail.tree)) l.fn.node.machine l.fn.node.trail.history l.left (record { thread = l.thread; pick = l.pick }) l.fn.tally.counts l.tally.counts;
+}

@@ -1,0 +1,111 @@
+//! The walk over the schedules below a node.
+
+ghost use Rattle.std.specs.Prelude.{◌≡◌, ◌≤◌, true, false, length, vec_capacity};
+ghost use Rattle.lu_machine.specs.States.{progress};
+ghost use Rattle.lu_machine.specs.Ends.{IsEnded};
+ghost use Rattle.lu_history.specs.Standing.{Agree};
+ghost use Rattle.lu_witness.specs.Caches.{SameButEntries};
+ghost use Rattle.lu_witness.specs.Witnesses.{IsMember};
+ghost use Rattle.lu_tree.specs.Walks.{Counted, IsReady, Passes, StopsAt};
+
+use crate::node::Node;
+use crate::tally::Tally;
+use crate::watch::Watch;
+use lu_machine::{Counts, Status};
+use lu_test::Move;
+use lu_trie::SerialTree;
+use lu_witness::Cache;
+
+/// Ends a schedule here, which is cut, or is ended and has to be good. Answers whether it was counted, and the watch lets the walk
+/// go on.
+#[inline(always)]
+fn end<'t, T: SerialTree, W: Watch>(
+    cache: &mut Cache<'t, T>,
+    watch: &mut W,
+    node: &mut Node<'_, 't, T>,
+    tally: &mut Tally,
+) -> bool
+    requires agree { Agree (progress node.old.machine) node.old.trail.history }
+    requires tree { cache.old.tree ≡ node.old.trail.tree }
+    requires running { W.is_stopped watch.old ≡ false }
+    ensures node { node.new ≡ node.old }
+    ensures cache { SameButEntries cache.old cache.new }
+    ensures base { W.base watch.new ≡ W.base watch.old }
+    ensures path { tally.new.path ≡ tally.old.path }
+    ensures running { result ≡ true → W.is_stopped watch.new ≡ false }
+    ensures counted { result ≡ true → Counted (IsMember (T.members node.old.trail.tree)) node.old.machine node.old.trail.history tally.old.counts tally.new.counts }
+    ensures ended { result ≡ false → W.is_stopped watch.new ≡ false → IsEnded node.old.machine }
+{
+    match node.machine.status() {
+        Status::Running => {
+            let cut = Counts {
+                cut: 1,
+                ..Counts::NONE
+            };
+            tally.pass(cut, watch)
+        }
+        Status::Complete => {
+            let complete = Counts {
+                complete: 1,
+                ..Counts::NONE
+            };
+            node.is_good(cache) && tally.pass(complete, watch)
+        }
+        Status::Stuck => {
+            let stuck = Counts {
+                stuck: 1,
+                ..Counts::NONE
+            };
+            node.is_good(cache) && tally.pass(stuck, watch)
+        }
+    }
+}
+
+/// Walks the schedules below the node, of no more than `left` moves, in order. Answers whether all of them were passed: the walk
+/// stops at the first that is not found good, and where the watch stops it. It is then still there.
+pub(crate) fn walk<'t, T: SerialTree, W: Watch>(
+    cache: &mut Cache<'t, T>,
+    watch: &mut W,
+    left: u16,
+    node: &mut Node<'_, 't, T>,
+    tally: &mut Tally,
+) -> bool
+    requires few { left ≤ 256 }
+    requires agree { Agree (progress node.old.machine) node.old.trail.history }
+    requires tree { cache.old.tree ≡ node.old.trail.tree }
+    requires running { W.is_stopped watch.old ≡ false }
+    requires ready { IsReady tally.old }
+    ensures cache { SameButEntries cache.old cache.new }
+    ensures base { W.base watch.new ≡ W.base watch.old }
+    ensures tree { node.new.trail.tree ≡ node.old.trail.tree }
+    ensures agree { Agree (progress node.new.machine) node.new.trail.history }
+    ensures machine { result ≡ true → node.new.machine ≡ node.old.machine }
+    ensures history { result ≡ true → node.new.trail.history ≡ node.old.trail.history }
+    ensures running { result ≡ true → W.is_stopped watch.new ≡ false }
+    ensures ready { result ≡ true → IsReady tally.new }
+    ensures passes { result ≡ true → Passes (IsMember (T.members node.old.trail.tree)) node.old.machine node.old.trail.history left tally.old.counts tally.new.counts }
+    ensures room { 256 ≤ vec_capacity tally.new.path }
+    ensures path { length tally.new.path.items ≤ left }
+    ensures stops { result ≡ false → W.is_stopped watch.new ≡ false → StopsAt (IsMember (T.members node.old.trail.tree)) node.old.machine node.old.trail.history left tally.new.path.items node.new.machine node.new.trail.history }
+{
+    if left == 0 {
+        return end(cache, watch, node, tally);
+    }
+    let mut is_ended = true;
+    for thread in 0..node.machine.threads() {
+        for pick in 0..node.machine.picks(thread) {
+            is_ended = false;
+            let next = Move { thread, pick };
+            let undo = node.enter(next);
+            if !walk(cache, watch, left - 1, node, tally) {
+                tally.path.push_reserved(next);
+                return false;
+            }
+            node.leave(undo);
+        }
+    }
+    if is_ended {
+        return end(cache, watch, node, tally);
+    }
+    true
+}

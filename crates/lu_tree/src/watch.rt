@@ -1,0 +1,46 @@
+//! Searches that can be called off.
+
+ghost use Rattle.std.specs.Prelude.{◌≡◌, Bool, false};
+
+/// What a search asks, now and then, whether it is to stop.
+pub trait Watch {
+    /// What stays as it is when the watch is asked. No value of it needs to be made.
+    type Base;
+
+    ghost base: { Self → Self.Base };
+
+    ghost is_stopped: { Self → Bool };
+
+    /// Whether the search is to stop. A watch that has stopped is not asked again.
+    fn stop(&mut self) -> bool
+        requires { is_stopped self.old ≡ false }
+        ensures base { base self.new ≡ base self.old }
+        ensures stopped { is_stopped self.new ≡ result };
+
+    /// Whether the watch has stopped.
+    fn stopped(&self) -> bool
+        ensures { result ≡ is_stopped self.now };
+}
+
+/// A watch that never stops.
+#[derive(Clone, Copy, Debug)]
+pub struct Unwatched;
+
+impl Watch for Unwatched {
+    ghost use Rattle.std.specs.Prelude.{false};
+
+    type Base = ();
+
+    ghost base = { λ _. tt };
+
+    ghost is_stopped = { λ _. false };
+
+    #[inline(always)]
+    fn stop(&mut self) -> bool {
+        false
+    }
+
+    fn stopped(&self) -> bool {
+        false
+    }
+}

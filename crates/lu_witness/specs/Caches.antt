@@ -1,0 +1,35 @@
+-- What a cache of verdicts keeps.
+use Rattle.std.specs.Prelude.{◌≡◌, ◌⊎◌, Bool, List, Contains, MatchOption}
+use Rattle.std.specs.Global.{Vec}
+use Rattle.std.specs.Map.{lookup}
+use Rattle.lru.specs.LruCache.{LruCache, promoted, put_entries, lru_cache}
+use Rattle.lu_machine.specs.declared.event.Event.{Event}
+use Rattle.lu_history.specs.declared.serial.SerialOp.{SerialOp}
+use Rattle.lu_witness.specs.declared.judgement.Verdict.{Verdict}
+use Rattle.lu_witness.specs.Witnesses.{IsMember, IsVerdict}
+
+-- each verdict that is kept is that of its events
+abbrev pub AreRight : List (List SerialOp) → List (Vec Event × Verdict) → Type 0
+AreRight members entries = (key : Vec Event) (v : Verdict) → Contains entries (key, v) → IsVerdict (IsMember members) key.items v
+
+-- an entry, by the events of its key
+abbrev pub shown : Vec Event × Verdict → List Event × Verdict
+shown entry = (entry.0.items, entry.1)
+
+-- a cache, as contracts see it: its tree, and the entries, the most recently used first
+pub record Remembered (T : Type 0) : Type 0 where
+  pub tree : T
+  pub kept : LruCache (List Event) Verdict
+
+-- After a look-up of the events. One that finds them makes them the most recently used, and v is the verdict that is kept. One
+-- that does not puts them in with v, unless there is no memory for that.
+abbrev pub IsLookedUp : (List Event → List Event → Bool) → List Event → LruCache (List Event) Verdict → LruCache (List Event) Verdict → Verdict → Type 0
+IsLookedUp same events old new v =
+    MatchOption (lookup (same events) old.entries)
+    ((new ≡ old) ⊎ (new ≡ lru_cache (put_entries same old events v) old.cap))
+    (λ known. (v ≡ known) × (new ≡ lru_cache (promoted (same events) old.entries) old.cap))
+
+-- the tree and the capacity are as before; the entries may be others
+pub record SameButEntries {T : Type 0} (old new : Remembered T) : Type 0 where
+  pub tree_is : new.tree ≡ old.tree
+  pub capacity : new.kept.cap ≡ old.kept.cap

@@ -1,0 +1,13 @@
+use Rattle.std.proofs.Common.{arith, refl}
+use Rattle.lu_machine.specs.Starts.{start_of}
+use Rattle.lu_parallel.proofs.Frontiers.{frontier_pieces}
+use Rattle.lu_worker_tests.proofs.checks.four_moves.Goals as goal
+
+pub returns-clause-few : goal.returns-clause-few
+returns-clause-few g c =
+    let few = (c.in_ok-frontier.ensures.frontier (start_of c.args.component.now c.args.matrix.now) refl).few in
+    let long = c.in_ok-frontier.field-0.ok.0 in
+    omega (arith, few, long)
+
+pub returns-clause-pieces : goal.returns-clause-pieces
+returns-clause-pieces g c = λ s is. frontier_pieces s 40 4 c.in_ok-frontier.field-0.items (c.in_ok-frontier.ensures.frontier s is)

@@ -1,0 +1,260 @@
+ghost use Rattle.std.specs.Prelude.{◌≡◌, [], ◌∷◌};
+
+use lu_board::board::{Board, Close, Seat};
+use lu_board::board_core::{Core, CoreEvent, CoreFault, run};
+use lu_board::view::{Kind, Look};
+use std::alloc::Global;
+use std::process::Abort;
+use std::test::*;
+use std::thread;
+use std::thread::Threads;
+
+/// A worker claims pieces until none is left, and finds one of them bad.
+fn work(board: &Board, mut seat: Seat, bad: u64) -> Seat
+    requires { (seat.board ≡ board.now.board) × (seat.view.held ≡ []) }
+    ensures { (result.board ≡ board.now.board) × (result.view.spent ≡ 1) × (result.view.held ≡ []) }
+{
+    while let Some(piece) = board.claim(&mut seat) {
+        match board.look(&mut seat, piece) {
+            Look::Skip(_) => {}
+            Look::Go(_) => {
+                if piece == bad {
+                    board.lower(&mut seat, piece);
+                } else {
+                    board.settle(&mut seat, piece, Kind::Clean);
+                }
+            }
+        }
+    }
+    seat
+}
+
+/// Two workers in threads of their own.
+fn work_in_threads<R: Threads + Sync>(
+    rt: &R,
+    board: &Board,
+    first: Seat,
+    second: Seat,
+) -> (Seat, Seat)
+    requires first { (first.board ≡ board.now.board) × (first.view.held ≡ []) }
+    requires second { (second.board ≡ board.now.board) × (second.view.held ≡ []) }
+    ensures first { (result.0.board ≡ board.now.board) × (result.0.view.spent ≡ 1) × (result.0.view.held ≡ []) }
+    ensures second { (result.1.board ≡ board.now.board) × (result.1.view.spent ≡ 1) × (result.1.view.held ≡ []) }
+{
+    thread::join(
+        rt,
+        move || -> Seat
+            requires { (first.board ≡ board.now.board) × (first.view.held ≡ []) }
+            ensures { (result.board ≡ board.entry.now.board) × (result.view.spent ≡ 1) × (result.view.held ≡ []) }
+        { work(board, first, 5) },
+        move || -> Seat
+            requires { (second.board ≡ board.now.board) × (second.view.held ≡ []) }
+            ensures { (result.board ≡ board.entry.now.board) × (result.view.spent ≡ 1) × (result.view.held ≡ []) }
+        { work(board, second, 5) },
+    )
+}
+
+/// The seat claims this piece, and holds it.
+fn claims(rt: &impl Abort, board: &Board, seat: &mut Seat, expected: u64)
+    requires { (seat.old.board ≡ board.now.board) × (seat.old.view.held ≡ []) }
+    ensures { (seat.new.board ≡ seat.old.board) × (seat.new.view.held ≡ expected ∷ []) }
+{
+    let Some(piece) = board.claim(seat) else {
+        panic!(rt; "no piece is left")
+    };
+    assert!(rt; piece == expected);
+}
+
+/// The seat claims this piece and skips it, since it sees piece 1 as the best.
+fn skips(rt: &impl Abort, board: &Board, seat: &mut Seat, expected: u64)
+    requires { (seat.old.board ≡ board.now.board) × (seat.old.view.held ≡ []) }
+    ensures { (seat.new.board ≡ seat.old.board) × (seat.new.view.held ≡ []) }
+{
+    claims(rt, board, seat, expected);
+    match board.look(seat, expected) {
+        Look::Skip(best) => assert_eq!(rt; best, 1),
+        Look::Go(_) => panic!(rt; "piece {expected} is above piece 1 and is not skipped"),
+    }
+}
+
+/// Two seats on one thread, of which A lowers piece 1. B sees it, though B lowered none.
+#[test]
+fn a_seat_sees_what_another_lowered(rt: HostRuntime) -> Result<(), Fail> {
+    let (board, mut seats) = Board::new(rt.alloc(), 8, 2)?;
+    let (Some(mut b), Some(mut a)) = (seats.pop(), seats.pop()) else {
+        panic!(rt; "a seat is missing")
+    };
+    claims(&rt, &board, &mut a, 0);
+    board.settle(&mut a, 0, Kind::Clean);
+    claims(&rt, &board, &mut a, 1);
+    board.lower(&mut a, 1);
+    skips(&rt, &board, &mut a, 2);
+    skips(&rt, &board, &mut b, 3);
+    skips(&rt, &board, &mut a, 4);
+    skips(&rt, &board, &mut a, 5);
+    skips(&rt, &board, &mut a, 6);
+    skips(&rt, &board, &mut a, 7);
+    let (None, None) = (board.claim(&mut a), board.claim(&mut b)) else {
+        panic!(rt; "a piece past the last one")
+    };
+    seats.push(a)?;
+    seats.push(b)?;
+    let close = board.finish(seats);
+    assert_eq!(rt;
+        close,
+        Close {
+            best: Some(1),
+            given_up: false
+        }
+    );
+    Ok(())
+}
+
+#[test]
+fn two_threads_share_a_board(rt: HostRuntime) -> Result<(), Fail> {
+    let (board, mut seats) = Board::new(rt.alloc(), 1000, 2)?;
+    let (Some(second), Some(first)) = (seats.pop(), seats.pop()) else {
+        panic!(rt; "a seat is missing")
+    };
+    let (first, second) = work_in_threads(&rt, &board, first, second);
+    seats.push(first)?;
+    seats.push(second)?;
+    let close = board.finish(seats);
+    assert_eq!(rt;
+        close,
+        Close {
+            best: Some(5),
+            given_up: false
+        }
+    );
+    Ok(())
+}
+
+#[test]
+fn a_piece_is_given_up(rt: HostRuntime) -> Result<(), Fail> {
+    let (board, mut seats) = Board::new(rt.alloc(), 1, 1)?;
+    let Some(mut seat) = seats.pop() else {
+        panic!(rt; "no seat")
+    };
+    claims(&rt, &board, &mut seat, 0);
+    let look = board.look(&mut seat, 0);
+    assert_eq!(rt; look, Look::Go(None));
+    let Look::Go(_) = look else {
+        panic!(rt; "the only piece is skipped")
+    };
+    board.settle(&mut seat, 0, Kind::GivenUp);
+    let None = board.claim(&mut seat) else {
+        panic!(rt; "a piece past the last one")
+    };
+    seats.push(seat)?;
+    let close = board.finish(seats);
+    assert_eq!(rt;
+        close,
+        Close {
+            best: None,
+            given_up: true
+        }
+    );
+    Ok(())
+}
+
+#[test]
+fn a_board_without_pieces(rt: HostRuntime) -> Result<(), Fail> {
+    let (board, mut seats) = Board::new(rt.alloc(), 0, 2)?;
+    let (Some(mut b), Some(mut a)) = (seats.pop(), seats.pop()) else {
+        panic!(rt; "a seat is missing")
+    };
+    let (None, None, None) = (
+        board.claim(&mut a),
+        board.claim(&mut b),
+        board.claim(&mut a),
+    ) else {
+        panic!(rt; "a piece of a board without pieces")
+    };
+    seats.push(a)?;
+    seats.push(b)?;
+    let close = board.finish(seats);
+    assert_eq!(rt;
+        close,
+        Close {
+            best: None,
+            given_up: false
+        }
+    );
+    Ok(())
+}
+
+/// The first illegal event of a run with two workers and three pieces, of which 1 and 2 are bad.
+fn illegal_at(alloc: Global, events: &[CoreEvent]) -> Result<Option<usize>, CoreFault> {
+    match run(alloc, 3, 2, &[false, true, true], events) {
+        Ok(_) => Ok(None),
+        Err(CoreFault::BadEvent(index)) => Ok(Some(index)),
+        Err(fault) => Err(fault),
+    }
+}
+
+/// The best piece of a run, whether it is done, and whether a piece was given up.
+fn told(core: &Core) -> (Option<u64>, bool, bool) {
+    (core.best(), core.done(), core.given_up())
+}
+
+#[test]
+fn the_core_knows_the_least_bad_piece(rt: HostRuntime) -> Result<(), Fail> {
+    let events = [
+        CoreEvent::Claim(0),
+        CoreEvent::Claim(1),
+        CoreEvent::Claim(0),
+        CoreEvent::Lower(1, 1),
+        CoreEvent::Look(0, 2),
+        CoreEvent::Settle(0, 0, Kind::Clean),
+        CoreEvent::Claim(0),
+        CoreEvent::Claim(1),
+        CoreEvent::Claim(0),
+    ];
+    let bad = [false, true, true];
+    let core = run(rt.alloc(), 3, 2, &bad, &events[..8])?;
+    assert_eq!(rt; told(&core), (Some(1), true, false));
+    let core = run(rt.alloc(), 3, 2, &bad, &events[..4])?;
+    assert_eq!(rt; told(&core), (Some(1), false, false));
+    assert_eq!(rt; illegal_at(rt.alloc(), &events)?, Some(8));
+    Ok(())
+}
+
+#[test]
+fn the_core_names_the_first_illegal_event(rt: HostRuntime) -> Result<(), Fail> {
+    let lowers_a_good_piece = [CoreEvent::Claim(0), CoreEvent::Lower(0, 0)];
+    assert_eq!(rt; illegal_at(rt.alloc(), &lowers_a_good_piece)?, Some(1));
+    let no_such_worker = [CoreEvent::Claim(2)];
+    assert_eq!(rt; illegal_at(rt.alloc(), &no_such_worker)?, Some(0));
+    let settles_a_bad_piece = [
+        CoreEvent::Claim(0),
+        CoreEvent::Claim(0),
+        CoreEvent::Settle(0, 1, Kind::Clean),
+        CoreEvent::Claim(2),
+    ];
+    assert_eq!(rt; illegal_at(rt.alloc(), &settles_a_bad_piece)?, Some(2));
+    Ok(())
+}
+
+#[test]
+fn a_fault_says_what_happened(rt: HostRuntime) -> Result<(), Fail> {
+    let text = format!(in rt.alloc(); "{}", CoreFault::BadEvent(8))?;
+    assert_eq!(rt; text.as_str(), "event 8 is not legal");
+    let text = format!(in rt.alloc(); "{}", CoreFault::Memory)?;
+    assert_eq!(rt; text.as_str(), "memory ran out");
+    Ok(())
+}
+
+#[test]
+fn the_core_tells_what_was_given_up(rt: HostRuntime) -> Result<(), Fail> {
+    let events = [
+        CoreEvent::Claim(0),
+        CoreEvent::Settle(0, 0, Kind::GivenUp),
+        CoreEvent::Claim(0),
+    ];
+    let core = run(rt.alloc(), 1, 1, &[true], &events)?;
+    assert_eq!(rt; told(&core), (None, true, true));
+    let core = run(rt.alloc(), 0, 1, &[], &[CoreEvent::Claim(0)])?;
+    assert_eq!(rt; told(&core), (None, true, false));
+    Ok(())
+}

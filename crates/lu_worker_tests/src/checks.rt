@@ -1,0 +1,584 @@
+//! Checks of one component by one worker and by many, some of which are held at a gate.
+
+ghost use Rattle.std.specs.Prelude.{◌≡◌, ◌≤◌, IfOk, IfSome, All, length, vec_len};
+ghost use Rattle.lu_test.specs.Matrix.{IsOf};
+ghost use Rattle.lu_machine.specs.States.{State};
+ghost use Rattle.lu_machine.specs.Starts.{IsStart};
+ghost use Rattle.lu_parallel.specs.Works.{IsFresh, IsOver, IsPiece};
+
+use lu_board::board::{Board, Seat};
+use lu_board::view::Kind;
+use lu_examples::ROWS;
+use lu_lang::{Component, read_component};
+use lu_machine::Counts;
+use lu_parallel::laws::{cover_sums, found_is_reported, works_conclude};
+use lu_parallel::{CheckFault, Gate, OpenGate, Options, Work, check, check_one, conclude, work};
+use lu_replay::{Finding, Report};
+use lu_serial::{Learnt, learn};
+use lu_test::{Matrix, Schedule, read_matrix, write_schedule};
+use lu_tree::{Found, frontier};
+use lu_trie::{SerialTree, Trie};
+use lu_witness::Why;
+use std::alloc::Global;
+use std::process::Abort;
+use std::sync::Wait;
+use std::sync::atomic::{AtomicU64, Ordering};
+use std::test::Fail;
+use std::thread;
+use std::thread::Threads;
+
+/// The options, which are within their ranges.
+fn options(rt: &impl Abort, workers: u8, depth: u8) -> Options {
+    match Options::new(40, 40, workers, depth) {
+        Some(options) => options,
+        None => panic!(rt; "no options"),
+    }
+}
+
+/// The report of a matrix, by so many workers over pieces of this depth.
+fn report<R: AllocGlobal + Abort + Threads + Wait, G: Gate>(
+    rt: &R,
+    matrix: &[u8],
+    gate: &G,
+    workers: u8,
+    depth: u8,
+) -> Result<Report, Fail> {
+    let component = read_component(rt.alloc(), ROWS.as_bytes())?;
+    let matrix = read_matrix(rt.alloc(), &component, matrix)?;
+    assert!(rt; matrix.of(&component));
+    let options = options(rt, workers, depth);
+    Ok(check(rt, rt.alloc(), gate, &component, &matrix, options)?)
+}
+
+/// The report of a matrix on the calling thread.
+fn report_of_one(
+    rt: &(impl AllocGlobal + Abort),
+    matrix: &[u8],
+    bound: u16,
+    serial: u16,
+) -> Result<Report, Fail>
+    requires bound { bound ≤ 256 }
+    requires serial { (1 ≤ serial) × (serial ≤ 256) }
+{
+    let component = read_component(rt.alloc(), ROWS.as_bytes())?;
+    let matrix = read_matrix(rt.alloc(), &component, matrix)?;
+    assert!(rt; matrix.of(&component));
+    Ok(check_one(rt.alloc(), rt.alloc(), &component, &matrix, bound, serial)?)
+}
+
+fn is_text(rt: &impl AllocGlobal, schedule: &Schedule, text: &str) -> Result<bool, Fail> {
+    Ok(write_schedule(rt.alloc(), schedule)?.as_str() == text)
+}
+
+/// The report is a fail with this schedule, which is complete.
+fn is_failure(rt: &impl AllocGlobal, report: &Report, text: &str) -> Result<bool, Fail> {
+    match report.finding() {
+        Finding::Fail { schedule, why } => Ok(
+            *why == Why::Complete && is_text(rt, schedule, text)?,
+        ),
+        _ => Ok(false),
+    }
+}
+
+/// The report is a pass with so many complete schedules, and none that is stuck or cut.
+fn is_pass(report: &Report, complete: u64) -> bool {
+    match report.finding() {
+        Finding::Pass(counts) => {
+            *counts
+                == Counts {
+                    complete,
+                    stuck: 0,
+                    cut: 0,
+                }
+        }
+        _ => false,
+    }
+}
+
+fn is_cut_at(rt: &impl AllocGlobal, report: &Report, text: &str) -> Result<bool, Fail> {
+    match report.finding() {
+        Finding::SerialCut(schedule) => is_text(rt, schedule, text),
+        _ => Ok(false),
+    }
+}
+
+const TWO_INCREMENTS: &[u8] = b"thread inc\nthread inc\n";
+
+const TWO_READS: &[u8] = b"thread get\nthread get\n";
+
+/// The least schedule in which one increment is lost.
+const LOST_INCREMENT: &str = "schedule 0 0 0 1 1 0 0 1 1 1\n";
+
+/// Options outside their ranges are refused.
+#[test]
+fn options_have_ranges(rt: HostRuntime) {
+    for (bound, serial, workers, depth) in [
+        (257, 1, 1, 0),
+        (0, 0, 1, 0),
+        (0, 257, 1, 0),
+        (0, 1, 0, 0),
+        (0, 1, 17, 0),
+        (0, 1, 1, 9),
+    ] {
+        assert!(rt; Options::new(bound, serial, workers, depth).is_none());
+    }
+    assert!(rt; Options::new(0, 1, 1, 0).is_some());
+    let Some(most) = Options::new(256, 255, 16, 8) else {
+        panic!(&rt; "no options")
+    };
+    assert_eq!(rt; (most.bound(), most.serial()), (256, 255));
+    assert_eq!(rt; (most.workers(), most.depth()), (16, 8));
+}
+
+#[test]
+fn faults_have_codes(rt: HostRuntime) {
+    assert!(rt; CheckFault::Memory.code() == "memory" && CheckFault::Worker.code() == "K2");
+}
+
+/// One worker finds a lost increment, counts schedules, and sees an operation that runs on.
+#[test]
+fn one_worker_checks(rt: HostRuntime) -> Result<(), Fail> {
+    let lost = report_of_one(&rt, TWO_INCREMENTS, 40, 40)?;
+    assert!(rt; is_failure(&rt, &lost, LOST_INCREMENT)?);
+    let reads = report_of_one(&rt, TWO_READS, 6, 3)?;
+    assert!(rt; is_pass(&reads, 20) && reads.bound() == 6 && reads.serial() == 3);
+    let spins = report_of_one(&rt, b"thread spin\n", 40, 3)?;
+    assert!(rt; is_cut_at(&rt, &spins, "schedule 0 0 0 0\n")?);
+    Ok(())
+}
+
+/// The report is the same for any number of workers, and any depth.
+#[test]
+fn reports_are_the_same(rt: HostRuntime) -> Result<(), Fail> {
+    for workers in [1u8, 2, 16] {
+        for depth in [0u8, 4, 8] {
+            let lost = report(&rt, TWO_INCREMENTS, &OpenGate, workers, depth)?;
+            assert!(rt;
+                is_failure(&rt, &lost, LOST_INCREMENT)?,
+                "{workers} {depth}"
+            );
+        }
+    }
+    Ok(())
+}
+
+/// The other findings are told by many workers too.
+#[test]
+fn many_workers_check(rt: HostRuntime) -> Result<(), Fail> {
+    let reads = report(&rt, TWO_READS, &OpenGate, 7, 3)?;
+    assert!(rt; is_pass(&reads, 20));
+    let flips = report(&rt, b"thread flip\n", &OpenGate, 2, 4)?;
+    assert!(rt; matches!(flips.finding(), Finding::Nondeterministic { before: 0, .. }));
+    Ok(())
+}
+
+/// When a held piece may go on.
+#[derive(Clone, Copy, Debug)]
+enum Until {
+    /// A worker comes to the gate with this piece.
+    Comes(u64),
+
+    /// A worker is done with this piece.
+    Done(u64),
+}
+
+/// The number of a worker, from 1, once a worker has told it: waits for that, at most a million turns. 0 where none came.
+fn told(worker: &AtomicU64) -> u64 {
+    for _ in 0..1_000_000 {
+        let told = worker.load(Ordering::SeqCst);
+        if told > 0 {
+            return told;
+        }
+        thread::yield_now();
+    }
+    0
+}
+
+/// A gate that holds a piece for a while.
+#[derive(Drop)]
+struct Holding {
+    piece: u64,
+    until: Until,
+
+    /// The worker that came with the piece, from 1.
+    held: AtomicU64,
+
+    /// The worker for which the piece waits, from 1, as soon as it may go on.
+    awaited: AtomicU64,
+
+    /// The same when the piece went on.
+    seen: AtomicU64,
+}
+
+impl Holding {
+    fn new(piece: u64, until: Until) -> Holding {
+        Holding {
+            piece,
+            until,
+            held: AtomicU64::new(0),
+            awaited: AtomicU64::new(0),
+            seen: AtomicU64::new(0),
+        }
+    }
+
+    /// Whether the piece went on after another worker had done what it waits for.
+    fn went_on_after_another(&self) -> bool {
+        let seen = self.seen.load(Ordering::SeqCst);
+        seen > 0 && seen != self.held.load(Ordering::SeqCst)
+    }
+}
+
+impl Gate for Holding {
+    fn pass(&self, worker: u8, piece: u64) {
+        if let Until::Comes(last) = self.until {
+            if piece == last {
+                self.awaited.store(u64::from(worker) + 1, Ordering::SeqCst);
+            }
+        }
+        if let Until::Done(last) = self.until {
+            if piece == last {
+                told(&self.held);
+            }
+        }
+        if piece == self.piece {
+            self.held.store(u64::from(worker) + 1, Ordering::SeqCst);
+            self.seen.store(told(&self.awaited), Ordering::SeqCst);
+        }
+    }
+
+    fn done(&self, worker: u8, piece: u64) {
+        if let Until::Done(last) = self.until {
+            if piece == last {
+                self.awaited.store(u64::from(worker) + 1, Ordering::SeqCst);
+            }
+        }
+    }
+}
+
+/// A piece is held while another worker goes through the next one, which waits until the first is held.
+#[test]
+fn two_workers_work_at_once(rt: HostRuntime) -> Result<(), Fail> {
+    let gate = Holding::new(0, Until::Done(1));
+    let reads = report(&rt, TWO_READS, &gate, 2, 4)?;
+    assert!(rt; is_pass(&reads, 20));
+    assert!(rt; gate.went_on_after_another());
+    Ok(())
+}
+
+/// The least failure is reported, though its piece is held until another worker has come to the last one.
+#[test]
+fn the_least_failure_comes_last(rt: HostRuntime) -> Result<(), Fail> {
+    let gate = Holding::new(1, Until::Comes(15));
+    let lost = report(&rt, TWO_INCREMENTS, &gate, 2, 4)?;
+    assert!(rt; is_failure(&rt, &lost, LOST_INCREMENT)?);
+    assert!(rt; gate.went_on_after_another());
+    Ok(())
+}
+
+/// A gate that counts its calls.
+#[derive(Drop)]
+struct Counting {
+    passes: AtomicU64,
+    ends: AtomicU64,
+}
+
+impl Gate for Counting {
+    fn pass(&self, _worker: u8, _piece: u64) {
+        self.passes.fetch_add(1, Ordering::SeqCst);
+    }
+
+    fn done(&self, _worker: u8, _piece: u64) {
+        self.ends.fetch_add(1, Ordering::SeqCst);
+    }
+}
+
+/// One worker calls no gate. Two call it for each of the 14 pieces.
+#[test]
+fn pieces_pass_the_gate(rt: HostRuntime) -> Result<(), Fail> {
+    for (workers, calls) in [(1u8, 0u64), (2, 14)] {
+        let gate = Counting {
+            passes: AtomicU64::new(0),
+            ends: AtomicU64::new(0),
+        };
+        let reads = report(&rt, TWO_READS, &gate, workers, 4)?;
+        assert!(rt; is_pass(&reads, 20));
+        assert_eq!(rt; gate.passes.load(Ordering::SeqCst), calls);
+        assert_eq!(rt; gate.ends.load(Ordering::SeqCst), calls);
+    }
+    Ok(())
+}
+
+/// A gate that holds each worker's first piece until so many workers have come, at most a million turns.
+#[derive(Drop)]
+struct Meeting {
+    wanted: u64,
+    came: AtomicU64,
+    met: AtomicU64,
+
+    /// A bit for the number of each worker that came.
+    workers: AtomicU64,
+}
+
+impl Gate for Meeting {
+    fn pass(&self, worker: u8, _piece: u64) {
+        let bit = 1u64.wrapping_shl(u32::from(worker));
+        self.workers.fetch_or(bit, Ordering::SeqCst);
+        let before = self.came.fetch_add(1, Ordering::SeqCst);
+        if before >= self.wanted {
+            return;
+        }
+        for _ in 0..1_000_000 {
+            if self.came.load(Ordering::SeqCst) >= self.wanted {
+                self.met.fetch_add(1, Ordering::SeqCst);
+                return;
+            }
+            thread::yield_now();
+        }
+    }
+
+    fn done(&self, _worker: u8, _piece: u64) {}
+}
+
+/// Sixteen workers are held at one time.
+#[test]
+fn sixteen_workers_meet(rt: HostRuntime) -> Result<(), Fail> {
+    let gate = Meeting {
+        wanted: 16,
+        came: AtomicU64::new(0),
+        met: AtomicU64::new(0),
+        workers: AtomicU64::new(0),
+    };
+    let reads = report(&rt, TWO_READS, &gate, 16, 8)?;
+    assert!(rt; is_pass(&reads, 20));
+    assert_eq!(rt; gate.met.load(Ordering::SeqCst), 16);
+    assert_eq!(rt; gate.workers.load(Ordering::SeqCst), 0xffff);
+    Ok(())
+}
+
+/// The pieces of a matrix: the schedules of four moves, and the ended ones of fewer.
+fn four_moves(
+    rt: &impl AllocGlobal,
+    component: &Component,
+    matrix: &Matrix,
+) -> Result<Vec<Schedule>, Fail>
+    requires { IsOf matrix.now component.now }
+    ensures few { IfOk result (λ pieces. vec_len pieces ≤ 65536) }
+    ensures pieces { (s : State) → IsStart component.now matrix.now s → IfOk result (λ pieces. All (IsPiece s 40) pieces.items) }
+{
+    Ok(frontier(rt.alloc(), component, matrix, 40, 4)?)
+}
+
+/// The works of the seats, one after another on this thread.
+fn work_in_turn<R: AllocGlobal, T: SerialTree>(
+    rt: &R,
+    component: &Component,
+    matrix: &Matrix,
+    tree: &T,
+    pieces: &[Schedule],
+    board: &Board,
+    seats: Vec<Seat>,
+) -> Result<Vec<Work>, Fail>
+    requires of { IsOf matrix.now component.now }
+    requires pieces { (s : State) → IsStart component.now matrix.now s → All (IsPiece s 40) pieces.now }
+    requires board { board.now.pieces ≡ length pieces.now }
+    requires fresh { All (IsFresh board.now.board) seats.items }
+    ensures all { IfOk result (λ works. length works.items ≡ length seats.items) }
+    ensures over { IfOk result (λ works. All (IsOver board.now.board) works.items) }
+{
+    let mut works = Vec::new(rt.alloc());
+    for seat in seats {
+        works.push(work(
+            rt.alloc(),
+            component,
+            matrix,
+            tree,
+            pieces,
+            40,
+            board,
+            seat,
+            &OpenGate,
+            0,
+        ))?;
+    }
+    Ok(works)
+}
+
+/// One of the seats.
+fn take_seat(seats: &mut Vec<Seat>, board: &Board) -> Option<Seat>
+    requires { All (IsFresh board.now.board) seats.old.items }
+    ensures seat { IfSome result (λ seat. IsFresh board.now.board seat) }
+    ensures rest { All (IsFresh board.now.board) seats.new.items }
+{
+    seats.pop()
+}
+
+/// The seat claims a piece and settles it clean, and claims the next one and says that it is bad.
+fn settle_and_lower(rt: &impl Abort, board: &Board, seat: &mut Seat)
+    requires { seat.old.board ≡ board.now.board }
+{
+    match board.claim(seat) {
+        Some(first) => board.settle(seat, first, Kind::Clean),
+        None => panic!(rt; "no piece"),
+    }
+    match board.claim(seat) {
+        Some(second) => board.lower(seat, second),
+        None => panic!(rt; "no second piece"),
+    }
+}
+
+/// The works of the other seat, after one seat settled the first piece clean and lowered the second.
+fn works_above<R: AllocGlobal + Abort, T: SerialTree>(
+    rt: &R,
+    component: &Component,
+    matrix: &Matrix,
+    tree: &T,
+    pieces: &[Schedule],
+) -> Result<Vec<Work>, Fail>
+    requires of { IsOf matrix.now component.now }
+    requires few { length pieces.now ≤ 65536 }
+    requires pieces { (s : State) → IsStart component.now matrix.now s → All (IsPiece s 40) pieces.now }
+{
+    let (board, mut seats) = Board::new(rt.alloc(), pieces.len() as u64, 2)?;
+    match take_seat(&mut seats, &board) {
+        Some(mut seat) => settle_and_lower(rt, &board, &mut seat),
+        None => panic!(rt; "no seat"),
+    }
+    work_in_turn(rt, component, matrix, tree, pieces, &board, seats)
+}
+
+/// What two workers conclude that work one after the other on this thread.
+fn concluded_in_turn<R: AllocGlobal, T: SerialTree>(
+    rt: &R,
+    component: &Component,
+    matrix: &Matrix,
+    tree: &T,
+    pieces: &[Schedule],
+) -> Result<Option<Found>, Fail>
+    requires of { IsOf matrix.now component.now }
+    requires few { length pieces.now ≤ 65536 }
+    requires pieces { (s : State) → IsStart component.now matrix.now s → All (IsPiece s 40) pieces.now }
+{
+    let (board, seats) = Board::new(rt.alloc(), pieces.len() as u64, 2)?;
+    let works = work_in_turn(rt, component, matrix, tree, pieces, &board, seats)?;
+    Ok(conclude(rt.alloc(), board, works)?)
+}
+
+fn is_bad(rt: &impl AllocGlobal, found: &Option<Found>, text: &str) -> Result<bool, Fail> {
+    match found {
+        Some(Found::Bad { schedule, why }) => {
+            Ok(*why == Why::Complete && is_text(rt, schedule, text)?)
+        }
+        _ => Ok(false),
+    }
+}
+
+/// There is one work, which has searched nothing.
+fn is_idle(works: &[Work]) -> bool {
+    works.len() == 1
+        && works.iter().all(|work| work.counts == Counts::NONE && work.found.is_empty())
+}
+
+/// The serial histories of the matrix.
+fn serial_histories(
+    rt: &(impl AllocGlobal + Abort),
+    component: &Component,
+    matrix: &Matrix,
+) -> Result<Trie<Global>, Fail>
+    requires { IsOf matrix.now component.now }
+{
+    match learn(rt.alloc(), rt.alloc(), component, matrix, 40)? {
+        Learnt::Set(set) => Ok(set),
+        Learnt::Cut(_) => panic!(rt; "a serial cut"),
+        Learnt::Conflict { .. } => panic!(rt; "a serial conflict"),
+    }
+}
+
+/// A worker above a lesser failure searches nothing, and two workers in turn find the least failure.
+fn assert_worked_in_turn<R: AllocGlobal + Abort>(
+    rt: &R,
+    component: &Component,
+    matrix: &Matrix,
+    set: &Trie<Global>,
+    pieces: &[Schedule],
+) -> Result<(), Fail>
+    requires of { IsOf matrix.now component.now }
+    requires few { length pieces.now ≤ 65536 }
+    requires pieces { (s : State) → IsStart component.now matrix.now s → All (IsPiece s 40) pieces.now }
+{
+    assert_eq!(rt; pieces.len(), 16);
+    let above = works_above(rt, component, matrix, &set, pieces)?;
+    assert!(rt; is_idle(&above));
+    let found = concluded_in_turn(rt, component, matrix, &set, pieces)?;
+    assert!(rt; is_bad(rt, &found, LOST_INCREMENT)?);
+    Ok(())
+}
+
+/// The same for the pieces of a matrix.
+fn assert_turns<R: AllocGlobal + Abort>(
+    rt: &R,
+    component: &Component,
+    matrix: &Matrix,
+) -> Result<(), Fail>
+    requires { IsOf matrix.now component.now }
+{
+    let set = serial_histories(rt, component, matrix)?;
+    let pieces = four_moves(rt, component, matrix)?;
+    assert_worked_in_turn(rt, component, matrix, &set, &pieces)
+}
+
+/// The same over a set.
+fn concluded_over<R: AllocGlobal>(
+    rt: &R,
+    component: &Component,
+    matrix: &Matrix,
+    set: &Trie<Global>,
+    pieces: &[Schedule],
+) -> Result<Option<Found>, Fail>
+    requires of { IsOf matrix.now component.now }
+    requires few { length pieces.now ≤ 65536 }
+    requires pieces { (s : State) → IsStart component.now matrix.now s → All (IsPiece s 40) pieces.now }
+{
+    concluded_in_turn(rt, component, matrix, &set, pieces)
+}
+
+/// What two workers conclude that take turns on the pieces of a matrix.
+fn concluded_of<R: AllocGlobal + Abort>(
+    rt: &R,
+    component: &Component,
+    matrix: &Matrix,
+) -> Result<Option<Found>, Fail>
+    requires { IsOf matrix.now component.now }
+{
+    let set = serial_histories(rt, component, matrix)?;
+    let pieces = four_moves(rt, component, matrix)?;
+    concluded_over(rt, component, matrix, &set, &pieces)
+}
+
+/// Where no piece is bad, the numbers are concluded.
+#[test]
+fn clean_works_are_added(rt: HostRuntime) -> Result<(), Fail> {
+    let component = read_component(rt.alloc(), ROWS.as_bytes())?;
+    let matrix = read_matrix(rt.alloc(), &component, TWO_READS)?;
+    assert!(rt; matrix.of(&component));
+    match concluded_of(&rt, &component, &matrix)? {
+        Some(Found::Clean(counts)) => assert_eq!(rt; (counts.complete, counts.stuck), (20, 0)),
+        _ => panic!(rt; "not clean"),
+    }
+    Ok(())
+}
+
+#[test]
+fn workers_take_turns(rt: HostRuntime) -> Result<(), Fail> {
+    let component = read_component(rt.alloc(), ROWS.as_bytes())?;
+    let matrix = read_matrix(rt.alloc(), &component, TWO_INCREMENTS)?;
+    assert!(rt; matrix.of(&component));
+    assert_turns(&rt, &component, &matrix)
+}
+
+/// The laws can be called.
+#[test]
+fn laws_are_called() {
+    cover_sums();
+    works_conclude();
+    found_is_reported();
+}
