@@ -1,6 +1,6 @@
 //! The machine.
 
-ghost use Rattle.std.specs.Prelude.{◌≡◌, ℕ, ◌+◌, ◌<◌, ◌≤◌, ◌↔◌, length, IsTrue, IsSome, IfSome, IfOk, slice_get, Some};
+ghost use Rattle.std.specs.Prelude.{◌≡◌, ℕ, false, ◌+◌, ◌<◌, ◌≤◌, ◌↔◌, length, IsTrue, IsSome, IfSome, IfOk, slice_get, Some};
 ghost use Rattle.std.specs.Option.{option_copied};
 ghost use Rattle.lu_component.specs.Component.{IsComponent};
 ghost use Rattle.lu_test.specs.declared.schedule.Move.{Move as AMove};
@@ -87,6 +87,13 @@ impl<'a> Machine<'a> {
         ensures few { length self.now.threads ≤ 8 }
     {
         self.matrix.threads()
+    }
+
+    /// How many local instructions run with one move at most, 0 to 16.
+    pub fn local(&self) -> u8
+        ensures { result ≡ self.now.component.local }
+    {
+        self.component.local()
     }
 
     /// Where the thread stands.
@@ -306,6 +313,23 @@ impl<'a> Machine<'a> {
         ensures back { restored result self.new ≡ self.old }
         ensures fits { CanTake self.new result }
     {
+        self.apply_as::<true>(next)
+    }
+
+    /// Makes the move as [`Machine::apply`] does. With `LONG` false the component is asked to have no local
+    /// instructions run with a move: who makes many moves asks that once, and each of them is the faster.
+    #[inline(always)]
+    pub fn apply_as<const LONG: bool>(&mut self, next: Move) -> Undo
+        requires feasible { IsFeasible self.old next }
+        requires one { LONG ≡ false → self.old.component.local ≡ 0 }
+        ensures step { Step self.old next self.new result.event }
+        ensures range { IfSome result.event IsInRange }
+        ensures back { restored result self.new ≡ self.old }
+        ensures fits { CanTake self.new result }
+    {
+        if !LONG {
+            return self.one_step(next);
+        }
         let more = self.more_local(next.thread);
         let first = self.one_step(next);
         if more == 0 {
