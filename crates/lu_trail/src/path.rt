@@ -1,6 +1,6 @@
 //! The beginnings of histories, and a place among them.
 
-ghost use Rattle.std.specs.Prelude.{◌≡◌, ◌≢◌, ◌<◌, ◌+◌, ◌∷◌, [], ◌++◌, List, length, take, IfOk, OnOk, IsTrue};
+ghost use Rattle.std.specs.Prelude.{◌≡◌, ◌≢◌, ◌<◌, ◌≤◌, ◌+◌, ◌∷◌, [], ◌++◌, List, length, take, IfOk, OnOk, IsTrue};
 ghost use Rattle.lu_history.specs.declared.serial.SerialOp.{SerialOp};
 ghost use Rattle.lu_history.specs.Histories.{Fits};
 ghost use Rattle.lu_witness.specs.Witnesses.{IsMember, IsGood};
@@ -53,6 +53,18 @@ fn empty() -> Beginning
         longer: 0,
         good: false,
     }
+}
+
+/// With how many events both begin.
+fn common_count(events: &[Event], others: &[Event]) -> usize
+    ensures within { (result ≤ length events.now) × (result ≤ length others.now) }
+    ensures alike { take result events.now ≡ take result others.now }
+{
+    let mut count = 0;
+    while count < events.len() && count < others.len() && events[count] == others[count] {
+        count += 1;
+    }
+    count
 }
 
 impl Path {
@@ -129,17 +141,20 @@ impl Path {
         count + 1
     }
 
-    /// Makes the history this one, in the room that it has. It may have some of the events where memory is refused.
+    /// Makes the history this one, in the room that it has: what both begin with stays. It may have some of the events where
+    /// memory is refused.
     pub(crate) fn fill(&self, history: &mut History) -> Result<(), AllocError>
         requires { IsPath self.now }
         ensures { OnOk result (history.new ≡ history_of self.now) }
     {
-        while !history.events().is_empty() {
-            history.pop();
-        }
         let mut events = [Event::Call { t: 0, k: 0 }; MOST_EVENTS];
         let count = self.write(self.place, &mut events);
-        for event in &events[..count] {
+        let events = &events[..count];
+        let kept = common_count(history.events(), events);
+        while history.events().len() > kept {
+            history.pop();
+        }
+        for event in &events[kept..] {
             if history.push(*event).is_err() {
                 return Err(AllocError);
             }

@@ -1,0 +1,132 @@
+//! Texts that are cut off, bent and torn.
+
+use lu_text::cut_line;
+use std::process::Abort;
+use std::test::Fail;
+
+/// The bytes that stand in place of each other one: ends of lines and of words, what begins a comment, a sign or a number, what
+/// parts calls and moves, a letter, and what no text may have.
+const BYTES: [u8; 14] = [0, 9, 10, 13, 32, 35, 45, 48, 58, 59, 61, 127, 128, 255];
+
+/// What came of a text.
+#[derive(Clone, Copy, Debug, PartialEq, Eq)]
+pub(crate) enum Outcome {
+    /// It was read; what was written of it was read as the same.
+    Read,
+
+    /// It was refused, on this line.
+    Refused(usize),
+}
+
+/// How many texts were read, and how many refused.
+#[derive(Clone, Copy, Debug, PartialEq, Eq)]
+pub(crate) struct Tally {
+    pub(crate) read: u32,
+    pub(crate) refused: u32,
+}
+
+/// A reader of texts.
+pub(crate) trait Texts {
+    /// What comes of the text.
+    fn outcome<X: AllocGlobal + Abort>(&self, rt: &X, text: &[u8]) -> Result<Outcome, Fail>;
+}
+
+/// The number of lines.
+fn line_count(text: &[u8]) -> usize {
+    let ends = text.iter().filter(|byte| **byte == b'\n').count();
+    match text.last() {
+        None => 0,
+        Some(b'\n') => ends,
+        Some(_) => ends.saturating_add(1),
+    }
+}
+
+/// The text is read and comes back, or is refused on one of its lines or on the one behind it.
+fn try_text<K: Texts, X: AllocGlobal + Abort>(
+    rt: &X,
+    texts: &K,
+    text: &[u8],
+    tally: &mut Tally,
+) -> Result<(), Fail> {
+    match texts.outcome(rt, text)? {
+        Outcome::Read => tally.read = tally.read.saturating_add(1),
+        Outcome::Refused(line) => {
+            assert!(rt; line >= 1);
+            assert!(rt; line <= line_count(text).saturating_add(1), "{line}");
+            tally.refused = tally.refused.saturating_add(1);
+        }
+    }
+    Ok(())
+}
+
+/// Each beginning of the text, the empty one and the whole too.
+fn try_beginnings<K: Texts, X: AllocGlobal + Abort>(
+    rt: &X,
+    texts: &K,
+    text: &[u8],
+    tally: &mut Tally,
+) -> Result<(), Fail> {
+    for end in 0..text.len() {
+        try_text(rt, texts, &text[..end], tally)?;
+    }
+    try_text(rt, texts, text, tally)
+}
+
+/// The text with each of its bytes replaced by each of [`BYTES`].
+fn try_bytes<K: Texts, X: AllocGlobal + Abort>(
+    rt: &X,
+    texts: &K,
+    text: &[u8],
+    tally: &mut Tally,
+) -> Result<(), Fail> {
+    let mut bent = Vec::from_slice(rt.alloc(), text)?;
+    for i in 0..bent.len() {
+        let kept = bent[i];
+        for byte in &BYTES {
+            bent[i] = *byte;
+            try_text(rt, texts, &bent, tally)?;
+        }
+        bent[i] = kept;
+    }
+    Ok(())
+}
+
+/// The text with each line left out, doubled, and swapped with the next.
+fn try_lines<K: Texts, X: AllocGlobal + Abort>(
+    rt: &X,
+    texts: &K,
+    text: &[u8],
+    tally: &mut Tally,
+) -> Result<(), Fail> {
+    let mut front = 0;
+    while front < text.len() {
+        let (before, after) = text.split_at(front);
+        let (line, rest) = cut_line(after);
+        let (next, others) = cut_line(rest);
+        for parts in &[[before, rest, b"", b""], [before, line, line, rest], [before, next, line, others]] {
+            let mut torn = Vec::new(rt.alloc());
+            for part in parts {
+                torn.extend_from_slice(part)?;
+            }
+            try_text(rt, texts, &torn, tally)?;
+        }
+        front = front.saturating_add(line.len());
+    }
+    Ok(())
+}
+
+/// Each of these changes of the text.
+pub(crate) fn try_all<K: Texts, X: AllocGlobal + Abort>(
+    rt: &X,
+    texts: &K,
+    text: &[u8],
+) -> Result<Tally, Fail> {
+    let mut tally = Tally {
+        read: 0,
+        refused: 0,
+    };
+    try_beginnings(rt, texts, text, &mut tally)?;
+    try_bytes(rt, texts, text, &mut tally)?;
+    try_lines(rt, texts, text, &mut tally)?;
+    Ok(tally)
+}

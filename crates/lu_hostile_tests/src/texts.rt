@@ -1,0 +1,169 @@
+//! Each kind of text, bent in every way.
+
+use crate::bent::{Outcome, Tally, Texts, try_all};
+use lu_component::Component;
+use lu_examples::ROWS;
+use lu_lang::{read_component, write_component};
+use lu_replay::{ReportFault, read_report, write_report};
+use lu_spec::{read_spec, write_spec};
+use lu_test::{
+    Matrix, ScheduleFault, read_matrix, read_schedule, write_matrix, write_schedule,
+};
+use lu_text::Fault;
+use std::process::Abort;
+use std::test::Fail;
+
+/// Texts of components.
+struct Components;
+
+impl Texts for Components {
+    fn outcome<X: AllocGlobal + Abort>(&self, rt: &X, text: &[u8]) -> Result<Outcome, Fail> {
+        match read_component(rt.alloc(), text) {
+            Ok(component) => {
+                let written = write_component(rt.alloc(), &component)?;
+                let again = read_component(rt.alloc(), written.as_bytes())?;
+                let twice = write_component(rt.alloc(), &again)?;
+                assert_eq!(rt; twice.as_str(), written.as_str());
+                Ok(Outcome::Read)
+            }
+            Err(Fault::At(_, line)) => Ok(Outcome::Refused(line)),
+            Err(Fault::Memory) => panic!(rt; "memory"),
+        }
+    }
+}
+
+/// Texts of matrices of a component.
+struct Matrices {
+    component: Component,
+}
+
+impl Texts for Matrices {
+    fn outcome<X: AllocGlobal + Abort>(&self, rt: &X, text: &[u8]) -> Result<Outcome, Fail> {
+        match read_matrix(rt.alloc(), &self.component, text) {
+            Ok(matrix) => {
+                let written = write_matrix(rt.alloc(), &self.component, &matrix)?;
+                let again = read_matrix(rt.alloc(), &self.component, written.as_bytes())?;
+                let twice = write_matrix(rt.alloc(), &self.component, &again)?;
+                assert_eq!(rt; twice.as_str(), written.as_str());
+                Ok(Outcome::Read)
+            }
+            Err(Fault::At(_, line)) => Ok(Outcome::Refused(line)),
+            Err(Fault::Memory) => panic!(rt; "memory"),
+        }
+    }
+}
+
+/// Texts of schedules, each of which has one spelling.
+struct Schedules;
+
+impl Texts for Schedules {
+    fn outcome<X: AllocGlobal + Abort>(&self, rt: &X, text: &[u8]) -> Result<Outcome, Fail> {
+        match read_schedule(rt.alloc(), text) {
+            Ok(schedule) => {
+                let written = write_schedule(rt.alloc(), &schedule)?;
+                assert_eq!(rt; written.as_bytes(), text);
+                Ok(Outcome::Read)
+            }
+            Err(ScheduleFault::Memory) => panic!(rt; "memory"),
+            Err(_) => Ok(Outcome::Refused(1)),
+        }
+    }
+}
+
+/// Texts of reports, each of which has one spelling.
+struct Reports;
+
+impl Texts for Reports {
+    fn outcome<X: AllocGlobal + Abort>(&self, rt: &X, text: &[u8]) -> Result<Outcome, Fail> {
+        match read_report(rt.alloc(), text) {
+            Ok(report) => {
+                let written = write_report(rt.alloc(), &report)?;
+                assert_eq!(rt; written.as_bytes(), text);
+                Ok(Outcome::Read)
+            }
+            Err(ReportFault::Form(line)) => Ok(Outcome::Refused(line)),
+            Err(ReportFault::Memory) => panic!(rt; "memory"),
+        }
+    }
+}
+
+/// Texts of specifications of a matrix, each of which has one spelling.
+struct Specs {
+    matrix: Matrix,
+}
+
+impl Texts for Specs {
+    fn outcome<X: AllocGlobal + Abort>(&self, rt: &X, text: &[u8]) -> Result<Outcome, Fail> {
+        match read_spec(rt.alloc(), &self.matrix, text) {
+            Ok(spec) => {
+                let written = write_spec(rt.alloc(), &spec)?;
+                assert_eq!(rt; written.as_bytes(), text);
+                Ok(Outcome::Read)
+            }
+            Err(Fault::At(_, line)) => Ok(Outcome::Refused(line)),
+            Err(Fault::Memory) => panic!(rt; "memory"),
+        }
+    }
+}
+
+/// A component with what the one of the worked examples doesn't have: comments, an empty line, more blanks, `local`.
+const LOCAL: &[u8] = b"# two\n component  small\nlocal 16\n\nword x 1 0\tlock\nlock m\nop f 1\nagain: lock m\nset r1 4294967295\n\
+awaitne x r0 r1 # others\njz r0 again\nunlock m\nreturn r1\nend\n";
+
+#[test]
+fn components(rt: HostRuntime) -> Result<(), Fail> {
+    let rows = try_all(&rt, &Components, ROWS.as_bytes())?;
+    assert_eq!(rt; rows, Tally { read: 0, refused: 0 });
+    let local = try_all(&rt, &Components, LOCAL)?;
+    assert_eq!(rt; local, Tally { read: 0, refused: 0 });
+    Ok(())
+}
+
+#[test]
+fn matrices(rt: HostRuntime) -> Result<(), Fail> {
+    let texts = Matrices {
+        component: read_component(rt.alloc(), ROWS.as_bytes())?,
+    };
+    let tally = try_all(&rt, &texts, b"# calls\nthread inc;wrap 70\n\n thread get ; inc # two\nthread\n")?;
+    assert_eq!(rt; tally, Tally { read: 0, refused: 0 });
+    Ok(())
+}
+
+#[test]
+fn schedules(rt: HostRuntime) -> Result<(), Fail> {
+    let tally = try_all(&rt, &Schedules, b"schedule 0 1:1 0 7:2 3\n")?;
+    assert_eq!(rt; tally, Tally { read: 0, refused: 0 });
+    Ok(())
+}
+
+#[test]
+fn reports(rt: HostRuntime) -> Result<(), Fail> {
+    let mut all = Tally { read: 0, refused: 0 };
+    for text in &[
+        b"lineup report 1\nbound 40\nserial 256\npass\ncomplete 2564\nstuck 0\ncut 18446744073709551615\n".as_slice(),
+        b"lineup report 1\nbound 40\nserial 40\nfail complete\nschedule 0 0 0 1 1 0 0 1 1 1\n",
+        b"lineup report 1\nbound 0\nserial 1\nfail stuck 7\nschedule 0 0 1:1 1\n",
+        b"lineup report 1\nbound 40\nserial 40\nnondeterministic\nschedule 0 0:1 0\nbefore 15\nearlier ret 4294967295\n",
+        b"lineup report 1\nbound 40\nserial 40\nnondeterministic\nschedule 0 0:1\nbefore 0\nearlier stuck\n",
+        b"lineup report 1\nbound 40\nserial 3\nserial-cut\nschedule 0 0 0 0\n",
+        b"lineup report 2\nbound 40\nserial 40\nlocal 16\nfail complete\nschedule 0 0 1 1 0 0 1 1\n",
+    ] {
+        let tally = try_all(&rt, &Reports, text)?;
+        all.read = all.read.saturating_add(tally.read);
+        all.refused = all.refused.saturating_add(tally.refused);
+    }
+    assert_eq!(rt; all, Tally { read: 0, refused: 0 });
+    Ok(())
+}
+
+#[test]
+fn specifications(rt: HostRuntime) -> Result<(), Fail> {
+    let component = read_component(rt.alloc(), ROWS.as_bytes())?;
+    let texts = Specs {
+        matrix: read_matrix(rt.alloc(), &component, b"thread inc\nthread inc;get\n")?,
+    };
+    let text = b"lineup spec 1\nhistory 0=1 1=2 1=2\nhistory 1=1 0=2 1=trap\nhistory 1=1 1=1 0=stuck\n";
+    let tally = try_all(&rt, &texts, text)?;
+    assert_eq!(rt; tally, Tally { read: 0, refused: 0 });
+    Ok(())
+}
