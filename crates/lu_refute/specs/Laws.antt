@@ -1,0 +1,110 @@
+-- Laws of specifications: what holds whatever deterministic specification somebody has in mind.
+use Rattle.std.specs.Prelude.{◌≡◌, ℕ, ◌⊎◌, false, List, [], ◌∷◌, ◌++◌, length, None}
+use Rattle.lu_component.specs.Component.{Declarations}
+use Rattle.lu_test.specs.declared.matrix.Call.{Call}
+use Rattle.lu_test.specs.declared.schedule.Move.{Move}
+use Rattle.lu_test.specs.Matrix.{calls_of, cut}
+use Rattle.lu_machine.specs.States.{State}
+use Rattle.lu_machine.specs.Starts.{IsStart}
+use Rattle.lu_history.specs.declared.serial.SerialOp.{SerialOp}
+use Rattle.lu_history.specs.declared.serial.SerialOutcome.{SerialOutcome}
+use Rattle.lu_trie.specs.Members.{contains}
+use Rattle.lu_trie.specs.Conflicts.{IsDeterministic}
+use Rattle.lu_serial.specs.Serial.{IsSerialHistory, IsSeriallyEnded, stuck_of}
+use Rattle.lu_serial.specs.Offences.{NoOffence, IsFirstConflict, IsFirstOutside, IsOutside}
+use Rattle.lu_witness.specs.Witnesses.{IsMember, IsWitness, entries}
+use Rattle.lu_replay.specs.declared.report.Finding.{Finding}
+use Rattle.lu_spec.specs.Specs.{AreOf, IsSpec}
+use Rattle.lu_refute.specs.Linearizable.{AreLengths, IsCounterexample, IsCutOf, IsLinearizable, Refutes}
+use Rattle.lu_refute.specs.Answers.{IsAnswerTo, IsSeriallyWhole, made_calls}
+
+-- a specification of the matrix
+abbrev pub IsSpecOf : List (List Call) → List (List SerialOp) → Type 0
+IsSpecOf matrix members = IsSpec members × AreOf matrix members
+
+-- each serial history is a member
+abbrev pub HasAll : State → List (List SerialOp) → Type 0
+HasAll s members = (q : List SerialOp) → IsSerialHistory s q → IsMember members q
+
+-- its last entry is `Stuck`
+abbrev pub EndsStuck : List SerialOp → Type 0
+EndsStuck q = (before : List SerialOp) × (t : ℕ) × (q ≡ before ++ stuck_of t ∷ [])
+
+-- it ends stuck, or has an entry for each call of the matrix
+abbrev pub IsWhole : List (List Call) → List SerialOp → Type 0
+IsWhole matrix q = EndsStuck q ⊎ ((t : ℕ) → length (entries t q) ≡ length (calls_of matrix t))
+
+-- ---- failures
+
+-- Where no serial run offends and a specification has every serial history, it has no other whole ones.
+abbrev pub SpecIsSerial : Type 0
+SpecIsSerial =
+    (c : Declarations) (matrix : List (List Call)) (s : State) (bound : ℕ) (members : List (List SerialOp)) (q : List SerialOp) →
+    IsStart c matrix s → NoOffence s bound → IsSpecOf matrix members → HasAll s members →
+    IsMember members q → IsWhole matrix q → IsSerialHistory s q
+
+-- There a schedule that is not good for the serial histories is not good for the specification.
+abbrev pub FailRefutes : Type 0
+FailRefutes =
+    (c : Declarations) (matrix : List (List Call)) (s : State) (bound : ℕ) (members : List (List SerialOp)) (u : List Move) →
+    IsStart c matrix s → NoOffence s bound → IsSpecOf matrix members → HasAll s members →
+    Refutes (IsSerialHistory s) s u → Refutes (IsMember members) s u
+
+-- ---- serial schedules
+
+-- A serial schedule that ends with a whole entry has no other witness than its own entries.
+abbrev pub OwnWitness : Type 0
+OwnWitness =
+    (c : Declarations) (matrix : List (List Call)) (s : State) (u : List Move) (q p : List SerialOp) →
+    IsStart c matrix s → (run : IsSeriallyWhole s u q) → IsWitness p run.history → p ≡ q
+
+-- The calls made in a schedule make a cut of the matrix.
+abbrev pub MadeCut : Type 0
+MadeCut =
+    (c : Declarations) (matrix : List (List Call)) (s : State) (u : List Move) (q : List SerialOp) →
+    IsStart c matrix s → (run : IsSeriallyWhole s u q) → AreLengths matrix (made_calls run.end)
+
+-- Where its entries are no member, it is an ended schedule of the matrix cut to the calls made in it, and not good for the set.
+abbrev pub CutRefutes : Type 0
+CutRefutes =
+    (c : Declarations) (matrix : List (List Call)) (s start : State) (members : List (List SerialOp)) (u : List Move) (q : List SerialOp) →
+    IsStart c matrix s → (run : IsSeriallyWhole s u q) → contains members q ≡ false →
+    IsStart c (cut matrix (made_calls run.end)) start → Refutes (IsMember members) start u
+
+-- ---- schedules outside a specification
+
+-- Where nothing is outside a specification, a schedule that is not good for the serial histories is not good for it.
+abbrev pub FailOutside : Type 0
+FailOutside =
+    (c : Declarations) (matrix : List (List Call)) (s : State) (bound : ℕ) (members : List (List SerialOp)) (u : List Move) →
+    IsStart c matrix s → NoOffence s bound → IsSpecOf matrix members → IsFirstOutside s bound members None →
+    Refutes (IsSerialHistory s) s u → Refutes (IsMember members) s u
+
+-- Where the least serial offence is a conflict, something is outside each deterministic set.
+abbrev pub ConflictOutside : Type 0
+ConflictOutside =
+    (s : State) (bound : ℕ) (members : List (List SerialOp)) (u : List Move) (i : ℕ) (o : SerialOutcome) →
+    IsFirstConflict s bound u i o → IsDeterministic members → (w : List Move) × IsOutside s bound members w
+
+-- A serially ended schedule ends with a whole entry.
+abbrev pub OutsideWhole : Type 0
+OutsideWhole = (s : State) (w : List Move) (q : List SerialOp) → IsSeriallyEnded s w q → IsSeriallyWhole s w q
+
+-- ---- answers
+
+-- The matrix is a cut of itself.
+abbrev pub WholeCut : Type 0
+WholeCut = (matrix : List (List Call)) → IsCutOf matrix matrix
+
+-- What is answered to a finding is a counterexample.
+abbrev pub AnswerRefutes : Type 0
+AnswerRefutes =
+    (c : Declarations) (matrix : List (List Call)) (s : State) (serial : ℕ) (members : List (List SerialOp)) (finding : Finding)
+    (answer : List (List Call) × List Move) →
+    IsStart c matrix s → IsAnswerTo s serial members finding answer → IsCounterexample c matrix (IsMember members) answer
+
+-- Where there is a counterexample the component is not linearizable.
+abbrev pub NotLinearizable : Type 0
+NotLinearizable =
+    (c : Declarations) (matrix : List (List Call)) (members : List (List SerialOp)) (example : List (List Call) × List Move) →
+    IsCounterexample c matrix (IsMember members) example → IsLinearizable c matrix (IsMember members) → ⊥

@@ -1,0 +1,4 @@
+pub mod Linearizable
+pub mod Answers
+pub mod Codes
+pub mod Laws

@@ -1,0 +1,7 @@
+//! Whatever deterministic specification somebody has in mind, a failure refutes it (Burckhardt, Dern, Musuvathi and Tan, 2010).
+#![tactic(auto)]
+
+mod fault;
+pub mod laws;
+
+pub use fault::RefuteFault;
