@@ -1,18 +1,14 @@
 -- What is answered to a report and a specification.
-use Rattle.std.specs.Prelude.{◌≡◌, ◌≢◌, ℕ, ◌+◌, ◌⊎◌, false, if◌then◌else◌, List, [], ◌∷◌, ◌++◌, map, Some}
+use Rattle.std.specs.Prelude.{◌≡◌, ◌≢◌, ℕ, ◌⊎◌, false, List, Some}
 use Rattle.lu_component.specs.Component.{Declarations}
 use Rattle.lu_test.specs.declared.matrix.Call.{Call}
 use Rattle.lu_test.specs.declared.schedule.Move.{Move}
 use Rattle.lu_test.specs.Matrix.{cut}
-use Rattle.lu_machine.specs.declared.event.Event.{Event}
-use Rattle.lu_machine.specs.declared.thread.Thread.{Thread}
-use Rattle.lu_machine.specs.States.{State, is_open}
+use Rattle.lu_machine.specs.States.{State}
 use Rattle.lu_machine.specs.Starts.{IsStart}
-use Rattle.lu_machine.specs.Steps.{picks_of}
 use Rattle.lu_machine.specs.Schedules.{BeginsWith}
 use Rattle.lu_history.specs.declared.serial.SerialOp.{SerialOp}
 use Rattle.lu_trie.specs.Members.{contains}
-use Rattle.lu_serial.specs.Serial.{HasOpen, SerialRun, entries_of, stuck_of}
 use Rattle.lu_serial.specs.Offences.{IsFirstOutside}
 use Rattle.lu_witness.specs.Witnesses.{IsMember}
 use Rattle.lu_replay.specs.declared.report.Finding.{Finding}
@@ -22,22 +18,7 @@ use Rattle.lu_replay.specs.Confirmed.{IsConfirmed}
 use Rattle.lu_refute.specs.declared.fault.RefuteFault.{RefuteFault}
 use Rattle.lu_refute.specs.declared.fault.RefuteFault.TheVariants.{NotShown, Memory}
 use Rattle.lu_refute.specs.Linearizable.{Refutes}
-
--- ---- serial schedules that end with a whole entry
-
--- no operation is open
-abbrev pub IsQuiet : State → Type 0
-IsQuiet s = (t : ℕ) → HasOpen s t → ⊥
-
--- No operation is open, or the thread of the open one is not enabled; and q are the entries so far, with `Stuck` for the open one.
-abbrev pub EndsWhole : State → List Event → List SerialOp → Type 0
-EndsWhole end history q =
-    (IsQuiet end × (q ≡ entries_of history))
-    ⊎ ((t : ℕ) × HasOpen end t × (picks_of end t ≡ 0) × (q ≡ entries_of history ++ stuck_of t ∷ []))
-
--- u is a serial schedule that ends with a whole entry, and q are its entries
-abbrev pub IsSeriallyWhole : State → List Move → List SerialOp → Type 0
-IsSeriallyWhole s u q = SerialRun s u (λ end history. EndsWhole end history q)
+use Rattle.lu_refute.specs.Whole.{IsSeriallyWhole, made_calls}
 
 -- v is the shortest beginning of w that ends with a whole entry and whose entries are no member
 pub record IsShortest (s : State) (members : List (List SerialOp)) (w v : List Move) : Type 0 where
@@ -46,18 +27,6 @@ pub record IsShortest (s : State) (members : List (List SerialOp)) (w v : List M
   pub whole : IsSeriallyWhole s v entries
   pub outside : contains members entries ≡ false
   pub shortest : (x : List Move) (q : List SerialOp) → BeginsWith v x → x ≢ v → IsSeriallyWhole s x q → IsMember members q
-
--- ---- the calls made
-
--- how many calls a thread has made: those that have ended, and the open one
-abbrev pub made : Thread → ℕ
-made thread = if is_open thread.activity then thread.done + 1 else thread.done
-
--- for each thread how many calls it has made
-abbrev pub made_calls : State → List ℕ
-made_calls s = map made s.threads
-
--- ---- answers
 
 -- the shortest such beginning of the least schedule outside, over the matrix cut to the calls made in it
 pub record IsOutsideAnswer (s : State) (serial : ℕ) (members : List (List SerialOp)) (answer : List (List Call) × List Move) : Type 0 where

@@ -16,7 +16,8 @@ use Rattle.lu_witness.specs.Witnesses.{IsMember, IsWitness, entries}
 use Rattle.lu_replay.specs.declared.report.Finding.{Finding}
 use Rattle.lu_spec.specs.Specs.{AreOf, IsSpec}
 use Rattle.lu_refute.specs.Linearizable.{AreLengths, IsCounterexample, IsCutOf, IsLinearizable, Refutes}
-use Rattle.lu_refute.specs.Answers.{IsAnswerTo, IsSeriallyWhole, made_calls}
+use Rattle.lu_refute.specs.Whole.{IsSeriallyWhole, made_calls}
+use Rattle.lu_refute.specs.Answers.{IsAnswerTo}
 
 -- a specification of the matrix
 abbrev pub IsSpecOf : List (List Call) → List (List SerialOp) → Type 0

@@ -1,4 +1,5 @@
 pub mod Linearizable
+pub mod Whole
 pub mod Answers
 pub mod Codes
 pub mod Laws
