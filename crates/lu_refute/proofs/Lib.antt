@@ -1,3 +1,5 @@
 pub mod Moves
 pub mod Serially
 pub mod Ops
+pub mod Core
+pub mod Fails
