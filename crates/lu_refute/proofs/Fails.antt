@@ -58,7 +58,7 @@ made_in (Some a) = made a
 abbrev pub made_of : State → ℕ → ℕ
 made_of s t = made_in (slice_get s.threads t)
 
-made_idle : (a : Thread) → a.activity ≡ Idle → made a ≡ a.done
+pub made_idle : (a : Thread) → a.activity ≡ Idle → made a ≡ a.done
 made_idle a e = rw e refl
 
 busy_made : (activity : Activity) (n : ℕ) → activity ≢ Idle → made (record { done = n; activity = activity }) ≡ n + 1

@@ -3,3 +3,6 @@ pub mod Serially
 pub mod Ops
 pub mod Core
 pub mod Fails
+pub mod SameOrder
+pub mod Spelled
+pub mod Cuts
