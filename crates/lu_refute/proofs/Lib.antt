@@ -6,3 +6,5 @@ pub mod Fails
 pub mod SameOrder
 pub mod Spelled
 pub mod Cuts
+pub mod Own
+pub mod Outside
