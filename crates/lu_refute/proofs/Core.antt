@@ -1,17 +1,16 @@
 -- A deterministic set that has every serial history has no other whole ones.
-use Rattle.std.proofs.Common.{arith, ◌≡◌, ◌≢◌, ◌<◌, ◌≤◌, ◌+◌, ◌⊎◌, ℕ, zero, suc, List, [], ◌∷◌, ◌++◌, length, if◌then◌else◌, refl, sym, ◌∙◌, ap, subst, inl, inr}
+use Rattle.std.proofs.Common.{arith, ◌≡◌, ◌≢◌, ◌<◌, ◌≤◌, ◌+◌, ◌⊎◌, ℕ, suc, List, [], ◌∷◌, ◌++◌, length, if◌then◌else◌, refl, sym, ◌∙◌, ap, subst, inl, inr}
 use Rattle.std.proofs.lemmas.Bool.{ne_eqb}
 use Rattle.std.proofs.lemmas.List.{length-replicate}
 use Rattle.lu_component.specs.Component.{Declarations}
 use Rattle.lu_test.specs.declared.matrix.Call.{Call as ACall}
-use Rattle.lu_test.specs.Matrix.{calls_of}
 use Rattle.lu_test.proofs.FewerCalls.{is_thread}
 use Rattle.lu_machine.specs.declared.event.Outcome.{Outcome}
 use Rattle.lu_machine.specs.declared.event.Outcome.TheVariants.{Ret, Trap}
 use Rattle.lu_machine.specs.declared.thread.Activity.TheVariants.{Idle}
 use Rattle.lu_machine.specs.declared.thread.Thread.{Thread}
 use Rattle.lu_machine.specs.States.{State, call_count}
-use Rattle.lu_machine.specs.Starts.{IsStart, start_of}
+use Rattle.lu_machine.specs.Starts.{start_of}
 use Rattle.lu_history.specs.declared.serial.SerialOutcome.{SerialOutcome}
 use Rattle.lu_history.specs.declared.serial.SerialOutcome.TheVariants.{Ret as Returned_with, Trap as Trapped, Stuck}
 use Rattle.lu_history.specs.declared.serial.SerialOp.{SerialOp}
@@ -108,9 +107,9 @@ whole_rest s op q r not (inl (inl stuck)) = absurd (not stuck)
 whole_rest s op q r not (inl (inr stuck)) = inl stuck
 whole_rest s op q r not (inr all) =
     inr (λ t. (let here = all t in
-        let rest = counted_rest s op q r t in
-        let count = ran_count s op.thread r t in
-        omega (arith, here, rest, count)))
+    let rest = counted_rest s op q r t in
+    let count = ran_count s op.thread r t in
+    omega (arith, here, rest, count)))
 
 -- a whole history of the set is run again, entry by entry
 pub whole_is_serial : (q : List SerialOp) (s : State) (bound : ℕ) (Set : List SerialOp → Type 0) → IsQuiet s → HasSeats s → NoCut s bound → HasEach s Set → AreApart Set → Set q → IsSerial q → HasRoom s q → IsWholeFrom s q → IsSerialHistory s q

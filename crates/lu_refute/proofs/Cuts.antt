@@ -1,9 +1,8 @@
 -- A serial schedule over the matrix that has just the calls made in it.
-use Rattle.std.proofs.Common.{arith, ◌≡◌, ◌≢◌, ◌<◌, ◌≤◌, ◌+◌, ◌-◌, ◌==◌, ◌⊎◌, Bool, true, false, nat_lt, if◌then◌else◌, ℕ, zero, suc, List, [], ◌∷◌, length, take, map, replicate, slice_get, Option, Some, None, MatchOption, MatchBool, refl, sym, ◌∙◌, ap, subst, inl, inr}
-use Rattle.std.specs.List.{AllZip}
+use Rattle.std.proofs.Common.{arith, ◌≡◌, ◌≢◌, ◌<◌, ◌≤◌, ◌+◌, ◌-◌, ◌==◌, Bool, true, false, if◌then◌else◌, ℕ, zero, suc, List, [], ◌∷◌, length, take, map, replicate, slice_get, Option, Some, None, MatchOption, MatchBool, refl, sym, ◌∙◌, ap, subst, inl, inr}
 use Rattle.std.specs.Option.{option_map_or}
-use Rattle.std.proofs.lemmas.Bool.{cases_lt, le-ltb}
-use Rattle.std.proofs.lemmas.List.{length-map, length-replicate}
+use Rattle.std.proofs.lemmas.Bool.{le-ltb}
+use Rattle.std.proofs.lemmas.List.{length-replicate}
 use Rattle.lu_component.specs.declared.instr.Instr.{Instr}
 use Rattle.lu_component.specs.declared.instr.Instr.TheVariants.{Set, Compute, Load, Store, Cas, Lock, Unlock, Await, AwaitNot, Pick, Jump, JumpIfZero, Return}
 use Rattle.lu_component.specs.Component.{Declarations}
@@ -17,7 +16,7 @@ use Rattle.lu_machine.specs.declared.thread.Activity.TheVariants.{Idle, Open}
 use Rattle.lu_machine.specs.declared.thread.Frame.{Frame}
 use Rattle.lu_machine.specs.declared.thread.Thread.{Thread}
 use Rattle.lu_machine.specs.Effects.{Effect, value_of, onward, onward_with}
-use Rattle.lu_machine.specs.Effects.Effect.{GoesOn, Ends}
+use Rattle.lu_machine.specs.Effects.Effect.{Ends}
 use Rattle.lu_machine.specs.States.{State, call_count, cell_at, instr_at, value_at, with_cell, with_owner}
 use Rattle.lu_machine.specs.Steps.{ByActivity, Carries, OneStep, RunsOn, Step, activity_is_local, activity_picks, choices, instr_picks, is_at_local, is_blocked, more_local, owns, picks_of}
 use Rattle.lu_machine.specs.Starts.{start_of}
@@ -25,12 +24,12 @@ use Rattle.lu_machine.specs.Ends.{IsComplete, IsFinished, IsStuck}
 use Rattle.lu_machine.specs.Runs.{Leads}
 use Rattle.lu_machine.proofs.Keeping.{step_keeps_threads}
 use Rattle.lu_machine.proofs.Running.{local_once}
-use Rattle.lu_serial.specs.Serial.{HasOpen, IsByOpen}
+use Rattle.lu_serial.specs.Serial.{HasOpen}
 use Rattle.lu_serial.proofs.Opening.{complete_not_open, same_or_not}
 use Rattle.lu_serial.proofs.Single.{AtMostOne, one_along}
 use Rattle.lu_refute.specs.Linearizable.{AreLengths}
 use Rattle.lu_refute.specs.Whole.{IsQuiet, made, made_calls}
-use Rattle.lu_refute.proofs.Moves.{Stepped, step_stepped, the_thread, open_busy, idle_or_not, done_in, done_of}
+use Rattle.lu_refute.proofs.Moves.{Stepped, step_stepped, the_thread, idle_or_not, done_in, done_of}
 use Rattle.lu_refute.proofs.Serially.{LeadsSerially, leads_count, leads_matrix, serially_leads, serially_to}
 use Rattle.lu_refute.proofs.Fails.{made_at, made_busy, made_idle, made_in, made_of, made_others}
 

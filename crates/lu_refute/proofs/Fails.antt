@@ -1,9 +1,7 @@
 -- A failing schedule against a specification that has every serial history.
-use Rattle.std.proofs.Common.{arith, ◌≡◌, ◌≢◌, ◌<◌, ◌≤◌, ◌+◌, ◌⊎◌, Bool, true, false, ℕ, zero, suc, List, [], ◌∷◌, ◌++◌, map, length, cond, if◌then◌else◌, slice_get, Option, Some, None, refl, sym, ◌∙◌, ap, subst, inl, inr, length-append}
+use Rattle.std.proofs.Common.{arith, ◌≡◌, ◌≢◌, ◌<◌, ◌≤◌, ◌+◌, ◌⊎◌, Bool, true, false, ℕ, zero, suc, List, [], ◌∷◌, ◌++◌, map, length, if◌then◌else◌, slice_get, Option, Some, None, refl, sym, ◌∙◌, ap, subst, inl, inr, length-append}
 use Rattle.std.specs.Prelude.{◌==◌, ◌||◌}
-use Rattle.std.specs.List.{filter}
 use Rattle.std.proofs.lemmas.Bool.{eq-eqb, ne_eqb}
-use Rattle.std.proofs.lemmas.Bool.Decides.{eqb_tells}
 use Rattle.std.proofs.lemmas.List.{length-map}
 use Rattle.lu_test.specs.declared.schedule.Move.{Move}
 use Rattle.lu_machine.specs.declared.event.Event.{Event}
@@ -26,12 +24,12 @@ use Rattle.lu_history.specs.Serial.{IsSerial}
 use Rattle.lu_history.proofs.Filtered.{calls_kept, outcomes_kept}
 use Rattle.lu_history.proofs.PartEntries.{part_pending}
 use Rattle.lu_serial.specs.Serial.{HasOpen, IsSerialHistory}
-use Rattle.lu_serial.proofs.Opening.{complete_not_open, same_or_not}
+use Rattle.lu_serial.proofs.Opening.{same_or_not}
 use Rattle.lu_witness.specs.Goodness.{IsGoodAt}
 use Rattle.lu_witness.specs.Witnesses.{entries}
 use Rattle.lu_refute.specs.Linearizable.{Refutes}
 use Rattle.lu_refute.specs.Whole.{IsQuiet, made}
-use Rattle.lu_refute.proofs.Moves.{Stepped, HasSeats, step_stepped, the_thread, open_busy, done_of, done_at, done_same, done_more, done_others, complete_done}
+use Rattle.lu_refute.proofs.Moves.{Stepped, HasSeats, step_stepped, the_thread, done_of, done_at, done_same, done_more, done_others, complete_done}
 use Rattle.lu_refute.proofs.Serially.{leads_count, leads_seats}
 use Rattle.lu_refute.proofs.Ops.{NoCut}
 use Rattle.lu_refute.proofs.Core.{AreApart, HasEach, HasRoom, HasStuck, IsWholeFrom, whole_is_serial}
@@ -324,10 +322,13 @@ module _ (Set : List SerialOp → Type 0) (s : State) (bound : ℕ) (quiet : IsQ
         let w = good.1 in
         inl (good.0, (w.0, serial_member w.0 w.1 (inr (λ t. (let long : length (entries t w.0) ≡ length (part t h) = ap length (w.2.parts t) in let le = enough good.0 t in omega (arith, long, le)))), w.2))
     good_back (inr good) =
-        inr (good.0, (λ a p.
-            (let w = good.1 a p in
-            let is : entries a.t w.0 ≡ map as_serial (outcomes a.t (keep_pending a.t h)) ++ Stuck ∷ [] = w.2.parts a.t ∙ part_pending a.t (keep_pending a.t h) (kept_pending s u end h quiet leads a p) in
-            (w.0, serial_member w.0 w.1 (inl (entries_stuck a.t w.0 (map as_serial (outcomes a.t (keep_pending a.t h))) is)), w.2))))
+        inr (
+          good.0,
+          (λ a p.
+              (let w = good.1 a p in
+              let is : entries a.t w.0 ≡ map as_serial (outcomes a.t (keep_pending a.t h)) ++ Stuck ∷ [] = w.2.parts a.t ∙ part_pending a.t (keep_pending a.t h) (kept_pending s u end h quiet leads a p) in
+              (w.0, serial_member w.0 w.1 (inl (entries_stuck a.t w.0 (map as_serial (outcomes a.t (keep_pending a.t h))) is)), w.2))),
+        )
 
   pub refutes_back : (u : List Move) → Refutes (IsSerialHistory s) s u → Refutes Set s u
   refutes_back u r = record {

@@ -1,5 +1,5 @@
 -- Serial schedules outside a specification, and what is answered.
-use Rattle.std.proofs.Common.{◌≡◌, ◌≤◌, ◌⊎◌, Bool, true, false, ℕ, List, [], ◌∷◌, length, take, map, Some, None, refl, sym, ◌∙◌, ap, subst, inl, inr, arith}
+use Rattle.std.proofs.Common.{◌≡◌, ◌⊎◌, Bool, true, false, ℕ, List, [], ◌∷◌, length, take, map, refl, sym, ◌∙◌, ap, subst, inl, inr, arith}
 use Rattle.std.proofs.lemmas.List.{take_all}
 use Rattle.lu_component.specs.Component.{Declarations}
 use Rattle.lu_test.specs.declared.matrix.Call.{Call}
@@ -17,14 +17,13 @@ use Rattle.lu_serial.specs.Offences.{IsOutside, NoOffence}
 use Rattle.lu_serial.proofs.CallsLeft.{none_at_start}
 use Rattle.lu_serial.proofs.Opening.{complete_not_open}
 use Rattle.lu_witness.specs.Goodness.{IsGoodAt}
-use Rattle.lu_witness.specs.Witnesses.{IsMember, entries}
-use Rattle.lu_replay.specs.declared.report.Finding.{Finding}
+use Rattle.lu_witness.specs.Witnesses.{IsMember}
 use Rattle.lu_replay.specs.declared.report.Finding.TheVariants.{SerialCut, Nondeterministic, Fail, Pass}
 use Rattle.lu_refute.specs.Linearizable.{AreLengths, IsCounterexample, IsCutOf, Refutes}
 use Rattle.lu_refute.specs.Whole.{EndsWhole, made_calls}
-use Rattle.lu_refute.specs.Answers.{IsAnswerTo, IsOutsideAnswer}
+use Rattle.lu_refute.specs.Answers.{IsOutsideAnswer}
 use Rattle.lu_refute.specs.Laws.{AnswerRefutes, ConflictOutside, FailOutside, FailRefutes, HasAll, IsSpecOf, IsWhole, NotLinearizable, OutsideWhole, SpecIsSerial, WholeCut}
-use Rattle.lu_refute.proofs.Core.{AreApart, HasStuck, IsWholeFrom, seats_start, stuck_last}
+use Rattle.lu_refute.proofs.Core.{HasStuck, IsWholeFrom, seats_start, stuck_last}
 use Rattle.lu_refute.proofs.Cuts.{start_done}
 use Rattle.lu_refute.proofs.Fails.{AreFit, refutes_back, serial_member}
 use Rattle.lu_refute.proofs.Own.{cut_refutes, made_cut}

@@ -1,5 +1,5 @@
 -- A serial history is its own only witness.
-use Rattle.std.proofs.Common.{arith, ◌≡◌, ◌≢◌, ◌+◌, ◌⊎◌, Bool, true, false, ℕ, zero, suc, List, [], ◌∷◌, ◌++◌, slice_get, Option, Some, None, if◌then◌else◌, refl, sym, ◌∙◌, ap, subst, inl, inr}
+use Rattle.std.proofs.Common.{arith, ◌≡◌, ◌+◌, Bool, true, false, ℕ, zero, suc, List, [], ◌∷◌, ◌++◌, slice_get, Option, Some, None, refl, sym, ◌∙◌, ap, subst, inl, inr}
 use Rattle.std.specs.Prelude.{◌==◌, ◌&&◌, ◌||◌}
 use Rattle.std.specs.List.{filter}
 use Rattle.std.proofs.lemmas.Bool.{eq-eqb}
@@ -20,18 +20,17 @@ use Rattle.lu_history.specs.Histories.{IsReturnAt, Precedes}
 use Rattle.lu_history.specs.Parts.{has_return, is_kept, keep_pending}
 use Rattle.lu_serial.specs.Serial.{HasOpen, entries_of, stuck_of}
 use Rattle.lu_serial.proofs.CallsLeft.{none_at_start}
-use Rattle.lu_serial.proofs.Opening.{complete_not_open, same_or_not}
+use Rattle.lu_serial.proofs.Opening.{same_or_not}
 use Rattle.lu_witness.specs.Goodness.{IsGoodAt}
 use Rattle.lu_trie.specs.Members.{contains}
 use Rattle.lu_witness.specs.Witnesses.{HasWitness, IsMember, IsWitness}
 use Rattle.lu_refute.specs.Linearizable.{AreLengths, Refutes}
 use Rattle.lu_refute.specs.Whole.{EndsWhole, IsQuiet, IsSeriallyWhole, made_calls}
 use Rattle.lu_refute.specs.Laws.{CutRefutes, MadeCut, OwnWitness}
-use Rattle.lu_refute.proofs.Moves.{done_of}
-use Rattle.lu_refute.proofs.Serially.{LeadsSerially, serially_from, serially_leads}
+use Rattle.lu_refute.proofs.Serially.{LeadsSerially, serially_from}
 use Rattle.lu_refute.proofs.Fails.{call_run}
 use Rattle.lu_refute.proofs.SameOrder.{same_order}
-use Rattle.lu_refute.proofs.Spelled.{IsSpelled, IsMode, Spells, entry_precedes, open_entry, part_spelled, pending_spelled, placed, run_spelled, serial_by_returns, serial_of}
+use Rattle.lu_refute.proofs.Spelled.{IsSpelled, IsMode, Spells, entry_precedes, part_spelled, pending_spelled, placed, run_spelled, serial_by_returns, serial_of}
 use Rattle.lu_refute.proofs.Cuts.{cut_ends, cut_start, made_lengths, start_done, with_matrix}
 
 same_place : (base : ℕ → ℕ) → ((x : ℕ) → base x ≡ 0) → (a : OpId) → placed base a ≡ a
