@@ -12,7 +12,7 @@ use Rattle.lu_machine.specs.States.{State, call_count}
 use Rattle.lu_machine.specs.Steps.{Step}
 use Rattle.lu_machine.specs.Ends.{IsComplete, IsFinished}
 use Rattle.lu_machine.proofs.Keeping.{step_keeps_threads}
-use Rattle.lu_serial.specs.Serial.{HasOpen, IsByOpen}
+use Rattle.lu_serial.specs.Serial.{HasOpen}
 use Rattle.lu_serial.proofs.Opening.{How, step_turned, slice_get_set_other, slice_get_set_same, same_or_not}
 use Rattle.lu_refute.specs.Whole.{IsQuiet}
 

@@ -1,7 +1,6 @@
 -- Operations run alone.
 use Rattle.std.proofs.Common.{arith, ◌≡◌, ◌<◌, ◌≤◌, ◌+◌, ◌⊎◌, ℕ, zero, suc, List, [], ◌∷◌, ◌++◌, append_assoc, length, slice_get, Option, Some, None, refl, sym, ◌∙◌, ap, subst, inl, inr}
 use Rattle.std.proofs.lemmas.Bool.{cases_lt, lt-ltb}
-use Rattle.std.proofs.lemmas.Option.{slice_get_past}
 use Rattle.lu_test.specs.declared.schedule.Move.{Move}
 use Rattle.lu_machine.specs.declared.event.Event.{Event}
 use Rattle.lu_machine.specs.declared.event.Event.TheVariants.{Call, Return}
@@ -10,17 +9,16 @@ use Rattle.lu_machine.specs.declared.thread.Thread.{Thread}
 use Rattle.lu_machine.specs.declared.thread.Activity.TheVariants.{Idle}
 use Rattle.lu_machine.specs.States.{State, call_count}
 use Rattle.lu_machine.specs.Steps.{Step, picks_of}
-use Rattle.lu_machine.specs.Ends.{IsComplete}
 use Rattle.lu_machine.specs.Runs.{Leads}
 use Rattle.lu_machine.proofs.StepLaws.{feasible_step}
 use Rattle.lu_machine.proofs.Paths.{leads_on}
 use Rattle.lu_history.specs.declared.serial.SerialOp.{SerialOp}
 use Rattle.lu_history.specs.Parts.{as_serial}
-use Rattle.lu_serial.specs.Serial.{HasOpen, EndsAs, IsSeriallyCut, IsSerialHistory, stuck_of, entries_of}
+use Rattle.lu_serial.specs.Serial.{HasOpen, EndsAs, IsSeriallyCut, IsSerialHistory, stuck_of}
 use Rattle.lu_serial.proofs.Opening.{How, same_or_not}
 use Rattle.lu_serial.proofs.SerialPaths.{serial_on}
 use Rattle.lu_refute.specs.Whole.{IsQuiet}
-use Rattle.lu_refute.proofs.Moves.{Stepped, step_stepped, the_thread, open_busy, idle_or_not, done_of, done_at, done_same, done_more, done_others, HasSeats, count_same, seats_on, seated, done_complete}
+use Rattle.lu_refute.proofs.Moves.{Stepped, step_stepped, the_thread, open_busy, idle_or_not, done_of, done_at, done_same, done_more, done_others, HasSeats, seated, done_complete}
 use Rattle.lu_refute.proofs.Serially.{LeadsSerially, serially_leads, serially_to, serially_from, serially_on, ended_run, leads_count, leads_seats}
 
 -- no serial schedule from here is cut
@@ -39,22 +37,27 @@ no_cut_on s v mid h bound p none u cut =
       end = cut.end;
       history = h ++ cut.history;
       leads = leads_on s v u mid cut.end h cut.history leads cut.leads;
-      holds = (x.0, x.1, x.2, record {
-        called = taken.called;
-        after = taken.after;
-        call = record {
-          before = v ++ k.before;
-          move = k.move;
-          parts = ap (λ y. v ++ y) k.parts ∙ sym (append_assoc v k.before (k.move ∷ taken.after));
-          idle = k.idle;
-          history = h ++ k.history;
-          begins = leads_on s v k.before mid k.idle h k.history leads k.begins;
-          number = k.number;
-          step = k.step;
-        };
-        count = taken.count;
-        goes_on = taken.goes_on;
-      });
+      holds = (
+        x.0,
+        x.1,
+        x.2,
+        record {
+          called = taken.called;
+          after = taken.after;
+          call = record {
+            before = v ++ k.before;
+            move = k.move;
+            parts = ap (λ y. v ++ y) k.parts ∙ sym (append_assoc v k.before (k.move ∷ taken.after));
+            idle = k.idle;
+            history = h ++ k.history;
+            begins = leads_on s v k.before mid k.idle h k.history leads k.begins;
+            number = k.number;
+            step = k.step;
+          };
+          count = taken.count;
+          goes_on = taken.goes_on;
+        },
+      );
     })
 
 abbrev pub IsOnlyOpen : State → ℕ → Type 0
@@ -243,13 +246,18 @@ run_op s t bound quiet seats none left =
               end = h.end;
               history = Call t made.number ∷ [];
               leads = serially_leads s (m ∷ h.moves) h.end (Call t made.number ∷ []) whole;
-              holds = (t, h.open_still, long.1, record {
-                called = made.next;
-                after = h.moves;
-                call = record { before = []; move = m; parts = refl; idle = s; history = []; begins = (refl, refl); number = made.number; step = made.step };
-                count = long.0;
-                goes_on = serially_leads made.next h.moves h.end [] h.leads;
-              });
+              holds = (
+                t,
+                h.open_still,
+                long.1,
+                record {
+                  called = made.next;
+                  after = h.moves;
+                  call = record { before = []; move = m; parts = refl; idle = s; history = []; begins = (refl, refl); number = made.number; step = made.step };
+                  count = long.0;
+                  goes_on = serially_leads made.next h.moves h.end [] h.leads;
+                },
+              );
             }))
           ])
     ]
@@ -266,10 +274,12 @@ ends_behind end h q t called number o (inr a) = inr (a.0, a.1, a.2, ap (λ x. re
 pub ran_on : (s : State) (t : ℕ) (r : Ran s t) (q : List SerialOp) → IsSerialHistory r.end q → IsSerialHistory s (entry_of_run s t r ∷ q)
 ran_on s t r q z =
     let h = Call t r.called ∷ Return t r.number r.outcome ∷ z.1.history in
-    let on = serially_from r.end z.0 z.1.end z.1.history z.1.serial z.1.leads in
-    (r.moves ++ z.0, ended_run s (r.moves ++ z.0) z.1.end h (entry_of_run s t r ∷ q)
-      (serially_on s r.moves z.0 r.end z.1.end (Call t r.called ∷ Return t r.number r.outcome ∷ []) z.1.history r.leads on)
-      (ends_behind z.1.end z.1.history q t r.called r.number r.outcome z.1.holds))
+    let on = serially_from r.end z.0 z.1.end z.1.history z.1.serial z.1.leads in (
+      r.moves ++ z.0,
+      ended_run s (r.moves ++ z.0) z.1.end h (entry_of_run s t r ∷ q)
+          (serially_on s r.moves z.0 r.end z.1.end (Call t r.called ∷ Return t r.number r.outcome ∷ []) z.1.history r.leads on)
+          (ends_behind z.1.end z.1.history q t r.called r.number r.outcome z.1.holds),
+    )
 
 abbrev pub HasSerialHistory : State → Type 0
 HasSerialHistory s = (q : List SerialOp) × IsSerialHistory s q
