@@ -8,3 +8,8 @@ pub mod Spelled
 pub mod Cuts
 pub mod Own
 pub mod Outside
+pub mod Made
+pub mod Shortening
+pub mod Failing
+pub mod Copies
+pub mod Answering

@@ -3,3 +3,4 @@ pub mod Whole
 pub mod Answers
 pub mod Codes
 pub mod Laws
+pub mod Walks

@@ -3,5 +3,8 @@
 
 mod fault;
 pub mod laws;
+mod refuting;
+mod shortest;
 
 pub use fault::RefuteFault;
+pub use refuting::refute;
