@@ -8,3 +8,5 @@ pub mod Spelled
 pub mod Cuts
 pub mod Own
 pub mod Outside
+pub mod Every
+pub mod Determined
