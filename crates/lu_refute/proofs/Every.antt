@@ -9,11 +9,12 @@ use Rattle.lu_history.specs.declared.serial.SerialOp.{SerialOp}
 use Rattle.lu_serial.proofs.CallsLeft.{none_at_start}
 use Rattle.lu_replay.specs.declared.report.Finding.{Finding}
 use Rattle.lu_replay.specs.declared.report.Finding.TheVariants.{SerialCut, Nondeterministic, Fail, Pass}
-use Rattle.lu_replay.specs.Confirmed.{IsShown}
+use Rattle.lu_replay.specs.Confirmed.{IsPass, IsShown}
+use Rattle.lu_replay.proofs.RunsAnew.{report_shown}
 use Rattle.lu_refute.specs.Linearizable.{IsLinearizable}
 use Rattle.lu_refute.specs.Whole.{IsSeriallyWhole, made_calls}
 use Rattle.lu_refute.specs.Answers.{IsFailure}
-use Rattle.lu_refute.specs.Laws.{IsDeterministicOf, NoneLinearizable}
+use Rattle.lu_refute.specs.Laws.{FailingIsNotLinearizable, IsDeterministicOf, NoneLinearizable}
 use Rattle.lu_refute.proofs.Core.{HasEach, seats_start}
 use Rattle.lu_refute.proofs.Cuts.{start_done}
 use Rattle.lu_refute.proofs.Fails.{AreFit, refutes_back}
@@ -54,3 +55,13 @@ module _ (c : Declarations) (matrix : List (List Call)) (spec : List SerialOp �
 pub none_linearizable : NoneLinearizable
 none_linearizable c matrix r spec shown is linear =
     against c matrix spec linear is r.bound r.serial r.finding (shown.0.1 (start_of c matrix) refl) shown.1
+
+no_pass : (finding : Finding) → IsFailure finding → IsPass finding → ⊥
+no_pass (SerialCut u) failure pass = pass
+no_pass (Nondeterministic u before earlier) failure pass = pass
+no_pass (Fail u why) failure pass = pass
+no_pass (Pass counts) failure pass = failure
+
+pub failing_is_not_linearizable : FailingIsNotLinearizable
+failing_is_not_linearizable c matrix bound serial r spec is failure det linear =
+    none_linearizable c matrix r spec (report_shown c matrix bound serial r is (no_pass r.finding failure), failure) det linear

@@ -16,10 +16,11 @@ use Rattle.lu_serial.specs.Offences.{NoOffence, IsFirstConflict, IsFirstOutside,
 use Rattle.lu_witness.specs.Witnesses.{IsMember, IsWitness, entries}
 use Rattle.lu_replay.specs.declared.report.Finding.{Finding}
 use Rattle.lu_replay.specs.declared.report.Report.{Report}
+use Rattle.lu_replay.specs.Reports.{IsReport}
 use Rattle.lu_spec.specs.Specs.{AreOf, Fits, IsSpec}
 use Rattle.lu_refute.specs.Linearizable.{AreLengths, IsCounterexample, IsCutOf, IsLinearizable, Refutes}
 use Rattle.lu_refute.specs.Whole.{IsSeriallyWhole, made_calls}
-use Rattle.lu_refute.specs.Answers.{IsAnswer, IsAnswerTo, IsConfirmedFailure}
+use Rattle.lu_refute.specs.Answers.{IsAnswer, IsAnswerTo, IsConfirmedFailure, IsFailure}
 
 -- a specification of the matrix
 abbrev pub IsSpecOf : List (List Call) → List (List SerialOp) → Type 0
@@ -131,3 +132,10 @@ abbrev pub NoneLinearizable : Type 0
 NoneLinearizable =
     (c : Declarations) (matrix : List (List Call)) (r : Report) (spec : List SerialOp → Bool) →
     IsConfirmedFailure c matrix r → IsDeterministicOf matrix spec → IsLinearizable c matrix (λ q. IsTrue (spec q)) → ⊥
+
+-- So does what a check reports: where that is a failure, or nondeterminism, the component is linearizable by none of them.
+abbrev pub FailingIsNotLinearizable : Type 0
+FailingIsNotLinearizable =
+    (c : Declarations) (matrix : List (List Call)) (bound serial : ℕ) (r : Report) (spec : List SerialOp → Bool) →
+    IsReport c matrix bound serial r → IsFailure r.finding →
+    IsDeterministicOf matrix spec → IsLinearizable c matrix (λ q. IsTrue (spec q)) → ⊥
