@@ -13,3 +13,5 @@ pub mod Shortening
 pub mod Failing
 pub mod Copies
 pub mod Answering
+pub mod Every
+pub mod Determined

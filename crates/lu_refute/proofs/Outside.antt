@@ -19,7 +19,7 @@ use Rattle.lu_serial.proofs.Opening.{complete_not_open}
 use Rattle.lu_witness.specs.Goodness.{IsGoodAt}
 use Rattle.lu_witness.specs.Witnesses.{IsMember}
 use Rattle.lu_replay.specs.declared.report.Finding.TheVariants.{SerialCut, Nondeterministic, Fail, Pass}
-use Rattle.lu_refute.specs.Linearizable.{AreLengths, IsCounterexample, IsCutOf, Refutes}
+use Rattle.lu_refute.specs.Linearizable.{AreLengths, IsCounterexample, IsCutOf, IsLinearizable, Refutes}
 use Rattle.lu_refute.specs.Whole.{EndsWhole, made_calls}
 use Rattle.lu_refute.specs.Answers.{IsOutsideAnswer}
 use Rattle.lu_refute.specs.Laws.{AnswerRefutes, ConflictOutside, FailOutside, FailRefutes, HasAll, IsSpecOf, IsWhole, NotLinearizable, OutsideWhole, SpecIsSerial, WholeCut}
@@ -53,7 +53,7 @@ fail_refutes c matrix s bound members u is =
 
 -- ---- schedules outside
 
-true_or_false : (b : Bool) → (b ≡ true) ⊎ (b ≡ false)
+pub true_or_false : (b : Bool) → (b ≡ true) ⊎ (b ≡ false)
 true_or_false true = inl refl
 true_or_false false = inr refl
 
@@ -128,10 +128,14 @@ answer_refutes c matrix s serial members (Fail u why) answer is (inl a) =
 answer_refutes c matrix s serial members (Fail u why) answer is (inr a) = outside_answer c matrix s serial members answer is a.1
 answer_refutes c matrix s serial members (Pass counts) answer is a = absurd a
 
+-- where a cut has such a schedule the component is not linearizable
+pub refuted : (c : Declarations) (matrix smaller : List (List Call)) (Set : List SerialOp → Type 0) (u : List Move) → IsCutOf matrix smaller → Refutes Set (start_of c smaller) u → IsLinearizable c matrix Set → ⊥
+refuted c matrix smaller Set u is bad all =
+    let s = start_of c smaller in
+    let good = all smaller s u is refl (record { end = bad.end; history = bad.history; leads = bad.leads; holds = bad.holds.0 }) in
+    let same = leads_same s u good.end bad.end good.history bad.history good.leads bad.leads in
+    bad.holds.1 (subst (λ h. IsGoodAt Set bad.end h) same.1 (subst (λ x. IsGoodAt Set x good.history) same.0 good.holds))
+
 pub not_linearizable : NotLinearizable
-not_linearizable c matrix members example counter all =
-    let s = start_of c example.0 in
-    let bad = counter.1 s refl in
-    let good = all example.0 s example.1 counter.0 refl (record { end = bad.end; history = bad.history; leads = bad.leads; holds = bad.holds.0 }) in
-    let same = leads_same s example.1 good.end bad.end good.history bad.history good.leads bad.leads in
-    bad.holds.1 (subst (λ h. IsGoodAt (IsMember members) bad.end h) same.1 (subst (λ x. IsGoodAt (IsMember members) x good.history) same.0 good.holds))
+not_linearizable c matrix members example counter =
+    refuted c matrix example.0 (IsMember members) example.1 counter.0 (counter.1 (start_of c example.0) refl)

@@ -110,7 +110,7 @@ module _ (c : Declarations) (matrix : List (List ACall)) (u : List Move) (q : Li
   own_at_start : (p : List SerialOp) → IsWitness p run.history → p ≡ q
   own_at_start p w = own_from (start_of c matrix) u run.end run.history p (λ x. 0) (λ x. refl) spells w ∙ is_serial
 
-  lengths_at_start : AreLengths matrix (made_calls run.end)
+  pub lengths_at_start : AreLengths matrix (made_calls run.end)
   lengths_at_start = made_lengths c matrix u run.end run.history run.leads
 
   module _ (Set : List SerialOp → Type 0) where

@@ -1,5 +1,5 @@
 -- Laws of specifications: what holds whatever deterministic specification somebody has in mind.
-use Rattle.std.specs.Prelude.{◌≡◌, ℕ, ◌⊎◌, false, List, [], ◌∷◌, ◌++◌, length, None}
+use Rattle.std.specs.Prelude.{◌≡◌, ℕ, ◌⊎◌, Bool, false, IsTrue, List, [], ◌∷◌, ◌++◌, length, None}
 use Rattle.lu_component.specs.Component.{Declarations}
 use Rattle.lu_test.specs.declared.matrix.Call.{Call}
 use Rattle.lu_test.specs.declared.schedule.Move.{Move}
@@ -9,15 +9,18 @@ use Rattle.lu_machine.specs.Starts.{IsStart}
 use Rattle.lu_history.specs.declared.serial.SerialOp.{SerialOp}
 use Rattle.lu_history.specs.declared.serial.SerialOutcome.{SerialOutcome}
 use Rattle.lu_trie.specs.Members.{contains}
-use Rattle.lu_trie.specs.Conflicts.{IsDeterministic}
+use Rattle.lu_history.specs.Serial.{IsSerial}
+use Rattle.lu_trie.specs.Conflicts.{ConflictAt, IsDeterministic}
 use Rattle.lu_serial.specs.Serial.{IsSerialHistory, IsSeriallyEnded, stuck_of}
 use Rattle.lu_serial.specs.Offences.{NoOffence, IsFirstConflict, IsFirstOutside, IsOutside}
 use Rattle.lu_witness.specs.Witnesses.{IsMember, IsWitness, entries}
 use Rattle.lu_replay.specs.declared.report.Finding.{Finding}
-use Rattle.lu_spec.specs.Specs.{AreOf, IsSpec}
+use Rattle.lu_replay.specs.declared.report.Report.{Report}
+use Rattle.lu_replay.specs.Reports.{IsReport}
+use Rattle.lu_spec.specs.Specs.{AreOf, Fits, IsSpec}
 use Rattle.lu_refute.specs.Linearizable.{AreLengths, IsCounterexample, IsCutOf, IsLinearizable, Refutes}
 use Rattle.lu_refute.specs.Whole.{IsSeriallyWhole, made_calls}
-use Rattle.lu_refute.specs.Answers.{IsAnswerTo}
+use Rattle.lu_refute.specs.Answers.{IsAnswer, IsAnswerTo, IsConfirmedFailure, IsFailure}
 
 -- a specification of the matrix
 abbrev pub IsSpecOf : List (List Call) → List (List SerialOp) → Type 0
@@ -104,8 +107,35 @@ AnswerRefutes =
     (answer : List (List Call) × List Move) →
     IsStart c matrix s → IsAnswerTo s serial members finding answer → IsCounterexample c matrix (IsMember members) answer
 
+-- One thing is answered to a report.
+abbrev pub OneAnswer : Type 0
+OneAnswer =
+    (c : Declarations) (matrix : List (List Call)) (r : Report) (members : List (List SerialOp)) (a b : List (List Call) × List Move) →
+    IsAnswer c matrix r members a → IsAnswer c matrix r members b → a ≡ b
+
 -- Where there is a counterexample the component is not linearizable.
 abbrev pub NotLinearizable : Type 0
 NotLinearizable =
     (c : Declarations) (matrix : List (List Call)) (members : List (List SerialOp)) (example : List (List Call) × List Move) →
     IsCounterexample c matrix (IsMember members) example → IsLinearizable c matrix (IsMember members) → ⊥
+
+-- ---- every specification
+
+-- A set of serial histories that a test tells: no two of them conflict, `Stuck` stands only last, and they fit the matrix.
+pub record IsDeterministicOf (matrix : List (List Call)) (spec : List SerialOp → Bool) : Type 0 where
+  pub deterministic : (p q : List SerialOp) (i : ℕ) (o : SerialOutcome) → IsTrue (spec p) → IsTrue (spec q) → ConflictAt p q i o → ⊥
+  pub serial : (q : List SerialOp) → IsTrue (spec q) → IsSerial q
+  pub fits : (q : List SerialOp) → IsTrue (spec q) → Fits matrix q
+
+-- A failure that a run confirms refutes each of them: by none is the component linearizable.
+abbrev pub NoneLinearizable : Type 0
+NoneLinearizable =
+    (c : Declarations) (matrix : List (List Call)) (r : Report) (spec : List SerialOp → Bool) →
+    IsConfirmedFailure c matrix r → IsDeterministicOf matrix spec → IsLinearizable c matrix (λ q. IsTrue (spec q)) → ⊥
+
+-- So does what a check reports: where that is a failure, or nondeterminism, the component is linearizable by none of them.
+abbrev pub FailingIsNotLinearizable : Type 0
+FailingIsNotLinearizable =
+    (c : Declarations) (matrix : List (List Call)) (bound serial : ℕ) (r : Report) (spec : List SerialOp → Bool) →
+    IsReport c matrix bound serial r → IsFailure r.finding →
+    IsDeterministicOf matrix spec → IsLinearizable c matrix (λ q. IsTrue (spec q)) → ⊥

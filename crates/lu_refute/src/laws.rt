@@ -1,7 +1,7 @@
 //! Laws of specifications, for the crates above: what holds whatever deterministic specification somebody has in mind. Their
 //! functions do nothing.
 
-ghost use Rattle.lu_refute.specs.Laws.{AnswerRefutes, ConflictOutside, CutRefutes, FailOutside, FailRefutes, MadeCut, NotLinearizable, OutsideWhole, OwnWitness, SpecIsSerial, WholeCut};
+ghost use Rattle.lu_refute.specs.Laws.{AnswerRefutes, ConflictOutside, CutRefutes, FailingIsNotLinearizable, FailOutside, FailRefutes, MadeCut, NoneLinearizable, NotLinearizable, OneAnswer, OutsideWhole, OwnWitness, SpecIsSerial, WholeCut};
 
 /// Where no serial run offends and a specification has every serial history, it has no other whole ones: each is run again,
 /// entry by entry.
@@ -47,7 +47,20 @@ pub fn answer_refutes()
     ensures answer { AnswerRefutes }
 {}
 
+/// One thing is answered to a report and a specification.
+pub fn one_answer()
+    ensures { OneAnswer }
+{}
+
 /// Where there is a counterexample the component is not linearizable.
 pub fn not_linearizable()
     ensures { NotLinearizable }
+{}
+
+/// A failure that a run confirms refutes every deterministic specification, whatever test tells it: by none of them is the
+/// component linearizable on the matrix. That it is closed under beginnings is not asked. So does a report of a check that is a
+/// failure, or nondeterministic.
+pub fn none_linearizable()
+    ensures confirmed { NoneLinearizable }
+    ensures reported { FailingIsNotLinearizable }
 {}
