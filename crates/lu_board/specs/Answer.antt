@@ -1,12 +1,16 @@
 -- What a look answers.
-use Rattle.std.specs.Prelude.{◌≡◌, ℕ, ◌<◌, ◌≤◌, unwrap_or}
+use Rattle.std.specs.Prelude.{◌≡◌, ℕ, ◌<◌, ◌≤◌, IfSome, Option, unwrap_or}
 use Rattle.lu_board.specs.declared.view.Look.{Look}
 use Rattle.lu_board.specs.declared.view.Look.TheVariants.{Skip, Go}
 use Rattle.lu_board.specs.declared.view.View.{View}
 use Rattle.lu_board.specs.Events.{with_seen, with_skipped}
 
+-- piece i is to be worked on, and the best piece that is told is one of the pieces; where none is told, that is n
+abbrev pub GoesOn : ℕ → Option ℕ → ℕ → View → View → Type 0
+GoesOn i told best v w = (i ≤ best) × (best ≤ v.seen) × (w ≡ with_seen best v) × IfSome told (λ b. b < v.pieces)
+
 -- The answer to a look for piece i, from the view v before it to the view w after it. The best piece that it tells,
 -- where None stands for n, is what w has seen, and at most what v had seen.
 abbrev pub Answers : ℕ → Look → View → View → Type 0
 Answers i (Skip best) v w = (best < i) × (best ≤ v.seen) × (w ≡ with_skipped i best v)
-Answers i (Go told) v w = let best = unwrap_or told v.pieces in (i ≤ best) × (best ≤ v.seen) × (w ≡ with_seen best v)
+Answers i (Go told) v w = GoesOn i told (unwrap_or told v.pieces) v w

@@ -16,4 +16,4 @@ pub use lu_component::{
     MOST_INSTRS, MOST_LOCAL, MOST_LOCKS, MOST_OPS, MOST_PICKS, Op, Operand,
 };
 pub use reading::read_component;
-pub use writing::write_component;
+pub use writing::{array_name, lock_name, write_component, write_instr, write_label};

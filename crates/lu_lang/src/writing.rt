@@ -11,7 +11,7 @@ use lu_text::Name;
 use std::alloc::{AllocError, Global};
 
 /// The name of an array, by its number. No instruction of a component names one that is not there.
-fn array_name(component: &Component, number: u8) -> &str
+pub fn array_name(component: &Component, number: u8) -> &str
     ensures { result.now ≡ spec.array_word component.now number }
 {
     match component.arrays().get(usize::from(number)) {
@@ -21,7 +21,7 @@ fn array_name(component: &Component, number: u8) -> &str
 }
 
 /// The name of a lock, by its number. No instruction of a component names one that is not there.
-fn lock_name(component: &Component, number: u8) -> &str
+pub fn lock_name(component: &Component, number: u8) -> &str
     ensures { result.now ≡ spec.lock_word component.now number }
 {
     match component.locks().get(usize::from(number)) {
@@ -30,8 +30,13 @@ fn lock_name(component: &Component, number: u8) -> &str
     }
 }
 
-/// Adds an instruction's words at the end of a text.
-fn write_instr(text: &mut String, component: &Component, instr: Instr) -> Result<(), AllocError>
+/// Adds an instruction's words at the end of a text, with one space between them, as they stand in the
+/// component's canonical text.
+///
+/// # Errors
+///
+/// There is no memory for the text.
+pub fn write_instr(text: &mut String, component: &Component, instr: Instr) -> Result<(), AllocError>
     ensures { OnOk result (string_bytes text.new ≡ string_bytes text.old ++ join_with_byte 32 (spec.instr_words component.now instr)) }
 {
     match instr {
@@ -110,8 +115,12 @@ fn has_label(code: &[Instr], place: usize) -> bool
     code.iter().any(|instr| leads_to(place, *instr))
 }
 
-/// Adds the label of a place at the end of a text, where some jump leads to the place.
-fn write_label(text: &mut String, code: &[Instr], place: usize) -> Result<(), AllocError>
+/// Adds the label of a place at the end of a text, where some jump leads to the place: `Lk: ` for place k.
+///
+/// # Errors
+///
+/// There is no memory for the text.
+pub fn write_label(text: &mut String, code: &[Instr], place: usize) -> Result<(), AllocError>
     ensures { OnOk result (string_bytes text.new ≡ string_bytes text.old ++ spec.label_text code.now place) }
 {
     if has_label(code, place) {

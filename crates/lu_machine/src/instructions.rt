@@ -74,9 +74,10 @@ impl Machine<'_> {
         }
     }
 
-    /// Whether the instruction is blocked.
+    /// Whether the instruction of the open operation is blocked. It is asked to be one of its code
+    /// ([`Machine::instr`]).
     #[inline(always)]
-    fn is_blocked(&self, frame: &Frame, instr: &Instr) -> bool
+    pub fn is_blocked(&self, frame: &Frame, instr: &Instr) -> bool
         requires { IsSound self.now frame.now instr.now }
         ensures { result ≡ is_blocked self.now frame.now instr.now }
     {

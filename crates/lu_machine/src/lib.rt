@@ -5,6 +5,9 @@
 //! of the thread's open operation, and takes one of its picks. How many picks a thread has says whether
 //! it is enabled; a list of feasible moves is a schedule. Calls and returns show as an [`Event`] each.
 //!
+//! What a machine does can be looked at step by step: [`Machine::standing`] says where a thread stands,
+//! [`Machine::instr`] which instruction comes next, and [`Machine::step_once`] carries out that one alone.
+//!
 //! A search makes a move by [`Machine::apply`] and takes it back by [`Machine::undo`]. None of the calls
 //! but [`Machine::start`] takes memory.
 //!
@@ -31,4 +34,5 @@ pub use counts::Counts;
 pub use event::{Event, Outcome, Status};
 pub use laws::{local_laws, step_laws};
 pub use machine::Machine;
+pub use thread::{Activity, Frame, Thread, compute};
 pub use undo::Undo;

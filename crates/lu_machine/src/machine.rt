@@ -1,6 +1,6 @@
 //! The machine.
 
-ghost use Rattle.std.specs.Prelude.{◌≡◌, ℕ, ◌+◌, ◌<◌, ◌≤◌, ◌↔◌, length, IsTrue, IsSome, IfSome, IfOk, slice_get, Some};
+ghost use Rattle.std.specs.Prelude.{◌≡◌, ℕ, false, ◌+◌, ◌<◌, ◌≤◌, ◌↔◌, length, IsTrue, IsSome, IfSome, IfOk, slice_get, Some};
 ghost use Rattle.std.specs.Option.{option_copied};
 ghost use Rattle.lu_component.specs.Component.{IsComponent};
 ghost use Rattle.lu_test.specs.declared.schedule.Move.{Move as AMove};
@@ -89,9 +89,16 @@ impl<'a> Machine<'a> {
         self.matrix.threads()
     }
 
-    /// Where the thread stands.
+    /// How many local instructions run with one move at most, 0 to 16.
+    pub fn local(&self) -> u8
+        ensures { result ≡ self.now.component.local }
+    {
+        self.component.local()
+    }
+
+    /// Where the thread stands: none where there is no such thread.
     #[inline(always)]
-    fn standing(&self, thread: u8) -> Option<&Thread>
+    pub fn standing(&self, thread: u8) -> Option<&Thread>
         ensures value { option_copied result ≡ slice_get self.now.threads thread }
         ensures stands { IfSome result (λ standing. IsStanding standing.now) }
         ensures few { length self.now.threads ≤ 8 }
@@ -102,7 +109,7 @@ impl<'a> Machine<'a> {
     /// The instruction at the operation's place.
     #[tactic(auto, unfolding(crate::specs::States::instr_at))]
     #[inline(always)]
-    fn instr(&self, frame: &Frame) -> Option<&Instr>
+    pub fn instr(&self, frame: &Frame) -> Option<&Instr>
         ensures value { option_copied result ≡ instr_at self.now.component frame.now.op frame.now.place }
         ensures sound { IfSome result (λ instr. IsSound self.now frame.now instr.now) }
     {
@@ -110,9 +117,10 @@ impl<'a> Machine<'a> {
         op.code.instrs().get(usize::from(frame.place))
     }
 
-    /// The place of cell `index` of the array: none at or past the array's length.
+    /// The place of cell `index` of the array among all cells: none at or past the array's length. The
+    /// array is asked to be one of the component's.
     #[inline(always)]
-    pub(crate) fn cell(&self, array: u8, index: u32) -> Option<usize>
+    pub fn cell(&self, array: u8, index: u32) -> Option<usize>
         requires { array < length self.now.component.arrays }
         ensures cell { result ≡ cell_of self.now.component array index }
         ensures within { IfSome result (λ p. p < length self.now.cells) }
@@ -126,18 +134,18 @@ impl<'a> Machine<'a> {
         }
     }
 
-    /// The value of the cell at this place.
+    /// The value of the cell at this place, which [`Machine::cell`] answers.
     #[inline(always)]
-    pub(crate) fn value_at(&self, place: usize) -> u32
+    pub fn value_at(&self, place: usize) -> u32
         requires { place < length self.now.cells }
         ensures { result ≡ value_at self.now place }
     {
         self.cells[place]
     }
 
-    /// The owner of the lock, if it has one.
+    /// The owner of the lock, if it has one. The lock is asked to be one of the component's.
     #[inline(always)]
-    pub(crate) fn owner(&self, lock: u8) -> Option<u8>
+    pub fn owner(&self, lock: u8) -> Option<u8>
         requires { lock < length self.now.component.locks }
         ensures { result ≡ owner_of self.now lock }
     {
@@ -306,6 +314,23 @@ impl<'a> Machine<'a> {
         ensures back { restored result self.new ≡ self.old }
         ensures fits { CanTake self.new result }
     {
+        self.apply_as::<true>(next)
+    }
+
+    /// Makes the move as [`Machine::apply`] does. With `LONG` false the component is asked to have no local
+    /// instructions run with a move: who makes many moves asks that once, and each of them is the faster.
+    #[inline(always)]
+    pub fn apply_as<const LONG: bool>(&mut self, next: Move) -> Undo
+        requires feasible { IsFeasible self.old next }
+        requires one { LONG ≡ false → self.old.component.local ≡ 0 }
+        ensures step { Step self.old next self.new result.event }
+        ensures range { IfSome result.event IsInRange }
+        ensures back { restored result self.new ≡ self.old }
+        ensures fits { CanTake self.new result }
+    {
+        if !LONG {
+            return self.one_step(next);
+        }
         let more = self.more_local(next.thread);
         let first = self.one_step(next);
         if more == 0 {
@@ -323,7 +348,7 @@ impl<'a> Machine<'a> {
 
     /// How many local instructions may follow the first step of a move of thread `t`.
     #[inline(always)]
-    fn more_local(&self, t: u8) -> u8
+    pub fn more_local(&self, t: u8) -> u8
         ensures { result ≡ more_local self.now t }
     {
         let local = self.component.local();
@@ -347,7 +372,7 @@ impl<'a> Machine<'a> {
     }
 
     /// Whether the next instruction of thread `t` is local: not where no operation of it is open.
-    fn is_at_local(&self, t: u8) -> bool
+    pub fn is_at_local(&self, t: u8) -> bool
         ensures { result ≡ is_at_local self.now t }
     {
         let Some(standing) = self.standing(t) else {
@@ -471,5 +496,29 @@ impl<'a> Machine<'a> {
             Shared::Owner { lock, owner } => self.locks[usize::from(lock)] = owner,
         }
         self.put_back(undo.thread, undo.was);
+    }
+
+    /// The component that is run.
+    pub fn component(&self) -> &Component
+        ensures { result.now ≡ self.now.component }
+    {
+        self.component
+    }
+
+    /// The matrix whose calls are made.
+    pub fn matrix(&self) -> &Matrix
+        ensures { result.now ≡ self.now.matrix }
+    {
+        self.matrix
+    }
+
+    /// Makes the first step of a move alone, the local instructions behind it left out: the thread opens its
+    /// next call or carries out one instruction. Answers the event, if it has one. The move is asked to be
+    /// feasible ([`Machine::feasible`]).
+    pub fn step_once(&mut self, next: Move) -> Option<Event>
+        requires { IsFeasible self.old next }
+        ensures { OneStep self.old next self.new result }
+    {
+        self.one_step(next).event()
     }
 }

@@ -18,30 +18,33 @@ pub(crate) type Registers = [u32; 8];
 
 /// An open operation.
 #[derive(Clone, Copy, Debug)]
-pub(crate) struct Frame {
+pub struct Frame {
     pub(crate) registers: Registers,
 
     /// The number of the operation in its component.
-    pub(crate) op: u8,
+    pub op: u8,
 
     /// The place of its next instruction.
-    pub(crate) place: u8,
+    pub place: u8,
 }
 
 /// What a thread is at.
 #[derive(Clone, Copy, Debug)]
-pub(crate) enum Activity {
+pub enum Activity {
+    /// No operation of it is open.
     Idle,
+
+    /// This operation of it is open.
     Open(Frame),
 }
 
 /// Where a thread stands.
 #[derive(Clone, Copy, Debug)]
-pub(crate) struct Thread {
+pub struct Thread {
     /// The number of its operations that have ended. While one more is open, that is its number.
-    pub(crate) done: u8,
+    pub done: u8,
 
-    pub(crate) activity: Activity,
+    pub activity: Activity,
 }
 
 /// What an instruction makes of its operation.
@@ -74,9 +77,9 @@ pub(crate) enum Was {
 }
 
 impl Frame {
-    /// The value of an operand.
+    /// The value of an operand, which is asked to be a register 0 to 7 or a number.
     #[inline(always)]
-    pub(crate) fn value(&self, operand: Operand) -> u32
+    pub fn value(&self, operand: Operand) -> u32
         requires { IsOperand operand }
         ensures { result ≡ value_of self.now operand }
     {
@@ -214,7 +217,7 @@ pub(crate) fn first_registers(args: &[u32]) -> Registers
 }
 
 /// What an arithmetic instruction computes of two values.
-pub(crate) fn compute(arithmetic: Arithmetic, left: u32, right: u32) -> u32
+pub fn compute(arithmetic: Arithmetic, left: u32, right: u32) -> u32
     ensures { result ≡ computed arithmetic left right }
 {
     match arithmetic {

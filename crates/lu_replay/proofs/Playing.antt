@@ -1,5 +1,5 @@
 -- A replay, move after move.
-use Rattle.std.proofs.Common.{◌≡◌, ℕ, ◌+◌, ◌<◌, ◌≤◌, List, [], ◌∷◌, ◌++◌, length, take, get_or, slice_get, Option, Some, None, IfSome, refl, sym, ◌∙◌, ap, subst, inl, inr, arith}
+use Rattle.std.proofs.Common.{◌≡◌, ◌⊎◌, ℕ, suc, ◌+◌, ◌<◌, ◌≤◌, List, [], ◌∷◌, ◌++◌, length, take, get_or, slice_get, Option, Some, None, IfSome, refl, sym, ◌∙◌, ap, subst, inl, inr, arith}
 use Rattle.std.proofs.lemmas.Bool.{cases_lt}
 use Rattle.std.proofs.lemmas.List.{get_or-take, length-take, take_all, take-take, take_more}
 use Rattle.std.proofs.lemmas.Option.{get_or_from_slice_get, slice_get-get_or, slice_get_within}
@@ -8,12 +8,14 @@ use Rattle.lu_test.specs.declared.matrix.Call.{Call}
 use Rattle.lu_test.specs.declared.schedule.Move.{Move}
 use Rattle.lu_machine.specs.declared.event.Event.{Event}
 use Rattle.lu_machine.specs.declared.event.Status.{Status}
+use Rattle.lu_machine.specs.declared.event.Status.TheVariants.{Running, Complete, Stuck}
 use Rattle.lu_machine.specs.States.{State, progress}
-use Rattle.lu_machine.specs.Steps.{Step, IsFeasible}
+use Rattle.lu_machine.specs.Steps.{Step, IsFeasible, picks_of}
 use Rattle.lu_machine.specs.Runs.{Leads, with_event}
-use Rattle.lu_machine.specs.Starts.{IsStart}
+use Rattle.lu_machine.specs.Starts.{IsStart, start_of}
 use Rattle.lu_machine.specs.Ends.{HasStatus}
-use Rattle.lu_machine.proofs.Ended.{status_same}
+use Rattle.lu_machine.proofs.Ended.{complete_or_not, move_or_not, status_same}
+use Rattle.lu_machine.proofs.StepLaws.{feasible_step}
 use Rattle.lu_machine.proofs.Paths.{leads_same, goes_on_feasible, child_leads}
 use Rattle.lu_machine.specs.Events.{IsInRange}
 use Rattle.lu_history.specs.Histories.{Fits}
@@ -102,3 +104,44 @@ pub played_to : (c : Declarations) (matrix : List (List Call)) (start : State) (
 played_to c matrix start u v many now history m d is same below read played infeasible =
     let at : slice_get v many ≡ Some m = rw (← same) (slice_get-get_or u many d below ∙ ap (λ (n : Move). Some n) (sym read)) in
     (now, history, m, (start, is, rw (← same) played.leads), at, infeasible)
+
+-- ---- each schedule shows something, or is infeasible somewhere
+
+-- the schedule leads somewhere from s
+abbrev Goes : State → List Move → Type 0
+Goes s u = (end : State) × (h : List Event) × Leads s u end h
+
+-- the first i moves lead somewhere from s, and there move i is not feasible
+abbrev Fails : State → List Move → Type 0
+Fails s u =
+    (i : ℕ) × (end : State) × (h : List Event) × (m : Move)
+    × Leads s (take i u) end h × (slice_get u i ≡ Some m) × (IsFeasible end m → ⊥)
+
+goes_or_fails : (s : State) (u : List Move) → Goes s u ⊎ Fails s u
+goes_or_fails s [] = inl (s, [], (refl, refl))
+goes_or_fails s (m ∷ u) = elim (cases_lt m.pick (picks_of s m.thread)) [
+  | inl feasible ↦
+    let next = feasible_step s m feasible in
+    elim (goes_or_fails next.0 u) [
+      | inl (end, h, leads) ↦ inl (end, with_event next.1 h, (next.0, next.1, h, next.2, leads, refl))
+      | inr (i, end, h, n, leads, at, infeasible) ↦ inr (suc i, end, with_event next.1 h, n, (next.0, next.1, h, next.2, leads, refl), at, infeasible)
+    ]
+  | inr past ↦ inr (0, s, [], m, (refl, refl), refl, (λ feasible. omega arith))
+]
+
+some_status : (s : State) → (a : Status) × HasStatus s a
+some_status s = elim (complete_or_not s) [
+  | inl complete ↦ (Complete, complete)
+  | inr not ↦ elim (move_or_not s) [
+    | inl move ↦ (Running, move)
+    | inr none ↦ (Stuck, (not, none))
+  ]
+]
+
+pub all_replayed : (c : Declarations) (matrix : List (List Call)) (u : List Move) → ((h : List Event) × (a : Status) × Shows c matrix u h a) ⊎ ((i : ℕ) × IsInfeasibleAt c matrix u i)
+all_replayed c matrix u = elim (goes_or_fails (start_of c matrix) u) [
+  | inl (end, h, leads) ↦
+    let status = some_status end in
+    inl (h, status.0, (end, (start_of c matrix, refl, leads), status.1))
+  | inr (i, end, h, m, leads, at, infeasible) ↦ inr (i, (end, h, m, (start_of c matrix, refl, leads), at, infeasible))
+]

@@ -1,5 +1,5 @@
 -- Laws of replays and reports.
-use Rattle.std.specs.Prelude.{◌≡◌, ℕ, List}
+use Rattle.std.specs.Prelude.{◌≡◌, ◌⊎◌, ℕ, List}
 use Rattle.lu_component.specs.Component.{Declarations}
 use Rattle.lu_test.specs.declared.matrix.Call.{Call}
 use Rattle.lu_test.specs.declared.schedule.Move.{Move}
@@ -30,6 +30,12 @@ abbrev pub OneFault : Type 0
 OneFault =
     (c : Declarations) (matrix : List (List Call)) (u : List Move) (i j : ℕ) →
     IsInfeasibleAt c matrix u i → IsInfeasibleAt c matrix u j → i ≡ j
+
+-- a schedule shows something, or is infeasible at some place
+abbrev pub AllReplayed : Type 0
+AllReplayed =
+    (c : Declarations) (matrix : List (List Call)) (u : List Move) →
+    ((h : List Event) × (a : Status) × Shows c matrix u h a) ⊎ ((i : ℕ) × IsInfeasibleAt c matrix u i)
 
 -- no ended schedule is a beginning of another
 abbrev pub EndedApart : Type 0

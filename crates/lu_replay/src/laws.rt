@@ -1,15 +1,16 @@
 //! Laws of replays and reports, for the crates above.
 
-ghost use Rattle.lu_replay.specs.Laws.{AllConfirmed, EndedApart, OneFault, OneReplay, OneReport, ReplayOrFault};
+ghost use Rattle.lu_replay.specs.Laws.{AllConfirmed, AllReplayed, EndedApart, OneFault, OneReplay, OneReport, ReplayOrFault};
 
 pub use lu_serial::serial_short;
 
-/// Why the answer of a replay is the only one: a schedule shows one history and one status, or else
-/// it is infeasible, and then at one place. The function does nothing.
+/// Why a replay has one answer: a schedule shows a history and a status, and no others, or it is infeasible at a place, and
+/// at no other. The function does nothing.
 pub fn replay_laws()
     ensures one_replay { OneReplay }
     ensures replay_or_fault { ReplayOrFault }
     ensures one_fault { OneFault }
+    ensures all_replayed { AllReplayed }
 {}
 
 /// No ended schedule is a beginning of another: so a search need not look past one. The function does nothing.

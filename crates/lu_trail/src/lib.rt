@@ -12,6 +12,7 @@
 //! ```
 #![tactic(auto)]
 
+mod lookups;
 mod path;
 mod trail;
 

@@ -5,6 +5,7 @@ ghost use Rattle.lu_history.specs.Histories.{Fits, IsWellFormed};
 ghost use Rattle.lu_witness.specs.Caches.{SameButEntries};
 ghost use Rattle.lu_witness.specs.Witnesses.{IsMember, IsVerdict};
 
+use crate::lookups::Lookups;
 use crate::path::Path;
 use lu_history::History;
 use lu_machine::Event;
@@ -23,6 +24,9 @@ pub struct Trail<'t, T: SerialTree> {
 
     /// The history that was judged last, whose room is used again.
     judged: History,
+
+    /// Whether it is of use to ask a cache.
+    lookups: Lookups,
 }
 
 impl<'t, T: SerialTree> Model for Trail<'t, T> {
@@ -50,6 +54,7 @@ impl<'t, T: SerialTree> Trail<'t, T> {
             tree,
             path: Path::new(alloc)?,
             judged: History::new(alloc),
+            lookups: Lookups::new(),
         })
     }
 
@@ -82,7 +87,8 @@ impl<'t, T: SerialTree> Trail<'t, T> {
     }
 
     /// The verdict of the history over the tree. A cache over that tree is asked for it where the history is not known to be
-    /// good.
+    /// good; but where nearly every history is a new one the cache is asked for one of 64, since to look a history up takes
+    /// longer than to search for its witnesses.
     ///
     /// # Errors
     ///
@@ -110,7 +116,7 @@ impl<'t, T: SerialTree> Trail<'t, T> {
         ensures verdict { IfOk result (IsVerdict (IsMember (T.members self.old.tree)) self.old.history) }
     {
         self.path.fill(&mut self.judged)?;
-        let verdict = cache.verdict(&self.judged);
+        let verdict = self.lookups.verdict(self.tree, cache, &self.judged);
         if verdict == Verdict::Good {
             self.path.note_good();
         }

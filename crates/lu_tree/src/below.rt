@@ -51,7 +51,7 @@ fn node_after<'a, 't, T: SerialTree>(
 {
     let mut node = Node::start(alloc, component, matrix, tree)?;
     for next in schedule {
-        node.enter(*next);
+        node.enter::<true>(*next);
     }
     Ok(node)
 }

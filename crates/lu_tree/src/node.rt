@@ -1,6 +1,6 @@
 //! A node of the tree of schedules.
 
-ghost use Rattle.std.specs.Prelude.{◌≡◌, ◌++◌, [], IfOk, IsTrue, List};
+ghost use Rattle.std.specs.Prelude.{◌≡◌, ◌++◌, false, [], IfOk, IsTrue, List};
 ghost use Rattle.lu_test.specs.Matrix.{IsOf};
 ghost use Rattle.lu_machine.specs.declared.event.Event.{Event};
 ghost use Rattle.lu_machine.specs.Ends.{IsEnded};
@@ -49,19 +49,21 @@ impl<'a, 't, T: SerialTree> Node<'a, 't, T> {
         })
     }
 
-    /// Makes the move here.
+    /// Makes the move here. With `LONG` false no local instructions run with a move.
     #[inline(always)]
-    pub(crate) fn enter(&mut self, next: Move) -> Undo
+    pub(crate) fn enter<const LONG: bool>(&mut self, next: Move) -> Undo
         requires feasible { IsFeasible self.old.machine next }
+        requires one { LONG ≡ false → self.old.machine.component.local ≡ 0 }
         requires agree { Agree (progress self.old.machine) self.old.trail.history }
         ensures step { Step self.old.machine next self.new.machine result.event }
         ensures history { self.new.trail.history ≡ self.old.trail.history ++ with_event result.event [] }
         ensures tree { self.new.trail.tree ≡ self.old.trail.tree }
         ensures agree { Agree (progress self.new.machine) self.new.trail.history }
         ensures back { restored result self.new.machine ≡ self.old.machine }
+        ensures one { LONG ≡ false → self.new.machine.component.local ≡ 0 }
         ensures fits { CanTake self.new.machine result }
     {
-        let undo = self.machine.apply(next);
+        let undo = self.machine.apply_as::<LONG>(next);
         match undo.event() {
             None => undo,
             Some(event) => {

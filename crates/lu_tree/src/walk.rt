@@ -88,6 +88,40 @@ pub(crate) fn walk<'t, T: SerialTree, W: Watch>(
     ensures path { length tally.new.path.items ≤ left }
     ensures stops { result ≡ false → W.is_stopped watch.new ≡ false → StopsAt (IsMember (T.members node.old.trail.tree)) node.old.machine node.old.trail.history left tally.new.path.items node.new.machine node.new.trail.history }
 {
+    if node.machine.local() == 0 {
+        walk_as::<false, T, W>(cache, watch, left, node, tally)
+    } else {
+        walk_as::<true, T, W>(cache, watch, left, node, tally)
+    }
+}
+
+/// Walks as [`walk`] does. With `LONG` false no local instructions run with a move.
+fn walk_as<'t, const LONG: bool, T: SerialTree, W: Watch>(
+    cache: &mut Cache<'t, T>,
+    watch: &mut W,
+    left: u16,
+    node: &mut Node<'_, 't, T>,
+    tally: &mut Tally,
+) -> bool
+    requires few { left ≤ 256 }
+    requires one { LONG ≡ false → node.old.machine.component.local ≡ 0 }
+    requires agree { Agree (progress node.old.machine) node.old.trail.history }
+    requires tree { cache.old.tree ≡ node.old.trail.tree }
+    requires running { W.is_stopped watch.old ≡ false }
+    requires ready { IsReady tally.old }
+    ensures cache { SameButEntries cache.old cache.new }
+    ensures base { W.base watch.new ≡ W.base watch.old }
+    ensures tree { node.new.trail.tree ≡ node.old.trail.tree }
+    ensures agree { Agree (progress node.new.machine) node.new.trail.history }
+    ensures machine { result ≡ true → node.new.machine ≡ node.old.machine }
+    ensures history { result ≡ true → node.new.trail.history ≡ node.old.trail.history }
+    ensures running { result ≡ true → W.is_stopped watch.new ≡ false }
+    ensures ready { result ≡ true → IsReady tally.new }
+    ensures passes { result ≡ true → Passes (IsMember (T.members node.old.trail.tree)) node.old.machine node.old.trail.history left tally.old.counts tally.new.counts }
+    ensures room { 256 ≤ vec_capacity tally.new.path }
+    ensures path { length tally.new.path.items ≤ left }
+    ensures stops { result ≡ false → W.is_stopped watch.new ≡ false → StopsAt (IsMember (T.members node.old.trail.tree)) node.old.machine node.old.trail.history left tally.new.path.items node.new.machine node.new.trail.history }
+{
     if left == 0 {
         return end(cache, watch, node, tally);
     }
@@ -96,8 +130,8 @@ pub(crate) fn walk<'t, T: SerialTree, W: Watch>(
         for pick in 0..node.machine.picks(thread) {
             is_ended = false;
             let next = Move { thread, pick };
-            let undo = node.enter(next);
-            if !walk(cache, watch, left - 1, node, tally) {
+            let undo = node.enter::<LONG>(next);
+            if !walk_as::<LONG, T, W>(cache, watch, left - 1, node, tally) {
                 tally.path.push_reserved(next);
                 return false;
             }

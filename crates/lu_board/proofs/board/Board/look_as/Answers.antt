@@ -33,8 +33,8 @@ returns-clause-answer g c =
     let on = λ (above : c.args.piece ≤ found). p.0 ∙ ap (λ b. cond b (with_skipped c.args.piece found m.0) (with_seen found m.0)) (le-ltb found c.args.piece above) in
     elim c.if-best-piece.branch [
       | then-best-piece w ↦ give (Skip found) w.result-is (w.if-best-piece.true, p.1, p.0 ∙ ap (λ b. cond b (with_skipped c.args.piece found m.0) (with_seen found m.0)) (lt-ltb found c.args.piece w.if-best-piece.true))
-      | else-best-piece+then-best-seat w ↦ give (Go (Some found)) w.result-is (w.if-best-piece.false, p.1, on w.if-best-piece.false)
+      | else-best-piece+then-best-seat w ↦ give (Go (Some found)) w.result-is (w.if-best-piece.false, p.1, on w.if-best-piece.false, (let x = w.if-best-seat.true in omega arith))
       | else-best-piece+else-best-seat w ↦
           let whole : found ≡ m.0.pieces = (let a = p.2 in let b = w.if-best-seat.false in omega arith) in
-          give (Go None) w.result-is (let x = w.if-best-piece.false in omega arith, let y = p.1 in omega arith, on w.if-best-piece.false ∙ ap (λ b. with_seen b m.0) whole)
+          give (Go None) w.result-is (let x = w.if-best-piece.false in omega arith, let y = p.1 in omega arith, on w.if-best-piece.false ∙ ap (λ b. with_seen b m.0) whole, tt)
     ]

@@ -8,7 +8,7 @@ use Rattle.lu_witness.specs.Witnesses.{IsMember}
 use Rattle.lu_tree.specs.Walks.{Counted, Passes, StopsAt}
 use Rattle.lu_tree.proofs.Added.{added_all, added_more, added_none, added_turn, end_passes, end_stops, stops_more, stops_there}
 use Rattle.lu_tree.proofs.Walking.{ended_all, ended_first, ended_picked, ended_turn}
-use Rattle.lu_tree.proofs.walk.+walk.Goals as goal
+use Rattle.lu_tree.proofs.walk.+walk_as.Goals as goal
 
 pub returns-then-left-eq0-clause-passes : goal.returns-then-left-eq0-clause-passes
 returns-then-left-eq0-clause-passes g t c = λ is.
@@ -38,8 +38,8 @@ loop-thread-init g t c = record {
   counted = added_none (IsMember (g.T.SerialTree.members c.args.node.now.trail.tree)) c.args.node.now.machine c.args.node.now.trail.history c.args.left c.args.tally.now.counts c.requires.ready.capped;
 }
 
-pub returns-then-not-walk-clause-stops : goal.returns-then-not-walk-clause-stops
-returns-then-not-walk-clause-stops g t c = λ _ running.
+pub returns-then-not-walk_as-clause-stops : goal.returns-then-not-walk_as-clause-stops
+returns-then-not-walk_as-clause-stops g t c = λ _ running.
     (let Set = IsMember (g.T.SerialTree.members c.args.node.now.trail.tree) in
     let s = c.args.node.now.machine in
     let h = c.args.node.now.trail.history in
@@ -56,10 +56,10 @@ returns-then-not-walk-clause-stops g t c = λ _ running.
     let grown : k ≡ h ++ with_event event [] = c.enter-undo.ensures.history ∙ ap (λ x. x ++ with_event event []) i.history in
     let some : 1 ≤ c.args.left = omega arith in
     let tree = ap (λ x. g.T.SerialTree.members x) (c.enter-undo.ensures.tree ∙ i.tree) in
-    let failed : c.walk.result ≡ false = search rules in
-    let below : StopsAt Set r k (c.args.left - 1) c.walk.new.tally.path.items c.walk.new.node.machine c.walk.new.node.trail.history = subst (λ x. StopsAt (IsMember x) r k (c.args.left - 1) c.walk.new.tally.path.items c.walk.new.node.machine c.walk.new.node.trail.history) tree (c.walk.ensures.stops failed running) in
-    let stops = stops_more Set s h c.args.left thread pick r event k step grown some able c.args.tally.now.counts c.loop-pick.tally.counts i.counted c.walk.new.tally.path.items c.walk.new.node.machine c.walk.new.node.trail.history below in
-    stops_there Set s h c.args.left (c.walk.new.tally.path.items ++ next ∷ []) c.push_reserved.new.self.items c.walk.new.node.machine c.walk.new.node.machine c.walk.new.node.trail.history c.walk.new.node.trail.history c.push_reserved.ensures.items refl refl stops)
+    let failed : c.walk_as.result ≡ false = search rules in
+    let below : StopsAt Set r k (c.args.left - 1) c.walk_as.new.tally.path.items c.walk_as.new.node.machine c.walk_as.new.node.trail.history = subst (λ x. StopsAt (IsMember x) r k (c.args.left - 1) c.walk_as.new.tally.path.items c.walk_as.new.node.machine c.walk_as.new.node.trail.history) tree (c.walk_as.ensures.stops failed running) in
+    let stops = stops_more Set s h c.args.left thread pick r event k step grown some able c.args.tally.now.counts c.loop-pick.tally.counts i.counted c.walk_as.new.tally.path.items c.walk_as.new.node.machine c.walk_as.new.node.trail.history below in
+    stops_there Set s h c.args.left (c.walk_as.new.tally.path.items ++ next ∷ []) c.push_reserved.new.self.items c.walk_as.new.node.machine c.walk_as.new.node.machine c.walk_as.new.node.trail.history c.walk_as.new.node.trail.history c.push_reserved.ensures.items refl refl stops)
 
 pub loop-pick-preserved : goal.loop-pick-preserved
 loop-pick-preserved g t c =
@@ -79,19 +79,19 @@ loop-pick-preserved g t c =
     let grown : k ≡ h ++ with_event event [] = c.enter-undo.ensures.history ∙ ap (λ x. x ++ with_event event []) i.history in
     let some : 1 ≤ c.args.left = omega arith in
     let tree = ap (λ x. g.T.SerialTree.members x) (c.enter-undo.ensures.tree ∙ i.tree) in
-    let passed : c.walk.result ≡ true = search rules in
-    let below : Passes Set r k (c.args.left - 1) c.loop-pick.tally.counts c.walk.new.tally.counts = subst (λ x. Passes (IsMember x) r k (c.args.left - 1) c.loop-pick.tally.counts c.walk.new.tally.counts) tree (c.walk.ensures.passes passed) in
+    let passed : c.walk_as.result ≡ true = search rules in
+    let below : Passes Set r k (c.args.left - 1) c.loop-pick.tally.counts c.walk_as.new.tally.counts = subst (λ x. Passes (IsMember x) r k (c.args.left - 1) c.loop-pick.tally.counts c.walk_as.new.tally.counts) tree (c.walk_as.ensures.passes passed) in
     record {
-      machine = c.leave.ensures.machine ∙ (ap (restored c.enter-undo.result) (c.walk.ensures.machine passed) ∙ (c.enter-undo.ensures.back ∙ i.machine));
-      history = c.leave.ensures.history c.loop-pick.node.trail.history (c.walk.ensures.history passed ∙ c.enter-undo.ensures.history) ∙ i.history;
-      tree = c.leave.ensures.tree ∙ c.walk.ensures.tree ∙ c.enter-undo.ensures.tree ∙ i.tree;
-      cache = record { tree_is = c.walk.ensures.cache.tree_is ∙ i.cache.tree_is; capacity = c.walk.ensures.cache.capacity ∙ i.cache.capacity };
-      base = c.walk.ensures.base ∙ i.base;
-      running = c.walk.ensures.running passed;
-      ready = c.walk.ensures.ready passed;
+      machine = c.leave.ensures.machine ∙ (ap (restored c.enter-undo.result) (c.walk_as.ensures.machine passed) ∙ (c.enter-undo.ensures.back ∙ i.machine));
+      history = c.leave.ensures.history c.loop-pick.node.trail.history (c.walk_as.ensures.history passed ∙ c.enter-undo.ensures.history) ∙ i.history;
+      tree = c.leave.ensures.tree ∙ c.walk_as.ensures.tree ∙ c.enter-undo.ensures.tree ∙ i.tree;
+      cache = record { tree_is = c.walk_as.ensures.cache.tree_is ∙ i.cache.tree_is; capacity = c.walk_as.ensures.cache.capacity ∙ i.cache.capacity };
+      base = c.walk_as.ensures.base ∙ i.base;
+      running = c.walk_as.ensures.running passed;
+      ready = c.walk_as.ensures.ready passed;
       ended = ended_picked s next able;
       still = λ e. absurd (cc);
-      counted = added_more Set s h c.args.left thread pick r event k step grown some c.args.tally.now.counts c.loop-pick.tally.counts c.walk.new.tally.counts i.counted below;
+      counted = added_more Set s h c.args.left thread pick r event k step grown some c.args.tally.now.counts c.loop-pick.tally.counts c.walk_as.new.tally.counts i.counted below;
     }
 
 pub loop-thread-preserved : goal.loop-thread-preserved

@@ -4,10 +4,10 @@ use Rattle.lu_witness.specs.Witnesses.{IsMember}
 use Rattle.lu_tree.specs.Walks.{IsReady}
 use Rattle.lu_tree.proofs.Walking.{HasEnded}
 use Rattle.lu_tree.proofs.Added.{AreAdded}
-use Rattle.lu_tree.proofs.walk.+walk.Given as goal
+use Rattle.lu_tree.proofs.walk.+walk_as.Given as goal
 
-abbrev pub decreases-walk : goal.decreases-walk
-decreases-walk g l = l.left
+abbrev pub decreases-walk_as : goal.decreases-walk_as
+decreases-walk_as g l = l.left
 
 abbrev pub invariant-loop-thread : goal.invariant-loop-thread
 invariant-loop-thread g l = record {
