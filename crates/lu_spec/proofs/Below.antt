@@ -1,11 +1,14 @@
 -- What a walk adds, kid after kid.
 use Rattle.std.proofs.Common.{◌≡◌, ℕ, ◌+◌, ◌≤◌, ◌⊎◌, List, [], ◌∷◌, ◌++◌, length, take, Some, slice_get, refl, sym, ap, subst, ◌∙◌, inl, inr, append_assoc}
+use Rattle.std.specs.Prelude.{All}
 use Rattle.std.proofs.lemmas.List.{append-nil, take_all}
+use Rattle.std.proofs.lemmas.List.Elements.{All-cons, All-nil}
 use Rattle.lu_history.specs.declared.serial.SerialOp.{SerialOp}
 use Rattle.lu_history.specs.Serial.{IsSerial}
 use Rattle.lu_trie.specs.Members.{Adds, behind}
 use Rattle.lu_trie.specs.Branches.{Branch, joined, branches_of, IsBranching}
 use Rattle.lu_spec.specs.Beginnings.{Has, IsBelow, AddsBelow}
+use Rattle.lu_spec.specs.Specs.{AllHaveOutcomes, HasOutcome}
 use Rattle.lu_spec.proofs.Sets.{has_either, has_left, has_right, has_behind, behind_has, adds_one, one_added, old_kept, joined_next, below_some, parted, of_branch, in_joined, serial_front}
 
 -- the path is added
@@ -101,3 +104,20 @@ pub kid_path : (hs : List (List SerialOp)) (path : List SerialOp) (i : ℕ) (op 
 kid_path hs path i op below is at serial =
     let some = below_some (branches_of hs) i (op, below) is.branches.full at in
     serial_front (path ++ op ∷ []) some.0 (kid_serial hs path i op below is at serial some.0 some.1)
+
+-- ---- outcomes, kid after kid
+
+pub kid_outcomes : (hs : List (List SerialOp)) (i : ℕ) (op : SerialOp) (below : List (List SerialOp)) → slice_get (branches_of hs) i ≡ Some (op, below) → HasOutcome op → AllHaveOutcomes below → AllHaveOutcomes (joined (take i (branches_of hs))) → AllHaveOutcomes (joined (take (i + 1) (branches_of hs)))
+kid_outcomes hs i op below at first kid before q has =
+    elim (has_either (joined (take i (branches_of hs))) (behind op below) q (subst (λ (x : List (List SerialOp)). Has x q) (joined_next (branches_of hs) i op below at) has)) [
+      | inl was ↦ before q was
+      | inr here ↦
+          let found = has_behind op below q here in
+          subst (λ (x : List SerialOp). All HasOutcome x) (sym found.1) (All-cons HasOutcome op found.0 first (kid found.0 found.2))
+    ]
+
+pub all_outcomes : (hs : List (List SerialOp)) (n : ℕ) → IsBranching hs → length (branches_of hs) ≤ n → AllHaveOutcomes (joined (take n (branches_of hs))) → AllHaveOutcomes hs
+all_outcomes hs n is all outcomes q has = elim (parted hs q is has) [
+  | inl empty ↦ subst (λ (x : List SerialOp). All HasOutcome x) (sym empty) (All-nil HasOutcome)
+  | inr branch ↦ outcomes q (subst (λ (x : List Branch). Has (joined x) q) (sym (take_all n (branches_of hs) all)) branch)
+]

@@ -1,6 +1,9 @@
 -- The closure of a set without conflict is a specification.
 use Rattle.std.proofs.Common.{◌≡◌, ℕ, suc, zero, ◌≤◌, ◌⊎◌, List, [], ◌∷◌, ◌++◌, length, take, Some, slice_get, refl, sym, ap, subst, ◌∙◌, inl, inr, arith}
+use Rattle.std.specs.Prelude.{All}
 use Rattle.std.proofs.lemmas.List.{take-append-le, length-append}
+use Rattle.std.proofs.lemmas.List.Elements.{All-nil, All-take}
+use Rattle.std.proofs.Math.Seq.{take-append_seam}
 use Rattle.std.proofs.lemmas.Option.{slice_get_within}
 use Rattle.lu_history.specs.declared.serial.SerialOp.{SerialOp}
 use Rattle.lu_history.specs.declared.serial.SerialOutcome.{SerialOutcome}
@@ -10,7 +13,7 @@ use Rattle.lu_trie.specs.Conflicts.{ConflictAt, IsDeterministic}
 use Rattle.lu_witness.specs.Witnesses.{entries}
 use Rattle.lu_witness.proofs.Entries.{entries-append}
 use Rattle.lu_spec.specs.Beginnings.{Has, Begins, IsClosed, IsClosureOf, IsBelow, AddsBelow}
-use Rattle.lu_spec.specs.Specs.{IsSpec, Fits, AreOf}
+use Rattle.lu_spec.specs.Specs.{IsSpec, Fits, AreOf, AllHaveOutcomes, HasOutcome}
 use Rattle.lu_spec.proofs.Sets.{begins_trans, serial_begin}
 
 got_front : (h rest : List SerialOp) (i : ℕ) (op : SerialOp) → slice_get h i ≡ Some op → slice_get (h ++ rest) i ≡ Some op
@@ -72,12 +75,21 @@ module _ (set closed : List (List SerialOp)) (closure : IsClosureOf set closed) 
     | inr (h, begins, member) ↦ serial_begin q h begins (serial h member)
   ]
 
-  pub is_spec : IsDeterministic set → AllSerial set → IsSpec closed
-  is_spec apart serial = record {
+  all_outcomes : AllHaveOutcomes set → AllHaveOutcomes closed
+  all_outcomes outcomes q has = elim ((closure q).0 has) [
+    | inl empty ↦ subst (λ (x : List SerialOp). All HasOutcome x) (sym empty) (All-nil HasOutcome)
+    | inr (h, begins, member) ↦
+        let whole : take (length q) h ≡ q = ap (take (length q)) begins.1 ∙ take-append_seam q begins.0 in
+        subst (λ (x : List SerialOp). All HasOutcome x) whole (All-take HasOutcome (length q) h (outcomes h member))
+  ]
+
+  pub is_spec : IsDeterministic set → AllSerial set → AllHaveOutcomes set → IsSpec closed
+  is_spec apart serial outcomes = record {
     deterministic = deterministic apart;
     closed = is_closed;
     empty = (closure []).1 (inl refl);
     serial = all_serial serial;
+    outcomes = all_outcomes outcomes;
   }
 
   pub closure_of : (matrix : List (List Call)) → AreOf matrix set → AreOf matrix closed

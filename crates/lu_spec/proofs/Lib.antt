@@ -11,3 +11,4 @@ pub mod LinesRead
 pub mod Ends
 pub mod Spelling
 pub mod Faultless
+pub mod Rereading

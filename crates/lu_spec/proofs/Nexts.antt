@@ -63,7 +63,7 @@ fits_to matrix left q are fits t = omega (arith, are t, fits t)
 
 pub draft_spec : (matrix : List (List Call)) (listed set : List (List SerialOp)) (last : List SerialOp) → IsDraft matrix listed set last → IsSpec set
 draft_spec matrix listed set last draft =
-    is_spec listed set draft.closure draft.are.deterministic (λ q has. (draft.are.each q has).0.serial)
+    is_spec listed set draft.closure draft.are.deterministic (λ q has. (draft.are.each q has).0.serial) (λ q has k d within. ((draft.are.each q has).0.entries k d within).1)
 
 pub conflict_listed : (listed set : List (List SerialOp)) (q : List SerialOp) (i : ℕ) (o : SerialOutcome) → IsClosureOf listed set → HasConflict set q i o → HasConflictIn listed q
 conflict_listed listed set q i o closure conflict = by_part ((closure conflict.0).0 conflict.1)

@@ -16,7 +16,7 @@ use Rattle.lu_spec.specs.Beginnings.{Has}
 use Rattle.lu_spec.specs.Specs.{FitsIn, AllFitIn}
 use Rattle.lu_spec.proofs.Sets.{has_either, has_behind, joined_next, below_some, parted, of_branch, in_joined}
 
-entries_other : (t : ℕ) (op : SerialOp) (q : List SerialOp) → (op.thread == t) ≡ false → entries t (op ∷ q) ≡ entries t q
+pub entries_other : (t : ℕ) (op : SerialOp) (q : List SerialOp) → (op.thread == t) ≡ false → entries t (op ∷ q) ≡ entries t q
 entries_other t op q other = ap (λ (b : Bool). if b then op.outcome ∷ entries t q else entries t q) other
 
 -- with one operation more of the thread

@@ -1,5 +1,5 @@
 -- The text of a specification: its first line, and a line for each history that it lists.
-use Rattle.std.specs.Prelude.{◌≡◌, ℕ, ◌+◌, ◌^◌, ◌<◌, ◌≤◌, ◌⊎◌, List, [], ◌∷◌, ◌++◌, length, map, All, codes}
+use Rattle.std.specs.Prelude.{◌≡◌, ℕ, ◌+◌, ◌≤◌, ◌⊎◌, List, [], ◌∷◌, ◌++◌, length, map, All, codes}
 use Rattle.std.specs.Fmt.{decimal}
 use Rattle.std.specs.List.{flat_map, join_with_byte}
 use Rattle.std.specs.declared.cmp.Ordering.TheVariants.{Less}
@@ -16,7 +16,7 @@ use Rattle.lu_trie.specs.Conflicts.{IsDeterministic, ConflictAt}
 use Rattle.lu_spec.specs.declared.fault.SpecFaultKind.{SpecFaultKind}
 use Rattle.lu_spec.specs.declared.fault.SpecFaultKind.TheVariants.{Form, Foreign, Nondeterministic}
 use Rattle.lu_spec.specs.Beginnings.{Has, IsClosureOf}
-use Rattle.lu_spec.specs.Specs.{Fits}
+use Rattle.lu_spec.specs.Specs.{Fits, IsOutcome}
 
 -- ---- the spelling
 
@@ -44,12 +44,6 @@ abbrev pub spec_text : List (List SerialOp) → List ℕ
 spec_text listed = first_line ++ flat_map history_line listed
 
 -- ---- what may be listed
-
--- a returned value is a number of 32 bits
-abbrev pub IsOutcome : SerialOutcome → Type 0
-IsOutcome (Ret n) = n < 2 ^ 32
-IsOutcome Trap = Unit {0}
-IsOutcome Stuck = Unit {0}
 
 -- thread 0 to 7
 abbrev pub IsEntry : SerialOp → Type 0

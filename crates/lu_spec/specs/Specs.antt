@@ -1,5 +1,7 @@
 -- Specifications: deterministic sets of serial histories, closed under beginnings.
-use Rattle.std.specs.Prelude.{ℕ, ◌≤◌, List, [], length, slice_index_or}
+use Rattle.std.specs.Prelude.{ℕ, ◌≤◌, ◌<◌, ◌^◌, List, [], All, length, slice_index_or}
+use Rattle.lu_history.specs.declared.serial.SerialOutcome.{SerialOutcome}
+use Rattle.lu_history.specs.declared.serial.SerialOutcome.TheVariants.{Ret, Trap, Stuck}
 use Rattle.lu_history.specs.declared.serial.SerialOp.{SerialOp}
 use Rattle.lu_test.specs.declared.matrix.Call.{Call}
 use Rattle.lu_test.specs.Matrix.{calls_of}
@@ -8,12 +10,28 @@ use Rattle.lu_trie.specs.Conflicts.{IsDeterministic}
 use Rattle.lu_witness.specs.Witnesses.{entries}
 use Rattle.lu_spec.specs.Beginnings.{Has, IsClosed}
 
--- no two members conflict; with each member its beginnings are members; the empty history is one; `Stuck` stands only last
+-- a returned value is a number of 32 bits
+abbrev pub IsOutcome : SerialOutcome → Type 0
+IsOutcome (Ret n) = n < 2 ^ 32
+IsOutcome Trap = Unit {0}
+IsOutcome Stuck = Unit {0}
+
+-- the operation ended so
+abbrev pub HasOutcome : SerialOp → Type 0
+HasOutcome op = IsOutcome op.outcome
+
+-- each operation of each member ended so
+abbrev pub AllHaveOutcomes : List (List SerialOp) → Type 0
+AllHaveOutcomes members = (q : List SerialOp) → Has members q → All HasOutcome q
+
+-- no two members conflict; with each member its beginnings are members; the empty history is one; `Stuck` stands only last;
+-- returned values are numbers of 32 bits
 pub record IsSpec (members : List (List SerialOp)) : Type 0 where
   pub deterministic : IsDeterministic members
   pub closed : IsClosed members
   pub empty : Has members []
   pub serial : AllSerial members
+  pub outcomes : AllHaveOutcomes members
 
 -- no more entries of a thread than it has calls: none of a thread that the matrix does not have
 abbrev pub Fits : List (List Call) → List SerialOp → Type 0

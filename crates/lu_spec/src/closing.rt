@@ -4,6 +4,7 @@ ghost use Rattle.std.specs.Prelude.{◌≡◌, ◌++◌, List, OnOk};
 ghost use Rattle.lu_history.specs.declared.serial.SerialOp.{SerialOp};
 ghost use Rattle.lu_history.specs.Serial.{IsSerial};
 ghost use Rattle.lu_spec.specs.Beginnings.{AddsBelow, Has};
+ghost use Rattle.lu_spec.specs.Specs.{AllHaveOutcomes};
 
 use lu_history::SerialOp;
 use lu_trie::{SerialTree, Trie};
@@ -20,6 +21,7 @@ pub(crate) fn add_below<A: Allocator + Clone, T: SerialTree>(
     requires path { IsSerial path.old.items }
     requires serial { (q : List SerialOp) → Has (T.below tree.now place) q → IsSerial (path.old.items ++ q) }
     ensures path { OnOk result (path.new.items ≡ path.old.items) }
+    ensures outcomes { OnOk result (AllHaveOutcomes (T.below tree.now place)) }
     ensures added { OnOk result (AddsBelow set.old set.new path.old.items (T.below tree.now place)) }
 {
     set.insert(path)?;

@@ -5,7 +5,8 @@ ghost use Rattle.lu_text.specs.Lines.{texts};
 ghost use Rattle.lu_history.specs.declared.serial.SerialOp.{SerialOp};
 ghost use Rattle.lu_history.specs.declared.serial.SerialOutcome.{SerialOutcome};
 ghost use Rattle.lu_history.specs.Serial.{IsSerial};
-ghost use Rattle.lu_spec.specs.SpecText.{ComesAfter, IsEntry, IsListable, IsOutcome, entry_text, history_line, outcome_text, words_of};
+ghost use Rattle.lu_spec.specs.Specs.{IsOutcome};
+ghost use Rattle.lu_spec.specs.SpecText.{ComesAfter, IsEntry, IsListable, entry_text, history_line, outcome_text, words_of};
 
 use lu_history::{SerialOp, SerialOutcome};
 use lu_test::MOST_CALLS;

@@ -1,7 +1,6 @@
 //! Specifications.
 
-ghost use Rattle.std.specs.Prelude.{◌≡◌, ◌↔◌, List, IsTrue, IfOk};
-ghost use Rattle.lu_test.specs.declared.matrix.Call.{Call};
+ghost use Rattle.std.specs.Prelude.{◌≡◌, ◌↔◌, IsTrue, IfOk};
 ghost use Rattle.lu_trie.specs.Members.{AllSerial, contains};
 ghost use Rattle.lu_trie.specs.Conflicts.{IsDeterministic};
 ghost use Rattle.lu_spec.specs.Beginnings.{IsClosureOf};
@@ -35,17 +34,22 @@ impl Model for Spec {
 }
 
 impl Spec {
-    /// The specification of all beginnings of the members, and of the empty history. Asks for members that do not conflict, and
-    /// in which `Stuck` stands only last. It is one of each matrix of which the members are.
+    /// The specification of all beginnings of the members, and of the empty history. It is one of the matrix. Asks for members
+    /// of this matrix that do not conflict, and in which `Stuck` stands only last, as those of the set that `learn` answers.
     ///
     /// # Errors
     ///
     /// `AllocError` where memory was refused.
-    pub fn closure<A: Allocator>(alloc: Global, set: &Trie<A>) -> Result<Spec, AllocError>
+    pub fn closure<A: Allocator>(
+        alloc: Global,
+        matrix: &Matrix,
+        set: &Trie<A>,
+    ) -> Result<Spec, AllocError>
         requires deterministic { IsDeterministic set.now }
         requires serial { AllSerial set.now }
+        requires of { AreOf matrix.now set.now }
         ensures closure { IfOk result (IsClosureOf set.now) }
-        ensures of { (matrix : List (List Call)) → AreOf matrix set.now → IfOk result (AreOf matrix) }
+        ensures of { IfOk result (AreOf matrix.now) }
     {
         let mut closed = Trie::new(alloc);
         let tree = &set;

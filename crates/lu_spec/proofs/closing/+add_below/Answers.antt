@@ -5,7 +5,7 @@ use Rattle.lu_history.specs.Serial.{IsSerial}
 use Rattle.lu_trie.specs.Members.{Adds}
 use Rattle.lu_trie.proofs.Trees.{branch_lighter}
 use Rattle.lu_spec.specs.Beginnings.{AddsBelow, Has}
-use Rattle.lu_spec.proofs.Below.{here_added, kid_added, all_added, kid_path, kid_serial}
+use Rattle.lu_spec.proofs.Below.{here_added, kid_added, all_added, kid_path, kid_serial, kid_outcomes, all_outcomes}
 use Rattle.lu_spec.proofs.closing.+add_below.Goals as goal
 
 pub insert-requires : goal.insert-requires
@@ -15,6 +15,7 @@ pub loop-i-init : goal.loop-i-init
 loop-i-init g t c = record {
   path = refl;
   added = here_added c.args.set.now c.insert.new.self c.args.path.now.items (subst (λ (h : List SerialOp). Adds c.args.set.now c.insert.new.self h) c.deref.ensures.value c.in_ok-insert.ensures.ok);
+  outcomes = λ q has. absurd cc;
 }
 
 pub add_below-requires : goal.add_below-requires
@@ -42,9 +43,15 @@ loop-i-preserved g t c =
     record {
       path = c.pop.ensures.rest ∙ popped path c.add_below.new.path.items op (vec_len c.add_below.new.path) back (c.add_below.new.path.ok.0);
       added = kid_added c.args.set.now c.loop-i.set c.add_below.new.set path below c.loop-i.i op kid law c.kid-below.ensures.kid c.loop-i.invariant.added added;
+      outcomes = kid_outcomes below c.loop-i.i op kid c.kid-below.ensures.kid (search rules) c.in_ok-add_below.ensures.outcomes c.loop-i.invariant.outcomes;
     }
 
 pub returns-clause-added : goal.returns-clause-added
 returns-clause-added g t c =
     let law = g.met.T.SerialTree.branching c.args.tree.now c.args.place c.requires.place in
     all_added c.args.set.now c.loop-i.set c.args.path.now.items (g.T.SerialTree.below c.args.tree.now c.args.place) c.loop-i.i law (omega (arith, c.kid_count-i-end.ensures, c.loop-i-test.false)) c.loop-i.invariant.added
+
+pub returns-clause-outcomes : goal.returns-clause-outcomes
+returns-clause-outcomes g t c =
+    let law = g.met.T.SerialTree.branching c.args.tree.now c.args.place c.requires.place in
+    all_outcomes (g.T.SerialTree.below c.args.tree.now c.args.place) c.loop-i.i law (omega (arith, c.kid_count-i-end.ensures, c.loop-i-test.false)) c.loop-i.invariant.outcomes

@@ -2,6 +2,7 @@ use Rattle.std.proofs.Common.{◌++◌, List, [], refl, sym, subst}
 use Rattle.lu_history.specs.declared.serial.SerialOp.{SerialOp}
 use Rattle.lu_history.specs.Serial.{IsSerial}
 use Rattle.lu_spec.specs.Beginnings.{AddsBelow, Has}
+use Rattle.lu_spec.specs.Specs.{AllHaveOutcomes}
 use Rattle.lu_spec.proofs.Closures.{is_spec, closure_of, walked_closure}
 use Rattle.lu_spec.proofs.spec.Spec.closure.Goals as goal
 
@@ -21,7 +22,8 @@ invariant_of-result g c =
     let from_nothing = subst (λ (x : List (List SerialOp)). AddsBelow x c.add_below.new.set c.new.result.items c.root.result.now) c.new-closed.ensures c.in_ok-add_below.ensures.added in
     let at_root = subst (λ (p : List SerialOp). AddsBelow [] c.add_below.new.set p c.root.result.now) c.new.ensures.items from_nothing in
     let added = subst (λ (x : List (List SerialOp)). AddsBelow [] c.add_below.new.set [] x) c.root.ensures.all at_root in
-    is_spec c.args.set.now c.add_below.new.set (walked_closure c.args.set.now c.add_below.new.set added) c.requires.deterministic c.requires.serial
+    let outcomes = subst AllHaveOutcomes c.root.ensures.all c.in_ok-add_below.ensures.outcomes in
+    is_spec c.args.set.now c.add_below.new.set (walked_closure c.args.set.now c.add_below.new.set added) c.requires.deterministic c.requires.serial outcomes
 
 pub returns-clause-closure : goal.returns-clause-closure
 returns-clause-closure g c =
@@ -35,4 +37,4 @@ returns-clause-of g c =
     let from_nothing = subst (λ (x : List (List SerialOp)). AddsBelow x c.add_below.new.set c.new.result.items c.root.result.now) c.new-closed.ensures c.in_ok-add_below.ensures.added in
     let at_root = subst (λ (p : List SerialOp). AddsBelow [] c.add_below.new.set p c.root.result.now) c.new.ensures.items from_nothing in
     let added = subst (λ (x : List (List SerialOp)). AddsBelow [] c.add_below.new.set [] x) c.root.ensures.all at_root in
-    closure_of c.args.set.now c.add_below.new.set (walked_closure c.args.set.now c.add_below.new.set added)
+    closure_of c.args.set.now c.add_below.new.set (walked_closure c.args.set.now c.add_below.new.set added) c.args.matrix.now c.requires.of

@@ -1,0 +1,150 @@
+//! Tests of refutations of specifications.
+
+use crate::texts::{LOST_INCREMENT, TWO_INCREMENTS, is_matrix};
+use lu_examples::ROWS;
+use lu_lang::read_component;
+use lu_refute::refute;
+use lu_replay::read_report;
+use lu_spec::read_spec;
+use lu_test::{read_matrix, write_schedule};
+use std::process::Abort;
+use std::test::Fail;
+
+/// The report of one flip of a coin.
+const ONE_FLIP: &str = "lineup report 1\nbound 40\nserial 40\nnondeterministic\nschedule 0 0:1 0\nbefore 0\nearlier ret 0\n";
+
+/// The report goes against the specification: by this matrix and this schedule.
+fn assert_refuted<R: AllocGlobal + Abort>(
+    rt: &R,
+    matrix: &[u8],
+    report: &str,
+    spec: &[u8],
+    smaller: &str,
+    expected: &str,
+) -> Result<(), Fail> {
+    let component = read_component(rt.alloc(), ROWS.as_bytes())?;
+    let matrix = read_matrix(rt.alloc(), &component, matrix)?;
+    let report = read_report(rt.alloc(), report.as_bytes())?;
+    let spec = read_spec(rt.alloc(), &matrix, spec)?;
+    let (cut, schedule) = refute(rt.alloc(), &component, &matrix, &report, &spec)?;
+    assert!(rt; is_matrix(rt, &component, &cut, smaller)?);
+    let text = write_schedule(rt.alloc(), &schedule)?;
+    assert!(rt; text.as_str() == expected);
+    Ok(())
+}
+
+/// The report shows nothing against the specification.
+fn assert_not_shown<R: AllocGlobal + Abort>(
+    rt: &R,
+    matrix: &[u8],
+    report: &[u8],
+    spec: &[u8],
+) -> Result<(), Fail> {
+    let component = read_component(rt.alloc(), ROWS.as_bytes())?;
+    let matrix = read_matrix(rt.alloc(), &component, matrix)?;
+    let report = read_report(rt.alloc(), report)?;
+    let spec = read_spec(rt.alloc(), &matrix, spec)?;
+    match refute(rt.alloc(), &component, &matrix, &report, &spec) {
+        Ok(_) => panic!(rt; "something is shown"),
+        Err(fault) => assert!(rt; fault.code() == "F2"),
+    }
+    Ok(())
+}
+
+#[test]
+fn the_failing_schedule_refutes_what_is_right_serially(rt: HostRuntime) -> Result<(), Fail> {
+    assert_refuted(
+        &rt,
+        TWO_INCREMENTS.as_bytes(),
+        LOST_INCREMENT,
+        b"lineup spec 1\nhistory 0=1 1=2\nhistory 1=1 0=2\n",
+        TWO_INCREMENTS,
+        "schedule 0 0 0 1 1 0 0 1 1 1\n",
+    )
+}
+
+#[test]
+fn a_serial_schedule_refutes_what_allows_the_failure(rt: HostRuntime) -> Result<(), Fail> {
+    assert_refuted(
+        &rt,
+        TWO_INCREMENTS.as_bytes(),
+        LOST_INCREMENT,
+        b"lineup spec 1\nhistory 0=1 1=1\nhistory 1=1 0=1\n",
+        TWO_INCREMENTS,
+        "schedule 0 0 0 0 0 1 1 1 1 1\n",
+    )
+}
+
+#[test]
+fn one_of_two_outcomes_refutes_each_specification(rt: HostRuntime) -> Result<(), Fail> {
+    assert_refuted(
+        &rt,
+        b"thread flip\n",
+        ONE_FLIP,
+        b"lineup spec 1\nhistory 0=0\n",
+        "thread flip\n",
+        "schedule 0 0:1 0\n",
+    )?;
+    assert_refuted(
+        &rt,
+        b"thread flip\n",
+        ONE_FLIP,
+        b"lineup spec 1\nhistory 0=1\n",
+        "thread flip\n",
+        "schedule 0 0 0\n",
+    )
+}
+
+#[test]
+fn a_beginning_of_a_schedule_refutes_over_fewer_calls(rt: HostRuntime) -> Result<(), Fail> {
+    assert_refuted(
+        &rt,
+        b"thread flip;get\n",
+        "lineup report 1\nbound 40\nserial 40\nnondeterministic\nschedule 0 0:1 0 0 0 0\nbefore 0\nearlier ret 0\n",
+        b"lineup spec 1\nhistory 0=0 0=0\n",
+        "thread flip\n",
+        "schedule 0 0:1 0\n",
+    )
+}
+
+#[test]
+fn a_blocked_call_refutes_what_has_it_return(rt: HostRuntime) -> Result<(), Fail> {
+    assert_refuted(
+        &rt,
+        b"thread maybe\n",
+        "lineup report 1\nbound 40\nserial 40\nnondeterministic\nschedule 0 0:1 0\nbefore 0\nearlier ret 0\n",
+        b"lineup spec 1\nhistory 0=0\n",
+        "thread maybe\n",
+        "schedule 0 0:1 0\n",
+    )
+}
+
+#[test]
+fn a_pass_shows_nothing(rt: HostRuntime) -> Result<(), Fail> {
+    assert_not_shown(
+        &rt,
+        b"thread get\nthread get\n",
+        b"lineup report 1\nbound 40\nserial 40\npass\ncomplete 20\nstuck 0\ncut 0\n",
+        b"lineup spec 1\nhistory 0=0 1=0\nhistory 1=0 0=0\n",
+    )
+}
+
+#[test]
+fn a_serial_cut_shows_nothing(rt: HostRuntime) -> Result<(), Fail> {
+    assert_not_shown(
+        &rt,
+        b"thread spin\n",
+        b"lineup report 1\nbound 40\nserial 3\nserial-cut\nschedule 0 0 0 0\n",
+        b"lineup spec 1\nhistory 0=0\n",
+    )
+}
+
+#[test]
+fn a_report_that_no_run_confirms_shows_nothing(rt: HostRuntime) -> Result<(), Fail> {
+    assert_not_shown(
+        &rt,
+        TWO_INCREMENTS.as_bytes(),
+        b"lineup report 1\nbound 40\nserial 40\nfail complete\nschedule 0 0 0 0 0 1 1 1 1 1\n",
+        b"lineup spec 1\nhistory 0=1 1=1\n",
+    )
+}

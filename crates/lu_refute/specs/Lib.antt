@@ -1,0 +1,6 @@
+pub mod Linearizable
+pub mod Whole
+pub mod Answers
+pub mod Codes
+pub mod Laws
+pub mod Walks

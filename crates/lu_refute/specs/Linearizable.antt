@@ -1,0 +1,37 @@
+-- Linearizability of a component's operations on a matrix (Herlihy and Wing, 1990), for schedules that are stuck too
+-- (Burckhardt, Dern, Musuvathi and Tan, 2010).
+use Rattle.std.specs.Prelude.{◌≡◌, ℕ, ◌≤◌, List, length}
+use Rattle.std.specs.List.{AllZip}
+use Rattle.lu_component.specs.Component.{Declarations}
+use Rattle.lu_test.specs.declared.matrix.Call.{Call}
+use Rattle.lu_test.specs.declared.schedule.Move.{Move}
+use Rattle.lu_test.specs.Matrix.{cut}
+use Rattle.lu_machine.specs.States.{State}
+use Rattle.lu_machine.specs.Starts.{IsStart}
+use Rattle.lu_machine.specs.Ends.{IsEnded}
+use Rattle.lu_machine.specs.Schedules.{Reaches}
+use Rattle.lu_history.specs.declared.serial.SerialOp.{SerialOp}
+use Rattle.lu_witness.specs.Goodness.{IsGoodAt}
+
+-- a length of each thread, at most its number of calls
+abbrev pub AreLengths : List (List Call) → List ℕ → Type 0
+AreLengths matrix lengths = AllZip (λ calls n. n ≤ length calls) matrix lengths
+
+-- the smaller matrix has of each thread some of its first calls, and no others
+abbrev pub IsCutOf : List (List Call) → List (List Call) → Type 0
+IsCutOf matrix smaller = (lengths : List ℕ) × AreLengths matrix lengths × (smaller ≡ cut matrix lengths)
+
+-- each ended schedule of each cut of the matrix, of any length, is good for the set
+abbrev pub IsLinearizable : Declarations → List (List Call) → (List SerialOp → Type 0) → Type 0
+IsLinearizable c matrix Set =
+    (smaller : List (List Call)) (s : State) (u : List Move) →
+    IsCutOf matrix smaller → IsStart c smaller s → Reaches s u (λ end _. IsEnded end) → Reaches s u (IsGoodAt Set)
+
+-- u is ended, and not good for the set
+abbrev pub Refutes : (List SerialOp → Type 0) → State → List Move → Type 0
+Refutes Set s u = Reaches s u (λ end history. IsEnded end × (IsGoodAt Set end history → ⊥))
+
+-- a cut of the matrix, with a schedule of it that is ended and not good for the set
+abbrev pub IsCounterexample : Declarations → List (List Call) → (List SerialOp → Type 0) → List (List Call) × List Move → Type 0
+IsCounterexample c matrix Set example =
+    IsCutOf matrix example.0 × ((s : State) → IsStart c example.0 s → Refutes Set s example.1)

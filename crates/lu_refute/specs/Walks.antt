@@ -1,0 +1,58 @@
+-- What the steps of a refutation promise one another.
+use Rattle.std.specs.Prelude.{◌≡◌, ℕ, ◌≤◌, false, List, [], ◌++◌, length, take, Option}
+use Rattle.lu_test.specs.declared.matrix.Call.{Call}
+use Rattle.lu_test.specs.declared.schedule.Move.{Move}
+use Rattle.lu_test.specs.Matrix.{cut}
+use Rattle.lu_machine.specs.declared.event.Event.{Event}
+use Rattle.lu_machine.specs.States.{State}
+use Rattle.lu_machine.specs.Steps.{Step}
+use Rattle.lu_history.specs.declared.serial.SerialOp.{SerialOp}
+use Rattle.lu_trie.specs.Members.{contains}
+use Rattle.lu_serial.specs.Serial.{IsSeriallyEnded}
+use Rattle.lu_serial.specs.Walks.{entry_if}
+use Rattle.lu_witness.specs.Witnesses.{IsMember}
+use Rattle.lu_replay.specs.declared.report.Finding.{Finding}
+use Rattle.lu_replay.specs.declared.report.Finding.TheVariants.{SerialCut, Nondeterministic, Fail, Pass}
+use Rattle.lu_refute.specs.declared.shortest.Walk.{Walk}
+use Rattle.lu_refute.specs.Whole.{IsQuiet, made_calls}
+use Rattle.lu_refute.specs.Linearizable.{Refutes}
+use Rattle.lu_refute.specs.Answers.{IsShortest}
+
+-- no operation is open, and none has returned; the calls are those made
+pub record IsBefore (walk : Walk) : Type 0 where
+  pub quiet : IsQuiet walk.machine
+  pub entries : walk.entries.items ≡ []
+  pub calls : walk.calls.items ≡ made_calls walk.machine
+
+-- one move further: the operation that it ended is behind the others, and the calls are those made
+pub record IsFurther (old new : Walk) (m : Move) : Type 0 where
+  pub event : Option Event
+  pub step : Step old.machine m new.machine event
+  pub entries : new.entries.items ≡ old.entries.items ++ entry_if event
+  pub calls : new.calls.items ≡ made_calls new.machine
+
+-- u is serially ended, and its history is no member
+abbrev pub EndsOutside : State → List (List SerialOp) → List Move → Type 0
+EndsOutside s members u = (q : List SerialOp) × IsSeriallyEnded s u q × (contains members q ≡ false)
+
+-- The walk stands behind so many moves of w, and these are the shortest beginning that ends with a whole entry and whose
+-- entries are no member.
+pub record IsStop (s : State) (members : List (List SerialOp)) (w : List Move) (walk : Walk) (count : ℕ) : Type 0 where
+  pub within : count ≤ length w
+  pub short : IsShortest s members w (take count w)
+  pub ends : short.whole.end ≡ walk.machine
+  pub calls : walk.calls.items ≡ made_calls walk.machine
+
+-- the shortest such beginning of w, over the matrix cut to the calls made in it
+pub record IsShortestOver (s : State) (members : List (List SerialOp)) (w : List Move) (answer : List (List Call) × List Move) : Type 0 where
+  pub short : IsShortest s members w answer.1
+  pub matrix_is : answer.0 ≡ cut s.matrix (made_calls short.whole.end)
+
+-- ---- the failing schedule
+
+-- the finding is a failure by this schedule, which is ended and not good for the set
+abbrev pub IsOfFailure : State → List (List SerialOp) → Finding → List Move → Type 0
+IsOfFailure s members (SerialCut v) u = ⊥
+IsOfFailure s members (Nondeterministic v before earlier) u = ⊥
+IsOfFailure s members (Fail v why) u = (u ≡ v) × Refutes (IsMember members) s v
+IsOfFailure s members (Pass counts) u = ⊥

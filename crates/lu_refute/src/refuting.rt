@@ -1,0 +1,182 @@
+//! Refutations of specifications.
+
+ghost use Rattle.std.specs.Prelude.{◌≡◌, ◌≢◌, ◌↔◌, ◌≤◌, List, [], None, IsTrue, IfErr, IfOk, IfSome, IfNone, OnOk};
+ghost use Rattle.lu_test.specs.Matrix.{IsOf};
+ghost use Rattle.lu_test.specs.declared.schedule.Move.{Move};
+ghost use Rattle.lu_machine.specs.declared.event.Status.TheVariants.{Running};
+ghost use Rattle.lu_machine.specs.States.{State};
+ghost use Rattle.lu_machine.specs.Starts.{IsStart};
+ghost use Rattle.lu_serial.specs.Offences.{IsFirstOutside};
+ghost use Rattle.lu_witness.specs.declared.judgement.Verdict.TheVariants.{Good};
+ghost use Rattle.lu_witness.specs.Witnesses.{IsMember};
+ghost use Rattle.lu_spec.specs.Specs.{AreOf};
+ghost use Rattle.lu_refute.specs.Linearizable.{IsCounterexample, IsLinearizable, Refutes};
+ghost use Rattle.lu_refute.specs.Answers.{IsAnswer, IsConfirmedFailure, IsFailure, IsOutsideAnswer, IsRefuteFault};
+ghost use Rattle.lu_refute.specs.Walks.{IsOfFailure};
+
+use crate::fault::RefuteFault;
+use crate::shortest::shortest;
+use lu_component::Component;
+use lu_machine::Status;
+use lu_replay::{Finding, ReplayFault, Report, confirm, replay};
+use lu_serial::first_outside;
+use lu_spec::Spec;
+use lu_test::{Matrix, Schedule, cut_to};
+use lu_trie::Trie;
+use lu_witness::{Verdict, verdict};
+use std::alloc::{AllocError, Global};
+
+/// A copy of the matrix.
+fn copy_of(alloc: Global, matrix: &Matrix) -> Result<Matrix, AllocError>
+    ensures { IfOk result (λ copy. copy ≡ matrix.now) }
+{
+    let mut lengths = Vec::new(alloc);
+    for t in 0..matrix.threads() {
+        lengths.push(matrix.calls(t))?;
+    }
+    cut_to(alloc, matrix, &lengths)
+}
+
+/// Whether the finding is a failure or nondeterminism.
+fn is_failure(finding: &Finding) -> bool
+    ensures { IsTrue result ↔ IsFailure finding.now }
+{
+    match finding {
+        Finding::SerialCut(_) => false,
+        Finding::Nondeterministic { .. } => true,
+        Finding::Fail { .. } => true,
+        Finding::Pass(_) => false,
+    }
+}
+
+/// Whether a run that stands so, with this verdict, is ended and not good.
+fn is_bad(status: Status, verdict: Verdict) -> bool
+    ensures { IsTrue result ↔ ((status ≢ Running) × (verdict ≢ Good)) }
+{
+    status != Status::Running && verdict != Verdict::Good
+}
+
+/// Whether the schedule is ended, and not good for the set.
+fn refutes(
+    alloc: Global,
+    component: &Component,
+    matrix: &Matrix,
+    schedule: &Schedule,
+    set: &Trie<Global>,
+) -> Result<bool, AllocError>
+    requires { IsOf matrix.now component.now }
+    ensures { (s : State) → IsStart component.now matrix.now s → IfOk result (λ yes. IsTrue yes ↔ Refutes (IsMember set.now) s schedule.now) }
+{
+    match replay(alloc, component, matrix, schedule) {
+        Ok(shown) => {
+            // Its clause says that the history is well-formed.
+            let _events = shown.history.events();
+            Ok(is_bad(shown.status, verdict(&set, &shown.history)))
+        }
+        Err(ReplayFault::Infeasible(_)) => Ok(false),
+        Err(ReplayFault::Memory) => Err(AllocError),
+    }
+}
+
+/// The schedule of a failure, where it is not good for the set.
+fn failing(
+    alloc: Global,
+    component: &Component,
+    matrix: &Matrix,
+    finding: &Finding,
+    set: &Trie<Global>,
+) -> Result<Option<Schedule>, AllocError>
+    requires { IsOf matrix.now component.now }
+    ensures some { (s : State) → IsStart component.now matrix.now s → IfOk result (λ found. IfSome found (IsOfFailure s set.now finding.now)) }
+    ensures none { (s : State) (u : List Move) → IsStart component.now matrix.now s → IfOk result (λ found. IfNone found (IsOfFailure s set.now finding.now u → ⊥)) }
+{
+    match finding {
+        Finding::SerialCut(_) => Ok(None),
+        Finding::Nondeterministic { .. } => Ok(None),
+        Finding::Fail { schedule, why: _ } => {
+            if refutes(alloc, component, matrix, schedule, set)? {
+                Ok(Some(Schedule::new(Vec::from_slice(alloc, schedule.moves())?)))
+            } else {
+                Ok(None)
+            }
+        }
+        Finding::Pass(_) => Ok(None),
+    }
+}
+
+/// The shortest beginning, that ends with a whole entry and whose entries are no member, of the least serial schedule whose
+/// history is no member: over the matrix cut to the calls made in it. Asks that there is such a schedule.
+fn from_outside(
+    alloc: Global,
+    component: &Component,
+    matrix: &Matrix,
+    serial: u16,
+    set: &Trie<Global>,
+) -> Result<(Matrix, Schedule), AllocError>
+    requires of { IsOf matrix.now component.now }
+    requires some { 1 ≤ serial }
+    requires few { serial ≤ 256 }
+    requires empty { IsMember set.now [] }
+    requires outside { (s : State) → IsStart component.now matrix.now s → IsFirstOutside s serial set.now None → ⊥ }
+    ensures { (s : State) → IsStart component.now matrix.now s → IfOk result (IsOutsideAnswer s serial set.now) }
+{
+    match first_outside(alloc, component, matrix, serial, set)? {
+        None => unreachable!(),
+        Some(outside) => shortest(alloc, component, matrix, &outside, set),
+    }
+}
+
+/// What is answered to a report that is a confirmed failure, or confirmed nondeterminism.
+fn answer_to(
+    alloc: Global,
+    component: &Component,
+    matrix: &Matrix,
+    report: &Report,
+    spec: &Spec,
+) -> Result<(Matrix, Schedule), AllocError>
+    requires component { IsOf matrix.now component.now }
+    requires spec { AreOf matrix.now spec.now }
+    requires shown { IsConfirmedFailure component.now matrix.now report.now }
+    ensures { IfOk result (IsAnswer component.now matrix.now report.now spec.now) }
+{
+    let set = spec.tree();
+    match failing(alloc, component, matrix, report.finding(), set)? {
+        Some(schedule) => Ok((copy_of(alloc, matrix)?, schedule)),
+        None => from_outside(alloc, component, matrix, report.serial(), set),
+    }
+}
+
+/// Shows that a specification does not go with a failure or nondeterminism that was found: a schedule of the matrix, or of some
+/// first calls of its threads, that is ended and does not have its serial witnesses in the specification. So the component is not
+/// linearizable with it, nor with any other deterministic specification that has no witnesses for that schedule
+/// (Burckhardt, Dern, Musuvathi and Tan, 2010).
+///
+/// For a failure whose schedule does not have its witnesses in the specification the answer is the matrix and that schedule. Else
+/// it is the shortest beginning, that ends with a whole entry of its history and whose entries are no member, of the least
+/// serially ended schedule whose history is no member: over the matrix cut to the calls made in it. Asks for a matrix of the
+/// component ([`Matrix::of`]) and a specification of the matrix ([`Spec::of`]).
+///
+/// # Errors
+///
+/// [`RefuteFault::NotShown`] where the report is a pass or a serial cut, or is not confirmed ([`confirm`]).
+/// [`RefuteFault::Memory`] where memory was refused.
+pub fn refute(
+    alloc: Global,
+    component: &Component,
+    matrix: &Matrix,
+    report: &Report,
+    spec: &Spec,
+) -> Result<(Matrix, Schedule), RefuteFault>
+    requires component { IsOf matrix.now component.now }
+    requires spec { AreOf matrix.now spec.now }
+    ensures shown { OnOk result (IsConfirmedFailure component.now matrix.now report.now) }
+    ensures fault { IfErr result (IsRefuteFault component.now matrix.now report.now) }
+    ensures answer { IfOk result (IsAnswer component.now matrix.now report.now spec.now) }
+    ensures counterexample { IfOk result (IsCounterexample component.now matrix.now (IsMember spec.now)) }
+    ensures refuted { OnOk result (IsLinearizable component.now matrix.now (IsMember spec.now) → ⊥) }
+{
+    if !is_failure(report.finding()) || !confirm(alloc, component, matrix, report)? {
+        return Err(RefuteFault::NotShown);
+    }
+    Ok(answer_to(alloc, component, matrix, report, spec)?)
+}
