@@ -12,3 +12,4 @@ pub mod Layout
 pub mod Laws
 pub mod Schedules
 pub mod Sums
+pub mod Plays

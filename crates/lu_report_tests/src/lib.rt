@@ -1,7 +1,9 @@
-//! Tests of replays and of reports.
+//! Tests of replays, of traces and of reports.
 #![tactic(auto)]
 
 #[cfg(test)]
 mod replays;
 #[cfg(test)]
 mod reports;
+#[cfg(test)]
+mod traces;

@@ -1,0 +1,4 @@
+pub mod Deeds
+pub mod Lines
+pub mod Traces
+pub mod Laws

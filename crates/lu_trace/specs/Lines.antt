@@ -1,0 +1,111 @@
+-- The lines of a trace.
+use Rattle.std.specs.Prelude.{ℕ, zero, suc, ◌++◌, nat_lt, if◌then◌else◌, List, [], codes, Option, Some, None, slice_get}
+use Rattle.std.specs.Option.{option_map_or}
+use Rattle.std.specs.List.{repeat, join_with_byte}
+use Rattle.std.specs.Fmt.{decimal}
+use Rattle.lu_component.specs.declared.instr.Instr.{Instr}
+use Rattle.lu_component.specs.Component.{Declarations}
+use Rattle.lu_lang.specs.ComponentText.{instr_words, label_text}
+use Rattle.lu_test.specs.declared.matrix.Call.{Call}
+use Rattle.lu_test.specs.declared.schedule.Move.{Move}
+use Rattle.lu_test.specs.Matrix.{calls_of}
+use Rattle.lu_test.specs.MatrixText.{call_text}
+use Rattle.lu_machine.specs.declared.event.Status.{Status}
+use Rattle.lu_machine.specs.declared.event.Status.TheVariants.{Running, Complete, Stuck}
+use Rattle.lu_machine.specs.declared.thread.Activity.{Activity}
+use Rattle.lu_machine.specs.declared.thread.Activity.TheVariants.{Idle, Open}
+use Rattle.lu_machine.specs.declared.thread.Frame.{Frame}
+use Rattle.lu_machine.specs.States.{State, instr_at}
+use Rattle.lu_machine.specs.Steps.{is_blocked}
+use Rattle.lu_trace.specs.Deeds.{deed, awaited}
+
+-- the first line
+abbrev pub status_line : Status → List ℕ
+status_line Running = codes "trace running\n"
+status_line Complete = codes "trace complete\n"
+status_line Stuck = codes "trace stuck\n"
+
+-- ---- one line
+
+-- blanks that fill up a number to four columns
+abbrev pub margin : ℕ → List ℕ
+margin n =
+    if nat_lt n 10 then codes "   "
+    else if nat_lt n 100 then codes "  "
+    else if nat_lt n 1000 then codes " "
+    else []
+
+-- a move's number, or four blanks
+abbrev pub number_text : Option ℕ → List ℕ
+number_text None = codes "    "
+number_text (Some n) = margin n ++ decimal n
+
+-- the 24 blanks of a thread's column
+abbrev pub column : List ℕ
+column = codes "                        "
+
+-- what a line of thread t begins with: the number or none, and in the thread's column its name
+abbrev pub head : Option ℕ → ℕ → List ℕ
+head number t = number_text number ++ codes " " ++ repeat t column ++ codes "T" ++ decimal t ++ codes " "
+
+-- a line of thread t
+abbrev pub line : Option ℕ → ℕ → List ℕ → List ℕ
+line number t words = head number t ++ words ++ codes "\n"
+
+-- ---- steps
+
+-- the code of an operation
+abbrev pub code_of : Declarations → ℕ → List Instr
+code_of c op = option_map_or (λ o. o.code) (slice_get c.operations op) []
+
+-- the instruction at the operation's place as the component's text has it, and what begins a remark
+abbrev pub instr_text : Declarations → Frame → Instr → List ℕ
+instr_text c f instr =
+    label_text (code_of c f.op) f.place ++ join_with_byte 32 (instr_words c instr) ++ codes "  # "
+
+-- a call as a matrix has it
+abbrev pub call_words : Declarations → Call → List ℕ
+call_words c call = codes "call " ++ call_text c call
+
+-- the next call of thread t, which has made so many
+abbrev pub next_call : State → ℕ → ℕ → List ℕ
+next_call s t done = option_map_or (λ call. call_words s.component call) (slice_get (calls_of s.matrix t) done) []
+
+-- the next instruction of the operation f, and what it does by the move m
+abbrev pub next_instr : State → Move → Frame → List ℕ
+next_instr s m f =
+    option_map_or (λ instr. instr_text s.component f instr ++ deed s m f instr) (instr_at s.component f.op f.place) []
+
+-- what a thread that stands so does next
+abbrev pub next_words : State → Move → ℕ → Activity → List ℕ
+next_words s m done Idle = next_call s m.thread done
+next_words s m done (Open f) = next_instr s m f
+
+-- what the thread of the move m does next, in the state s
+abbrev pub step_words : State → Move → List ℕ
+step_words s m =
+    option_map_or (λ thread. next_words s m thread.done thread.activity) (slice_get s.threads m.thread) []
+
+-- the line of that, with the number or none
+abbrev pub step_line : Option ℕ → State → Move → List ℕ
+step_line number s m = line number m.thread (step_words s m)
+
+-- ---- waits
+
+-- a blocked instruction's line, with what it waits for; nothing where it is not blocked
+abbrev pub instr_wait : State → ℕ → Frame → Instr → List ℕ
+instr_wait s t f instr =
+    if is_blocked s f instr then line None t (instr_text s.component f instr ++ awaited s f instr) else []
+
+abbrev pub activity_wait : State → ℕ → Activity → List ℕ
+activity_wait s t Idle = []
+activity_wait s t (Open f) = option_map_or (instr_wait s t f) (instr_at s.component f.op f.place) []
+
+-- the line of what thread t waits for, where it is blocked
+abbrev pub thread_wait : State → ℕ → List ℕ
+thread_wait s t = option_map_or (λ thread. activity_wait s t thread.activity) (slice_get s.threads t) []
+
+-- what each of the first n threads waits for
+abbrev pub waits : State → ℕ → List ℕ
+waits s zero = []
+waits s (suc n) = waits s n ++ thread_wait s n

@@ -1,0 +1,61 @@
+-- Traces: what a schedule does, line by line.
+use Rattle.std.specs.Prelude.{◌≡◌, ℕ, zero, suc, ◌+◌, ◌++◌, List, [], ◌∷◌, length, Option, Some, None, MatchBool}
+use Rattle.lu_component.specs.Component.{Declarations}
+use Rattle.lu_test.specs.declared.matrix.Call.{Call}
+use Rattle.lu_test.specs.declared.schedule.Move.{Move}
+use Rattle.lu_machine.specs.declared.event.Event.{Event}
+use Rattle.lu_machine.specs.declared.event.Status.{Status}
+use Rattle.lu_machine.specs.States.{State}
+use Rattle.lu_machine.specs.Steps.{OneStep, is_at_local, more_local}
+use Rattle.lu_machine.specs.Starts.{IsStart}
+pub use Rattle.lu_machine.specs.Plays.{Plays, IsInfeasibleAt}
+use Rattle.lu_machine.specs.Ends.{HasStatus}
+use Rattle.lu_trace.specs.declared.fault.TraceFault.{TraceFault}
+use Rattle.lu_trace.specs.declared.fault.TraceFault.TheVariants.{Infeasible, Memory}
+use Rattle.lu_trace.specs.Lines.{status_line, step_line, waits}
+
+-- Thread t runs on from the state s to the state `end` by at most n local instructions, and each has its
+-- line, without a number.
+abbrev pub LocalLines : ℕ → State → ℕ → State → List ℕ → Type 0
+LocalLines zero s t end lines = (end ≡ s) × (lines ≡ [])
+LocalLines (suc n) s t end lines =
+    MatchBool (is_at_local s t)
+    ((next : State) × (rest : List ℕ)
+    × OneStep s (record { thread = t; pick = 0 }) next None × LocalLines n next t end rest
+    × (lines ≡ step_line None s (record { thread = t; pick = 0 }) ++ rest))
+    ((end ≡ s) × (lines ≡ []))
+
+-- The move m leads from the state s to the state `new`: its first step has the line of its number, and the
+-- local instructions behind it have theirs.
+abbrev pub MoveLines : ℕ → State → Move → State → List ℕ → Type 0
+MoveLines number s m new lines =
+    (mid : State) × (event : Option Event) × (rest : List ℕ)
+    × OneStep s m mid event × LocalLines (more_local s m.thread) mid m.thread new rest
+    × (lines ≡ step_line (Some number) s m ++ rest)
+
+-- The schedule leads from the state s to the state `end`, and these are the lines of its moves, which are
+-- numbered from `number` on.
+abbrev pub TraceLines : ℕ → State → List Move → State → List ℕ → Type 0
+TraceLines number s [] end lines = (end ≡ s) × (lines ≡ [])
+TraceLines number s (m ∷ u) end lines =
+    (next : State) × (first : List ℕ) × (rest : List ℕ)
+    × MoveLines number s m next first × TraceLines (number + 1) next u end rest × (lines ≡ first ++ rest)
+
+-- The trace of the schedule: how the state stands that it leads to, the lines of its moves from 0 on, and
+-- what each blocked thread waits for in the end.
+abbrev pub IsTrace : Declarations → List (List Call) → List Move → List ℕ → Type 0
+IsTrace c matrix u text =
+    (start : State) × (end : State) × (status : Status) × (lines : List ℕ)
+    × IsStart c matrix start × TraceLines 0 start u end lines × HasStatus end status
+    × (text ≡ status_line status ++ lines ++ waits end (length end.threads))
+
+-- the fault of the schedule; want of memory can come with any
+abbrev pub IsFaultOf : Declarations → List (List Call) → List Move → TraceFault → Type 0
+IsFaultOf c matrix u (Infeasible i) = IsInfeasibleAt c matrix u i
+IsFaultOf c matrix u Memory = Unit {0}
+
+-- ---- texts that grow
+
+-- the new text is the old one and such lines
+abbrev pub Adds : (List ℕ → Type 0) → List ℕ → List ℕ → Type 0
+Adds Are old new = (lines : List ℕ) × Are lines × (new ≡ old ++ lines)

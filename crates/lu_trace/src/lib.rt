@@ -1,0 +1,24 @@
+//! Traces of schedules: what each move of a run does, for people to read.
+//!
+//! [`write_trace`] plays a schedule of a component and a matrix, and writes a line for each step. Each
+//! thread has a column of its own, so that it is seen how their steps interleave.
+//!
+//! ```text
+//! trace complete
+//!    0 T0 call inc
+//!    1 T0 load r0 count 0  # r0 = 0
+//!    2                         T1 call inc
+//!    3                         T1 load r0 count 0  # r0 = 0
+//! ```
+#![tactic(auto)]
+
+mod deeds;
+mod fault;
+pub mod laws;
+mod lines;
+mod tracing;
+mod waiting;
+
+pub use fault::TraceFault;
+pub use laws::trace_laws;
+pub use tracing::write_trace;

@@ -1,0 +1,186 @@
+//! The lines of a trace.
+
+ghost use Rattle.std.specs.Prelude.{◌≡◌, ◌++◌, OnOk, string_bytes};
+ghost use Rattle.lu_test.specs.MatrixText.{argument_text, arguments_text, operation_name};
+ghost use Rattle.lu_trace.specs.Lines as spec;
+
+use crate::deeds::write_deed;
+use lu_component::{Component, Instr};
+use lu_lang::{write_instr, write_label};
+use lu_machine::{Activity, Frame, Machine, Status};
+use lu_test::{Call, Move};
+use std::alloc::{AllocError, Global};
+
+/// The blanks of one thread's column.
+const COLUMN: &str = "                        ";
+
+/// The first line: how the state stands in the end.
+pub(crate) fn status_line(status: Status) -> &'static str
+    ensures { result.now ≡ spec.status_line status }
+{
+    match status {
+        Status::Running => "trace running\n",
+        Status::Complete => "trace complete\n",
+        Status::Stuck => "trace stuck\n",
+    }
+}
+
+/// The blanks that fill up a number to four columns.
+fn margin(number: usize) -> &'static str
+    ensures { result.now ≡ spec.margin number }
+{
+    if number < 10 {
+        "   "
+    } else if number < 100 {
+        "  "
+    } else if number < 1000 {
+        " "
+    } else {
+        ""
+    }
+}
+
+/// Adds a move's number, or four blanks.
+fn write_number(text: &mut String, number: Option<usize>) -> Result<(), AllocError>
+    ensures { OnOk result (string_bytes text.new ≡ string_bytes text.old ++ spec.number_text number) }
+{
+    match number {
+        None => text.push_str("    "),
+        Some(number) => write!(text, "{}{number}", margin(number)),
+    }
+}
+
+/// Adds what a line of the thread begins with: the number or none, and in the thread's column its name.
+pub(crate) fn write_head(
+    alloc: Global,
+    text: &mut String,
+    number: Option<usize>,
+    thread: u8,
+) -> Result<(), AllocError>
+    ensures { OnOk result (string_bytes text.new ≡ string_bytes text.old ++ spec.head number thread) }
+{
+    let indent = COLUMN.repeat(alloc, usize::from(thread))?;
+    write_number(text, number)?;
+    write!(text, " {}T{thread} ", indent.as_str())
+}
+
+/// The code of an operation, by its number. No call of a component names one that is not there.
+fn code_of(component: &Component, op: u8) -> &[Instr]
+    ensures { result.now ≡ spec.code_of component.now op }
+{
+    match component.operation(op) {
+        None => &[],
+        Some(op) => op.code.instrs(),
+    }
+}
+
+/// Adds the instruction at the operation's place as the component's text has it, and what begins a remark.
+pub(crate) fn write_instr_text(
+    text: &mut String,
+    component: &Component,
+    frame: &Frame,
+    instr: &Instr,
+) -> Result<(), AllocError>
+    ensures { OnOk result (string_bytes text.new ≡ string_bytes text.old ++ spec.instr_text component.now frame.now instr.now) }
+{
+    write_label(text, code_of(component, frame.op), usize::from(frame.place))?;
+    write_instr(text, component, *instr)?;
+    text.push_str("  # ")
+}
+
+/// Adds the name of an operation, by its number. No call of a component names one that is not there.
+fn write_name(text: &mut String, component: &Component, op: u8) -> Result<(), AllocError>
+    ensures { OnOk result (string_bytes text.new ≡ string_bytes text.old ++ operation_name component.now op) }
+{
+    match component.operation(op) {
+        None => Ok(()),
+        Some(op) => text.push_str(op.name.as_str()),
+    }
+}
+
+fn write_argument(text: &mut String, argument: u32) -> Result<(), AllocError>
+    ensures { OnOk result (string_bytes text.new ≡ string_bytes text.old ++ argument_text argument) }
+{
+    write!(text, " {argument}")
+}
+
+fn write_arguments(text: &mut String, arguments: &[u32]) -> Result<(), AllocError>
+    ensures { OnOk result (string_bytes text.new ≡ string_bytes text.old ++ arguments_text arguments.now) }
+{
+    for argument in arguments {
+        write_argument(text, *argument)?;
+    }
+    Ok(())
+}
+
+/// Adds a call, as a matrix has it.
+fn write_call(text: &mut String, component: &Component, call: &Call) -> Result<(), AllocError>
+    ensures { OnOk result (string_bytes text.new ≡ string_bytes text.old ++ spec.call_words component.now call.now) }
+{
+    text.push_str("call ")?;
+    write_name(text, component, call.op)?;
+    write_arguments(text, call.args.as_slice())
+}
+
+/// Adds the next call of an idle thread that has made `done` of them, where one is left.
+fn write_next_call(
+    text: &mut String,
+    machine: &Machine<'_>,
+    thread: u8,
+    done: u8,
+) -> Result<(), AllocError>
+    ensures { OnOk result (string_bytes text.new ≡ string_bytes text.old ++ spec.next_call machine.now thread done) }
+{
+    let matrix = machine.matrix();
+    if done < matrix.calls(thread) {
+        write_call(text, machine.component(), matrix.call(thread, done))
+    } else {
+        Ok(())
+    }
+}
+
+/// Adds the next instruction of an open operation, and what it does by the move.
+fn write_next_instr(
+    text: &mut String,
+    machine: &Machine<'_>,
+    next: Move,
+    frame: &Frame,
+) -> Result<(), AllocError>
+    ensures { OnOk result (string_bytes text.new ≡ string_bytes text.old ++ spec.next_instr machine.now next frame.now) }
+{
+    match machine.instr(frame) {
+        None => Ok(()),
+        Some(instr) => {
+            write_instr_text(text, machine.component(), frame, instr)?;
+            write_deed(text, machine, next, frame, instr)
+        }
+    }
+}
+
+/// Adds what the thread of the move does next.
+fn write_step(text: &mut String, machine: &Machine<'_>, next: Move) -> Result<(), AllocError>
+    ensures { OnOk result (string_bytes text.new ≡ string_bytes text.old ++ spec.step_words machine.now next) }
+{
+    let Some(standing) = machine.standing(next.thread) else {
+        return Ok(());
+    };
+    match &standing.activity {
+        Activity::Idle => write_next_call(text, machine, next.thread, standing.done),
+        Activity::Open(frame) => write_next_instr(text, machine, next, frame),
+    }
+}
+
+/// Adds the line of the next step of the move's thread, with the number or none.
+pub(crate) fn write_line(
+    alloc: Global,
+    text: &mut String,
+    machine: &Machine<'_>,
+    number: Option<usize>,
+    next: Move,
+) -> Result<(), AllocError>
+    ensures { OnOk result (string_bytes text.new ≡ string_bytes text.old ++ spec.step_line number machine.now next) }
+{
+    write_head(alloc, text, number, next.thread)?;
+    write_step(text, machine, next)?;
+    text.push('\n')
+}

@@ -1,0 +1,90 @@
+//! The writer of traces.
+
+ghost use Rattle.std.specs.Prelude.{◌≡◌, IfErr, IfOk, OnOk, string_bytes};
+ghost use Rattle.lu_test.specs.Matrix.{IsOf};
+ghost use Rattle.lu_machine.specs.Steps.{IsFeasible};
+ghost use Rattle.lu_trace.specs.Traces.{Adds, IsFaultOf, IsTrace, LocalLines, MoveLines};
+
+use crate::fault::TraceFault;
+use crate::lines::{status_line, write_line};
+use crate::waiting::write_waits;
+use lu_component::Component;
+use lu_machine::Machine;
+use lu_test::{Matrix, Move, Schedule};
+use std::alloc::{AllocError, Global};
+
+/// Carries out the local instructions that come next in thread `t`, up to `most` of them, and adds their
+/// lines.
+fn run_on(
+    alloc: Global,
+    text: &mut String,
+    machine: &mut Machine<'_>,
+    t: u8,
+    most: u8,
+) -> Result<(), AllocError>
+    ensures { OnOk result (Adds (LocalLines most machine.old t machine.new) (string_bytes text.old) (string_bytes text.new)) }
+{
+    if most == 0 {
+        return Ok(());
+    }
+    if !machine.is_at_local(t) {
+        return Ok(());
+    }
+    let next = Move { thread: t, pick: 0 };
+    write_line(alloc, text, machine, None, next)?;
+    machine.step_once(next);
+    run_on(alloc, text, machine, t, most - 1)
+}
+
+/// Makes the move, which has this number, and adds its lines. It is asked to be feasible.
+fn write_move(
+    alloc: Global,
+    text: &mut String,
+    machine: &mut Machine<'_>,
+    number: usize,
+    next: Move,
+) -> Result<(), AllocError>
+    requires { IsFeasible machine.old next }
+    ensures { OnOk result (Adds (MoveLines number machine.old next machine.new) (string_bytes text.old) (string_bytes text.new)) }
+{
+    let more = machine.more_local(next.thread);
+    write_line(alloc, text, machine, Some(number), next)?;
+    machine.step_once(next);
+    run_on(alloc, text, machine, next.thread, more)
+}
+
+/// The trace of a schedule of the component and the matrix, for people to read. The matrix is asked to be
+/// one of the component.
+///
+/// The first line is `trace complete`, `trace stuck` or `trace running`. Then each move has a line: its
+/// number, from 0, and in its thread's column the call that it opens, or the instruction as the component's
+/// text has it and behind `#` what it did. Local instructions that run with a move stand below it, without
+/// a number. Last comes a line for each thread that is blocked in the end, with what it waits for.
+///
+/// # Errors
+///
+/// `Infeasible` with the index, from 0, of the first move that is not feasible where it stands; `Memory`
+/// where memory was refused.
+pub fn write_trace(
+    alloc: Global,
+    component: &Component,
+    matrix: &Matrix,
+    schedule: &Schedule,
+) -> Result<String, TraceFault>
+    requires { IsOf matrix.now component.now }
+    ensures trace { IfOk result (λ text. IsTrace component.now matrix.now schedule.now (string_bytes text)) }
+    ensures fault { IfErr result (IsFaultOf component.now matrix.now schedule.now) }
+{
+    let mut machine = Machine::start(alloc, component, matrix)?;
+    let mut lines = String::new(alloc);
+    for (number, next) in schedule.moves().iter().enumerate() {
+        if !machine.feasible(*next) {
+            return Err(TraceFault::Infeasible(number));
+        }
+        write_move(alloc, &mut lines, &mut machine, number, *next)?;
+    }
+    let mut text = String::from_str(alloc, status_line(machine.status()))?;
+    text.push_str(lines.as_str())?;
+    write_waits(alloc, &mut text, &machine)?;
+    Ok(text)
+}
