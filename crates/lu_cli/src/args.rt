@@ -67,6 +67,13 @@ fn replay_command<'a>(alloc: Global) -> Command<'a>
     Command::new(alloc, "replay")
 }
 
+fn trace_command<'a>(alloc: Global) -> Command<'a>
+    ensures app { app_of result ≡ spec.trace_command }
+    ensures local { (out-Command result).has_globals ≡ false }
+{
+    Command::new(alloc, "trace")
+}
+
 /// The program with the commands that look at one matrix.
 fn single_commands<'a>(alloc: Global) -> Result<Command<'a>, AllocError>
     ensures app { IfOk result (λ command. app_of command ≡ spec.single_commands) }
@@ -76,6 +83,7 @@ fn single_commands<'a>(alloc: Global) -> Result<Command<'a>, AllocError>
         .no_binary_name(true)
         .subcommand_required(true)
         .subcommand(replay_command(alloc))?
+        .subcommand(trace_command(alloc))?
         .subcommand(bounded(alloc, "serial")?)?
         .subcommand(check_command(alloc)?)
 }
@@ -136,6 +144,9 @@ fn order_in(matches: &ArgMatches<'_>) -> Option<Order>
     let (name, given) = matches.subcommand()?;
     if name == "replay" {
         return Some(Order::Replay);
+    }
+    if name == "trace" {
+        return Some(Order::Trace);
     }
     if name == "serial" {
         return Some(Order::Serial(bounds_in(given)?));
