@@ -1,6 +1,5 @@
 -- What is answered to a confirmed failure, or to confirmed nondeterminism.
 use Rattle.std.proofs.Common.{◌≡◌, ℕ, List, Option, Some, None, refl, sym, ap, subst, ◌∙◌, inl, inr}
-use Rattle.std.specs.Prelude.{IfNone, IfSome}
 use Rattle.lu_component.specs.Component.{Declarations}
 use Rattle.lu_test.specs.declared.matrix.Call.{Call as ACall}
 use Rattle.lu_test.specs.declared.schedule.Move.{Move}
@@ -13,7 +12,7 @@ use Rattle.lu_replay.specs.declared.report.Finding.TheVariants.{SerialCut, Nonde
 use Rattle.lu_replay.specs.Confirmed.{IsShown}
 use Rattle.lu_spec.specs.Specs.{AreOf, IsSpec}
 use Rattle.lu_refute.specs.Answers.{IsAnswerTo, IsFailure, IsOutsideAnswer}
-use Rattle.lu_refute.specs.Walks.{IsOfFailure}
+use Rattle.lu_refute.specs.Walks.{IsFailing, IsOfFailure}
 use Rattle.lu_refute.proofs.Outside.{conflict_outside, fail_outside}
 
 -- where the failing schedule is good for a specification, or there is none, something is outside it
@@ -45,13 +44,13 @@ outside_answer s serial members (Pass counts) answer failure not_own outside = f
 
 -- ---- the same, where the set and the finding are known by equations
 
-pub none_own : (s : State) (set members : List (List SerialOp)) → set ≡ members → (f finding : Finding) → f ≡ finding → (found : Option (List Move)) → found ≡ None → ((u : List Move) → IfNone found (IsOfFailure s set f u → ⊥)) → (u : List Move) → IsOfFailure s members finding u → ⊥
-none_own s set members same f finding is None none all u of =
-    all u (subst (λ (x : Finding). IsOfFailure s set x u) (sym is) (subst (λ (x : List (List SerialOp)). IsOfFailure s x finding u) (sym same) of))
-none_own s set members same f finding is (Some v) none all u of = absurd cc
+pub none_own : (c : Declarations) (matrix : List (List ACall)) (s : State) → IsStart c matrix s → (set members : List (List SerialOp)) → set ≡ members → (f finding : Finding) → f ≡ finding → (found : Option (List Move)) → found ≡ None → IsFailing c matrix set f found → (u : List Move) → IsOfFailure s members finding u → ⊥
+none_own c matrix s start set members same f finding is None none all u of =
+    all s u start (subst (λ (x : Finding). IsOfFailure s set x u) (sym is) (subst (λ (x : List (List SerialOp)). IsOfFailure s x finding u) (sym same) of))
+none_own c matrix s start set members same f finding is (Some v) none all u of = absurd cc
 
-pub own_found : (s : State) (set members : List (List SerialOp)) → set ≡ members → (f finding : Finding) → f ≡ finding → (found : Option (List Move)) (u : List Move) → found ≡ Some u → IfSome found (IsOfFailure s set f) → IsOfFailure s members finding u
-own_found s set members same f finding is None u some of = absurd cc
-own_found s set members same f finding is (Some v) u some of =
+pub own_found : (c : Declarations) (matrix : List (List ACall)) (s : State) → IsStart c matrix s → (set members : List (List SerialOp)) → set ≡ members → (f finding : Finding) → f ≡ finding → (found : Option (List Move)) (u : List Move) → found ≡ Some u → IsFailing c matrix set f found → IsOfFailure s members finding u
+own_found c matrix s start set members same f finding is None u some of = absurd cc
+own_found c matrix s start set members same f finding is (Some v) u some of =
     let e : v ≡ u = cc in
-    subst (IsOfFailure s members finding) e (subst (λ (x : Finding). IsOfFailure s members x v) is (subst (λ (x : List (List SerialOp)). IsOfFailure s x f v) same of))
+    subst (IsOfFailure s members finding) e (subst (λ (x : Finding). IsOfFailure s members x v) is (subst (λ (x : List (List SerialOp)). IsOfFailure s x f v) same (of s start)))

@@ -1,14 +1,17 @@
 -- What the steps of a refutation promise one another.
-use Rattle.std.specs.Prelude.{◌≡◌, ℕ, ◌≤◌, false, List, [], ◌++◌, length, take, Option}
+use Rattle.std.specs.Prelude.{◌≡◌, ℕ, ◌≤◌, ◌↔◌, Bool, false, IsTrue, List, [], ◌++◌, length, take, Option, Some, None}
+use Rattle.lu_component.specs.Component.{Declarations}
 use Rattle.lu_test.specs.declared.matrix.Call.{Call}
 use Rattle.lu_test.specs.declared.schedule.Move.{Move}
 use Rattle.lu_test.specs.Matrix.{cut}
 use Rattle.lu_machine.specs.declared.event.Event.{Event}
 use Rattle.lu_machine.specs.States.{State}
+use Rattle.lu_machine.specs.Starts.{IsStart}
 use Rattle.lu_machine.specs.Steps.{Step}
 use Rattle.lu_history.specs.declared.serial.SerialOp.{SerialOp}
 use Rattle.lu_trie.specs.Members.{contains}
 use Rattle.lu_serial.specs.Serial.{IsSeriallyEnded}
+use Rattle.lu_serial.specs.Offences.{IsFirstOutside}
 use Rattle.lu_serial.specs.Walks.{entry_if}
 use Rattle.lu_witness.specs.Witnesses.{IsMember}
 use Rattle.lu_replay.specs.declared.report.Finding.{Finding}
@@ -16,7 +19,7 @@ use Rattle.lu_replay.specs.declared.report.Finding.TheVariants.{SerialCut, Nonde
 use Rattle.lu_refute.specs.declared.shortest.Walk.{Walk}
 use Rattle.lu_refute.specs.Whole.{IsQuiet, made_calls}
 use Rattle.lu_refute.specs.Linearizable.{Refutes}
-use Rattle.lu_refute.specs.Answers.{IsShortest}
+use Rattle.lu_refute.specs.Answers.{IsOutsideAnswer, IsShortest}
 
 -- no operation is open, and none has returned; the calls are those made
 pub record IsBefore (walk : Walk) : Type 0 where
@@ -48,7 +51,27 @@ pub record IsShortestOver (s : State) (members : List (List SerialOp)) (w : List
   pub short : IsShortest s members w answer.1
   pub matrix_is : answer.0 ≡ cut s.matrix (made_calls short.whole.end)
 
--- ---- the failing schedule
+-- ---- from the start of a component and a matrix
+
+-- u is serially ended, and its history is no member
+abbrev pub IsOutsideOf : Declarations → List (List Call) → List (List SerialOp) → List Move → Type 0
+IsOutsideOf c matrix members u = (s : State) → IsStart c matrix s → EndsOutside s members u
+
+-- its shortest such beginning
+abbrev pub IsShortestOf : Declarations → List (List Call) → List (List SerialOp) → List Move → List (List Call) × List Move → Type 0
+IsShortestOf c matrix members w answer = (s : State) → IsStart c matrix s → IsShortestOver s members w answer
+
+-- some schedule is outside
+abbrev pub HasOutside : Declarations → List (List Call) → ℕ → List (List SerialOp) → Type 0
+HasOutside c matrix serial members = (s : State) → IsStart c matrix s → IsFirstOutside s serial members None → ⊥
+
+-- the answer from outside
+abbrev pub IsFromOutside : Declarations → List (List Call) → ℕ → List (List SerialOp) → List (List Call) × List Move → Type 0
+IsFromOutside c matrix serial members answer = (s : State) → IsStart c matrix s → IsOutsideAnswer s serial members answer
+
+-- whether u is ended, and not good for the set
+abbrev pub TellsRefutation : Declarations → List (List Call) → List (List SerialOp) → List Move → Bool → Type 0
+TellsRefutation c matrix members u told = (s : State) → IsStart c matrix s → IsTrue told ↔ Refutes (IsMember members) s u
 
 -- the finding is a failure by this schedule, which is ended and not good for the set
 abbrev pub IsOfFailure : State → List (List SerialOp) → Finding → List Move → Type 0
@@ -56,3 +79,8 @@ IsOfFailure s members (SerialCut v) u = ⊥
 IsOfFailure s members (Nondeterministic v before earlier) u = ⊥
 IsOfFailure s members (Fail v why) u = (u ≡ v) × Refutes (IsMember members) s v
 IsOfFailure s members (Pass counts) u = ⊥
+
+-- the schedule of such a failure, or none where the finding is no such one
+abbrev pub IsFailing : Declarations → List (List Call) → List (List SerialOp) → Finding → Option (List Move) → Type 0
+IsFailing c matrix members finding None = (s : State) (u : List Move) → IsStart c matrix s → IsOfFailure s members finding u → ⊥
+IsFailing c matrix members finding (Some u) = (s : State) → IsStart c matrix s → IsOfFailure s members finding u

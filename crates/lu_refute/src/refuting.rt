@@ -1,18 +1,14 @@
 //! Refutations of specifications.
 
-ghost use Rattle.std.specs.Prelude.{◌≡◌, ◌≢◌, ◌↔◌, ◌≤◌, List, [], None, IsTrue, IfErr, IfOk, IfSome, IfNone, OnOk};
+ghost use Rattle.std.specs.Prelude.{◌≡◌, ◌≢◌, ◌↔◌, ◌≤◌, [], IsTrue, IfErr, IfOk, OnOk};
 ghost use Rattle.lu_test.specs.Matrix.{IsOf};
-ghost use Rattle.lu_test.specs.declared.schedule.Move.{Move};
 ghost use Rattle.lu_machine.specs.declared.event.Status.TheVariants.{Running};
-ghost use Rattle.lu_machine.specs.States.{State};
-ghost use Rattle.lu_machine.specs.Starts.{IsStart};
-ghost use Rattle.lu_serial.specs.Offences.{IsFirstOutside};
 ghost use Rattle.lu_witness.specs.declared.judgement.Verdict.TheVariants.{Good};
 ghost use Rattle.lu_witness.specs.Witnesses.{IsMember};
 ghost use Rattle.lu_spec.specs.Specs.{AreOf};
-ghost use Rattle.lu_refute.specs.Linearizable.{IsCounterexample, IsLinearizable, Refutes};
-ghost use Rattle.lu_refute.specs.Answers.{IsAnswer, IsConfirmedFailure, IsFailure, IsOutsideAnswer, IsRefuteFault};
-ghost use Rattle.lu_refute.specs.Walks.{IsOfFailure};
+ghost use Rattle.lu_refute.specs.Linearizable.{IsCounterexample, IsLinearizable};
+ghost use Rattle.lu_refute.specs.Answers.{IsAnswer, IsConfirmedFailure, IsFailure, IsRefuteFault};
+ghost use Rattle.lu_refute.specs.Walks.{HasOutside, IsFailing, IsFromOutside, TellsRefutation};
 
 use crate::fault::RefuteFault;
 use crate::shortest::shortest;
@@ -65,7 +61,7 @@ fn refutes(
     set: &Trie<Global>,
 ) -> Result<bool, AllocError>
     requires { IsOf matrix.now component.now }
-    ensures { (s : State) → IsStart component.now matrix.now s → IfOk result (λ yes. IsTrue yes ↔ Refutes (IsMember set.now) s schedule.now) }
+    ensures { IfOk result (TellsRefutation component.now matrix.now set.now schedule.now) }
 {
     match replay(alloc, component, matrix, schedule) {
         Ok(shown) => {
@@ -87,8 +83,7 @@ fn failing(
     set: &Trie<Global>,
 ) -> Result<Option<Schedule>, AllocError>
     requires { IsOf matrix.now component.now }
-    ensures some { (s : State) → IsStart component.now matrix.now s → IfOk result (λ found. IfSome found (IsOfFailure s set.now finding.now)) }
-    ensures none { (s : State) (u : List Move) → IsStart component.now matrix.now s → IfOk result (λ found. IfNone found (IsOfFailure s set.now finding.now u → ⊥)) }
+    ensures { IfOk result (IsFailing component.now matrix.now set.now finding.now) }
 {
     match finding {
         Finding::SerialCut(_) => Ok(None),
@@ -117,8 +112,8 @@ fn from_outside(
     requires some { 1 ≤ serial }
     requires few { serial ≤ 256 }
     requires empty { IsMember set.now [] }
-    requires outside { (s : State) → IsStart component.now matrix.now s → IsFirstOutside s serial set.now None → ⊥ }
-    ensures { (s : State) → IsStart component.now matrix.now s → IfOk result (IsOutsideAnswer s serial set.now) }
+    requires outside { HasOutside component.now matrix.now serial set.now }
+    ensures { IfOk result (IsFromOutside component.now matrix.now serial set.now) }
 {
     match first_outside(alloc, component, matrix, serial, set)? {
         None => unreachable!(),
@@ -146,15 +141,14 @@ fn answer_to(
     }
 }
 
-/// Shows that a specification does not go with a failure or nondeterminism that was found: a schedule of the matrix, or of some
-/// first calls of its threads, that is ended and does not have its serial witnesses in the specification. So the component is not
-/// linearizable with it, nor with any other deterministic specification that has no witnesses for that schedule
-/// (Burckhardt, Dern, Musuvathi and Tan, 2010).
+/// Refutes a specification by a failure, or by nondeterminism, that a report shows: by a schedule of the matrix, or of some first
+/// calls of its threads, that is ended and does not have its serial witnesses in the specification. So the component is not
+/// linearizable with it (Burckhardt, Dern, Musuvathi and Tan, 2010).
 ///
 /// For a failure whose schedule does not have its witnesses in the specification the answer is the matrix and that schedule. Else
-/// it is the shortest beginning, that ends with a whole entry of its history and whose entries are no member, of the least
-/// serially ended schedule whose history is no member: over the matrix cut to the calls made in it. Asks for a matrix of the
-/// component ([`Matrix::of`]) and a specification of the matrix ([`Spec::of`]).
+/// it comes from the least serially ended schedule whose history is no member of the specification: it is the shortest beginning
+/// that ends with a whole entry of that history and whose entries are no member, over the matrix cut to the calls made in it. Asks
+/// for a matrix of the component ([`Matrix::of`]) and a specification of the matrix ([`Spec::of`]).
 ///
 /// # Errors
 ///

@@ -2,12 +2,11 @@
 
 ghost use Rattle.std.specs.Prelude.{◌≡◌, [], IfOk, OnOk};
 ghost use Rattle.lu_test.specs.Matrix.{IsOf};
-ghost use Rattle.lu_machine.specs.States.{State};
 ghost use Rattle.lu_machine.specs.Starts.{IsStart};
 ghost use Rattle.lu_machine.specs.Steps.{IsFeasible};
 ghost use Rattle.lu_witness.specs.Witnesses.{IsMember};
 ghost use Rattle.lu_refute.specs.Whole.{made_calls};
-ghost use Rattle.lu_refute.specs.Walks.{EndsOutside, IsBefore, IsFurther, IsShortestOver, IsStop};
+ghost use Rattle.lu_refute.specs.Walks.{EndsOutside, IsBefore, IsFurther, IsOutsideOf, IsShortestOf, IsStop};
 
 use lu_component::Component;
 use lu_history::{SerialOp, SerialOutcome};
@@ -89,8 +88,8 @@ pub(crate) fn shortest(
 ) -> Result<(Matrix, Schedule), AllocError>
     requires of { IsOf matrix.now component.now }
     requires empty { IsMember set.now [] }
-    requires outside { (s : State) → IsStart component.now matrix.now s → EndsOutside s set.now outside.now }
-    ensures { (s : State) → IsStart component.now matrix.now s → IfOk result (IsShortestOver s set.now outside.now) }
+    requires outside { IsOutsideOf component.now matrix.now set.now outside.now }
+    ensures { IfOk result (IsShortestOf component.now matrix.now set.now outside.now) }
 {
     let mut walk = Walk::start(alloc, component, matrix)?;
     let moves = outside.moves();

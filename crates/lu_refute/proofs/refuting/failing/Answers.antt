@@ -3,8 +3,8 @@ use Rattle.lu_replay.specs.declared.report.Finding.TheVariants.{Fail}
 use Rattle.lu_refute.specs.Walks.{IsOfFailure}
 use Rattle.lu_refute.proofs.refuting.failing.Goals as goal
 
-pub returns-else-branch-clause-none : goal.returns-else-branch-clause-none
-returns-else-branch-clause-none c =
+pub returns-else-branch : goal.returns-else-branch
+returns-else-branch c =
     λ s u is of.
     let found : c.args.finding.now ≡ Fail c.in-Fail.schedule c.in-Fail.why = c.in-Fail.is in
     let refutes = subst (λ f. IsOfFailure s c.args.set.now f u) found of in
