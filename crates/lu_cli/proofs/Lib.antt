@@ -2,5 +2,4 @@ pub mod Known
 pub mod Lines
 pub mod Orders
 pub mod Sayings
-pub mod SpecTexts
 pub mod Reported

@@ -7,7 +7,7 @@ use Rattle.std.proofs.lemmas.List.{length-replicate}
 use Rattle.lu_text.specs.declared.fault.Fault.{Fault}
 use Rattle.lu_text.specs.declared.fault.Fault.TheVariants.{At, Memory}
 use Rattle.lu_text.specs.Faults.{value_of}
-use Rattle.lu_text.specs.Words.{two, three}
+use Rattle.lu_text.specs.Words.{two, three, four}
 use Rattle.lu_component.specs.Component.{Declarations}
 use Rattle.lu_lang.specs.Kinds.{code_of}
 use Rattle.lu_lang.specs.Grammar.{component_grammar}
@@ -17,6 +17,7 @@ use Rattle.lu_test.specs.declared.schedule_fault.ScheduleFault.{ScheduleFault}
 use Rattle.lu_test.specs.Codes.{matrix_code_of}
 use Rattle.lu_test.specs.MatrixText.{matrix_grammar}
 use Rattle.lu_test.specs.ScheduleText.{schedule_of}
+use Rattle.lu_history.specs.declared.serial.SerialOp.{SerialOp}
 use Rattle.lu_replay.specs.declared.report.Finding.{Finding}
 use Rattle.lu_replay.specs.declared.report.Finding.TheVariants.{SerialCut, Nondeterministic, Fail, Pass}
 use Rattle.lu_replay.specs.Parts.{Parts}
@@ -25,10 +26,10 @@ use Rattle.lu_refine.specs.declared.campaigns.Campaign.{Campaign}
 use Rattle.lu_refine.specs.declared.campaigns.Campaign.TheVariants.{AllPass, First}
 use Rattle.lu_cli.specs.declared.order.CampaignOptions.{CampaignOptions}
 use Rattle.lu_cli.specs.declared.order.Order.{Order}
-use Rattle.lu_cli.specs.declared.order.Order.TheVariants.{Replay, Trace, Serial, Check, Shrink, Campaign as Campaigning}
+use Rattle.lu_cli.specs.declared.order.Order.TheVariants.{Replay, Trace, Serial, Check, Refute, Shrink, Campaign as Campaigning}
 use Rattle.lu_cli.specs.Bundle.{parts_of}
 use Rattle.lu_cli.specs.Orders.{Limits}
-use Rattle.lu_cli.specs.Replies.{Answer, Answers, IsAnswerFrom, IsAnswerOf, IsAnswerTo, IsCampaignAnswer, IsCampaignFrom, IsChecked, IsReplayed, IsRunSerially, IsShrinkAnswer, IsTraced, Tells, ToMatrix, ToParts, ToSchedule, ToTexts, ToValue, found_answer, no_command, no_device, no_memory, refused, reported, status_of, with_matrix}
+use Rattle.lu_cli.specs.Replies.{Answer, Answers, IsAnswerFrom, IsAnswerOf, IsAnswerTo, IsCampaignAnswer, IsCampaignFrom, IsChecked, IsRefuteAnswer, IsRefuteFrom, IsRefuteOf, IsReplayed, IsRunSerially, IsShrinkAnswer, IsTraced, Tells, ToMatrix, ToParts, ToReport, ToSchedule, ToSpec, ToTexts, ToValue, found_answer, no_command, no_device, no_memory, refused, reported, status_of, with_matrix}
 
 -- an answer that was made and said
 pub said : (IsAnswer : Answer → Type 0) (answer : Answer) (text : List ℕ) (old new : Option (List ℕ)) (status : ℕ) → IsAnswer answer → text ≡ answer.text → Appends old new text × (status ≡ answer.status) → Answers IsAnswer old new status
@@ -99,7 +100,7 @@ scheduled_else (Ok u) IsAnswer answer h is = h u is
 scheduled_else (Err fault) IsAnswer answer h is = refused_else _ answer is
 
 serial_else : (c : Declarations) (m : List (List Call)) (limits : Limits) (answer : Answer) → IsRunSerially c m limits answer → IsElse answer
-serial_else c m limits answer (inl is) = status_else answer 0 (ap (λ (a : Answer). a.status) is.3.2) (λ e. omega arith)
+serial_else c m limits answer (inl is) = status_else answer 0 (ap (λ (a : Answer). a.status) is.3.4.2) (λ e. omega arith)
 serial_else c m limits answer (inr is) = reported_else is.0 answer is.3
 
 checked_else : (c : Declarations) (m : List (List Call)) (choice : Choice) (answer : Answer) → IsChecked c m choice answer → IsElse answer
@@ -136,6 +137,28 @@ shrink_else : (c : Declarations) (m : List (List Call)) (limits : Limits) (answe
 shrink_else c m limits answer (inl is) = matrix_else c is.0 is.1 answer is.3
 shrink_else c m limits answer (inr is) = reported_else is.0 answer is.3
 
+refuted_else : (c : Declarations) (m : List (List Call)) (r : Parts) (members : List (List SerialOp)) (answer : Answer) → IsRefuteAnswer c m r members answer → IsElse answer
+refuted_else c m r members answer (inl is) = status_else answer 1 (ap (λ (a : Answer). a.status) is.1.2) (λ e. omega arith)
+refuted_else c m r members answer (inr is) = refused_else (codes "F2") answer is.1
+
+report_else : (text : List ℕ) (IsAnswer : Parts → Answer → Type 0) (answer : Answer) → ((r : Parts) → IsAnswer r answer → IsElse answer) → ToReport text IsAnswer answer → IsElse answer
+report_else text IsAnswer answer h (inl is) = h is.0 is.2
+report_else text IsAnswer answer h (inr is) = refused_else _ answer is.2
+
+spec_else : (m : List (List Call)) (text : List ℕ) (IsAnswer : List (List SerialOp) → Answer → Type 0) (answer : Answer) → ((members : List (List SerialOp)) → IsAnswer members answer → IsElse answer) → ToSpec m text IsAnswer answer → IsElse answer
+spec_else m text IsAnswer answer h (inl is) = h is.0 is.2
+spec_else m text IsAnswer answer h (inr is) = refused_else _ answer is.3
+
+refute_else : (c : Declarations) (m : List (List Call)) (report spec : List ℕ) (answer : Answer) → IsRefuteFrom c m report spec answer → IsElse answer
+refute_else c m report spec answer is =
+    report_else report (λ r. ToSpec m spec (IsRefuteAnswer c m r)) answer
+    (λ r more. spec_else m spec (IsRefuteAnswer c m r) answer (λ members last. refuted_else c m r members answer last) more) is
+
+four_else : (parts : List (List ℕ)) (answer : Answer) → IsRefuteOf parts answer → IsElse answer
+four_else parts answer is =
+    parts_else (four parts) (λ p. ToTexts p.0 p.1 (λ c m. IsRefuteFrom c m p.2 p.3)) answer
+    (λ p more. texts_else p.0 p.1 (λ c m. IsRefuteFrom c m p.2 p.3) answer (λ c m from. refute_else c m p.2 p.3 answer from) more) is
+
 found_else : (c : Declarations) (found : Campaign) (answer : Answer) → answer ≡ found_answer c found → IsElse answer
 found_else c (AllPass count) answer is = status_else answer 0 (ap (λ (a : Answer). a.status) is) (λ e. omega arith)
 found_else c (First m r) answer is = matrix_else c m r answer is
@@ -154,6 +177,7 @@ order_else Replay parts answer is = three_else parts IsReplayed answer (λ c m u
 order_else Trace parts answer is = three_else parts IsTraced answer (λ c m u more. traced_else c m u answer more) is
 order_else (Serial limits) parts answer is = two_else parts (λ c m. IsRunSerially c m limits) answer (λ c m more. serial_else c m limits answer more) is
 order_else (Check choice) parts answer is = two_else parts (λ c m. IsChecked c m choice) answer (λ c m more. checked_else c m choice answer more) is
+order_else Refute parts answer is = four_else parts answer is
 order_else (Shrink limits) parts answer is = two_else parts (λ c m. IsShrinkAnswer c m limits) answer (λ c m more. shrink_else c m limits answer more) is
 order_else (Campaigning options) parts answer is = two_else parts (λ c m. IsCampaignFrom c options m) answer (λ c m more. candidates_else c options m answer more) is
 

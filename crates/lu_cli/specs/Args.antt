@@ -11,7 +11,7 @@ use Rattle.clap.specs.declared.builder.value_parser.ValueParser.TheVariants as v
 use Rattle.clap.specs.declared.error.kind.ErrorKind.{ErrorKind}
 use Rattle.lu_cli.specs.declared.order.CampaignOptions.{CampaignOptions}
 use Rattle.lu_cli.specs.declared.order.Order.{Order}
-use Rattle.lu_cli.specs.declared.order.Order.TheVariants.{Replay, Trace, Serial, Check, Shrink, Campaign}
+use Rattle.lu_cli.specs.declared.order.Order.TheVariants.{Replay, Trace, Serial, Check, Refute, Shrink, Campaign}
 use Rattle.lu_cli.specs.Orders.{Limits, limits_of, choice_of}
 use Rattle.lu_parallel.specs.Ranges.{Choice}
 
@@ -45,6 +45,9 @@ check_command =
     with_rule (with_rule (bounded (codes "check")) (number_option (codes "workers") 1 16 (codes "1")))
     (number_option (codes "depth") 0 8 (codes "4"))
 
+abbrev pub refute_command : App
+refute_command = new_app (codes "refute")
+
 abbrev pub shrink_command : App
 shrink_command = bounded (codes "shrink")
 
@@ -64,7 +67,9 @@ single_commands =
     serial_command.top) check_command.top
 
 abbrev pub lineup : App
-lineup = with_subcommand (with_subcommand single_commands shrink_command.top) campaign_command.top
+lineup =
+    with_subcommand (with_subcommand (with_subcommand single_commands refute_command.top) shrink_command.top)
+    campaign_command.top
 
 -- ---- what words ask for
 
@@ -113,8 +118,9 @@ order_by name rows =
     else (if bytes_eq name (codes "trace") then Some Trace
     else (if bytes_eq name (codes "serial") then option_map Serial (limits_in rows)
     else (if bytes_eq name (codes "check") then option_map Check (choice_in rows)
+    else (if bytes_eq name (codes "refute") then Some Refute
     else (if bytes_eq name (codes "shrink") then option_map Shrink (limits_in rows)
-    else (if bytes_eq name (codes "campaign") then option_map Campaign (campaign_in rows) else None)))))
+    else (if bytes_eq name (codes "campaign") then option_map Campaign (campaign_in rows) else None))))))
 
 abbrev pub order_in : Option (Text × List Row) → Option Order
 order_in entered = option_and_then (λ e. order_by e.0 e.1) entered

@@ -5,5 +5,4 @@ pub mod Orders
 pub mod Outcomes
 pub mod Refusals
 pub mod Replies
-pub mod SpecText
 pub mod Texts

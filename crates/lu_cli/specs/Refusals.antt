@@ -8,6 +8,11 @@ use Rattle.lu_test.specs.declared.schedule_fault.ScheduleFault.TheVariants as sc
 use Rattle.lu_test.specs.Codes.{matrix_code_of, schedule_code_of}
 use Rattle.lu_parallel.specs.declared.fault.CheckFault.{CheckFault}
 use Rattle.lu_parallel.specs.declared.fault.CheckFault.TheVariants as check
+use Rattle.lu_replay.specs.declared.report_fault.ReportFault.{ReportFault}
+use Rattle.lu_replay.specs.declared.report_fault.ReportFault.TheVariants as report
+use Rattle.lu_spec.specs.Codes.{spec_code_of}
+use Rattle.lu_refute.specs.declared.fault.RefuteFault.{RefuteFault}
+use Rattle.lu_refute.specs.declared.fault.RefuteFault.TheVariants as refute
 use Rattle.lu_refine.specs.declared.campaigns.CampaignFault.{CampaignFault}
 use Rattle.lu_refine.specs.declared.campaigns.CampaignFault.TheVariants as campaign
 use Rattle.lu_refine.specs.Codes.{campaign_code_of}
@@ -30,6 +35,14 @@ abbrev pub schedule_answer : ScheduleFault → Option Answer
 schedule_answer schedule.Memory = None
 schedule_answer fault = Some (refused (schedule_code_of fault))
 
+abbrev pub report_answer : ReportFault → Option Answer
+report_answer (report.Form n) = Some (refused_on_line (codes "E1") n)
+report_answer report.Memory = None
+
+abbrev pub refute_refusal : RefuteFault → Option Answer
+refute_refusal refute.NotShown = Some (refused (codes "F2"))
+refute_refusal refute.Memory = None
+
 abbrev pub campaign_refusal : CampaignFault → Option Answer
 campaign_refusal campaign.Memory = None
 campaign_refusal fault = Some (refused (campaign_code_of fault))
@@ -44,6 +57,9 @@ abbrev pub refusal_answer : Refusal → Option Answer
 refusal_answer refusal.Parts = Some (refused (codes "B1"))
 refusal_answer (refusal.Texts fault) = texts_answer fault
 refusal_answer (refusal.Schedule fault) = schedule_answer fault
+refusal_answer (refusal.Report fault) = report_answer fault
+refusal_answer (refusal.Spec fault) = line_answer spec_code_of fault
+refusal_answer (refusal.Refute fault) = refute_refusal fault
 refusal_answer (refusal.Campaign fault) = campaign_refusal fault
 refusal_answer refusal.Memory = None
 

@@ -1,11 +1,11 @@
 -- What the program writes, and its status.
-use Rattle.std.specs.Prelude.{◌≡◌, ◌≢◌, ◌⊎◌, ℕ, List, [], ◌∷◌, ◌++◌, length, Option, Some, None, Result, Ok, Err, MatchBool, IfSome, codes, nat_lt}
+use Rattle.std.specs.Prelude.{◌≡◌, ◌≢◌, ◌⊎◌, ◌↔◌, ℕ, List, [], ◌∷◌, ◌++◌, length, Option, Some, None, Result, Ok, Err, MatchBool, IfSome, codes, nat_lt}
 use Rattle.std.specs.Fmt.{decimal}
 use Rattle.std.specs.Io.KnownBytes.{Appends}
 use Rattle.lu_text.specs.declared.fault.Fault.{Fault}
 use Rattle.lu_text.specs.declared.fault.Fault.TheVariants.{At, Memory}
 use Rattle.lu_text.specs.Faults.{value_of}
-use Rattle.lu_text.specs.Words.{two, three}
+use Rattle.lu_text.specs.Words.{two, three, four}
 use Rattle.lu_component.specs.Component.{Declarations}
 use Rattle.lu_lang.specs.Kinds.{code_of}
 use Rattle.lu_lang.specs.Grammar.{component_grammar}
@@ -14,7 +14,7 @@ use Rattle.lu_test.specs.declared.schedule.Move.{Move}
 use Rattle.lu_test.specs.declared.schedule_fault.ScheduleFault.{ScheduleFault}
 use Rattle.lu_test.specs.Codes.{matrix_code_of, schedule_code_of}
 use Rattle.lu_test.specs.MatrixText.{matrix_grammar, matrix_text}
-use Rattle.lu_test.specs.ScheduleText.{schedule_of}
+use Rattle.lu_test.specs.ScheduleText.{schedule_of, schedule_text}
 use Rattle.lu_machine.specs.declared.event.Event.{Event}
 use Rattle.lu_machine.specs.declared.event.Status.{Status}
 use Rattle.lu_machine.specs.States.{State}
@@ -27,6 +27,9 @@ use Rattle.lu_replay.specs.declared.report.Finding.TheVariants.{SerialCut, Nonde
 use Rattle.lu_replay.specs.Parts.{Parts}
 use Rattle.lu_replay.specs.Reports.{IsReport, IsOfOffence}
 use Rattle.lu_replay.specs.ReportText.{report_text}
+use Rattle.lu_replay.specs.declared.report_fault.ReportFault.TheVariants.{Form}
+use Rattle.lu_replay.specs.ReportForms.{IsFault, Spells}
+use Rattle.lu_replay.specs.Confirmed.{IsFailure}
 use Rattle.lu_replay.specs.Replays.{Shows, IsInfeasibleAt}
 use Rattle.lu_replay.specs.Text.{replay_text}
 use Rattle.lu_trace.specs.Traces.{IsTrace}
@@ -37,13 +40,18 @@ use Rattle.lu_refine.specs.declared.campaigns.CampaignFault.{CampaignFault}
 use Rattle.lu_refine.specs.declared.campaigns.CampaignFault.TheVariants.{Memory as NoMemory}
 use Rattle.lu_refine.specs.Campaigns.{Campaigned, IsAnswer as IsFound, IsLimitFault, campaigned}
 use Rattle.lu_refine.specs.Codes.{campaign_code_of}
-use Rattle.lu_refine.specs.Removals.{IsFailure, IsShrunk}
+use Rattle.lu_refine.specs.Removals.{IsShrunk}
+use Rattle.lu_spec.specs.declared.fault.SpecFaultKind.{SpecFaultKind}
+use Rattle.lu_spec.specs.Beginnings.{Has, IsClosureOf}
+use Rattle.lu_spec.specs.Codes.{spec_code_of}
+use Rattle.lu_spec.specs.Listed.{IsListing}
+use Rattle.lu_spec.specs.SpecText.{IsReadAs, IsSpecFault, spec_text}
+use Rattle.lu_refute.specs.Answers.{IsAnswer as IsRefutation, IsConfirmedFailure}
 use Rattle.lu_cli.specs.declared.order.CampaignOptions.{CampaignOptions}
 use Rattle.lu_cli.specs.declared.order.Order.{Order}
-use Rattle.lu_cli.specs.declared.order.Order.TheVariants.{Replay, Trace, Serial, Check, Shrink, Campaign as Campaigning}
+use Rattle.lu_cli.specs.declared.order.Order.TheVariants.{Replay, Trace, Serial, Check, Refute, Shrink, Campaign as Campaigning}
 use Rattle.lu_cli.specs.Bundle.{parts_of}
 use Rattle.lu_cli.specs.Orders.{Limits}
-use Rattle.lu_cli.specs.SpecText.{IsListOf, spec_text}
 pub use Rattle.lu_cli.specs.Outcomes.{Answer, refused, refused_on_line, infeasible, no_memory, no_command, no_device, no_worker}
 
 -- the answer to a text: its refusal, by a code and a line, or what is answered to its value
@@ -88,15 +96,28 @@ reported r = record { text = report_text r; status = status_of r.finding }
 
 -- ---- `serial`
 
--- a set of serial histories, its members in order
-abbrev pub shown : List (List SerialOp) → Answer
-shown histories = record { text = spec_text histories; status = 0 }
+-- a specification that lists these histories
+abbrev pub listed_as : List (List SerialOp) → Answer
+listed_as listed = record { text = spec_text listed; status = 0 }
 
--- where there is no serial offence, the text of the set of serial histories; else the report of the least offence
+-- the text of the specification with these members, by those that begin no other
+abbrev pub IsListed : List (List SerialOp) → Answer → Type 0
+IsListed members answer = (listed : List (List SerialOp)) × IsListing members listed × (answer ≡ listed_as listed)
+
+-- these are the serial histories from s
+abbrev pub AreSerial : State → List (List SerialOp) → Type 0
+AreSerial s histories = (q : List SerialOp) → Has histories q ↔ IsSerialHistory s q
+
+-- the specification of the serial histories from s: these, and all their beginnings
+abbrev pub ListsSerial : State → Answer → Type 0
+ListsSerial s answer =
+    (histories : List (List SerialOp)) × (members : List (List SerialOp))
+    × AreSerial s histories × IsClosureOf histories members × IsListed members answer
+
+-- where there is no serial offence, the specification of the serial histories; else the report of the least offence
 abbrev pub IsRunSerially : Declarations → List (List Call) → Limits → Answer → Type 0
 IsRunSerially c matrix limits answer =
-    ((s : State) × IsStart c matrix s × NoOffence s limits.serial
-    × ((histories : List (List SerialOp)) × IsListOf (IsSerialHistory s) histories × (answer ≡ shown histories)))
+    ((s : State) × IsStart c matrix s × NoOffence s limits.serial × ListsSerial s answer)
     ⊎ ((r : Parts) × IsReport c matrix limits.bound limits.serial r × IsOfOffence r.finding × (answer ≡ reported r))
 
 -- ---- `check`
@@ -119,6 +140,38 @@ IsShrinkAnswer c matrix limits answer =
     ((smaller : List (List Call)) × (r : Parts) × IsShrunk c matrix limits.bound limits.serial (smaller, r)
     × (answer ≡ with_matrix c smaller r))
     ⊎ ((r : Parts) × IsReport c matrix limits.bound limits.serial r × (IsFailure r.finding → ⊥) × (answer ≡ reported r))
+
+-- ---- `refute`
+
+-- a matrix, and a schedule of it
+abbrev pub with_schedule : Declarations → List (List Call) × List Move → Answer
+with_schedule c example = record {
+  text = matrix_text c example.0 ++ codes "---\n" ++ schedule_text example.1;
+  status = 1;
+}
+
+-- a schedule that the specification does not explain; or F2, where no run confirms that the report is a failure or nondeterministic
+abbrev pub IsRefuteAnswer : Declarations → List (List Call) → Parts → List (List SerialOp) → Answer → Type 0
+IsRefuteAnswer c matrix r members answer =
+    (IsConfirmedFailure c matrix r
+    × ((example : List (List Call) × List Move) × IsRefutation c matrix r members example × (answer ≡ with_schedule c example)))
+    ⊎ ((IsConfirmedFailure c matrix r → ⊥) × (answer ≡ refused (codes "F2")))
+
+-- the answer to the text of a report: E1 with its line, or what is answered to the report
+abbrev pub ToReport : List ℕ → (Parts → Answer → Type 0) → Answer → Type 0
+ToReport text IsAnswer answer =
+    ((r : Parts) × Spells text r × IsAnswer r answer)
+    ⊎ ((n : ℕ) × IsFault text (Form n) × (answer ≡ refused_on_line (codes "E1") n))
+
+-- the answer to the text of a specification of the matrix: the fault with its line, or what is answered to its members
+abbrev pub ToSpec : List (List Call) → List ℕ → (List (List SerialOp) → Answer → Type 0) → Answer → Type 0
+ToSpec matrix text IsAnswer answer =
+    ((members : List (List SerialOp)) × IsReadAs matrix text members × IsAnswer members answer)
+    ⊎ ((kind : SpecFaultKind) × (n : ℕ) × IsSpecFault matrix text (At kind n) × (answer ≡ refused_on_line (spec_code_of kind) n))
+
+-- the report is read first, and then the specification
+abbrev pub IsRefuteFrom : Declarations → List (List Call) → List ℕ → List ℕ → Answer → Type 0
+IsRefuteFrom c matrix report spec = ToReport report (λ r. ToSpec matrix spec (IsRefuteAnswer c matrix r))
 
 -- ---- `campaign`
 
@@ -183,6 +236,9 @@ IsCheckOf choice parts = ToParts (two parts) (λ p. ToTexts p.0 p.1 (λ c m. IsC
 abbrev pub IsShrinkOf : Limits → List (List ℕ) → Answer → Type 0
 IsShrinkOf limits parts = ToParts (two parts) (λ p. ToTexts p.0 p.1 (λ c m. IsShrinkAnswer c m limits))
 
+abbrev pub IsRefuteOf : List (List ℕ) → Answer → Type 0
+IsRefuteOf parts = ToParts (four parts) (λ p. ToTexts p.0 p.1 (λ c m. IsRefuteFrom c m p.2 p.3))
+
 abbrev pub IsCampaignOf : CampaignOptions → List (List ℕ) → Answer → Type 0
 IsCampaignOf options parts =
     ToParts (two parts) (λ p. ToTexts p.0 p.1 (λ c m. IsCampaignFrom c options m))
@@ -193,6 +249,7 @@ IsAnswerTo Replay parts = IsReplayOf parts
 IsAnswerTo Trace parts = IsTraceOf parts
 IsAnswerTo (Serial limits) parts = IsSerialOf limits parts
 IsAnswerTo (Check choice) parts = IsCheckOf choice parts
+IsAnswerTo Refute parts = IsRefuteOf parts
 IsAnswerTo (Shrink limits) parts = IsShrinkOf limits parts
 IsAnswerTo (Campaigning options) parts = IsCampaignOf options parts
 

@@ -1,23 +1,22 @@
 //! Answers: texts with their exit statuses.
 
 ghost use Rattle.std.specs.Prelude.{◌≡◌, IfOk, IfErr, Some};
-ghost use Rattle.std.specs.List.Sorted.{IsStrictlySortedBy};
 ghost use Rattle.lu_test.specs.Matrix.{IsOf};
-ghost use Rattle.lu_trie.specs.Members.{history_cmp};
 ghost use Rattle.lu_cli.specs.Refusals.{refusal_answer};
 ghost use Rattle.lu_cli.specs.Replies as spec;
+ghost use Rattle.lu_cli.specs.Replies.{IsListed};
 
 use crate::refusal::Refusal;
-use crate::spec_text::write_set;
 use crate::texts::Fault as TextsFault;
 use lu_component::Component;
 use lu_parallel::CheckFault;
 use lu_refine::CampaignFault;
-use lu_replay::{Finding, Report, write_report};
-use lu_test::{Matrix, ScheduleFault, write_matrix};
+use lu_refute::RefuteFault;
+use lu_replay::{Finding, Report, ReportFault, write_report};
+use lu_spec::{Spec, write_spec};
+use lu_test::{Matrix, Schedule, ScheduleFault, write_matrix, write_schedule};
 use lu_text::Fault;
-use lu_trie::Trie;
-use std::alloc::{AllocError, Allocator, Global};
+use std::alloc::{AllocError, Global};
 use std::marker::Model;
 
 /// What goes out: a text, and the exit status.
@@ -117,15 +116,30 @@ pub fn show_count(alloc: Global, count: u64) -> Result<Answer, AllocError>
     })
 }
 
-/// What a set of serial histories looks like.
-pub fn show_set<A: Allocator>(alloc: Global, set: &Trie<A>) -> Result<Answer, AllocError>
-    ensures answer { IfOk result (λ answer. answer ≡ spec.shown set.now) }
-    ensures rise { IsStrictlySortedBy history_cmp set.now }
+/// The text of a specification.
+pub fn show_spec(alloc: Global, spec: &Spec) -> Result<Answer, AllocError>
+    ensures { IfOk result (IsListed spec.now) }
 {
     Ok(Answer {
-        text: write_set(alloc, set)?,
+        text: write_spec(alloc, spec)?,
         status: 0,
     })
+}
+
+/// The text of a matrix and of a schedule of it.
+pub fn show_schedule(
+    alloc: Global,
+    component: &Component,
+    matrix: &Matrix,
+    schedule: &Schedule,
+) -> Result<Answer, AllocError>
+    requires { IsOf matrix.now component.now }
+    ensures { IfOk result (λ answer. answer ≡ spec.with_schedule component.now (matrix.now, schedule.now)) }
+{
+    let mut text = write_matrix(alloc, component, matrix)?;
+    text.push_str("---\n")?;
+    text.push_str(write_schedule(alloc, schedule)?.as_str())?;
+    Ok(Answer { text, status: 1 })
 }
 
 /// That the start of a worker's thread was refused.
@@ -158,12 +172,18 @@ pub fn show_refusal(alloc: Global, refusal: Refusal) -> Result<Answer, AllocErro
         Refusal::Schedule(ScheduleFault::Form) => refused(alloc, "C1"),
         Refusal::Schedule(ScheduleFault::Number) => refused(alloc, "C2"),
         Refusal::Schedule(ScheduleFault::Limit) => refused(alloc, "C3"),
+        Refusal::Report(ReportFault::Form(line)) => refused_on_line(alloc, "E1", line),
+        Refusal::Spec(Fault::At(kind, line)) => refused_on_line(alloc, kind.code(), line),
+        Refusal::Refute(RefuteFault::NotShown) => refused(alloc, "F2"),
         Refusal::Campaign(CampaignFault::Candidates) => refused(alloc, "G2"),
         Refusal::Campaign(CampaignFault::Limit) => refused(alloc, "G3"),
         Refusal::Texts(TextsFault::Component(Fault::Memory))
         | Refusal::Texts(TextsFault::Matrix(Fault::Memory))
         | Refusal::Texts(TextsFault::Check(CheckFault::Memory))
         | Refusal::Schedule(ScheduleFault::Memory)
+        | Refusal::Report(ReportFault::Memory)
+        | Refusal::Spec(Fault::Memory)
+        | Refusal::Refute(RefuteFault::Memory)
         | Refusal::Campaign(CampaignFault::Memory)
         | Refusal::Memory => Err(AllocError),
     }

@@ -74,6 +74,13 @@ fn trace_command<'a>(alloc: Global) -> Command<'a>
     Command::new(alloc, "trace")
 }
 
+fn refute_command<'a>(alloc: Global) -> Command<'a>
+    ensures app { app_of result ≡ spec.refute_command }
+    ensures local { (out-Command result).has_globals ≡ false }
+{
+    Command::new(alloc, "refute")
+}
+
 /// The program with the commands that look at one matrix.
 fn single_commands<'a>(alloc: Global) -> Result<Command<'a>, AllocError>
     ensures app { IfOk result (λ command. app_of command ≡ spec.single_commands) }
@@ -92,6 +99,7 @@ fn lineup_command<'a>(alloc: Global) -> Result<Command<'a>, AllocError>
     ensures { IfOk result (λ command. app_of command ≡ lineup) }
 {
     single_commands(alloc)?
+        .subcommand(refute_command(alloc))?
         .subcommand(bounded(alloc, "shrink")?)?
         .subcommand(campaign_command(alloc)?)
 }
@@ -153,6 +161,9 @@ fn order_in(matches: &ArgMatches<'_>) -> Option<Order>
     }
     if name == "check" {
         return Some(Order::Check(options_in(given)?));
+    }
+    if name == "refute" {
+        return Some(Order::Refute);
     }
     if name == "shrink" {
         return Some(Order::Shrink(bounds_in(given)?));

@@ -6,12 +6,13 @@ ghost use Rattle.lu_test.specs.Matrix.{IsOf};
 ghost use Rattle.lu_machine.specs.States.{State};
 ghost use Rattle.lu_machine.specs.Starts.{IsStart};
 ghost use Rattle.lu_replay.specs.Reports.{IsFinding, IsOfOffence};
+ghost use Rattle.lu_spec.specs.Specs.{AreOf};
 ghost use Rattle.lu_refine.specs.Campaigns.{AreCallsOf, HaveArguments};
 ghost use Rattle.lu_cli.specs.Refusals.{Answered};
 ghost use Rattle.lu_cli.specs.Replies as spec;
 
 use crate::answer::{
-    Answer, infeasible, show_count, show_matrix, show_refusal, show_report, show_set,
+    Answer, infeasible, show_count, show_matrix, show_refusal, show_report, show_schedule, show_spec,
 };
 use crate::order::{Bounds, CampaignOptions, Order};
 use crate::refusal::Refusal;
@@ -19,10 +20,14 @@ use crate::texts::{read_texts, report_of};
 use lu_lang::Component;
 use lu_parallel::Options;
 use lu_refine::{Campaign, CampaignFault, ShrinkFault, campaign, shrink};
-use lu_replay::{Finding, ReplayFault, Report, replay, set_or_offence, write_replay};
+use lu_refute::refute;
+use lu_replay::{
+    Finding, ReplayFault, Report, read_report, replay, set_or_offence, write_replay,
+};
 use lu_serial::learn;
+use lu_spec::{Spec, read_spec};
 use lu_test::{Call, Matrix, Schedule, read_schedule};
-use lu_text::{three, two};
+use lu_text::{four, three, two};
 use lu_trace::{TraceFault, write_trace};
 use std::alloc::{AllocError, Global};
 use std::sync::Wait;
@@ -117,7 +122,7 @@ fn run_serially(
 {
     let learnt = learn(alloc, alloc, component, matrix, bounds.serial())?;
     match set_or_offence(learnt) {
-        Ok(set) => show_set(alloc, &set),
+        Ok(set) => show_spec(alloc, &Spec::closure(alloc, matrix, &set)?),
         Err(finding) => show_offence(alloc, component, matrix, bounds, finding),
     }
 }
@@ -142,6 +147,47 @@ fn answer_check<X: AllocGlobal + Threads + Wait>(
     let (component, matrix) = two(parts).ok_or(Refusal::Parts)?;
     let report = report_of(rt, rt.alloc(), component, matrix, options)?;
     Ok(show_report(rt.alloc(), &report)?)
+}
+
+/// A schedule that the specification does not explain, where a run confirms that the report is a failure or nondeterministic.
+fn refute_spec(
+    alloc: Global,
+    component: &Component,
+    matrix: &Matrix,
+    report: &Report,
+    specification: &Spec,
+) -> Result<Answer, Refusal>
+    requires component { IsOf matrix.now component.now }
+    requires spec { AreOf matrix.now specification.now }
+    ensures { Answered (spec.IsRefuteAnswer component.now matrix.now report.now specification.now) result }
+{
+    let (smaller, schedule) = refute(alloc, component, matrix, report, specification)?;
+    Ok(show_schedule(alloc, component, &smaller, &schedule)?)
+}
+
+/// What is answered to the texts of a report and a specification.
+fn refute_texts(
+    alloc: Global,
+    component: &Component,
+    matrix: &Matrix,
+    report: &[u8],
+    specification: &[u8],
+) -> Result<Answer, Refusal>
+    requires { IsOf matrix.now component.now }
+    ensures { Answered (spec.IsRefuteFrom component.now matrix.now report.now specification.now) result }
+{
+    let report = read_report(alloc, report)?;
+    let specification = read_spec(alloc, matrix, specification)?;
+    refute_spec(alloc, component, matrix, &report, &specification)
+}
+
+/// `lineup refute`: component, matrix, report and specification.
+fn answer_refute(alloc: Global, parts: &[&[u8]]) -> Result<Answer, Refusal>
+    ensures { Answered (spec.IsRefuteOf (texts parts.now)) result }
+{
+    let (component, matrix, report, specification) = four(parts).ok_or(Refusal::Parts)?;
+    let (component, matrix) = read_texts(alloc, component, matrix)?;
+    refute_texts(alloc, &component, &matrix, report, specification)
 }
 
 /// The last matrix of the chain of removals, with its report; or the report of a matrix that does not fail.
@@ -239,6 +285,7 @@ fn carry_out<X: AllocGlobal + Threads + Wait>(
         Order::Trace => answer_trace(rt.alloc(), parts),
         Order::Serial(bounds) => answer_serial(rt.alloc(), bounds, parts),
         Order::Check(options) => answer_check(rt, options, parts),
+        Order::Refute => answer_refute(rt.alloc(), parts),
         Order::Shrink(bounds) => answer_shrink(rt.alloc(), bounds, parts),
         Order::Campaign(options) => answer_campaign(rt.alloc(), options, parts),
     }

@@ -11,7 +11,6 @@ mod order;
 mod output;
 mod program;
 mod refusal;
-mod spec_text;
 mod texts;
 
 pub use counted::Counted;

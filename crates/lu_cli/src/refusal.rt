@@ -5,6 +5,9 @@ ghost use Rattle.lu_cli.specs.declared.refusal.Refusal.TheVariants.{Memory};
 
 use crate::texts::Fault;
 use lu_refine::CampaignFault;
+use lu_refute::RefuteFault;
+use lu_replay::ReportFault;
+use lu_spec::SpecFault;
 use lu_test::ScheduleFault;
 use std::alloc::AllocError;
 
@@ -19,6 +22,15 @@ pub(crate) enum Refusal {
 
     /// What is wrong with the text of the schedule.
     Schedule(ScheduleFault),
+
+    /// What is wrong with the text of the report.
+    Report(ReportFault),
+
+    /// What is wrong with the text of the specification.
+    Spec(SpecFault),
+
+    /// That the report shows nothing.
+    Refute(RefuteFault),
 
     /// What is wrong with the calls or the size of a campaign.
     Campaign(CampaignFault),
@@ -44,6 +56,36 @@ impl From<ScheduleFault> for Refusal {
 
     fn from(fault: ScheduleFault) -> Refusal {
         Refusal::Schedule(fault)
+    }
+}
+
+impl From<ReportFault> for Refusal {
+    ghost use Rattle.lu_cli.specs.declared.refusal.Refusal.TheVariants.{Report};
+
+    ghost from_gives = { λ fault e. e ≡ Report fault };
+
+    fn from(fault: ReportFault) -> Refusal {
+        Refusal::Report(fault)
+    }
+}
+
+impl From<SpecFault> for Refusal {
+    ghost use Rattle.lu_cli.specs.declared.refusal.Refusal.TheVariants.{Spec};
+
+    ghost from_gives = { λ fault e. e ≡ Spec fault };
+
+    fn from(fault: SpecFault) -> Refusal {
+        Refusal::Spec(fault)
+    }
+}
+
+impl From<RefuteFault> for Refusal {
+    ghost use Rattle.lu_cli.specs.declared.refusal.Refusal.TheVariants.{Refute};
+
+    ghost from_gives = { λ fault e. e ≡ Refute fault };
+
+    fn from(fault: RefuteFault) -> Refusal {
+        Refusal::Refute(fault)
     }
 }
 

@@ -6,16 +6,10 @@ use Rattle.lu_test.specs.Matrix.{calls_of, without}
 use Rattle.lu_replay.specs.declared.report.Finding.{Finding}
 use Rattle.lu_replay.specs.declared.report.Finding.TheVariants.{SerialCut, Nondeterministic, Fail, Pass}
 use Rattle.lu_replay.specs.declared.report.Report.{Report}
+pub use Rattle.lu_replay.specs.Confirmed.{IsFailure}
 use Rattle.lu_replay.specs.Reports.{IsReport}
 use Rattle.lu_refine.specs.declared.shrink_fault.ShrinkFault.{ShrinkFault}
 use Rattle.lu_refine.specs.declared.shrink_fault.ShrinkFault.TheVariants.{NotFailing, Memory}
-
--- a failure, or nondeterminism
-abbrev pub IsFailure : Finding → Type 0
-IsFailure (SerialCut u) = ⊥
-IsFailure (Nondeterministic u before earlier) = Unit {0}
-IsFailure (Fail u why) = Unit {0}
-IsFailure (Pass counts) = ⊥
 
 -- the report of the matrix is a failure or nondeterministic
 abbrev pub IsFailing : Declarations → ℕ → ℕ → List (List Call) → Type 0

@@ -347,14 +347,16 @@ zip_lengths (row ∷ rows) [] e few = absurd (omega arith)
 zip_lengths (row ∷ rows) (a ∷ threads) e few = (few 0, zip_lengths rows threads (omega arith) (λ t. few (suc t)))
 
 -- the numbers of calls made are lengths of the matrix
+-- no thread makes more calls than it has
+pub made_within : (c : Declarations) (matrix : List (List ACall)) (u : List Move) (end : State) (h : List Event) → Leads (start_of c matrix) u end h → (t : ℕ) → made_of end t ≤ length (calls_of matrix t)
+made_within c matrix u end h leads t =
+    let few = run_few (start_of c matrix) u end h leads (λ x. (let none : made_of (start_of c matrix) x ≡ 0 = none_made (length matrix) x in omega (arith, none))) t in
+    let count = leads_count (start_of c matrix) u end h leads t in
+    omega (arith, few, count)
+
 pub made_lengths : (c : Declarations) (matrix : List (List ACall)) (u : List Move) (end : State) (h : List Event) → Leads (start_of c matrix) u end h → AreLengths matrix (made_calls end)
 made_lengths c matrix u end h leads =
-    let few = run_few (start_of c matrix) u end h leads (λ t. (let none : made_of (start_of c matrix) t ≡ 0 = none_made (length matrix) t in omega (arith, none))) in
-    zip_lengths matrix end.threads (keeps_threads (start_of c matrix) u end h leads ∙ start_threads c matrix) (λ t.
-    (let most = few t in
-    let count = leads_count (start_of c matrix) u end h leads t in
-    let here : made_of end t ≤ length (calls_of matrix t) = omega (arith, most, count) in
-    here))
+    zip_lengths matrix end.threads (keeps_threads (start_of c matrix) u end h leads ∙ start_threads c matrix) (made_within c matrix u end h leads)
 
 cut_length : (rows : List (List ACall)) (lengths : List ℕ) → AreLengths rows lengths → length (cut rows lengths) ≡ length rows
 cut_length [] [] h = refl

@@ -15,6 +15,7 @@ use Rattle.lu_replay.specs.declared.report.Finding.{Finding}
 use Rattle.lu_replay.specs.declared.report.Finding.TheVariants.{SerialCut, Nondeterministic, Fail, Pass}
 use Rattle.lu_replay.specs.declared.report.Report.{Report}
 use Rattle.lu_replay.specs.Confirmed.{IsConfirmed}
+pub use Rattle.lu_replay.specs.Confirmed.{IsFailure}
 use Rattle.lu_refute.specs.declared.fault.RefuteFault.{RefuteFault}
 use Rattle.lu_refute.specs.declared.fault.RefuteFault.TheVariants.{NotShown, Memory}
 use Rattle.lu_refute.specs.Linearizable.{Refutes}
@@ -48,13 +49,6 @@ IsAnswerTo s serial members (Pass counts) answer = ⊥
 -- what is answered to the report, with its own bound of serial runs
 abbrev pub IsAnswer : Declarations → List (List Call) → Report → List (List SerialOp) → List (List Call) × List Move → Type 0
 IsAnswer c matrix r members answer = (s : State) → IsStart c matrix s → IsAnswerTo s r.serial members r.finding answer
-
--- a failure, or nondeterminism
-abbrev pub IsFailure : Finding → Type 0
-IsFailure (SerialCut u) = ⊥
-IsFailure (Nondeterministic u before earlier) = Unit {0}
-IsFailure (Fail u why) = Unit {0}
-IsFailure (Pass counts) = ⊥
 
 -- a run confirms the report, which is a failure or nondeterministic
 abbrev pub IsConfirmedFailure : Declarations → List (List Call) → Report → Type 0

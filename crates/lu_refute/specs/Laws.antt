@@ -139,3 +139,11 @@ FailingIsNotLinearizable =
     (c : Declarations) (matrix : List (List Call)) (bound serial : ℕ) (r : Report) (spec : List SerialOp → Bool) →
     IsReport c matrix bound serial r → IsFailure r.finding →
     IsDeterministicOf matrix spec → IsLinearizable c matrix (λ q. IsTrue (spec q)) → ⊥
+
+-- ---- serial histories
+
+-- In a serial history of the matrix `Stuck` stands only last, and it fits the matrix.
+abbrev pub SerialFits : Type 0
+SerialFits =
+    (c : Declarations) (matrix : List (List Call)) (s : State) (q : List SerialOp) →
+    IsStart c matrix s → IsSerialHistory s q → IsSerial q × Fits matrix q

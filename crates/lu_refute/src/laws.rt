@@ -1,7 +1,7 @@
 //! Laws of specifications, for the crates above: what holds whatever deterministic specification somebody has in mind. Their
 //! functions do nothing.
 
-ghost use Rattle.lu_refute.specs.Laws.{AnswerRefutes, ConflictOutside, CutRefutes, FailingIsNotLinearizable, FailOutside, FailRefutes, MadeCut, NoneLinearizable, NotLinearizable, OneAnswer, OutsideWhole, OwnWitness, SpecIsSerial, WholeCut};
+ghost use Rattle.lu_refute.specs.Laws.{AnswerRefutes, ConflictOutside, CutRefutes, FailOutside, FailRefutes, FailingIsNotLinearizable, MadeCut, NoneLinearizable, NotLinearizable, OneAnswer, OutsideWhole, OwnWitness, SerialFits, SpecIsSerial, WholeCut};
 
 /// Where no serial run offends and a specification has every serial history, it has no other whole ones: each is run again,
 /// entry by entry.
@@ -63,4 +63,9 @@ pub fn not_linearizable()
 pub fn none_linearizable()
     ensures confirmed { NoneLinearizable }
     ensures reported { FailingIsNotLinearizable }
+{}
+
+/// A serial history of a matrix is one of that matrix: so a specification can be made of them.
+pub fn serial_fits()
+    ensures { SerialFits }
 {}

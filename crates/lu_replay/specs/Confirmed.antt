@@ -42,6 +42,13 @@ IsPass (Nondeterministic u before earlier) = ⊥
 IsPass (Fail u why) = ⊥
 IsPass (Pass counts) = Unit {0}
 
+-- a failure, or nondeterminism
+abbrev pub IsFailure : Finding → Type 0
+IsFailure (SerialCut u) = ⊥
+IsFailure (Nondeterministic u before earlier) = Unit {0}
+IsFailure (Fail u why) = Unit {0}
+IsFailure (Pass counts) = ⊥
+
 -- a run that ended so, with this verdict, fails for this reason
 abbrev pub IsReason : Status → Verdict → Why → Type 0
 IsReason end verdict Complete = (end ≡ status.Complete) × (verdict ≡ NoWitness)

@@ -1,8 +1,0 @@
-use Rattle.std.proofs.Common.{◌≡◌, ◌++◌, take}
-use Rattle.std.specs.Prelude.{string_bytes, codes}
-use Rattle.std.specs.List.{flat_map}
-use Rattle.lu_cli.specs.SpecText.{entry_text}
-use Rattle.lu_cli.proofs.spec_text.write_line.Given as goal
-
-abbrev pub invariant-loop-op : goal.invariant-loop-op
-invariant-loop-op l = string_bytes l.text ≡ string_bytes l.fn.text ++ (codes "history" ++ flat_map entry_text (take l.op-index l.history))
