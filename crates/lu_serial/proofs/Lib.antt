@@ -1,8 +1,9 @@
 pub mod Opening
 pub mod SerialPaths
 pub mod CallsLeft
+pub mod Single
+pub mod Shown
 pub mod Learned
 pub mod Turns
 pub mod Seeking
 pub mod Short
-pub mod Single

@@ -39,7 +39,7 @@ one_along s [] end h one f p = subst AtMostOne (sym p.0) one
 one_along s (m ∷ u) end h one f p =
     one_along p.0 u end p.2 (λ t i a b. mover s m p.0 p.1 p.3 f.0 t a ∙ sym (mover s m p.0 p.1 p.3 f.0 i b)) (f.1 p.0 p.1 p.3) p.4
 
-ends_same : (s : State) (h : List Event) → AtMostOne s → (q p : List SerialOp) → EndsAs s h q → EndsAs s h p → q ≡ p
+pub ends_same : (s : State) (h : List Event) → AtMostOne s → (q p : List SerialOp) → EndsAs s h q → EndsAs s h p → q ≡ p
 ends_same s h one q p (inl a) (inl b) = a.1 ∙ sym b.1
 ends_same s h one q p (inl a) (inr b) = absurd (complete_not_open s a.0 b.0 b.1)
 ends_same s h one q p (inr a) (inl b) = absurd (complete_not_open s b.0 a.0 a.1)

@@ -1,11 +1,8 @@
 -- Whether some move goes on serially, and whose.
-use Rattle.std.proofs.Common.{◌≡◌, ◌<◌, ◌+◌, ◌↔◌, ℕ, Some, None, length, sym, ap, inl, inr, arith}
-use Rattle.std.proofs.lemmas.Bool.{cases_lt}
-use Rattle.lu_test.specs.declared.schedule.Move.{Move}
+use Rattle.std.proofs.Common.{◌≡◌, ◌+◌, ◌↔◌, ℕ, Some, None, length, sym, ap, arith}
 use Rattle.lu_machine.specs.States.{State}
-use Rattle.lu_machine.specs.Steps.{IsEnabled, IsFeasible, picks_of}
+use Rattle.lu_machine.specs.Steps.{IsEnabled, picks_of}
 use Rattle.lu_machine.specs.Ends.{HasMove}
-use Rattle.lu_machine.proofs.Ended.{picks_past}
 use Rattle.lu_machine.proofs.Moves.{feasible_within}
 use Rattle.lu_serial.specs.declared.node.OpenCall.{OpenCall}
 use Rattle.lu_serial.specs.Walks.{AreTurns, HasSerialMove, IsOpenIn}

@@ -13,17 +13,14 @@ use Rattle.lu_machine.specs.Steps.{IsFeasible}
 use Rattle.lu_machine.specs.Order.{IsSmaller}
 use Rattle.lu_machine.specs.Runs.{Leads}
 use Rattle.lu_history.specs.declared.serial.SerialOp.{SerialOp}
-use Rattle.lu_trie.specs.Members.{contains, Adds}
-use Rattle.lu_trie.specs.Conflicts.{IsDeterministic, HasConflict}
+use Rattle.lu_trie.specs.Members.{contains}
+use Rattle.lu_trie.specs.Conflicts.{IsDeterministic}
 use Rattle.lu_serial.specs.declared.node.OpenCall.{OpenCall}
 use Rattle.lu_serial.specs.declared.node.Node.{Node}
-use Rattle.lu_serial.specs.declared.learning.Walked.{Walked}
-use Rattle.lu_serial.specs.declared.learning.Walked.TheVariants.{Passed, Cut, Conflict}
-use Rattle.lu_serial.specs.declared.outside.Sought.{Sought}
-use Rattle.lu_serial.specs.declared.outside.Sought.TheVariants.{Inside, Outside, Cut as PastCut}
-use Rattle.lu_machine.specs.Schedules.{BeginsWith, IsLeast}
+use Rattle.lu_serial.specs.declared.walk.Halt.{Halt}
+use Rattle.lu_serial.specs.declared.walk.Halt.TheVariants.{Cut, Stopped}
+use Rattle.lu_machine.specs.Schedules.{BeginsWith}
 use Rattle.lu_serial.specs.Serial.{HasOpen, IsByOpen, IsSerialFrom, HasTaken, IsSeriallyEnded, IsSeriallyCut, entry_of, entries_of, stuck_of}
-use Rattle.lu_serial.specs.Offences.{IsOutside, IsFirstCut, IsFirstConflict}
 
 -- the move goes on serially
 abbrev pub IsSerialMove : State → Move → Type 0
@@ -71,12 +68,6 @@ abbrev pub ended_entries : List SerialOp → Option OpenCall → List SerialOp
 ended_entries entries None = entries
 ended_entries entries (Some current) = entries ++ stuck_of current.thread ∷ []
 
--- how a history comes into the set
-abbrev pub Adding : List (List SerialOp) → List SerialOp → Walked → List (List SerialOp) → Type 0
-Adding old q Passed new = Adds old new q × IsDeterministic new
-Adding old q Cut new = ⊥
-Adding old q (Conflict i o) new = HasConflict old q i o
-
 abbrev pub HasTakenOf : State → List Move → State → ℕ → Option OpenCall → Type 0
 HasTakenOf start u s bound None = Unit {0}
 HasTakenOf start u s bound (Some current) = HasTaken start u s current.thread current.taken × (current.taken ≤ bound)
@@ -115,62 +106,64 @@ pub record IsAt (start : State) (bound : ℕ) (u : List Move) (s : State) (entri
   pub taken : HasTakenOf start u s bound current
   pub within : IsWithin bound u s current
 
--- No schedule of this part is an offence, and the members are the histories of those that are serially ended.
-pub record AreLearnt (s : State) (bound : ℕ) (Part : List Move → Type 0) (members : List (List SerialOp)) : Type 0 where
+-- No schedule of this part is cut, and these are the histories of those that are serially ended.
+pub record AreShown (s : State) (bound : ℕ) (Part : List Move → Type 0) (shown : List (List SerialOp)) : Type 0 where
   pub uncut : (u : List Move) → Part u → IsSeriallyCut s bound u → ⊥
-  pub each : (u : List Move) (q : List SerialOp) → Part u → IsSeriallyEnded s u q → contains members q ≡ true
-  pub only : (q : List SerialOp) → contains members q ≡ true → (u : List Move) × Part u × IsSeriallyEnded s u q
-  pub deterministic : IsDeterministic members
+  pub each : (u : List Move) (q : List SerialOp) → Part u → IsSeriallyEnded s u q → contains shown q ≡ true
+  pub only : (q : List SerialOp) → contains shown q ≡ true → (u : List Move) × Part u × IsSeriallyEnded s u q
 
--- a walk that passed leaves the path as it was, and one that stopped leaves a schedule there
-abbrev pub IsBack : List Move → Walked → List Move → Type 0
-IsBack before Passed after = after ≡ before
-IsBack before Cut after = AreMoves after
-IsBack before (Conflict i o) after = AreMoves after
+-- all histories of this part were shown, and this is known of them
+abbrev pub Shows : State → ℕ → (List Move → Type 0) → (List (List SerialOp) → Type 0) → Type 0
+Shows s bound Part Known = (shown : List (List SerialOp)) × AreShown s bound Part shown × Known shown
 
--- a walk that passed leaves the machine and the entries as they were
-abbrev pub IsHome : Node → Walked → Node → Type 0
-IsHome old Passed new = (new.machine ≡ old.machine) × (new.entries.items ≡ old.entries.items)
-IsHome old Cut new = Unit {0}
-IsHome old (Conflict i o) new = Unit {0}
+-- a harvest was shown some histories since it was the first
+abbrev pub HasBegun : {H : Type 0} → (H → List (List SerialOp) → Type 0) → Type 0
+HasBegun {H} Known = (first : H) × (shown : List (List SerialOp)) × Known first shown
+
+-- a harvest that was shown one history more has taken it, or stops there
+abbrev pub Answers : {H S : Type 0} → (H → List (List SerialOp) → Type 0) → (H → List (List SerialOp) → Type 0) → (List SerialOp → S → Type 0) → List SerialOp → Option S → Type 0
+Answers {H} Old New Stops q None = (first : H) (shown : List (List SerialOp)) → Old first shown → New first (q ∷ shown)
+Answers {H} Old New Stops q (Some stop) =
+    ((first : H) (shown : List (List SerialOp)) → Old first shown → New first shown) × Stops q stop
+
+-- a walk that passed leaves path, machine and entries as they were, and one that halted leaves a schedule at the path
+abbrev pub IsHome : {S : Type 0} → List Move → Node → Option (Halt S) → List Move → Node → Type 0
+IsHome path old None after new = (after ≡ path) × (new.machine ≡ old.machine) × (new.entries.items ≡ old.entries.items)
+IsHome path old (Some halt) after new = AreMoves after
 
 -- the schedule v is smaller than u, or begins with it
 abbrev pub IsUpTo : List Move → List Move → Type 0
 IsUpTo u v = IsSmaller v u ⊎ BeginsWith v u
 
--- A walk that passed has learnt all schedules up to those that begin with the path; a walk that stopped leaves the path at the least offence.
-abbrev pub Walks : State → ℕ → List Move → Walked → List Move → List (List SerialOp) → Type 0
-Walks s bound before Passed after members = AreLearnt s bound (IsUpTo before) members
-Walks s bound before Cut after members = IsFirstCut s bound after
-Walks s bound before (Conflict i o) after members = IsFirstConflict s bound after i o
+-- the path led here, and all smaller schedules were shown
+abbrev pub IsReady : State → ℕ → List Move → Node → Option OpenCall → (List (List SerialOp) → Type 0) → Type 0
+IsReady start bound path node current Known =
+    IsAt start bound path node.machine node.entries.items current × Shows start bound (λ v. IsSmaller v path) Known
 
--- the path led here, and all smaller schedules are learnt
-abbrev pub IsReady : State → ℕ → List Move → State → List SerialOp → Option OpenCall → List (List SerialOp) → Type 0
-IsReady start bound u s entries current members =
-    IsAt start bound u s entries current × AreLearnt start bound (λ v. IsSmaller v u) members
+-- a walk can go on from here
+abbrev pub CanWalk : {H : Type 0} → ℕ → List Move → Node → Option OpenCall → (H → List (List SerialOp) → Type 0) → Type 0
+CanWalk {H} bound path node current Known = (start : State) × (first : H) × IsReady start bound path node current (Known first)
 
--- No schedule of this part is cut, and the histories of those that are serially ended are members.
-pub record AreInside (s : State) (bound : ℕ) (Part : List Move → Type 0) (members : List (List SerialOp)) : Type 0 where
-  pub uncut : (u : List Move) → Part u → IsSeriallyCut s bound u → ⊥
-  pub inside : (u : List Move) (q : List SerialOp) → Part u → IsSeriallyEnded s u q → contains members q ≡ true
+-- the schedule u is cut, or ends with a history at which the harvest stops
+abbrev pub HaltsAt : {S : Type 0} → State → ℕ → (List SerialOp → S → Type 0) → Halt S → List Move → Type 0
+HaltsAt s bound Stops Cut u = IsSeriallyCut s bound u
+HaltsAt s bound Stops (Stopped stop) u = (q : List SerialOp) × IsSeriallyEnded s u q × Stops q stop
 
-abbrev pub IsSought : List Move → Sought → List Move → Type 0
-IsSought before Inside after = after ≡ before
-IsSought before Outside after = AreMoves after
-IsSought before PastCut after = Unit {0}
+-- A walk that passed has shown all schedules up to those that begin with the path; one that halted all that are smaller than the one there.
+abbrev pub Walked : {S : Type 0} → State → ℕ → List Move → (List (List SerialOp) → Type 0) → (List SerialOp → S → Type 0) → Option (Halt S) → List Move → Type 0
+Walked s bound before Known Stops None after = Shows s bound (IsUpTo before) Known
+Walked s bound before Known Stops (Some halt) after =
+    Shows s bound (λ v. IsSmaller v after) Known × HaltsAt s bound Stops halt after
 
-abbrev pub IsHomeSought : Node → Sought → Node → Type 0
-IsHomeSought old Inside new = (new.machine ≡ old.machine) × (new.entries.items ≡ old.entries.items)
-IsHomeSought old Outside new = Unit {0}
-IsHomeSought old PastCut new = Unit {0}
+-- what a walk does, whatever start leads here
+abbrev pub Walks : {H S : Type 0} → ℕ → List Move → Node → Option OpenCall → (H → List (List SerialOp) → Type 0) → (H → List (List SerialOp) → Type 0) → (List SerialOp → S → Type 0) → Option (Halt S) → List Move → Type 0
+Walks {H} bound before node current Old New Stops halt after =
+    (start : State) (first : H) → IsReady start bound before node current (Old first) → Walked start bound before (New first) Stops halt after
 
--- what a search for a history outside the set answers; where it meets a schedule that is cut, none is outside
-abbrev pub Seeks : State → ℕ → List (List SerialOp) → List Move → Sought → List Move → Type 0
-Seeks s bound members before Inside after = AreInside s bound (IsUpTo before) members
-Seeks s bound members before Outside after = IsLeast (IsOutside s bound members) after
-Seeks s bound members before PastCut after = (u : List Move) → IsOutside s bound members u → ⊥
+-- the members are the histories shown, and none of them conflict
+abbrev pub Learns : List (List SerialOp) → List (List SerialOp) → Type 0
+Learns members shown = IsDeterministic members × ((q : List SerialOp) → contains members q ≡ contains shown q)
 
--- the path led here, and all smaller schedules are inside
-abbrev pub IsToSeek : State → ℕ → List Move → State → List SerialOp → Option OpenCall → List (List SerialOp) → Type 0
-IsToSeek start bound u s entries current members =
-    IsAt start bound u s entries current × AreInside start bound (λ v. IsSmaller v u) members
+-- the set is still what it was at first, and each history shown is a member
+abbrev pub Seeks : List (List SerialOp) → List (List SerialOp) → List (List SerialOp) → Type 0
+Seeks first now shown = (now ≡ first) × ((q : List SerialOp) → contains shown q ≡ true → contains first q ≡ true)

@@ -19,6 +19,7 @@ mod laws;
 mod learning;
 mod node;
 mod outside;
+mod walk;
 
 pub use laws::{one_conflict, serial_short};
 pub use learning::{Learnt, learn};

@@ -1,8 +1,8 @@
 use Rattle.std.proofs.Common.{◌≡◌, ◌++◌, [], ◌∷◌}
 use Rattle.lu_machine.specs.States.{State}
 use Rattle.lu_machine.specs.Order.{IsSmaller}
-use Rattle.lu_serial.specs.Walks.{AreLearnt, IsReady, moves_left}
-use Rattle.lu_serial.proofs.learning.+walk.Given as goal
+use Rattle.lu_serial.specs.Walks.{IsReady, Shows, moves_left}
+use Rattle.lu_serial.proofs.walk.+walk.Given as goal
 
 abbrev pub decreases-walk : goal.decreases-walk
 decreases-walk g l = moves_left l.bound l.node.now.machine l.current
@@ -12,7 +12,7 @@ invariant-loop-thread g l = record {
   same : l.path.items ≡ l.fn.path.items;
   machine : l.node.machine ≡ l.fn.node.machine;
   entries : l.node.entries.items ≡ l.fn.node.entries.items;
-  learnt : (start : State) → IsReady start l.bound l.fn.path.items l.fn.node.machine l.fn.node.entries.items l.current l.fn.set → AreLearnt start l.bound (λ v. IsSmaller v (l.fn.path.items ++ record { thread = l.thread; pick = 0 } ∷ [])) l.set;
+  shows : (start : State) (first : _) → IsReady start l.bound l.fn.path.items l.fn.node l.current (g.H.Harvest.was_shown l.fn.harvest first) → Shows start l.bound (λ v. IsSmaller v (l.fn.path.items ++ record { thread = l.thread; pick = 0 } ∷ [])) (g.H.Harvest.was_shown l.harvest first);
 }
 
 abbrev pub invariant-loop-pick : goal.invariant-loop-pick
@@ -20,5 +20,5 @@ invariant-loop-pick g l = record {
   same : l.path.items ≡ l.fn.path.items;
   machine : l.node.machine ≡ l.fn.node.machine;
   entries : l.node.entries.items ≡ l.fn.node.entries.items;
-  learnt : (start : State) → IsReady start l.bound l.fn.path.items l.fn.node.machine l.fn.node.entries.items l.current l.fn.set → AreLearnt start l.bound (λ v. IsSmaller v (l.fn.path.items ++ record { thread = l.thread; pick = l.pick } ∷ [])) l.set;
+  shows : (start : State) (first : _) → IsReady start l.bound l.fn.path.items l.fn.node l.current (g.H.Harvest.was_shown l.fn.harvest first) → Shows start l.bound (λ v. IsSmaller v (l.fn.path.items ++ record { thread = l.thread; pick = l.pick } ∷ [])) (g.H.Harvest.was_shown l.harvest first);
 }
