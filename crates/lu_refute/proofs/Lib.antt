@@ -15,3 +15,4 @@ pub mod Copies
 pub mod Answering
 pub mod Every
 pub mod Determined
+pub mod LearntSets

@@ -1,7 +1,7 @@
 //! Laws of specifications, for the crates above: what holds whatever deterministic specification somebody has in mind. Their
 //! functions do nothing.
 
-ghost use Rattle.lu_refute.specs.Laws.{AnswerRefutes, ConflictOutside, CutRefutes, FailingIsNotLinearizable, FailOutside, FailRefutes, MadeCut, NoneLinearizable, NotLinearizable, OneAnswer, OutsideWhole, OwnWitness, SpecIsSerial, WholeCut};
+ghost use Rattle.lu_refute.specs.Laws.{AnswerRefutes, ConflictOutside, CutRefutes, FailingIsNotLinearizable, FailOutside, FailRefutes, LearntCloses, MadeCut, NoneLinearizable, NotLinearizable, OneAnswer, OutsideWhole, OwnWitness, SpecIsSerial, WholeCut};
 
 /// Where no serial run offends and a specification has every serial history, it has no other whole ones: each is run again,
 /// entry by entry.
@@ -63,4 +63,9 @@ pub fn not_linearizable()
 pub fn none_linearizable()
     ensures confirmed { NoneLinearizable }
     ensures reported { FailingIsNotLinearizable }
+{}
+
+/// The set that [`lu_serial::learn`] answers may be closed to a specification: [`lu_spec::Spec::closure`] asks for no more.
+pub fn learnt_closes()
+    ensures { LearntCloses }
 {}
