@@ -12,7 +12,7 @@ use Rattle.lu_machine.specs.declared.event.Outcome.{Outcome}
 use Rattle.lu_machine.specs.declared.event.Outcome.TheVariants.{Ret, Trap}
 use Rattle.lu_machine.specs.declared.thread.Thread.{Thread}
 use Rattle.lu_machine.specs.States.{State, is_open}
-use Rattle.lu_machine.specs.Starts.{start_of}
+use Rattle.lu_machine.specs.Starts.{IsStart, start_of}
 use Rattle.lu_machine.specs.Runs.{Leads}
 use Rattle.lu_history.specs.declared.serial.SerialOp.{SerialOp}
 use Rattle.lu_history.specs.declared.serial.SerialOutcome.TheVariants as serial
@@ -24,7 +24,7 @@ use Rattle.lu_serial.proofs.Opening.{same_or_not}
 use Rattle.lu_witness.specs.Witnesses.{entries}
 use Rattle.lu_witness.proofs.Entries.{entries-append}
 use Rattle.lu_spec.specs.Specs.{Fits}
-use Rattle.lu_refute.specs.Laws.{SerialFits}
+use Rattle.lu_refute.specs.Laws.{LearntCloses}
 use Rattle.lu_refute.proofs.Moves.{done_in, done_of}
 use Rattle.lu_refute.proofs.Fails.{made_in, made_of, made_open, run_returns}
 use Rattle.lu_refute.proofs.Cuts.{made_within}
@@ -103,7 +103,14 @@ ends_serial end h q ends = elim ends as (λ _. IsSerial q) [
   | inr stops ↦ subst IsSerial (sym stops.3) (serial_entries h (stuck_of stops.0 ∷ []) ((λ e. refl), tt))
 ]
 
-pub serial_fits : SerialFits
+pub serial_fits : (c : Declarations) (matrix : List (List ACall)) (s : State) (q : List SerialOp) → IsStart c matrix s → IsSerialHistory s q → IsSerial q × Fits matrix q
 serial_fits c matrix s q is history =
     let there : IsSerialHistory (start_of c matrix) q = subst (λ x. IsSerialHistory x q) is history in
     (ends_serial there.1.end there.1.history q there.1.holds, fits c matrix there.0 there.1.end there.1.history q there.1.leads there.1.holds)
+
+-- what is learnt may be closed to a specification
+pub learnt_closes : LearntCloses
+learnt_closes c matrix s bound members is set =
+    (set.deterministic,
+    (λ q has. (serial_fits c matrix s q is ((set.are q).0 has)).0),
+    (λ q has. (serial_fits c matrix s q is ((set.are q).0 has)).1))

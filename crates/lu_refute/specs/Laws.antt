@@ -8,11 +8,11 @@ use Rattle.lu_machine.specs.States.{State}
 use Rattle.lu_machine.specs.Starts.{IsStart}
 use Rattle.lu_history.specs.declared.serial.SerialOp.{SerialOp}
 use Rattle.lu_history.specs.declared.serial.SerialOutcome.{SerialOutcome}
-use Rattle.lu_trie.specs.Members.{contains}
+use Rattle.lu_trie.specs.Members.{AllSerial, contains}
 use Rattle.lu_history.specs.Serial.{IsSerial}
 use Rattle.lu_trie.specs.Conflicts.{ConflictAt, IsDeterministic}
 use Rattle.lu_serial.specs.Serial.{IsSerialHistory, IsSeriallyEnded, stuck_of}
-use Rattle.lu_serial.specs.Offences.{NoOffence, IsFirstConflict, IsFirstOutside, IsOutside}
+use Rattle.lu_serial.specs.Offences.{NoOffence, IsSetOf, IsFirstConflict, IsFirstOutside, IsOutside}
 use Rattle.lu_witness.specs.Witnesses.{IsMember, IsWitness, entries}
 use Rattle.lu_replay.specs.declared.report.Finding.{Finding}
 use Rattle.lu_replay.specs.declared.report.Report.{Report}
@@ -140,10 +140,10 @@ FailingIsNotLinearizable =
     IsReport c matrix bound serial r → IsFailure r.finding →
     IsDeterministicOf matrix spec → IsLinearizable c matrix (λ q. IsTrue (spec q)) → ⊥
 
--- ---- serial histories
+-- ---- the set of the serial runs
 
--- In a serial history of the matrix `Stuck` stands only last, and it fits the matrix.
-abbrev pub SerialFits : Type 0
-SerialFits =
-    (c : Declarations) (matrix : List (List Call)) (s : State) (q : List SerialOp) →
-    IsStart c matrix s → IsSerialHistory s q → IsSerial q × Fits matrix q
+-- The histories of the serial runs, where none offends: no two of them conflict, `Stuck` stands only last, and they fit the matrix.
+abbrev pub LearntCloses : Type 0
+LearntCloses =
+    (c : Declarations) (matrix : List (List Call)) (s : State) (bound : ℕ) (members : List (List SerialOp)) →
+    IsStart c matrix s → IsSetOf s bound members → IsDeterministic members × AllSerial members × AreOf matrix members

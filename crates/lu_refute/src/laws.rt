@@ -1,7 +1,7 @@
 //! Laws of specifications, for the crates above: what holds whatever deterministic specification somebody has in mind. Their
 //! functions do nothing.
 
-ghost use Rattle.lu_refute.specs.Laws.{AnswerRefutes, ConflictOutside, CutRefutes, FailOutside, FailRefutes, FailingIsNotLinearizable, MadeCut, NoneLinearizable, NotLinearizable, OneAnswer, OutsideWhole, OwnWitness, SerialFits, SpecIsSerial, WholeCut};
+ghost use Rattle.lu_refute.specs.Laws.{AnswerRefutes, ConflictOutside, CutRefutes, FailingIsNotLinearizable, FailOutside, FailRefutes, LearntCloses, MadeCut, NoneLinearizable, NotLinearizable, OneAnswer, OutsideWhole, OwnWitness, SpecIsSerial, WholeCut};
 
 /// Where no serial run offends and a specification has every serial history, it has no other whole ones: each is run again,
 /// entry by entry.
@@ -65,7 +65,7 @@ pub fn none_linearizable()
     ensures reported { FailingIsNotLinearizable }
 {}
 
-/// A serial history of a matrix is one of that matrix: so a specification can be made of them.
-pub fn serial_fits()
-    ensures { SerialFits }
+/// The set that [`lu_serial::learn`] answers may be closed to a specification: [`lu_spec::Spec::closure`] asks for no more.
+pub fn learnt_closes()
+    ensures { LearntCloses }
 {}
