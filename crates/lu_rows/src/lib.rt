@@ -21,6 +21,8 @@ mod long_moves;
 #[cfg(test)]
 mod programs;
 #[cfg(test)]
+mod refutations;
+#[cfg(test)]
 mod small_matrices;
 #[cfg(test)]
 mod tests;
