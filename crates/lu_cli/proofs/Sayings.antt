@@ -25,10 +25,10 @@ use Rattle.lu_refine.specs.declared.campaigns.Campaign.{Campaign}
 use Rattle.lu_refine.specs.declared.campaigns.Campaign.TheVariants.{AllPass, First}
 use Rattle.lu_cli.specs.declared.order.CampaignOptions.{CampaignOptions}
 use Rattle.lu_cli.specs.declared.order.Order.{Order}
-use Rattle.lu_cli.specs.declared.order.Order.TheVariants.{Replay, Serial, Check, Shrink, Campaign as Campaigning}
+use Rattle.lu_cli.specs.declared.order.Order.TheVariants.{Replay, Trace, Serial, Check, Shrink, Campaign as Campaigning}
 use Rattle.lu_cli.specs.Bundle.{parts_of}
 use Rattle.lu_cli.specs.Orders.{Limits}
-use Rattle.lu_cli.specs.Replies.{Answer, Answers, IsAnswerFrom, IsAnswerOf, IsAnswerTo, IsCampaignAnswer, IsCampaignFrom, IsChecked, IsReplayed, IsReplayOf, IsRunSerially, IsShrinkAnswer, Tells, ToMatrix, ToParts, ToSchedule, ToTexts, ToValue, found_answer, no_command, no_device, no_memory, refused, reported, status_of, with_matrix}
+use Rattle.lu_cli.specs.Replies.{Answer, Answers, IsAnswerFrom, IsAnswerOf, IsAnswerTo, IsCampaignAnswer, IsCampaignFrom, IsChecked, IsReplayed, IsRunSerially, IsShrinkAnswer, IsTraced, Tells, ToMatrix, ToParts, ToSchedule, ToTexts, ToValue, found_answer, no_command, no_device, no_memory, refused, reported, status_of, with_matrix}
 
 -- an answer that was made and said
 pub said : (IsAnswer : Answer → Type 0) (answer : Answer) (text : List ℕ) (old new : Option (List ℕ)) (status : ℕ) → IsAnswer answer → text ≡ answer.text → Appends old new text × (status ≡ answer.status) → Answers IsAnswer old new status
@@ -90,9 +90,13 @@ replayed_else : (c : Declarations) (m : List (List Call)) (u : List Move) (answe
 replayed_else c m u answer (inl is) = status_else answer 0 (ap (λ (a : Answer). a.status) is.3) (λ e. omega arith)
 replayed_else c m u answer (inr is) = status_else answer 1 (ap (λ (a : Answer). a.status) is.2) (λ e. omega arith)
 
-scheduled_else : (c : Declarations) (m : List (List Call)) (r : Result (List Move) ScheduleFault) (answer : Answer) → ToSchedule r (IsReplayed c m) answer → IsElse answer
-scheduled_else c m (Ok u) answer is = replayed_else c m u answer is
-scheduled_else c m (Err fault) answer is = refused_else _ answer is
+traced_else : (c : Declarations) (m : List (List Call)) (u : List Move) (answer : Answer) → IsTraced c m u answer → IsElse answer
+traced_else c m u answer (inl is) = status_else answer 0 (ap (λ (a : Answer). a.status) is.2) (λ e. omega arith)
+traced_else c m u answer (inr is) = status_else answer 1 (ap (λ (a : Answer). a.status) is.2) (λ e. omega arith)
+
+scheduled_else : (r : Result (List Move) ScheduleFault) (IsAnswer : List Move → Answer → Type 0) (answer : Answer) → ((u : List Move) → IsAnswer u answer → IsElse answer) → ToSchedule r IsAnswer answer → IsElse answer
+scheduled_else (Ok u) IsAnswer answer h is = h u is
+scheduled_else (Err fault) IsAnswer answer h is = refused_else _ answer is
 
 serial_else : (c : Declarations) (m : List (List Call)) (limits : Limits) (answer : Answer) → IsRunSerially c m limits answer → IsElse answer
 serial_else c m limits answer (inl is) = status_else answer 0 (ap (λ (a : Answer). a.status) is.3.2) (λ e. omega arith)
@@ -120,10 +124,10 @@ two_else : (parts : List (List ℕ)) (IsAnswer : Declarations → List (List Cal
 two_else parts IsAnswer answer h is =
     parts_else (two parts) (λ p. ToTexts p.0 p.1 IsAnswer) answer (λ p more. texts_else p.0 p.1 IsAnswer answer h more) is
 
-replay_else : (parts : List (List ℕ)) (answer : Answer) → IsReplayOf parts answer → IsElse answer
-replay_else parts answer is =
-    parts_else (three parts) (λ p. ToTexts p.0 p.1 (λ c m. ToSchedule (schedule_of p.2) (IsReplayed c m))) answer
-    (λ p more. texts_else p.0 p.1 (λ c m. ToSchedule (schedule_of p.2) (IsReplayed c m)) answer (λ c m play. scheduled_else c m (schedule_of p.2) answer play) more) is
+three_else : (parts : List (List ℕ)) (IsAnswer : Declarations → List (List Call) → List Move → Answer → Type 0) (answer : Answer) → ((c : Declarations) (m : List (List Call)) (u : List Move) → IsAnswer c m u answer → IsElse answer) → ToParts (three parts) (λ p. ToTexts p.0 p.1 (λ c m. ToSchedule (schedule_of p.2) (IsAnswer c m))) answer → IsElse answer
+three_else parts IsAnswer answer h is =
+    parts_else (three parts) (λ p. ToTexts p.0 p.1 (λ c m. ToSchedule (schedule_of p.2) (IsAnswer c m))) answer
+    (λ p more. texts_else p.0 p.1 (λ c m. ToSchedule (schedule_of p.2) (IsAnswer c m)) answer (λ c m play. scheduled_else (schedule_of p.2) (IsAnswer c m) answer (h c m) play) more) is
 
 matrix_else : (c : Declarations) (m : List (List Call)) (r : Parts) (answer : Answer) → answer ≡ with_matrix c m r → IsElse answer
 matrix_else c m r answer is = status_else answer (status_of r.finding) (ap (λ (a : Answer). a.status) is) (status_of_else r.finding)
@@ -146,7 +150,8 @@ candidates_else c options (candidates ∷ []) answer is = campaign_else c option
 candidates_else c options (a ∷ b ∷ m) answer is = refused_else (codes "G2") answer is
 
 order_else : (order : Order) (parts : List (List ℕ)) (answer : Answer) → IsAnswerTo order parts answer → IsElse answer
-order_else Replay parts answer is = replay_else parts answer is
+order_else Replay parts answer is = three_else parts IsReplayed answer (λ c m u more. replayed_else c m u answer more) is
+order_else Trace parts answer is = three_else parts IsTraced answer (λ c m u more. traced_else c m u answer more) is
 order_else (Serial limits) parts answer is = two_else parts (λ c m. IsRunSerially c m limits) answer (λ c m more. serial_else c m limits answer more) is
 order_else (Check choice) parts answer is = two_else parts (λ c m. IsChecked c m choice) answer (λ c m more. checked_else c m choice answer more) is
 order_else (Shrink limits) parts answer is = two_else parts (λ c m. IsShrinkAnswer c m limits) answer (λ c m more. shrink_else c m limits answer more) is

@@ -11,7 +11,7 @@ use Rattle.clap.specs.declared.builder.value_parser.ValueParser.TheVariants as v
 use Rattle.clap.specs.declared.error.kind.ErrorKind.{ErrorKind}
 use Rattle.lu_cli.specs.declared.order.CampaignOptions.{CampaignOptions}
 use Rattle.lu_cli.specs.declared.order.Order.{Order}
-use Rattle.lu_cli.specs.declared.order.Order.TheVariants.{Replay, Serial, Check, Shrink, Campaign}
+use Rattle.lu_cli.specs.declared.order.Order.TheVariants.{Replay, Trace, Serial, Check, Shrink, Campaign}
 use Rattle.lu_cli.specs.Orders.{Limits, limits_of, choice_of}
 use Rattle.lu_parallel.specs.Ranges.{Choice}
 
@@ -34,6 +34,9 @@ bounded name =
 abbrev pub replay_command : App
 replay_command = new_app (codes "replay")
 
+abbrev pub trace_command : App
+trace_command = new_app (codes "trace")
+
 abbrev pub serial_command : App
 serial_command = bounded (codes "serial")
 
@@ -54,10 +57,13 @@ campaign_command =
 abbrev pub program : App
 program = record (new_app (codes "lineup")) { top = record ((new_app (codes "lineup")).top) { no_binary_name = true; subcommand_required = true } }
 
+-- the program with the commands that play a schedule
+abbrev pub schedule_commands : App
+schedule_commands = with_subcommand (with_subcommand program replay_command.top) trace_command.top
+
 -- the program with the commands that look at one matrix
 abbrev pub single_commands : App
-single_commands =
-    with_subcommand (with_subcommand (with_subcommand program replay_command.top) serial_command.top) check_command.top
+single_commands = with_subcommand (with_subcommand schedule_commands serial_command.top) check_command.top
 
 abbrev pub lineup : App
 lineup = with_subcommand (with_subcommand single_commands shrink_command.top) campaign_command.top
@@ -106,10 +112,11 @@ campaign_in rows = campaign_with (limits_in rows) (number_in (codes "threads") r
 abbrev pub order_by : Text → List Row → Option Order
 order_by name rows =
     if bytes_eq name (codes "replay") then Some Replay
+    else (if bytes_eq name (codes "trace") then Some Trace
     else (if bytes_eq name (codes "serial") then option_map Serial (limits_in rows)
     else (if bytes_eq name (codes "check") then option_map Check (choice_in rows)
     else (if bytes_eq name (codes "shrink") then option_map Shrink (limits_in rows)
-    else (if bytes_eq name (codes "campaign") then option_map Campaign (campaign_in rows) else None))))
+    else (if bytes_eq name (codes "campaign") then option_map Campaign (campaign_in rows) else None)))))
 
 abbrev pub order_in : Option (Text × List Row) → Option Order
 order_in entered = option_and_then (λ e. order_by e.0 e.1) entered

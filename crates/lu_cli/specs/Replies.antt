@@ -29,6 +29,7 @@ use Rattle.lu_replay.specs.Reports.{IsReport, IsOfOffence}
 use Rattle.lu_replay.specs.ReportText.{report_text}
 use Rattle.lu_replay.specs.Replays.{Shows, IsInfeasibleAt}
 use Rattle.lu_replay.specs.Text.{replay_text}
+use Rattle.lu_trace.specs.Traces.{IsTrace}
 use Rattle.lu_parallel.specs.Ranges.{Choice}
 use Rattle.lu_refine.specs.declared.campaigns.Campaign.{Campaign}
 use Rattle.lu_refine.specs.declared.campaigns.Campaign.TheVariants.{AllPass, First}
@@ -39,7 +40,7 @@ use Rattle.lu_refine.specs.Codes.{campaign_code_of}
 use Rattle.lu_refine.specs.Removals.{IsFailure, IsShrunk}
 use Rattle.lu_cli.specs.declared.order.CampaignOptions.{CampaignOptions}
 use Rattle.lu_cli.specs.declared.order.Order.{Order}
-use Rattle.lu_cli.specs.declared.order.Order.TheVariants.{Replay, Serial, Check, Shrink, Campaign as Campaigning}
+use Rattle.lu_cli.specs.declared.order.Order.TheVariants.{Replay, Trace, Serial, Check, Shrink, Campaign as Campaigning}
 use Rattle.lu_cli.specs.Bundle.{parts_of}
 use Rattle.lu_cli.specs.Orders.{Limits}
 use Rattle.lu_cli.specs.SpecText.{IsListOf, spec_text}
@@ -62,6 +63,15 @@ abbrev pub IsReplayed : Declarations → List (List Call) → List Move → Answ
 IsReplayed c matrix u answer =
     ((history : List Event) × (status : Status) × Shows c matrix u history status
     × (answer ≡ record { text = replay_text history status; status = 0 }))
+    ⊎ ((i : ℕ) × IsInfeasibleAt c matrix u i
+    × (answer ≡ infeasible i))
+
+-- ---- `trace`
+
+-- the trace of the schedule, or where it is infeasible
+abbrev pub IsTraced : Declarations → List (List Call) → List Move → Answer → Type 0
+IsTraced c matrix u answer =
+    ((text : List ℕ) × IsTrace c matrix u text × (answer ≡ record { text = text; status = 0 }))
     ⊎ ((i : ℕ) × IsInfeasibleAt c matrix u i
     × (answer ≡ infeasible i))
 
@@ -161,6 +171,9 @@ ToParts (Some parts) IsAnswer answer = IsAnswer parts answer
 abbrev pub IsReplayOf : List (List ℕ) → Answer → Type 0
 IsReplayOf parts = ToParts (three parts) (λ p. ToTexts p.0 p.1 (λ c m. ToSchedule (schedule_of p.2) (IsReplayed c m)))
 
+abbrev pub IsTraceOf : List (List ℕ) → Answer → Type 0
+IsTraceOf parts = ToParts (three parts) (λ p. ToTexts p.0 p.1 (λ c m. ToSchedule (schedule_of p.2) (IsTraced c m)))
+
 abbrev pub IsSerialOf : Limits → List (List ℕ) → Answer → Type 0
 IsSerialOf limits parts = ToParts (two parts) (λ p. ToTexts p.0 p.1 (λ c m. IsRunSerially c m limits))
 
@@ -177,6 +190,7 @@ IsCampaignOf options parts =
 -- the answer to an order and the parts of the bundle
 abbrev pub IsAnswerTo : Order → List (List ℕ) → Answer → Type 0
 IsAnswerTo Replay parts = IsReplayOf parts
+IsAnswerTo Trace parts = IsTraceOf parts
 IsAnswerTo (Serial limits) parts = IsSerialOf limits parts
 IsAnswerTo (Check choice) parts = IsCheckOf choice parts
 IsAnswerTo (Shrink limits) parts = IsShrinkOf limits parts

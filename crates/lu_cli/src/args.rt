@@ -67,15 +67,31 @@ fn replay_command<'a>(alloc: Global) -> Command<'a>
     Command::new(alloc, "replay")
 }
 
-/// The program with the commands that look at one matrix.
-fn single_commands<'a>(alloc: Global) -> Result<Command<'a>, AllocError>
-    ensures app { IfOk result (λ command. app_of command ≡ spec.single_commands) }
+fn trace_command<'a>(alloc: Global) -> Command<'a>
+    ensures app { app_of result ≡ spec.trace_command }
+    ensures local { (out-Command result).has_globals ≡ false }
+{
+    Command::new(alloc, "trace")
+}
+
+/// The program with the commands that play a schedule.
+fn schedule_commands<'a>(alloc: Global) -> Result<Command<'a>, AllocError>
+    ensures app { IfOk result (λ command. app_of command ≡ spec.schedule_commands) }
     ensures local { IfOk result (λ command. (out-Command command).has_globals ≡ false) }
 {
     Command::new(alloc, "lineup")
         .no_binary_name(true)
         .subcommand_required(true)
         .subcommand(replay_command(alloc))?
+        .subcommand(trace_command(alloc))
+}
+
+/// The program with the commands that look at one matrix.
+fn single_commands<'a>(alloc: Global) -> Result<Command<'a>, AllocError>
+    ensures app { IfOk result (λ command. app_of command ≡ spec.single_commands) }
+    ensures local { IfOk result (λ command. (out-Command command).has_globals ≡ false) }
+{
+    schedule_commands(alloc)?
         .subcommand(bounded(alloc, "serial")?)?
         .subcommand(check_command(alloc)?)
 }
@@ -136,6 +152,9 @@ fn order_in(matches: &ArgMatches<'_>) -> Option<Order>
     let (name, given) = matches.subcommand()?;
     if name == "replay" {
         return Some(Order::Replay);
+    }
+    if name == "trace" {
+        return Some(Order::Trace);
     }
     if name == "serial" {
         return Some(Order::Serial(bounds_in(given)?));

@@ -23,6 +23,7 @@ use lu_replay::{Finding, ReplayFault, Report, replay, set_or_offence, write_repl
 use lu_serial::learn;
 use lu_test::{Call, Matrix, Schedule, read_schedule};
 use lu_text::{three, two};
+use lu_trace::{TraceFault, write_trace};
 use std::alloc::{AllocError, Global};
 use std::sync::Wait;
 use std::thread::Threads;
@@ -55,6 +56,33 @@ fn answer_replay(alloc: Global, parts: &[&[u8]]) -> Result<Answer, Refusal>
     let (component, matrix) = read_texts(alloc, component, matrix)?;
     let schedule = read_schedule(alloc, schedule)?;
     Ok(play(alloc, &component, &matrix, &schedule)?)
+}
+
+/// The trace of the schedule, or where it is infeasible.
+fn trace(
+    alloc: Global,
+    component: &Component,
+    matrix: &Matrix,
+    schedule: &Schedule,
+) -> Result<Answer, AllocError>
+    requires { IsOf matrix.now component.now }
+    ensures { IfOk result (spec.IsTraced component.now matrix.now schedule.now) }
+{
+    match write_trace(alloc, component, matrix, schedule) {
+        Ok(text) => Ok(Answer { text, status: 0 }),
+        Err(TraceFault::Infeasible(index)) => infeasible(alloc, index),
+        Err(TraceFault::Memory) => Err(AllocError),
+    }
+}
+
+/// `lineup trace`: component, matrix and schedule.
+fn answer_trace(alloc: Global, parts: &[&[u8]]) -> Result<Answer, Refusal>
+    ensures { Answered (spec.IsTraceOf (texts parts.now)) result }
+{
+    let (component, matrix, moves) = three(parts).ok_or(Refusal::Parts)?;
+    let (component, matrix) = read_texts(alloc, component, matrix)?;
+    let schedule = read_schedule(alloc, moves)?;
+    Ok(trace(alloc, &component, &matrix, &schedule)?)
 }
 
 /// The report of a serial offence.
@@ -208,6 +236,7 @@ fn carry_out<X: AllocGlobal + Threads + Wait>(
 {
     match order {
         Order::Replay => answer_replay(rt.alloc(), parts),
+        Order::Trace => answer_trace(rt.alloc(), parts),
         Order::Serial(bounds) => answer_serial(rt.alloc(), bounds, parts),
         Order::Check(options) => answer_check(rt, options, parts),
         Order::Shrink(bounds) => answer_shrink(rt.alloc(), bounds, parts),

@@ -74,6 +74,9 @@ pub enum Order {
     /// `lineup replay`: play a schedule of a component and a matrix.
     Replay,
 
+    /// `lineup trace`: show what each move of a schedule does.
+    Trace,
+
     /// `lineup serial`: show the serial histories of a component and a matrix.
     Serial(Bounds),
 
