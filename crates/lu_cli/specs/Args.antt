@@ -60,11 +60,13 @@ campaign_command =
 abbrev pub program : App
 program = record (new_app (codes "lineup")) { top = record ((new_app (codes "lineup")).top) { no_binary_name = true; subcommand_required = true } }
 
+-- the program with the commands that play a schedule
+abbrev pub schedule_commands : App
+schedule_commands = with_subcommand (with_subcommand program replay_command.top) trace_command.top
+
 -- the program with the commands that look at one matrix
 abbrev pub single_commands : App
-single_commands =
-    with_subcommand (with_subcommand (with_subcommand (with_subcommand program replay_command.top) trace_command.top)
-    serial_command.top) check_command.top
+single_commands = with_subcommand (with_subcommand schedule_commands serial_command.top) check_command.top
 
 abbrev pub lineup : App
 lineup =

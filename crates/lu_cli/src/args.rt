@@ -81,16 +81,24 @@ fn refute_command<'a>(alloc: Global) -> Command<'a>
     Command::new(alloc, "refute")
 }
 
-/// The program with the commands that look at one matrix.
-fn single_commands<'a>(alloc: Global) -> Result<Command<'a>, AllocError>
-    ensures app { IfOk result (λ command. app_of command ≡ spec.single_commands) }
+/// The program with the commands that play a schedule.
+fn schedule_commands<'a>(alloc: Global) -> Result<Command<'a>, AllocError>
+    ensures app { IfOk result (λ command. app_of command ≡ spec.schedule_commands) }
     ensures local { IfOk result (λ command. (out-Command command).has_globals ≡ false) }
 {
     Command::new(alloc, "lineup")
         .no_binary_name(true)
         .subcommand_required(true)
         .subcommand(replay_command(alloc))?
-        .subcommand(trace_command(alloc))?
+        .subcommand(trace_command(alloc))
+}
+
+/// The program with the commands that look at one matrix.
+fn single_commands<'a>(alloc: Global) -> Result<Command<'a>, AllocError>
+    ensures app { IfOk result (λ command. app_of command ≡ spec.single_commands) }
+    ensures local { IfOk result (λ command. (out-Command command).has_globals ≡ false) }
+{
+    schedule_commands(alloc)?
         .subcommand(bounded(alloc, "serial")?)?
         .subcommand(check_command(alloc)?)
 }

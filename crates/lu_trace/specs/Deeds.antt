@@ -54,6 +54,18 @@ abbrev pub or_trap : (ℕ → List ℕ) → Option ℕ → List ℕ
 or_trap said None = trap
 or_trap said (Some n) = said n
 
+-- the register becomes what the cell is
+abbrev pub load_deed : State → Frame → ℕ → ℕ → Operand → List ℕ
+load_deed s f to w i = or_trap (λ n. register_becomes to n) (seen s f w i)
+
+-- the cell becomes v
+abbrev pub store_deed : State → Frame → ℕ → Operand → ℕ → List ℕ
+store_deed s f w i v = or_trap (λ n. cell_becomes s.component w (value_of f i) v) (seen s f w i)
+
+-- what the cell is
+abbrev pub look_deed : State → Frame → ℕ → Operand → List ℕ
+look_deed s f w i = or_trap (λ n. cell_is s.component w (value_of f i) n) (seen s f w i)
+
 -- where the values are equal the cell becomes `desired` and the register 1, else the register 0
 abbrev pub swap_deed : Declarations → ℕ → ℕ → ℕ → ℕ → ℕ → ℕ → List ℕ
 swap_deed c to w i expected desired n =
@@ -72,15 +84,15 @@ jump_deed target n = if n == 0 then goes_on_at target else codes "goes on"
 abbrev pub deed : State → Move → Frame → Instr → List ℕ
 deed s m f (Set to v) = register_becomes to (value_of f v)
 deed s m f (Compute by to a b) = register_becomes to (computed by (value_of f a) (value_of f b))
-deed s m f (Load to w i) = or_trap (λ n. register_becomes to n) (seen s f w i)
-deed s m f (Store w i v) = or_trap (λ n. cell_becomes s.component w (value_of f i) (value_of f v)) (seen s f w i)
+deed s m f (Load to w i) = load_deed s f to w i
+deed s m f (Store w i v) = store_deed s f w i (value_of f v)
 deed s m f (Cas to w i expected desired) =
     or_trap (λ n. swap_deed s.component to w (value_of f i) (value_of f expected) (value_of f desired) n)
     (seen s f w i)
 deed s m f (Lock l) = lock_word s.component l ++ codes " is taken"
 deed s m f (Unlock l) = unlock_deed s m.thread l
-deed s m f (Await w i v) = or_trap (λ n. cell_is s.component w (value_of f i) n) (seen s f w i)
-deed s m f (AwaitNot w i v) = or_trap (λ n. cell_is s.component w (value_of f i) n) (seen s f w i)
+deed s m f (Await w i v) = look_deed s f w i
+deed s m f (AwaitNot w i v) = look_deed s f w i
 deed s m f (Pick to count) = register_becomes to m.pick
 deed s m f (Jump target) = goes_on_at target
 deed s m f (JumpIfZero v target) = jump_deed target (value_of f v)

@@ -69,12 +69,14 @@ call_words c call = codes "call " ++ call_text c call
 
 -- the next call of thread t, which has made so many
 abbrev pub next_call : State → ℕ → ℕ → List ℕ
-next_call s t done = option_map_or (λ call. call_words s.component call) (slice_get (calls_of s.matrix t) done) []
+next_call s t done =
+    option_map_or (λ call. call_words s.component call) (slice_get (calls_of s.matrix t) done) []
 
 -- the next instruction of the operation f, and what it does by the move m
 abbrev pub next_instr : State → Move → Frame → List ℕ
 next_instr s m f =
-    option_map_or (λ instr. instr_text s.component f instr ++ deed s m f instr) (instr_at s.component f.op f.place) []
+    option_map_or (λ instr. instr_text s.component f instr ++ deed s m f instr)
+    (instr_at s.component f.op f.place) []
 
 -- what a thread that stands so does next
 abbrev pub next_words : State → Move → ℕ → Activity → List ℕ

@@ -2,7 +2,6 @@
 
 ghost use Rattle.std.specs.Prelude.{◌≡◌, ◌<◌, ◌++◌, OnOk, length, string_bytes};
 ghost use Rattle.lu_component.specs.Component.{IsOperand};
-ghost use Rattle.lu_machine.specs.Effects.{value_of};
 ghost use Rattle.lu_machine.specs.Layout.{IsSound};
 ghost use Rattle.lu_trace.specs.Deeds as spec;
 
@@ -102,7 +101,7 @@ fn write_load(
 ) -> Result<(), AllocError>
     requires array { array < length machine.now.component.arrays }
     requires index { IsOperand index }
-    ensures { OnOk result (string_bytes text.new ≡ string_bytes text.old ++ spec.or_trap (λ n. spec.register_becomes to n) (spec.seen machine.now frame.now array index)) }
+    ensures { OnOk result (string_bytes text.new ≡ string_bytes text.old ++ spec.load_deed machine.now frame.now to array index) }
 {
     match value_in(machine, frame, array, index) {
         None => text.push_str("trap"),
@@ -121,7 +120,7 @@ fn write_store(
 ) -> Result<(), AllocError>
     requires array { array < length machine.now.component.arrays }
     requires index { IsOperand index }
-    ensures { OnOk result (string_bytes text.new ≡ string_bytes text.old ++ spec.or_trap (λ n. spec.cell_becomes machine.now.component array (value_of frame.now index) value) (spec.seen machine.now frame.now array index)) }
+    ensures { OnOk result (string_bytes text.new ≡ string_bytes text.old ++ spec.store_deed machine.now frame.now array index value) }
 {
     let component = machine.component();
     let index_value = frame.value(index);
@@ -141,7 +140,7 @@ fn write_seen(
 ) -> Result<(), AllocError>
     requires array { array < length machine.now.component.arrays }
     requires index { IsOperand index }
-    ensures { OnOk result (string_bytes text.new ≡ string_bytes text.old ++ spec.or_trap (λ n. spec.cell_is machine.now.component array (value_of frame.now index) n) (spec.seen machine.now frame.now array index)) }
+    ensures { OnOk result (string_bytes text.new ≡ string_bytes text.old ++ spec.look_deed machine.now frame.now array index) }
 {
     match value_in(machine, frame, array, index) {
         None => text.push_str("trap"),

@@ -14,7 +14,7 @@
 
 mod deeds;
 mod fault;
-pub mod laws;
+mod laws;
 mod lines;
 mod tracing;
 mod waiting;
