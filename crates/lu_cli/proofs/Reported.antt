@@ -6,14 +6,10 @@ use Rattle.lu_test.specs.declared.matrix.Call.{Call}
 use Rattle.lu_machine.specs.States.{State}
 use Rattle.lu_machine.specs.Starts.{IsStart, start_of}
 use Rattle.lu_history.specs.declared.serial.SerialOp.{SerialOp}
-use Rattle.lu_history.specs.Serial.{IsSerial}
-use Rattle.lu_trie.specs.Members.{AllSerial}
 use Rattle.lu_serial.specs.Offences.{IsSetOf}
 use Rattle.lu_replay.specs.Parts.{Parts}
 use Rattle.lu_replay.specs.Reports.{IsReport, IsOfOffence}
-use Rattle.lu_spec.specs.Beginnings.{Has, IsClosureOf}
-use Rattle.lu_spec.specs.Specs.{AreOf, Fits}
-use Rattle.lu_refute.proofs.Fitting.{serial_fits}
+use Rattle.lu_spec.specs.Beginnings.{IsClosureOf}
 use Rattle.lu_refine.specs.declared.shrink_fault.ShrinkFault.{ShrinkFault}
 use Rattle.lu_refine.specs.declared.shrink_fault.ShrinkFault.TheVariants.{NotFailing}
 use Rattle.lu_refine.specs.Removals.{IsShrinkFault}
@@ -25,22 +21,12 @@ module _ {E : Type 0} (c : Declarations) (matrix : List (List Call)) (limits : L
   report_serial r is offence (Ok answer) e = inr (r, is, offence, e)
   report_serial r is offence (Err e) h = tt
 
-  module _ (histories : List (List SerialOp)) (is : (s : State) → IsStart c matrix s → IsSetOf s limits.serial histories) where
-    -- serial histories of the matrix are histories of it
-    history_fits : (q : List SerialOp) → Has histories q → IsSerial q × Fits matrix q
-    history_fits q has = serial_fits c matrix (start_of c matrix) q refl (((is (start_of c matrix) refl).are q).0 has)
-
-    pub all_serial : AllSerial histories
-    all_serial q has = (history_fits q has).0
-
-    pub are_of : AreOf matrix histories
-    are_of q has = (history_fits q has).1
-
-    pub set_serial : (members : List (List SerialOp)) → IsClosureOf histories members → (result : Result Answer E) → IfOk result (IsListed members) → IfOk result (IsRunSerially c matrix limits)
-    set_serial members closure (Ok answer) listed =
-        let set = is (start_of c matrix) refl in
-        inl (start_of c matrix, refl, set.none, (histories, members, set.are, closure, listed))
-    set_serial members closure (Err e) h = tt
+  -- the specification of the serial histories
+  pub set_serial : (histories members : List (List SerialOp)) → ((s : State) → IsStart c matrix s → IsSetOf s limits.serial histories) → IsClosureOf histories members → (result : Result Answer E) → IfOk result (IsListed members) → IfOk result (IsRunSerially c matrix limits)
+  set_serial histories members is closure (Ok answer) listed =
+      let set = is (start_of c matrix) refl in
+      inl (start_of c matrix, refl, set.none, (histories, members, set.are, closure, listed))
+  set_serial histories members is closure (Err e) h = tt
 
   -- a matrix that does not fail is not shrunk
   pub not_failing : (bound serial : ℕ) → bound ≡ limits.bound → serial ≡ limits.serial → (fault : ShrinkFault) (r : Parts) → fault ≡ NotFailing r → IsShrinkFault c matrix bound serial fault → (result : Result Answer E) → IfOk result (λ answer. answer ≡ reported r) → IfOk result (IsShrinkAnswer c matrix limits)
