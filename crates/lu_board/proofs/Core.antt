@@ -23,7 +23,7 @@ use Rattle.lu_board.specs.Core.{CoreState, start, view_at, is_bad, may_settle, i
 use Rattle.lu_board.proofs.Counts.{having, all-at, all-of, elem-at, is_in-has, has-contains, count_of-empty, count_of-all, count_of-flat_map, once_below-zero, sum_by-has, sum_by-some}
 use Rattle.lu_board.proofs.Keeps.{Moves, spent-few, fits-step, best-counted, claim-moves, look-moves, find-moves, settle-moves}
 
-both : (a b : Bool) → a && b ≡ true → (a ≡ true) × (b ≡ true)
+pub both : (a b : Bool) → a && b ≡ true → (a ≡ true) × (b ≡ true)
 both true true e = (refl, refl)
 both true false e = absurd (true≢false (sym e))
 both false b e = absurd (true≢false (sym e))

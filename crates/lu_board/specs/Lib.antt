@@ -3,6 +3,7 @@ pub mod Close
 pub mod Core
 pub mod Events
 pub mod Fit
+pub mod Laws
 pub mod Pieces
 pub mod Plays
 pub mod Seats

@@ -28,4 +28,7 @@
 
 pub mod board;
 pub mod board_core;
+mod laws;
 pub mod view;
+
+pub use laws::{done_is_least_bad, legal_events_fit};

@@ -20,7 +20,7 @@ use Rattle.lu_machine.specs.declared.thread.Activity.TheVariants.{Idle}
 use Rattle.lu_machine.proofs.Moves.{feasible_is_move}
 use Rattle.lu_serial.specs.declared.node.OpenCall.{OpenCall}
 use Rattle.lu_serial.specs.Serial.{HasOpen, IsByOpen}
-use Rattle.lu_serial.specs.Walks.{AreCalls, IsOpenIn, IsFull, IsWithin, open_after, one_more, left_of, moves_left}
+use Rattle.lu_serial.specs.Walks.{AreCalls, IsOpenIn, IsFull, IsWithin, open_after, left_of, moves_left}
 use Rattle.lu_serial.proofs.Opening.{Turned, step_turned, open_before, none_open, same_or_not, slice_get_set_other, slice_get_set_same}
 
 left_set : (rows : List (List ACall)) (threads : List Thread) (t : ℕ) (x y : Thread) → slice_get threads t ≡ Some x → x.done < length (calls_of rows t) → y.done ≡ x.done + 1 → left_of rows (slice_set threads t y) + 1 ≡ left_of rows threads
@@ -71,7 +71,7 @@ left_same s m new event t = ap (λ x. left_of x new.threads) t.matrix ∙ ap (le
 not_full : (bound : ℕ) (o : OpenCall) → (IsFull (Some o) bound → ⊥) → o.taken ≤ bound → o.taken < bound
 not_full bound o room le = elim (cases_lt o.taken bound) [ inl lt ↦ lt | inr ge ↦ absurd (room (omega arith)) ]
 
-more_falls : (bound : ℕ) (s new : State) (current : Option OpenCall) → (IsFull current bound → ⊥) → (t : ℕ) → HasOpen s t → IsOpenIn s current → ((o : OpenCall) → current ≡ Some o → o.taken ≤ bound) → left_of new.matrix new.threads ≡ left_of s.matrix s.threads → moves_left bound new (one_more current) < moves_left bound s current
+more_falls : (bound : ℕ) (s new : State) (current : Option OpenCall) → (IsFull current bound → ⊥) → (t : ℕ) → HasOpen s t → IsOpenIn s current → ((o : OpenCall) → current ≡ Some o → o.taken ≤ bound) → left_of new.matrix new.threads ≡ left_of s.matrix s.threads → moves_left bound new (open_after current t None) < moves_left bound s current
 more_falls bound s new None room t h opens few same = absurd (opens t h)
 more_falls bound s new (Some o) room t h opens few same =
     let lt = not_full bound o room (few o refl) in

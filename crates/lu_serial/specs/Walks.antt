@@ -1,5 +1,6 @@
 -- What the steps of the walk promise one another.
 use Rattle.std.specs.Prelude.{◌≡◌, ◌≢◌, ℕ, ◌+◌, ◌-◌, ◌*◌, ◌^◌, ◌<◌, ◌≤◌, ◌⊎◌, true, List, [], ◌∷◌, ◌++◌, length, All, Option, Some, None, slice_get}
+use Rattle.std.specs.Option.{option_map}
 use Rattle.lu_component.specs.Component.{IsComponent}
 use Rattle.lu_test.specs.declared.matrix.Call.{Call as ACall}
 use Rattle.lu_test.specs.declared.schedule.Move.{Move}
@@ -39,14 +40,9 @@ abbrev pub IsOpenIn : State → Option OpenCall → Type 0
 IsOpenIn s None = (t : ℕ) → HasOpen s t → ⊥
 IsOpenIn s (Some current) = HasOpen s current.thread × ((t : ℕ) → HasOpen s t → t ≡ current.thread)
 
--- with one more move
-abbrev pub one_more : Option OpenCall → Option OpenCall
-one_more None = None
-one_more (Some current) = Some (record { thread = current.thread; taken = current.taken + 1 })
-
 -- the operation that is open after a move of thread t with this event
 abbrev pub open_after : Option OpenCall → ℕ → Option Event → Option OpenCall
-open_after current t None = one_more current
+open_after current t None = option_map (λ (o : OpenCall). record { thread = o.thread; taken = o.taken + 1 }) current
 open_after current t (Some (Call u k)) = Some (record { thread = t; taken = 0 })
 open_after current t (Some (Return u k outcome)) = None
 
@@ -115,10 +111,6 @@ pub record AreShown (s : State) (bound : ℕ) (Part : List Move → Type 0) (sho
 -- all histories of this part were shown, and this is known of them
 abbrev pub Shows : State → ℕ → (List Move → Type 0) → (List (List SerialOp) → Type 0) → Type 0
 Shows s bound Part Known = (shown : List (List SerialOp)) × AreShown s bound Part shown × Known shown
-
--- a harvest was shown some histories since it was the first
-abbrev pub HasBegun : {H : Type 0} → (H → List (List SerialOp) → Type 0) → Type 0
-HasBegun {H} Known = (first : H) × (shown : List (List SerialOp)) × Known first shown
 
 -- a harvest that was shown one history more has taken it, or stops there
 abbrev pub Answers : {H S : Type 0} → (H → List (List SerialOp) → Type 0) → (H → List (List SerialOp) → Type 0) → (List SerialOp → S → Type 0) → List SerialOp → Option S → Type 0

@@ -3,7 +3,7 @@
 ghost use Rattle.std.specs.Prelude.{◌≡◌, List, IfOk, OnOk};
 ghost use Rattle.lu_history.specs.declared.serial.SerialOp.{SerialOp};
 ghost use Rattle.lu_history.specs.Serial.{IsSerial};
-ghost use Rattle.lu_serial.specs.Walks.{Answers, CanWalk, HasBegun, IsHome, Walks, ended_entries};
+ghost use Rattle.lu_serial.specs.Walks.{Answers, CanWalk, IsHome, Walks, ended_entries};
 
 use crate::node::{Node, OpenCall, goes_on, is_full, open_after, turns};
 use lu_history::{SerialOp, SerialOutcome};
@@ -15,7 +15,8 @@ pub(crate) trait Harvest {
     /// Why it stops the walk.
     type Stop: Copy;
 
-    /// What is known of it where these histories, the last one first, were shown to it since it was the second.
+    /// What is known of a harvest, the first value, which was once the second, and to which these histories were shown since then.
+    /// The last one stands first.
     ghost was_shown: { Self → Self → List (List SerialOp) → Type 0 };
 
     /// What holds where it stops at this history.
@@ -28,7 +29,7 @@ pub(crate) trait Harvest {
     /// `AllocError` where memory was refused.
     fn at_end(&mut self, history: &[SerialOp]) -> Result<Option<Self::Stop>, AllocError>
         requires serial { IsSerial history.now }
-        requires begun { HasBegun (was_shown self.old) }
+        requires begun { (first : Self) × (shown : _) × was_shown self.old first shown }
         ensures { IfOk result (Answers (was_shown self.old) (was_shown self.new) (stops self.new) history.now) };
 }
 
@@ -50,7 +51,7 @@ impl Node<'_> {
         current: Option<OpenCall>,
     ) -> Result<Option<H::Stop>, AllocError>
         requires serial { IsSerial (ended_entries self.old.entries.items current) }
-        requires begun { HasBegun (H.was_shown harvest.old) }
+        requires begun { (first : H) × (shown : _) × H.was_shown harvest.old first shown }
         ensures machine { self.new.machine ≡ self.old.machine }
         ensures entries { OnOk result (self.new.entries.items ≡ self.old.entries.items) }
         ensures answers { IfOk result (Answers (H.was_shown harvest.old) (H.was_shown harvest.new) (H.stops harvest.new) (ended_entries self.old.entries.items current)) }
