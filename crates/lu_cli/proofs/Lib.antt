@@ -3,3 +3,4 @@ pub mod Lines
 pub mod Orders
 pub mod Sayings
 pub mod Reported
+pub mod Refuted

@@ -1,0 +1,52 @@
+-- Answers to specifications.
+use Rattle.std.proofs.Common.{◌≡◌, ℕ, zero, suc, ◌<◌, List, [], ◌∷◌, ◌++◌, length, take, sym, subst, arith, inl, inr, refl, Result, Ok, Err, Option, Some, None}
+use Rattle.std.specs.Prelude.{All, IfSome}
+use Rattle.std.proofs.lemmas.List.Elements.{All-take}
+use Rattle.lu_component.specs.Component.{Declarations}
+use Rattle.lu_test.specs.declared.matrix.Call.{Call}
+use Rattle.lu_test.specs.declared.schedule.Move.{Move}
+use Rattle.lu_test.specs.Matrix.{IsCallOf, IsOf, cut}
+use Rattle.lu_history.specs.declared.serial.SerialOp.{SerialOp}
+use Rattle.lu_text.specs.declared.fault.Fault.{Fault}
+use Rattle.lu_text.specs.declared.fault.Fault.TheVariants.{At, Memory}
+use Rattle.lu_replay.specs.Parts.{Parts}
+use Rattle.lu_replay.specs.declared.report_fault.ReportFault.{ReportFault}
+use Rattle.lu_replay.specs.declared.report_fault.ReportFault.TheVariants as report
+use Rattle.lu_replay.specs.ReportForms.{IsFault}
+use Rattle.lu_spec.specs.declared.fault.SpecFaultKind.{SpecFaultKind}
+use Rattle.lu_spec.specs.Codes.{spec_code_of}
+use Rattle.lu_spec.specs.SpecText.{IsSpecFault}
+use Rattle.lu_refute.specs.Linearizable.{IsCounterexample}
+use Rattle.lu_cli.specs.declared.refusal.Refusal.{Refusal}
+use Rattle.lu_cli.specs.Refusals.{Answered, line_answer, refusal_answer, report_answer}
+use Rattle.lu_cli.specs.Replies.{Answer, ToReport, ToSpec}
+
+-- the calls of a cut are the component's
+cut_of : (c : Declarations) (matrix : List (List Call)) (lengths : List ℕ) → IsOf matrix c → IsOf (cut matrix lengths) c
+cut_of c [] lengths of k d within = absurd (omega arith)
+cut_of c (calls ∷ m) [] of k d within = absurd (omega arith)
+cut_of c (calls ∷ m) (n ∷ ns) of zero d within = All-take (IsCallOf c) n calls (of zero d (omega arith))
+cut_of c (calls ∷ m) (n ∷ ns) of (suc k) d within = cut_of c m ns (λ j e w. of (suc j) e (omega arith)) k d (omega arith)
+
+-- a counterexample is one of the component
+pub example_of : (c : Declarations) (matrix : List (List Call)) (Set : List SerialOp → Type 0) (example : List (List Call) × List Move) → IsOf matrix c → IsCounterexample c matrix Set example → IsOf example.0 c
+example_of c matrix Set example of is = subst (λ (m : List (List Call)). IsOf m c) (sym is.0.2) (cut_of c matrix is.0.0 of)
+
+-- ---- texts
+
+-- what is said of an answer is said of another's kind too
+pub some_more : (P Q : Answer → Type 0) → ((a : Answer) → P a → Q a) → (o : Option Answer) → IfSome o P → IfSome o Q
+some_more P Q h None is = tt
+some_more P Q h (Some a) is = h a is
+
+pub answered_more : (P Q : Answer → Type 0) → ((a : Answer) → P a → Q a) → (result : Result Answer Refusal) → Answered P result → Answered Q result
+answered_more P Q h (Ok a) is = h a is
+answered_more P Q h (Err e) is = some_more P Q h (refusal_answer e) is
+
+pub report_refused : (text : List ℕ) (fault : ReportFault) (IsAnswer : Parts → Answer → Type 0) → IsFault text fault → IfSome (report_answer fault) (ToReport text IsAnswer)
+report_refused text (report.Form n) IsAnswer is = inr (n, is, refl)
+report_refused text report.Memory IsAnswer is = tt
+
+pub spec_refused : (matrix : List (List Call)) (text : List ℕ) (fault : Fault SpecFaultKind) (IsAnswer : List (List SerialOp) → Answer → Type 0) → IsSpecFault matrix text fault → IfSome (line_answer spec_code_of fault) (ToSpec matrix text IsAnswer)
+spec_refused matrix text (At kind n) IsAnswer is = inr (kind, n, is, refl)
+spec_refused matrix text Memory IsAnswer is = tt
