@@ -25,4 +25,6 @@ mod small_matrices;
 #[cfg(test)]
 mod tests;
 #[cfg(test)]
+mod traces;
+#[cfg(test)]
 mod verdicts;
