@@ -27,4 +27,6 @@ mod small_matrices;
 #[cfg(test)]
 mod tests;
 #[cfg(test)]
+mod traces;
+#[cfg(test)]
 mod verdicts;
