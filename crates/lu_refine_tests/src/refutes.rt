@@ -11,7 +11,8 @@ use std::process::Abort;
 use std::test::Fail;
 
 /// The report of one flip of a coin.
-const ONE_FLIP: &str = "lineup report 1\nbound 40\nserial 40\nnondeterministic\nschedule 0 0:1 0\nbefore 0\nearlier ret 0\n";
+const ONE_FLIP: &str =
+    "lineup report 1\nbound 40\nserial 40\nnondeterministic\nschedule 0 0:1 0\nbefore 0\nearlier ret 0\n";
 
 /// The report goes against the specification: by this matrix and this schedule.
 fn assert_refuted<R: AllocGlobal + Abort>(

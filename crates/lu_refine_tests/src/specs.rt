@@ -1,10 +1,15 @@
 //! Tests of specifications.
 
+ghost use Rattle.lu_test.specs.Matrix.{IsOf};
+
+use lu_component::Component;
 use lu_examples::ROWS;
 use lu_history::{SerialOp, SerialOutcome};
 use lu_lang::read_component;
+use lu_serial::{Learnt, learn};
 use lu_spec::{Spec, read_spec, write_spec};
-use lu_test::read_matrix;
+use lu_test::{Matrix, read_matrix};
+use std::alloc::{AllocError, Global};
 use std::process::Abort;
 use std::test::Fail;
 
@@ -142,4 +147,49 @@ fn what_is_read_is_written_as_it_was(rt: HostRuntime) -> Result<(), Fail> {
         &rt,
         "lineup spec 1\nhistory 0=trap 1=stuck\nhistory 1=4294967295\n",
     )
+}
+
+/// The specification of the serial histories of a matrix, where no serial run offends.
+fn closed(alloc: Global, component: &Component, matrix: &Matrix) -> Result<Option<Spec>, AllocError>
+    requires { IsOf matrix.now component.now }
+{
+    match learn(alloc, alloc, component, matrix, 40)? {
+        Learnt::Set(set) => Ok(Some(Spec::closure(alloc, matrix, &set)?)),
+        Learnt::Cut(_) => Ok(None),
+        Learnt::Conflict { .. } => Ok(None),
+    }
+}
+
+/// The specification of the serial histories of a matrix has this text.
+fn assert_closed<R: AllocGlobal + Abort>(
+    rt: &R,
+    matrix: &[u8],
+    expected: &str,
+) -> Result<(), Fail> {
+    let component = read_component(rt.alloc(), ROWS.as_bytes())?;
+    let matrix = read_matrix(rt.alloc(), &component, matrix)?;
+    match closed(rt.alloc(), &component, &matrix)? {
+        None => panic!(rt; "a serial run offends"),
+        Some(spec) => {
+            assert!(rt; spec.contains(&[]));
+            let written = write_spec(rt.alloc(), &spec)?;
+            assert!(rt; written.as_str() == expected);
+        }
+    }
+    Ok(())
+}
+
+#[test]
+fn serial_histories_are_closed(rt: HostRuntime) -> Result<(), Fail> {
+    assert_closed(
+        &rt,
+        b"thread inc\nthread inc\n",
+        "lineup spec 1\nhistory 0=1 1=2\nhistory 1=1 0=2\n",
+    )?;
+    assert_closed(
+        &rt,
+        b"thread acquire\nthread acquire\n",
+        "lineup spec 1\nhistory 0=0 1=stuck\nhistory 1=0 0=stuck\n",
+    )?;
+    assert_closed(&rt, b"thread\nthread\n", "lineup spec 1\n")
 }
