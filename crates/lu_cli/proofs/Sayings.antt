@@ -1,6 +1,7 @@
 -- Answers that go out.
-use Rattle.std.proofs.Common.{◌≡◌, ◌≢◌, ℕ, suc, ◌<◌, Bool, true, false, List, [], ◌∷◌, Option, Some, None, length, replicate, Result, Ok, Err, refl, inl, inr, ap, sym, ◌∙◌, arith, subst, get_or}
+use Rattle.std.proofs.Common.{◌≡◌, ◌≢◌, ℕ, suc, ◌<◌, Bool, true, false, List, [], ◌∷◌, ◌++◌, Option, Some, None, length, replicate, Result, Ok, Err, refl, inl, inr, ap, sym, ◌∙◌, arith, subst, get_or}
 use Rattle.std.specs.Prelude.{IfSome, MatchBool, codes, nat_lt}
+use Rattle.std.specs.Fmt.{decimal}
 use Rattle.std.specs.Io.KnownBytes.{Appends}
 use Rattle.std.proofs.lemmas.Bool.{lt-ltb}
 use Rattle.std.proofs.lemmas.List.{length-replicate}
@@ -22,6 +23,7 @@ use Rattle.lu_replay.specs.declared.report.Finding.{Finding}
 use Rattle.lu_replay.specs.declared.report.Finding.TheVariants.{SerialCut, Nondeterministic, Fail, Pass}
 use Rattle.lu_replay.specs.Parts.{Parts}
 use Rattle.lu_parallel.specs.Ranges.{Choice}
+use Rattle.lu_spec.specs.Codes.{spec_code_of}
 use Rattle.lu_refine.specs.declared.campaigns.Campaign.{Campaign}
 use Rattle.lu_refine.specs.declared.campaigns.Campaign.TheVariants.{AllPass, First}
 use Rattle.lu_cli.specs.declared.order.CampaignOptions.{CampaignOptions}
@@ -143,11 +145,11 @@ refuted_else c m r members answer (inr is) = refused_else (codes "F2") answer is
 
 report_else : (text : List ℕ) (IsAnswer : Parts → Answer → Type 0) (answer : Answer) → ((r : Parts) → IsAnswer r answer → IsElse answer) → ToReport text IsAnswer answer → IsElse answer
 report_else text IsAnswer answer h (inl is) = h is.0 is.2
-report_else text IsAnswer answer h (inr is) = refused_else _ answer is.2
+report_else text IsAnswer answer h (inr is) = refused_else (codes "E1" ++ codes " line " ++ decimal is.0) answer is.2
 
 spec_else : (m : List (List Call)) (text : List ℕ) (IsAnswer : List (List SerialOp) → Answer → Type 0) (answer : Answer) → ((members : List (List SerialOp)) → IsAnswer members answer → IsElse answer) → ToSpec m text IsAnswer answer → IsElse answer
 spec_else m text IsAnswer answer h (inl is) = h is.0 is.2
-spec_else m text IsAnswer answer h (inr is) = refused_else _ answer is.3
+spec_else m text IsAnswer answer h (inr is) = refused_else (spec_code_of is.0 ++ codes " line " ++ decimal is.1) answer is.3
 
 refute_else : (c : Declarations) (m : List (List Call)) (report spec : List ℕ) (answer : Answer) → IsRefuteFrom c m report spec answer → IsElse answer
 refute_else c m report spec answer is =

@@ -85,11 +85,17 @@ struct Case<'a> {
     status: u8,
 }
 
-const CASES: [Case<'static>; 7] = [
+const CASES: [Case<'static>; 9] = [
     Case {
         words: &["replay"],
         input: b"component c\nop f 0\nreturn 7\nend\n---\nthread f\n---\nschedule 0 0\n",
         output: b"replay complete\ncall 0 0\nreturn 0 0 ret 7\n",
+        status: 0,
+    },
+    Case {
+        words: &["trace"],
+        input: b"component c\nop f 0\nreturn 7\nend\n---\nthread f\n---\nschedule 0 0\n",
+        output: b"trace complete\n   0 T0 call f\n   1 T0 return 7  # ret 7\n",
         status: 0,
     },
     Case {
@@ -120,6 +126,13 @@ const CASES: [Case<'static>; 7] = [
         words: &["shrink"],
         input: b"component c\nop f 0\npick r0 2\nreturn r0\nend\n---\nthread f;f\n",
         output: b"thread f\n---\nlineup report 1\nbound 40\nserial 40\nnondeterministic\nschedule 0 0:1 0\nbefore 0\nearlier ret 0\n",
+        status: 1,
+    },
+    Case {
+        words: &["refute"],
+        input: b"component c\nop f 0\npick r0 2\nreturn r0\nend\n---\nthread f\n---\nlineup report 1\nbound 40\nserial 40\n\
+nondeterministic\nschedule 0 0:1 0\nbefore 0\nearlier ret 0\n---\nlineup spec 1\nhistory 0=0\n",
+        output: b"thread f\n---\nschedule 0 0:1 0\n",
         status: 1,
     },
     Case {

@@ -26,6 +26,6 @@ closure-requires-clause-of c =
 
 pub returns-in_ok-closure-in-Ok : goal.returns-in_ok-closure-in-Ok
 returns-in_ok-closure-in-Ok c =
-    set_serial c.args.component.now c.args.matrix.now c.args.bounds c.in-Ok.set c.in_ok-closure.field-0
+    set_serial c.args.component.now c.args.matrix.now c.args.bounds c.in-Ok.set c.in_ok-closure-in-Ok.field-0
     (λ s start. (let set = c.in-Ok.ensures.set s c.serial.result (c.in_ok-learnt.ensures s start) in rw (← c.serial.ensures.serial) set))
-    c.in_ok-closure.ensures.closure c.show_spec.result c.show_spec.ensures
+    c.in_ok-closure-in-Ok.ensures.closure c.show_spec-in-Ok.result c.show_spec-in-Ok.ensures
