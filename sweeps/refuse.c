@@ -7,6 +7,7 @@
 #include <fcntl.h>
 #include <stdio.h>
 #include <stdlib.h>
+#include <sys/syscall.h>
 #include <unistd.h>
 
 extern void *__libc_malloc(size_t);
@@ -26,7 +27,8 @@ static int is_refused(void)
     return atomic_fetch_add(&calls, 1) + 1 == refused;
 }
 
-__attribute__((destructor)) static void tell(void)
+/* The program ends here: it writes the number of calls, and runs no destructors. */
+void _exit(int status)
 {
     const char *file = getenv("LINEUP_COUNT");
     char text[32];
@@ -34,6 +36,8 @@ __attribute__((destructor)) static void tell(void)
     int out = file ? open(file, O_WRONLY | O_CREAT | O_TRUNC, 0666) : -1;
     if (out >= 0 && write(out, text, length) == length)
         close(out);
+    syscall(SYS_exit_group, status);
+    __builtin_unreachable();
 }
 
 void *malloc(size_t size) { return is_refused() ? (errno = ENOMEM, NULL) : __libc_malloc(size); }

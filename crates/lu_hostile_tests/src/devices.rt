@@ -144,6 +144,7 @@ nondeterministic\nschedule 0 0:1 0\nbefore 0\nearlier ret 0\n---\nlineup spec 1\
 ];
 
 /// What came of a run.
+#[derive(Drop)]
 struct Ran {
     status: u8,
     taken: Vec<u8>,
@@ -151,7 +152,7 @@ struct Ran {
     failed_writes: u64,
 }
 
-fn ran<X: AllocGlobal + Abort + Threads + Wait>(
+fn run_case<X: AllocGlobal + Abort + Threads + Wait>(
     rt: &X,
     case: &Case<'_>,
     reads: u32,
@@ -185,7 +186,7 @@ fn reads_fail<X: AllocGlobal + Abort + Threads + Wait>(rt: &X, failure: Failure)
     for case in &CASES {
         let mut reads = 0;
         loop {
-            let ran = ran(rt, case, reads, MANY, failure);
+            let ran = run_case(rt, case, reads, MANY, failure);
             if ran.failed_reads == 0 {
                 assert_eq!(rt; ran.taken.as_slice(), case.output);
                 assert_eq!(rt; ran.status, case.status);
@@ -205,7 +206,7 @@ fn writes_fail<X: AllocGlobal + Abort + Threads + Wait>(rt: &X, failure: Failure
     for case in &CASES {
         let mut writes = 0;
         loop {
-            let ran = ran(rt, case, MANY, writes, failure);
+            let ran = run_case(rt, case, MANY, writes, failure);
             assert_eq!(rt; ran.failed_reads, 0);
             if ran.failed_writes == 0 {
                 assert_eq!(rt; ran.taken.as_slice(), case.output);

@@ -1,7 +1,7 @@
 use Rattle.std.proofs.Common.{refl, subst}
 use Rattle.lu_machine.specs.Starts.{start_of}
 use Rattle.lu_serial.specs.Offences.{IsLearnt}
-use Rattle.lu_refute.proofs.LearntSets.{learnt_closes}
+use Rattle.lu_refute.proofs.Fitting.{learnt_closes}
 use Rattle.lu_refine_tests.proofs.specs.closed.Goals as goal
 
 pub closure-requires-clause-deterministic : goal.closure-requires-clause-deterministic
