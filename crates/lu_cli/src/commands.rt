@@ -12,7 +12,8 @@ ghost use Rattle.lu_cli.specs.Refusals.{Answered};
 ghost use Rattle.lu_cli.specs.Replies as spec;
 
 use crate::answer::{
-    Answer, infeasible, show_count, show_matrix, show_refusal, show_report, show_schedule, show_spec,
+    Answer, infeasible, show_count, show_matrix, show_refusal, show_report, show_schedule,
+    show_spec,
 };
 use crate::order::{Bounds, CampaignOptions, Order};
 use crate::refusal::Refusal;
@@ -21,9 +22,7 @@ use lu_lang::Component;
 use lu_parallel::Options;
 use lu_refine::{Campaign, CampaignFault, ShrinkFault, campaign, shrink};
 use lu_refute::refute;
-use lu_replay::{
-    Finding, ReplayFault, Report, read_report, replay, set_or_offence, write_replay,
-};
+use lu_replay::{Finding, ReplayFault, Report, read_report, replay, set_or_offence, write_replay};
 use lu_serial::learn;
 use lu_spec::{Spec, read_spec};
 use lu_test::{Call, Matrix, Schedule, read_schedule};

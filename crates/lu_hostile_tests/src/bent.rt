@@ -99,11 +99,15 @@ fn try_lines<K: Texts, X: AllocGlobal + Abort>(
     tally: &mut Tally,
 ) -> Result<(), Fail> {
     let mut front = 0;
-    while front < text.len() {
-        let (before, after) = text.split_at(front);
+    for _ in 0..line_count(text) {
+        let (before, after) = text.split_at(text.len().min(front));
         let (line, rest) = cut_line(after);
         let (next, others) = cut_line(rest);
-        for parts in &[[before, rest, b"", b""], [before, line, line, rest], [before, next, line, others]] {
+        for parts in &[
+            [before, rest, b"", b""],
+            [before, line, line, rest],
+            [before, next, line, others],
+        ] {
             let mut torn = Vec::new(rt.alloc());
             for part in parts {
                 torn.extend_from_slice(part)?;

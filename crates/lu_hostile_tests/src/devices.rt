@@ -1,5 +1,7 @@
 //! Readers and writers that fail, or are slow.
 
+ghost use Rattle.std.specs.Prelude.{◌≡◌, IfOk};
+
 use lu_cli::{Counted, run};
 use std::io;
 use std::io::{Read, Write};
@@ -22,7 +24,10 @@ enum Failure {
 }
 
 impl Failure {
-    fn count(self) -> io::Result<usize> {
+    /// What the call answers.
+    fn count(self) -> io::Result<usize>
+        ensures { IfOk result (λ count. count ≡ 0) }
+    {
         match self {
             Failure::Breaks => Err(io::Error::from(io::ErrorKind::Other)),
             Failure::IsInterrupted => Err(io::Error::from(io::ErrorKind::Interrupted)),
@@ -181,43 +186,57 @@ fn run_case<X: AllocGlobal + Abort + Threads + Wait>(
 /// More reads and writes than a run makes.
 const MANY: u32 = 10_000;
 
-/// Reads fail at the first, the second and so on, until a run meets no failure; and so for each command.
+/// Reads fail at the first, the second and so on, until a run meets no failure. There is one for each byte, and one that sees
+/// the end.
+fn reads_of_case_fail<X: AllocGlobal + Abort + Threads + Wait>(
+    rt: &X,
+    case: &Case<'_>,
+    failure: Failure,
+) {
+    for reads in 0..MANY {
+        let ran = run_case(rt, case, reads, MANY, failure);
+        if ran.failed_reads == 0 {
+            assert_eq!(rt; ran.taken.as_slice(), case.output);
+            assert_eq!(rt; ran.status, case.status);
+            assert_eq!(rt; reads as usize, case.input.len().saturating_add(1));
+            return;
+        }
+        assert_eq!(rt; ran.taken.as_slice(), b"refused device\n".as_slice());
+        assert_eq!(rt; ran.status, 4);
+    }
+    panic!(rt; "each run failed")
+}
+
 fn reads_fail<X: AllocGlobal + Abort + Threads + Wait>(rt: &X, failure: Failure) {
     for case in &CASES {
-        let mut reads = 0;
-        loop {
-            let ran = run_case(rt, case, reads, MANY, failure);
-            if ran.failed_reads == 0 {
-                assert_eq!(rt; ran.taken.as_slice(), case.output);
-                assert_eq!(rt; ran.status, case.status);
-                break;
-            }
-            assert_eq!(rt; ran.taken.as_slice(), b"refused device\n".as_slice());
-            assert_eq!(rt; ran.status, 4);
-            reads = reads.saturating_add(1);
-        }
-        // One read for each byte, and one that sees the end.
-        assert_eq!(rt; reads as usize, case.input.len().saturating_add(1));
+        reads_of_case_fail(rt, case, failure);
     }
 }
 
 /// And writes. Nothing is said of how much went out.
+fn writes_of_case_fail<X: AllocGlobal + Abort + Threads + Wait>(
+    rt: &X,
+    case: &Case<'_>,
+    failure: Failure,
+) {
+    for writes in 0..MANY {
+        let ran = run_case(rt, case, MANY, writes, failure);
+        assert_eq!(rt; ran.failed_reads, 0);
+        if ran.failed_writes == 0 {
+            assert_eq!(rt; ran.taken.as_slice(), case.output);
+            assert_eq!(rt; ran.status, case.status);
+            assert_eq!(rt; writes as usize, case.output.len());
+            return;
+        }
+        assert_eq!(rt; ran.status, 4);
+        assert!(rt; case.output.starts_with(ran.taken.as_slice()));
+    }
+    panic!(rt; "each run failed")
+}
+
 fn writes_fail<X: AllocGlobal + Abort + Threads + Wait>(rt: &X, failure: Failure) {
     for case in &CASES {
-        let mut writes = 0;
-        loop {
-            let ran = run_case(rt, case, MANY, writes, failure);
-            assert_eq!(rt; ran.failed_reads, 0);
-            if ran.failed_writes == 0 {
-                assert_eq!(rt; ran.taken.as_slice(), case.output);
-                assert_eq!(rt; ran.status, case.status);
-                break;
-            }
-            assert_eq!(rt; ran.status, 4);
-            assert!(rt; case.output.starts_with(ran.taken.as_slice()));
-            writes = writes.saturating_add(1);
-        }
-        assert_eq!(rt; writes as usize, case.output.len());
+        writes_of_case_fail(rt, case, failure);
     }
 }
 

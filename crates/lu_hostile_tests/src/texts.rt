@@ -6,9 +6,7 @@ use lu_examples::ROWS;
 use lu_lang::{read_component, write_component};
 use lu_replay::{ReportFault, read_report, write_report};
 use lu_spec::{read_spec, write_spec};
-use lu_test::{
-    Matrix, ScheduleFault, read_matrix, read_schedule, write_matrix, write_schedule,
-};
+use lu_test::{Matrix, ScheduleFault, read_matrix, read_schedule, write_matrix, write_schedule};
 use lu_text::Fault;
 use std::process::Abort;
 use std::test::Fail;
@@ -109,15 +107,28 @@ impl Texts for Specs {
 }
 
 /// A component with what the one of the worked examples doesn't have: comments, an empty line, more blanks, `local`.
-const LOCAL: &[u8] = b"# two\n component  small\nlocal 16\n\nword x 1 0\tlock\nlock m\nop f 1\nagain: lock m\nset r1 4294967295\n\
+const LOCAL: &[u8] =
+    b"# two\n component  small\nlocal 16\n\nword x 1 0\t# a cell\nlock m\nop f 1\nagain: lock m\nset r1 4294967295\n\
 awaitne x r0 r1 # others\njz r0 again\nunlock m\nreturn r1\nend\n";
 
 #[test]
 fn components_are_read_or_refused(rt: HostRuntime) -> Result<(), Fail> {
     let rows = try_all(&rt, &Components, ROWS.as_bytes())?;
-    assert_eq!(rt; rows, Tally { read: 981, refused: 11056 });
+    assert_eq!(rt;
+        rows,
+        Tally {
+            read: 981,
+            refused: 11056
+        }
+    );
     let local = try_all(&rt, &Components, LOCAL)?;
-    assert_eq!(rt; local, Tally { read: 0, refused: 0 });
+    assert_eq!(rt;
+        local,
+        Tally {
+            read: 402,
+            refused: 2041
+        }
+    );
     Ok(())
 }
 
@@ -126,21 +137,40 @@ fn matrices_are_read_or_refused(rt: HostRuntime) -> Result<(), Fail> {
     let texts = Matrices {
         component: read_component(rt.alloc(), ROWS.as_bytes())?,
     };
-    let tally = try_all(&rt, &texts, b"# calls\nthread inc;wrap 70\n\n thread get ; inc # two\nthread\n")?;
-    assert_eq!(rt; tally, Tally { read: 213, refused: 688 });
+    let tally = try_all(
+        &rt,
+        &texts,
+        b"# calls\nthread inc;wrap 70\n\n thread get ; inc # two\nthread\n",
+    )?;
+    assert_eq!(rt;
+        tally,
+        Tally {
+            read: 213,
+            refused: 688
+        }
+    );
     Ok(())
 }
 
 #[test]
 fn schedules_are_read_or_refused(rt: HostRuntime) -> Result<(), Fail> {
     let tally = try_all(&rt, &Schedules, b"schedule 0 1:1 0 7:2 3\n")?;
-    assert_eq!(rt; tally, Tally { read: 17, refused: 332 });
+    assert_eq!(rt;
+        tally,
+        Tally {
+            read: 17,
+            refused: 332
+        }
+    );
     Ok(())
 }
 
 #[test]
 fn reports_are_read_or_refused(rt: HostRuntime) -> Result<(), Fail> {
-    let mut all = Tally { read: 0, refused: 0 };
+    let mut all = Tally {
+        read: 0,
+        refused: 0,
+    };
     for text in &[
         b"lineup report 1\nbound 40\nserial 256\npass\ncomplete 2564\nstuck 0\ncut 18446744073709551615\n".as_slice(),
         b"lineup report 1\nbound 40\nserial 40\nfail complete\nschedule 0 0 0 1 1 0 0 1 1 1\n",
@@ -154,7 +184,13 @@ fn reports_are_read_or_refused(rt: HostRuntime) -> Result<(), Fail> {
         all.read = all.read.saturating_add(tally.read);
         all.refused = all.refused.saturating_add(tally.refused);
     }
-    assert_eq!(rt; all, Tally { read: 224, refused: 8429 });
+    assert_eq!(rt;
+        all,
+        Tally {
+            read: 224,
+            refused: 8429
+        }
+    );
     Ok(())
 }
 
@@ -164,8 +200,15 @@ fn specifications_are_read_or_refused(rt: HostRuntime) -> Result<(), Fail> {
     let texts = Specs {
         matrix: read_matrix(rt.alloc(), &component, b"thread inc\nthread inc;get\n")?,
     };
-    let text = b"lineup spec 1\nhistory 0=1 1=2 1=2\nhistory 1=1 0=2 1=trap\nhistory 1=1 1=1 0=stuck\n";
+    let text =
+        b"lineup spec 1\nhistory 0=1 1=2 1=2\nhistory 1=1 0=2 1=trap\nhistory 1=1 1=1 0=stuck\n";
     let tally = try_all(&rt, &texts, text)?;
-    assert_eq!(rt; tally, Tally { read: 40, refused: 1188 });
+    assert_eq!(rt;
+        tally,
+        Tally {
+            read: 40,
+            refused: 1188
+        }
+    );
     Ok(())
 }

@@ -110,7 +110,8 @@ serial_fits c matrix s q is history =
 
 -- what is learnt may be closed to a specification
 pub learnt_closes : LearntCloses
-learnt_closes c matrix s bound members is set =
-    (set.deterministic,
-    (λ q has. (serial_fits c matrix s q is ((set.are q).0 has)).0),
-    (λ q has. (serial_fits c matrix s q is ((set.are q).0 has)).1))
+learnt_closes c matrix s bound members is set = (
+  set.deterministic,
+  (λ q has. (serial_fits c matrix s q is ((set.are q).0 has)).0),
+  (λ q has. (serial_fits c matrix s q is ((set.are q).0 has)).1),
+)

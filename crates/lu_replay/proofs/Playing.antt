@@ -121,11 +121,11 @@ goes_or_fails : (s : State) (u : List Move) → Goes s u ⊎ Fails s u
 goes_or_fails s [] = inl (s, [], (refl, refl))
 goes_or_fails s (m ∷ u) = elim (cases_lt m.pick (picks_of s m.thread)) [
   | inl feasible ↦
-    let next = feasible_step s m feasible in
-    elim (goes_or_fails next.0 u) [
-      | inl (end, h, leads) ↦ inl (end, with_event next.1 h, (next.0, next.1, h, next.2, leads, refl))
-      | inr (i, end, h, n, leads, at, infeasible) ↦ inr (suc i, end, with_event next.1 h, n, (next.0, next.1, h, next.2, leads, refl), at, infeasible)
-    ]
+      let next = feasible_step s m feasible in
+      elim (goes_or_fails next.0 u) [
+        | inl (end, h, leads) ↦ inl (end, with_event next.1 h, (next.0, next.1, h, next.2, leads, refl))
+        | inr (i, end, h, n, leads, at, infeasible) ↦ inr (suc i, end, with_event next.1 h, n, (next.0, next.1, h, next.2, leads, refl), at, infeasible)
+      ]
   | inr past ↦ inr (0, s, [], m, (refl, refl), refl, (λ feasible. omega arith))
 ]
 
@@ -141,7 +141,7 @@ some_status s = elim (complete_or_not s) [
 pub all_replayed : (c : Declarations) (matrix : List (List Call)) (u : List Move) → ((h : List Event) × (a : Status) × Shows c matrix u h a) ⊎ ((i : ℕ) × IsInfeasibleAt c matrix u i)
 all_replayed c matrix u = elim (goes_or_fails (start_of c matrix) u) [
   | inl (end, h, leads) ↦
-    let status = some_status end in
-    inl (h, status.0, (end, (start_of c matrix, refl, leads), status.1))
+      let status = some_status end in
+      inl (h, status.0, (end, (start_of c matrix, refl, leads), status.1))
   | inr (i, end, h, m, leads, at, infeasible) ↦ inr (i, (end, h, m, (start_of c matrix, refl, leads), at, infeasible))
 ]

@@ -59,7 +59,14 @@ fn a_matrix_is_cut_to_the_calls_made(rt: HostRuntime) -> Result<(), Fail> {
     let bundle = format!(in rt.alloc(); "{ROWS}---\nthread flip;get\n")?;
     ran(&rt, &["check"], bundle.as_bytes(), report, 1)?;
     let wanted = "thread flip\n---\nschedule 0 0:1 0\n";
-    refuted(&rt, ROWS, "thread flip;get\n", report, "history 0=0 0=0\n", wanted)
+    refuted(
+        &rt,
+        ROWS,
+        "thread flip;get\n",
+        report,
+        "history 0=0 0=0\n",
+        wanted,
+    )
 }
 
 #[test]
@@ -69,7 +76,14 @@ fn what_shows_nothing_is_refused(rt: HostRuntime) -> Result<(), Fail> {
         "lineup report 1\nbound 40\nserial 40\nfail complete\nschedule 0 0 0 0 0 1 1 1 1 1\n";
     refuted(&rt, ROWS, INCREMENTS, serial, right, "refused F2\n")?;
     let pass = "lineup report 1\nbound 40\nserial 40\npass\ncomplete 20\nstuck 0\ncut 0\n";
-    refuted(&rt, ROWS, "thread get\nthread get\n", pass, "", "refused F2\n")?;
+    refuted(
+        &rt,
+        ROWS,
+        "thread get\nthread get\n",
+        pass,
+        "",
+        "refused F2\n",
+    )?;
     let cut = "lineup report 1\nbound 40\nserial 3\nserial-cut\nschedule 0 0 0 0\n";
     refuted(&rt, ROWS, "thread spin\n", cut, "", "refused F2\n")?;
     // A report without local instructions, of a component that has them.
