@@ -1,10 +1,14 @@
 /* Memory of which one growth is refused: the call number LINEUP_REFUSE, from 1, of malloc, calloc, realloc,
  * aligned_alloc and posix_memalign in the life of a process. At the end the number of calls is written to the file
- * LINEUP_COUNT, where one is named. To be preloaded (LD_PRELOAD). */
+ * LINEUP_COUNT, where one is named. Where a file LINEUP_AGAIN is named, the program is run twice in the process: what it
+ * was refused in is made again, from the beginning of standard input, and what it then prints goes to that file, behind
+ * a line with the exit status of the first run; the process has that of the second. To be preloaded (LD_PRELOAD). */
 #define _GNU_SOURCE
+#include <dlfcn.h>
 #include <errno.h>
-#include <stdatomic.h>
 #include <fcntl.h>
+#include <setjmp.h>
+#include <stdatomic.h>
 #include <stdio.h>
 #include <stdlib.h>
 #include <sys/syscall.h>
@@ -17,6 +21,9 @@ extern void *__libc_memalign(size_t, size_t);
 
 static atomic_long calls;
 
+/* Whether the run that is refused a growth is over. */
+static int is_ample;
+
 static int is_refused(void)
 {
     static long refused = -1;
@@ -24,12 +31,21 @@ static int is_refused(void)
         const char *number = getenv("LINEUP_REFUSE");
         refused = number ? atol(number) : 0;
     }
-    return atomic_fetch_add(&calls, 1) + 1 == refused;
+    return atomic_fetch_add(&calls, 1) + 1 == refused && !is_ample;
 }
 
-/* The program ends here: it writes the number of calls, and runs no destructors. */
+static jmp_buf first_end;
+static int first_runs;
+
+/* The program ends here: it writes the number of calls, and runs no destructors. The first of two runs goes back to
+ * where it began. */
 void _exit(int status)
 {
+    if (first_runs) {
+        first_runs = 0;
+        is_ample = 1;
+        longjmp(first_end, status + 1);
+    }
     const char *file = getenv("LINEUP_COUNT");
     char text[32];
     int length = snprintf(text, sizeof text, "%ld\n", atomic_load(&calls));
@@ -54,4 +70,31 @@ int posix_memalign(void **place, size_t align, size_t size)
         return ENOMEM;
     *place = __libc_memalign(align, size);
     return *place ? 0 : ENOMEM;
+}
+
+static int (*program)(int, char **, char **);
+
+/* Runs the program, and where a file LINEUP_AGAIN is named, before that with its own standard output. */
+static int run_twice(int count, char **words, char **environment)
+{
+    const char *again = getenv("LINEUP_AGAIN");
+    if (again) {
+        first_runs = 1;
+        int ended = setjmp(first_end);
+        if (!ended)
+            _exit(program(count, words, environment));
+        int out = open(again, O_WRONLY | O_CREAT | O_TRUNC, 0666);
+        if (lseek(0, 0, SEEK_SET) != 0 || out < 0 || dup2(out, 1) != 1 || dprintf(1, "%d\n", ended - 1) < 0)
+            abort();
+    }
+    return program(count, words, environment);
+}
+
+int __libc_start_main(int (*main)(int, char **, char **), int count, char **words, void (*before)(void),
+                      void (*after)(void), void (*at_end)(void), void *stack)
+{
+    int (*start)(int (*)(int, char **, char **), int, char **, void (*)(void), void (*)(void), void (*)(void), void *);
+    *(void **)&start = dlsym(RTLD_NEXT, "__libc_start_main");
+    program = main;
+    return start(run_twice, count, words, before, after, at_end, stack);
 }

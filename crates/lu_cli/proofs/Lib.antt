@@ -4,3 +4,4 @@ pub mod Orders
 pub mod Sayings
 pub mod Reported
 pub mod Refuted
+pub mod Against

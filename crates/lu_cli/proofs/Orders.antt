@@ -1,12 +1,14 @@
 -- What words ask for, from what the crate for command lines says of them.
-use Rattle.std.proofs.Common.{◌≡◌, ℕ, ◌^◌, Bool, true, false, List, [], ◌∷◌, length, Option, Some, None, Result, Ok, Err, refl, ap, subst, ◌⊎◌, inl, inr}
-use Rattle.std.specs.Prelude.{IfOk, IsErrOf, nat_lt, ◌&&◌}
+use Rattle.std.proofs.Common.{◌≡◌, ℕ, ◌^◌, Bool, true, false, List, [], ◌∷◌, length, Option, Some, None, Result, Ok, Err, refl, sym, ap, subst, ◌⊎◌, inl, inr}
+use Rattle.std.specs.Prelude.{IfOk, IsErrOf, codes, nat_lt, unwrap_or, ◌&&◌}
+use Rattle.std.specs.Str.{bytes_eq}
 use Rattle.std.specs.Option.{ok_or}
 use Rattle.std.specs.Result.{result_ok}
 use Rattle.std.specs.List.{list_all}
 use Rattle.std.specs.Char.{digit_value}
-use Rattle.std.specs.Str.Parse.{AllDigits, ParsesUnsigned, digits_value, without_leading_plus}
+use Rattle.std.specs.Str.Parse.{AllDigits, ParsesBool, ParsesUnsigned, digits_value, without_leading_plus}
 use Rattle.std.proofs.lemmas.Bool.{lt-ltb, ltb-true}
+use Rattle.std.proofs.lemmas.Slice.Eq.{bytes_eq-Decides}
 use Rattle.clap.specs.Words.{App, Row, Text, is_simple, IsAmong, Kinds, is_simple_and_free, fault_of, subcommand_of}
 use Rattle.clap.specs.Matches.{ReadsOne}
 use Rattle.clap.specs.declared.error.kind.ErrorKind.{ErrorKind}
@@ -15,7 +17,7 @@ use Rattle.clap.proofs.OnLiterals.{clap_on_literals}
 use Rattle.clap.proofs.WalkLemmas.{both}
 use Rattle.lu_cli.specs.declared.order.Order.{Order}
 use Rattle.lu_cli.specs.declared.order.ArgsFault.TheVariants.{Refused}
-use Rattle.lu_cli.specs.Args.{lineup, number_by, number_said, order_without, order_in, order_of}
+use Rattle.lu_cli.specs.Args.{flag_said, lineup, number_by, number_said, order_without, order_in, order_of}
 
 pub lineup_is_simple : is_simple lineup ≡ true
 unfolding clap_on_literals
@@ -60,6 +62,22 @@ number_got {E} gives (Some text) None parses none some =
     let read = some text refl in
     number_read {E = E} text (Err read.0) (parses text (Err read.0) read.1)
 number_got {E} gives (Some text) (Some n) parses none some = number_read {E = E} text (Ok n) (parses text (Ok n) (some text refl))
+
+-- ---- flags
+
+not_true : (text : List ℕ) → (text ≡ codes "true" → ⊥) → (b : Bool) → bytes_eq text (codes "true") ≡ b → b ≡ false
+not_true text other false e = refl
+not_true text other true e = absurd (other ((bytes_eq-Decides text (codes "true")).0 e))
+
+pub flag_got : {E : Type 0} (gives : List ℕ → Result Bool E → Type 0) (word : Option Text) (result : Option Bool) → ((text : Text) (r : Result Bool E) → gives text r → ParsesBool text r)
+    → (word ≡ None → result ≡ None) → ((text : Text) → word ≡ Some text → ReadsOne gives text result) → unwrap_or result false ≡ flag_said word
+flag_got gives None result parses none some = ap (λ (o : Option Bool). unwrap_or o false) (none refl)
+flag_got gives (Some text) (Some true) parses none some = (let is = parses text (Ok true) (some text refl) in rw is refl)
+flag_got gives (Some text) (Some false) parses none some = (let is = parses text (Ok false) (some text refl) in rw is refl)
+flag_got gives (Some text) None parses none some =
+    let read = some text refl in
+    let others = parses text (Err read.0) read.1 in
+    sym (not_true text others.0 (bytes_eq text (codes "true")) refl)
 
 -- ---- orders
 

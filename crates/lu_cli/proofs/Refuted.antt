@@ -5,32 +5,36 @@ use Rattle.std.proofs.lemmas.List.Elements.{All-take}
 use Rattle.lu_component.specs.Component.{Declarations}
 use Rattle.lu_test.specs.declared.matrix.Call.{Call}
 use Rattle.lu_test.specs.declared.schedule.Move.{Move}
-use Rattle.lu_test.specs.Matrix.{IsCallOf, IsOf, cut}
+use Rattle.lu_test.specs.Matrix.{Matrix, IsCallOf, IsOf, cut, first_calls}
 use Rattle.lu_history.specs.declared.serial.SerialOp.{SerialOp}
 use Rattle.lu_text.specs.declared.fault.Fault.{Fault}
 use Rattle.lu_text.specs.declared.fault.Fault.TheVariants.{At, Memory}
-use Rattle.lu_replay.specs.Parts.{Parts}
-use Rattle.lu_replay.specs.declared.report_fault.ReportFault.{ReportFault}
-use Rattle.lu_replay.specs.declared.report_fault.ReportFault.TheVariants as report
-use Rattle.lu_replay.specs.ReportForms.{IsFault}
+use Rattle.lu_report.specs.Parts.{Parts}
+use Rattle.lu_report.specs.declared.fault.ReportFaultKind.{ReportFaultKind}
+use Rattle.lu_report.specs.Codes.{report_code_of}
+use Rattle.lu_report.specs.Forms.{IsFault}
 use Rattle.lu_spec.specs.declared.fault.SpecFaultKind.{SpecFaultKind}
 use Rattle.lu_spec.specs.Codes.{spec_code_of}
 use Rattle.lu_spec.specs.SpecText.{IsSpecFault}
 use Rattle.lu_refute.specs.Linearizable.{IsCounterexample}
 use Rattle.lu_cli.specs.declared.refusal.Refusal.{Refusal}
-use Rattle.lu_cli.specs.Refusals.{Answered, line_answer, refusal_answer, report_answer}
-use Rattle.lu_cli.specs.Replies.{Answer, ToReport, ToSpec}
+use Rattle.lu_cli.specs.Refusals.{Answered, line_answer, refusal_answer}
+use Rattle.lu_cli.specs.Replies.{Answer, ToReport, ToSpec, ToTexts}
+use Rattle.lu_cli.specs.Texts.{AreSettled}
 
 -- the calls of a cut are the component's
-cut_of : (c : Declarations) (matrix : List (List Call)) (lengths : List ℕ) → IsOf matrix c → IsOf (cut matrix lengths) c
-cut_of c [] lengths of k d within = absurd (omega arith)
-cut_of c (calls ∷ m) [] of k d within = absurd (omega arith)
-cut_of c (calls ∷ m) (n ∷ ns) of zero d within = All-take (IsCallOf c) n calls (of zero d (omega arith))
-cut_of c (calls ∷ m) (n ∷ ns) of (suc k) d within = cut_of c m ns (λ j e w. of (suc j) e (omega arith)) k d (omega arith)
+first_of : (c : Declarations) (threads : List (List Call)) (lengths : List ℕ) → All (λ calls. All (IsCallOf c) calls) threads → All (λ calls. All (IsCallOf c) calls) (first_calls threads lengths)
+first_of c [] lengths of k d within = absurd (omega arith)
+first_of c (calls ∷ m) [] of k d within = absurd (omega arith)
+first_of c (calls ∷ m) (n ∷ ns) of zero d within = All-take (IsCallOf c) n calls (of zero d (omega arith))
+first_of c (calls ∷ m) (n ∷ ns) of (suc k) d within = first_of c m ns (λ j e w. of (suc j) e (omega arith)) k d (omega arith)
+
+cut_of : (c : Declarations) (matrix : Matrix) (lengths : List ℕ) → IsOf matrix c → IsOf (cut matrix lengths) c
+cut_of c matrix lengths of = (of.0, first_of c matrix.threads lengths of.1)
 
 -- a counterexample is one of the component
-pub example_of : (c : Declarations) (matrix : List (List Call)) (Set : List SerialOp → Type 0) (example : List (List Call) × List Move) → IsOf matrix c → IsCounterexample c matrix Set example → IsOf example.0 c
-example_of c matrix Set example of is = subst (λ (m : List (List Call)). IsOf m c) (sym is.0.2) (cut_of c matrix is.0.0 of)
+pub example_of : (c : Declarations) (matrix : Matrix) (Set : List SerialOp → Type 0) (example : Matrix × List Move) → IsOf matrix c → IsCounterexample c matrix Set example → IsOf example.0 c
+example_of c matrix Set example of is = subst (λ (m : Matrix). IsOf m c) (sym is.0.2) (cut_of c matrix is.0.0 of)
 
 -- ---- texts
 
@@ -43,10 +47,15 @@ pub answered_more : (P Q : Answer → Type 0) → ((a : Answer) → P a → Q a)
 answered_more P Q h (Ok a) is = h a is
 answered_more P Q h (Err e) is = some_more P Q h (refusal_answer e) is
 
-pub report_refused : (text : List ℕ) (fault : ReportFault) (IsAnswer : Parts → Answer → Type 0) → IsFault text fault → IfSome (report_answer fault) (ToReport text IsAnswer)
-report_refused text (report.Form n) IsAnswer is = inr (n, is, refl)
-report_refused text report.Memory IsAnswer is = tt
+pub report_refused : (text : List ℕ) (fault : Fault ReportFaultKind) (IsAnswer : Parts → Answer → Type 0) → IsFault text fault → IfSome (line_answer report_code_of fault) (ToReport text IsAnswer)
+report_refused text (At kind n) IsAnswer is = inr (kind, n, is, refl)
+report_refused text Memory IsAnswer is = tt
 
-pub spec_refused : (matrix : List (List Call)) (text : List ℕ) (fault : Fault SpecFaultKind) (IsAnswer : List (List SerialOp) → Answer → Type 0) → IsSpecFault matrix text fault → IfSome (line_answer spec_code_of fault) (ToSpec matrix text IsAnswer)
+pub spec_refused : (matrix : Matrix) (text : List ℕ) (fault : Fault SpecFaultKind) (IsAnswer : List (List SerialOp) → Answer → Type 0) → IsSpecFault matrix text fault → IfSome (line_answer spec_code_of fault) (ToSpec matrix text IsAnswer)
 spec_refused matrix text (At kind n) IsAnswer is = inr (kind, n, is, refl)
 spec_refused matrix text Memory IsAnswer is = tt
+
+-- what is said of the answer to a component and a matrix is said of that to their texts
+pub texts_answered : (component matrix : List ℕ) (c : Declarations) (m : Matrix) (IsAnswer : Declarations → Matrix → Answer → Type 0) → AreSettled component matrix c m → (result : Result Answer Refusal) → Answered (IsAnswer c m) result → Answered (ToTexts component matrix IsAnswer) result
+texts_answered component matrix c m IsAnswer are result is =
+    answered_more (IsAnswer c m) (ToTexts component matrix IsAnswer) (λ a h. rw (are.0.0, are.0.1) (inl (are.1, h))) result is

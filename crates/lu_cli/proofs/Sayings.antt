@@ -18,20 +18,22 @@ use Rattle.lu_test.specs.declared.schedule_fault.ScheduleFault.{ScheduleFault}
 use Rattle.lu_test.specs.Codes.{matrix_code_of}
 use Rattle.lu_test.specs.MatrixText.{matrix_grammar}
 use Rattle.lu_test.specs.ScheduleText.{schedule_of}
+use Rattle.lu_test.specs.Matrix.{Matrix}
 use Rattle.lu_history.specs.declared.serial.SerialOp.{SerialOp}
-use Rattle.lu_replay.specs.declared.report.Finding.{Finding}
-use Rattle.lu_replay.specs.declared.report.Finding.TheVariants.{SerialCut, Nondeterministic, Fail, Pass}
-use Rattle.lu_replay.specs.Parts.{Parts}
+use Rattle.lu_report.specs.declared.report.Finding.{Finding}
+use Rattle.lu_report.specs.declared.report.Finding.TheVariants.{SerialCut, Nondeterministic, Fail, Pass}
+use Rattle.lu_report.specs.Codes.{report_code_of}
+use Rattle.lu_report.specs.Parts.{Parts}
 use Rattle.lu_parallel.specs.Ranges.{Choice}
 use Rattle.lu_spec.specs.Codes.{spec_code_of}
 use Rattle.lu_refine.specs.declared.campaigns.Campaign.{Campaign}
 use Rattle.lu_refine.specs.declared.campaigns.Campaign.TheVariants.{AllPass, First}
 use Rattle.lu_cli.specs.declared.order.CampaignOptions.{CampaignOptions}
 use Rattle.lu_cli.specs.declared.order.Order.{Order}
-use Rattle.lu_cli.specs.declared.order.Order.TheVariants.{Replay, Trace, Serial, Check, Refute, Shrink, Campaign as Campaigning}
+use Rattle.lu_cli.specs.declared.order.Order.TheVariants.{Replay, Trace, Serial, Check, CheckAgainst, Refute, Shrink, Campaign as Campaigning}
 use Rattle.lu_cli.specs.Bundle.{parts_of}
 use Rattle.lu_cli.specs.Orders.{Limits}
-use Rattle.lu_cli.specs.Replies.{Answer, Answers, IsAnswerFrom, IsAnswerOf, IsAnswerTo, IsCampaignAnswer, IsCampaignFrom, IsChecked, IsRefuteAnswer, IsRefuteFrom, IsRefuteOf, IsReplayed, IsRunSerially, IsShrinkAnswer, IsTraced, Tells, ToMatrix, ToParts, ToReport, ToSchedule, ToSpec, ToTexts, ToValue, found_answer, no_command, no_device, no_memory, refused, reported, status_of, with_matrix}
+use Rattle.lu_cli.specs.Replies.{Answer, Answers, IsAnswerFrom, IsAnswerOf, IsAnswerTo, IsCampaignAnswer, IsCampaignFrom, IsCheckAgainstFrom, IsCheckAgainstOf, IsChecked, IsCheckedAgainst, IsRefuteAnswer, IsRefuteFrom, IsRefuteOf, IsReplayed, IsRunSerially, IsShrinkAnswer, IsTraced, Tells, ToMatrix, ToParts, ToReport, ToSchedule, ToSettled, ToSpec, ToTexts, ToValue, found_answer, no_command, no_device, no_memory, refused, reported, status_of, with_matrix}
 
 -- an answer that was made and said
 pub said : (IsAnswer : Answer → Type 0) (answer : Answer) (text : List ℕ) (old new : Option (List ℕ)) (status : ℕ) → IsAnswer answer → text ≡ answer.text → Appends old new text × (status ≡ answer.status) → Answers IsAnswer old new status
@@ -89,11 +91,11 @@ status_of_else (Pass counts) e = omega arith
 reported_else : (r : Parts) (answer : Answer) → answer ≡ reported r → IsElse answer
 reported_else r answer is = status_else answer (status_of r.finding) (ap (λ (a : Answer). a.status) is) (status_of_else r.finding)
 
-replayed_else : (c : Declarations) (m : List (List Call)) (u : List Move) (answer : Answer) → IsReplayed c m u answer → IsElse answer
+replayed_else : (c : Declarations) (m : Matrix) (u : List Move) (answer : Answer) → IsReplayed c m u answer → IsElse answer
 replayed_else c m u answer (inl is) = status_else answer 0 (ap (λ (a : Answer). a.status) is.3) (λ e. omega arith)
 replayed_else c m u answer (inr is) = status_else answer 1 (ap (λ (a : Answer). a.status) is.2) (λ e. omega arith)
 
-traced_else : (c : Declarations) (m : List (List Call)) (u : List Move) (answer : Answer) → IsTraced c m u answer → IsElse answer
+traced_else : (c : Declarations) (m : Matrix) (u : List Move) (answer : Answer) → IsTraced c m u answer → IsElse answer
 traced_else c m u answer (inl is) = status_else answer 0 (ap (λ (a : Answer). a.status) is.2) (λ e. omega arith)
 traced_else c m u answer (inr is) = status_else answer 1 (ap (λ (a : Answer). a.status) is.2) (λ e. omega arith)
 
@@ -101,60 +103,75 @@ scheduled_else : (r : Result (List Move) ScheduleFault) (IsAnswer : List Move �
 scheduled_else (Ok u) IsAnswer answer h is = h u is
 scheduled_else (Err fault) IsAnswer answer h is = refused_else _ answer is
 
-serial_else : (c : Declarations) (m : List (List Call)) (limits : Limits) (answer : Answer) → IsRunSerially c m limits answer → IsElse answer
+serial_else : (c : Declarations) (m : Matrix) (limits : Limits) (answer : Answer) → IsRunSerially c m limits answer → IsElse answer
 serial_else c m limits answer (inl is) = status_else answer 0 (ap (λ (a : Answer). a.status) is.3.4.2) (λ e. omega arith)
 serial_else c m limits answer (inr is) = reported_else is.0 answer is.3
 
-checked_else : (c : Declarations) (m : List (List Call)) (choice : Choice) (answer : Answer) → IsChecked c m choice answer → IsElse answer
+checked_else : (c : Declarations) (m : Matrix) (choice : Choice) (answer : Answer) → IsChecked c m choice answer → IsElse answer
 checked_else c m choice answer (inl is) = reported_else is.0 answer is.2
 checked_else c m choice answer (inr is) = text_else answer 75 (ap (byte_of 8) is.1) (λ e. omega arith)
+
+against_else : (c : Declarations) (m : Matrix) (choice : Choice) (members : List (List SerialOp)) (answer : Answer) → IsCheckedAgainst c m choice members answer → IsElse answer
+against_else c m choice members answer (inl is) = reported_else is.0 answer is.2
+against_else c m choice members answer (inr is) = text_else answer 75 (ap (byte_of 8) is.1) (λ e. omega arith)
 
 value_else : {Kind A : Type 0} (code : Kind → List ℕ) (r : Result A (Fault Kind)) (IsAnswer : A → Answer → Type 0) (answer : Answer) → ((x : A) → IsAnswer x answer → IsElse answer) → ToValue code r IsAnswer answer → IsElse answer
 value_else code (Ok x) IsAnswer answer h is = h x is
 value_else code (Err (At kind n)) IsAnswer answer h is = refused_else _ answer is
 value_else code (Err Memory) IsAnswer answer h is = absurd is
 
-texts_else : (component matrix : List ℕ) (IsAnswer : Declarations → List (List Call) → Answer → Type 0) (answer : Answer) → ((c : Declarations) (m : List (List Call)) → IsAnswer c m answer → IsElse answer) → ToTexts component matrix IsAnswer answer → IsElse answer
+settled_else : (c : Declarations) (m : Matrix) (IsAnswer : Answer → Type 0) (answer : Answer) → (IsAnswer answer → IsElse answer) → ToSettled c m IsAnswer answer → IsElse answer
+settled_else c m IsAnswer answer h (inl is) = h is.1
+settled_else c m IsAnswer answer h (inr is) = refused_else (codes "U1 call " ++ decimal is.0) answer is.2
+
+texts_else : (component matrix : List ℕ) (IsAnswer : Declarations → Matrix → Answer → Type 0) (answer : Answer) → ((c : Declarations) (m : Matrix) → IsAnswer c m answer → IsElse answer) → ToTexts component matrix IsAnswer answer → IsElse answer
 texts_else component matrix IsAnswer answer h is =
-    value_else code_of (value_of component_grammar component) (λ c. ToMatrix c matrix (IsAnswer c)) answer
-    (λ c more. value_else matrix_code_of (value_of (matrix_grammar c) matrix) (IsAnswer c) answer (h c) more) is
+    value_else code_of (value_of component_grammar component) (λ c. ToMatrix c matrix (λ m. ToSettled c m (IsAnswer c m))) answer
+    (λ c more. value_else matrix_code_of (value_of (matrix_grammar c) matrix) (λ m. ToSettled c m (IsAnswer c m)) answer
+    (λ m last. settled_else c m (IsAnswer c m) answer (h c m) last) more) is
 
 parts_else : {A : Type 0} (parts : Option A) (IsAnswer : A → Answer → Type 0) (answer : Answer) → ((p : A) → IsAnswer p answer → IsElse answer) → ToParts parts IsAnswer answer → IsElse answer
 parts_else None IsAnswer answer h is = refused_else (codes "B1") answer is
 parts_else (Some parts) IsAnswer answer h is = h parts is
 
-two_else : (parts : List (List ℕ)) (IsAnswer : Declarations → List (List Call) → Answer → Type 0) (answer : Answer) → ((c : Declarations) (m : List (List Call)) → IsAnswer c m answer → IsElse answer) → ToParts (two parts) (λ p. ToTexts p.0 p.1 IsAnswer) answer → IsElse answer
+two_else : (parts : List (List ℕ)) (IsAnswer : Declarations → Matrix → Answer → Type 0) (answer : Answer) → ((c : Declarations) (m : Matrix) → IsAnswer c m answer → IsElse answer) → ToParts (two parts) (λ p. ToTexts p.0 p.1 IsAnswer) answer → IsElse answer
 two_else parts IsAnswer answer h is =
     parts_else (two parts) (λ p. ToTexts p.0 p.1 IsAnswer) answer (λ p more. texts_else p.0 p.1 IsAnswer answer h more) is
 
-three_else : (parts : List (List ℕ)) (IsAnswer : Declarations → List (List Call) → List Move → Answer → Type 0) (answer : Answer) → ((c : Declarations) (m : List (List Call)) (u : List Move) → IsAnswer c m u answer → IsElse answer) → ToParts (three parts) (λ p. ToTexts p.0 p.1 (λ c m. ToSchedule (schedule_of p.2) (IsAnswer c m))) answer → IsElse answer
+three_else : (parts : List (List ℕ)) (IsAnswer : Declarations → Matrix → List Move → Answer → Type 0) (answer : Answer) → ((c : Declarations) (m : Matrix) (u : List Move) → IsAnswer c m u answer → IsElse answer) → ToParts (three parts) (λ p. ToTexts p.0 p.1 (λ c m. ToSchedule (schedule_of p.2) (IsAnswer c m))) answer → IsElse answer
 three_else parts IsAnswer answer h is =
     parts_else (three parts) (λ p. ToTexts p.0 p.1 (λ c m. ToSchedule (schedule_of p.2) (IsAnswer c m))) answer
     (λ p more. texts_else p.0 p.1 (λ c m. ToSchedule (schedule_of p.2) (IsAnswer c m)) answer (λ c m play. scheduled_else (schedule_of p.2) (IsAnswer c m) answer (h c m) play) more) is
 
-matrix_else : (c : Declarations) (m : List (List Call)) (r : Parts) (answer : Answer) → answer ≡ with_matrix c m r → IsElse answer
+matrix_else : (c : Declarations) (m : Matrix) (r : Parts) (answer : Answer) → answer ≡ with_matrix c m r → IsElse answer
 matrix_else c m r answer is = status_else answer (status_of r.finding) (ap (λ (a : Answer). a.status) is) (status_of_else r.finding)
 
-shrink_else : (c : Declarations) (m : List (List Call)) (limits : Limits) (answer : Answer) → IsShrinkAnswer c m limits answer → IsElse answer
+shrink_else : (c : Declarations) (m : Matrix) (limits : Limits) (answer : Answer) → IsShrinkAnswer c m limits answer → IsElse answer
 shrink_else c m limits answer (inl is) = matrix_else c is.0 is.1 answer is.3
 shrink_else c m limits answer (inr is) = reported_else is.0 answer is.3
 
-refuted_else : (c : Declarations) (m : List (List Call)) (r : Parts) (members : List (List SerialOp)) (answer : Answer) → IsRefuteAnswer c m r members answer → IsElse answer
+refuted_else : (c : Declarations) (m : Matrix) (r : Parts) (members : List (List SerialOp)) (answer : Answer) → IsRefuteAnswer c m r members answer → IsElse answer
 refuted_else c m r members answer (inl is) = status_else answer 1 (ap (λ (a : Answer). a.status) is.1.2) (λ e. omega arith)
 refuted_else c m r members answer (inr is) = refused_else (codes "F2") answer is.1
 
 report_else : (text : List ℕ) (IsAnswer : Parts → Answer → Type 0) (answer : Answer) → ((r : Parts) → IsAnswer r answer → IsElse answer) → ToReport text IsAnswer answer → IsElse answer
 report_else text IsAnswer answer h (inl is) = h is.0 is.2
-report_else text IsAnswer answer h (inr is) = refused_else (codes "E1" ++ codes " line " ++ decimal is.0) answer is.2
+report_else text IsAnswer answer h (inr is) = refused_else (report_code_of is.0 ++ codes " line " ++ decimal is.1) answer is.3
 
-spec_else : (m : List (List Call)) (text : List ℕ) (IsAnswer : List (List SerialOp) → Answer → Type 0) (answer : Answer) → ((members : List (List SerialOp)) → IsAnswer members answer → IsElse answer) → ToSpec m text IsAnswer answer → IsElse answer
+spec_else : (m : Matrix) (text : List ℕ) (IsAnswer : List (List SerialOp) → Answer → Type 0) (answer : Answer) → ((members : List (List SerialOp)) → IsAnswer members answer → IsElse answer) → ToSpec m text IsAnswer answer → IsElse answer
 spec_else m text IsAnswer answer h (inl is) = h is.0 is.2
 spec_else m text IsAnswer answer h (inr is) = refused_else (spec_code_of is.0 ++ codes " line " ++ decimal is.1) answer is.3
 
-refute_else : (c : Declarations) (m : List (List Call)) (report spec : List ℕ) (answer : Answer) → IsRefuteFrom c m report spec answer → IsElse answer
+refute_else : (c : Declarations) (m : Matrix) (report spec : List ℕ) (answer : Answer) → IsRefuteFrom c m report spec answer → IsElse answer
 refute_else c m report spec answer is =
     report_else report (λ r. ToSpec m spec (IsRefuteAnswer c m r)) answer
     (λ r more. spec_else m spec (IsRefuteAnswer c m r) answer (λ members last. refuted_else c m r members answer last) more) is
+
+spec_parts_else : (choice : Choice) (parts : List (List ℕ)) (answer : Answer) → IsCheckAgainstOf choice parts answer → IsElse answer
+spec_parts_else choice parts answer is =
+    parts_else (three parts) (λ p. ToTexts p.0 p.1 (λ c m. IsCheckAgainstFrom c m choice p.2)) answer
+    (λ p more. texts_else p.0 p.1 (λ c m. IsCheckAgainstFrom c m choice p.2) answer
+    (λ c m from. spec_else m p.2 (IsCheckedAgainst c m choice) answer (λ members last. against_else c m choice members answer last) from) more) is
 
 four_else : (parts : List (List ℕ)) (answer : Answer) → IsRefuteOf parts answer → IsElse answer
 four_else parts answer is =
@@ -165,23 +182,24 @@ found_else : (c : Declarations) (found : Campaign) (answer : Answer) → answer 
 found_else c (AllPass count) answer is = status_else answer 0 (ap (λ (a : Answer). a.status) is) (λ e. omega arith)
 found_else c (First m r) answer is = matrix_else c m r answer is
 
-campaign_else : (c : Declarations) (options : CampaignOptions) (candidates : List Call) (answer : Answer) → IsCampaignAnswer c candidates options answer → IsElse answer
-campaign_else c options candidates answer (inl is) = found_else c is.0 answer is.2
-campaign_else c options candidates answer (inr is) = refused_else _ answer is.3
+campaign_else : (c : Declarations) (options : CampaignOptions) (setup candidates : List Call) (answer : Answer) → IsCampaignAnswer c setup candidates options answer → IsElse answer
+campaign_else c options setup candidates answer (inl is) = found_else c is.0 answer is.2
+campaign_else c options setup candidates answer (inr is) = refused_else _ answer is.3
 
-candidates_else : (c : Declarations) (options : CampaignOptions) (m : List (List Call)) (answer : Answer) → IsCampaignFrom c options m answer → IsElse answer
-candidates_else c options [] answer is = refused_else (codes "G2") answer is
-candidates_else c options (candidates ∷ []) answer is = campaign_else c options candidates answer is
-candidates_else c options (a ∷ b ∷ m) answer is = refused_else (codes "G2") answer is
+candidates_else : (c : Declarations) (options : CampaignOptions) (setup : List Call) (threads : List (List Call)) (answer : Answer) → IsCampaignFrom c options (record { setup = setup; threads = threads }) answer → IsElse answer
+candidates_else c options setup [] answer is = refused_else (codes "G2") answer is
+candidates_else c options setup (candidates ∷ []) answer is = campaign_else c options setup candidates answer is
+candidates_else c options setup (a ∷ b ∷ m) answer is = refused_else (codes "G2") answer is
 
 order_else : (order : Order) (parts : List (List ℕ)) (answer : Answer) → IsAnswerTo order parts answer → IsElse answer
 order_else Replay parts answer is = three_else parts IsReplayed answer (λ c m u more. replayed_else c m u answer more) is
 order_else Trace parts answer is = three_else parts IsTraced answer (λ c m u more. traced_else c m u answer more) is
 order_else (Serial limits) parts answer is = two_else parts (λ c m. IsRunSerially c m limits) answer (λ c m more. serial_else c m limits answer more) is
 order_else (Check choice) parts answer is = two_else parts (λ c m. IsChecked c m choice) answer (λ c m more. checked_else c m choice answer more) is
+order_else (CheckAgainst choice) parts answer is = spec_parts_else choice parts answer is
 order_else Refute parts answer is = four_else parts answer is
 order_else (Shrink limits) parts answer is = two_else parts (λ c m. IsShrinkAnswer c m limits) answer (λ c m more. shrink_else c m limits answer more) is
-order_else (Campaigning options) parts answer is = two_else parts (λ c m. IsCampaignFrom c options m) answer (λ c m more. candidates_else c options m answer more) is
+order_else (Campaigning options) parts answer is = two_else parts (λ c m. IsCampaignFrom c options m) answer (λ c m more. candidates_else c options m.setup m.threads answer more) is
 
 either_else : (long : Bool) (order : Order) (parts : List (List ℕ)) (answer : Answer) → MatchBool long (answer ≡ refused (codes "B2")) (IsAnswerTo order parts answer) → IsElse answer
 either_else true order parts answer is = refused_else (codes "B2") answer is

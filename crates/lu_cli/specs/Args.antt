@@ -1,5 +1,5 @@
 -- The commands of the program, and what words ask for.
-use Rattle.std.specs.Prelude.{ℕ, ◌^◌, ◌&&◌, true, pos, List, [], ◌∷◌, length, Option, Some, None, option_and_then, codes, nat_lt, if◌then◌else◌}
+use Rattle.std.specs.Prelude.{ℕ, ◌^◌, ◌&&◌, Bool, true, false, pos, List, [], ◌∷◌, length, Option, Some, None, option_and_then, codes, nat_lt, if◌then◌else◌}
 use Rattle.std.specs.List.{list_all}
 use Rattle.std.specs.Option.{option_map}
 use Rattle.std.specs.Str.{bytes_eq}
@@ -7,11 +7,12 @@ use Rattle.std.specs.Char.{digit_value}
 use Rattle.std.specs.Str.Parse.{digits_value, without_leading_plus}
 use Rattle.clap.specs.Words.{App, Row, Rule, Text, new_app, new_rule, with_rule, with_subcommand, subcommand_of, fault_of}
 pub use Rattle.clap.specs.Words.{one_of}
+use Rattle.clap.specs.declared.builder.action.ArgAction.TheVariants.{SetTrue}
 use Rattle.clap.specs.declared.builder.value_parser.ValueParser.TheVariants as vp
 use Rattle.clap.specs.declared.error.kind.ErrorKind.{ErrorKind}
 use Rattle.lu_cli.specs.declared.order.CampaignOptions.{CampaignOptions}
 use Rattle.lu_cli.specs.declared.order.Order.{Order}
-use Rattle.lu_cli.specs.declared.order.Order.TheVariants.{Replay, Trace, Serial, Check, Refute, Shrink, Campaign}
+use Rattle.lu_cli.specs.declared.order.Order.TheVariants.{Replay, Trace, Serial, Check, CheckAgainst, Refute, Shrink, Campaign}
 use Rattle.lu_cli.specs.Orders.{Limits, limits_of, choice_of}
 use Rattle.lu_parallel.specs.Ranges.{Choice}
 
@@ -40,10 +41,15 @@ trace_command = new_app (codes "trace")
 abbrev pub serial_command : App
 serial_command = bounded (codes "serial")
 
+-- an option `--NAME` without a word
+abbrev pub flag : Text → Rule
+flag name = record (new_rule name) { long = Some name; action = Some SetTrue }
+
 abbrev pub check_command : App
 check_command =
-    with_rule (with_rule (bounded (codes "check")) (number_option (codes "workers") 1 16 (codes "1")))
-    (number_option (codes "depth") 0 8 (codes "4"))
+    with_rule (with_rule (with_rule (bounded (codes "check")) (number_option (codes "workers") 1 16 (codes "1")))
+    (number_option (codes "depth") 0 8 (codes "4")))
+    (flag (codes "spec"))
 
 abbrev pub refute_command : App
 refute_command = new_app (codes "refute")
@@ -88,6 +94,14 @@ number_said word = option_and_then (λ text. number_by (without_leading_plus tex
 abbrev pub number_in : Text → List Row → Option ℕ
 number_in name rows = number_said (one_of name rows)
 
+-- whether the flag is there
+abbrev pub flag_said : Option Text → Bool
+flag_said (Some text) = bytes_eq text (codes "true")
+flag_said None = false
+
+abbrev pub flag_in : Text → List Row → Bool
+flag_in name rows = flag_said (one_of name rows)
+
 abbrev pub limits_with : Option ℕ → Option ℕ → Option Limits
 limits_with (Some bound) (Some serial) = limits_of bound serial
 limits_with (Some bound) None = None
@@ -106,6 +120,13 @@ choice_in rows =
     choice_with (number_in (codes "bound") rows) (number_in (codes "serial") rows) (number_in (codes "workers") rows)
     (number_in (codes "depth") rows)
 
+-- a check against the serial runs, or one against a specification
+abbrev pub check_order : Bool → Choice → Order
+check_order against choice = if against then CheckAgainst choice else Check choice
+
+abbrev pub check_in : List Row → Option Order
+check_in rows = option_map (check_order (flag_in (codes "spec") rows)) (choice_in rows)
+
 abbrev pub campaign_with : Option Limits → Option ℕ → Option ℕ → Option CampaignOptions
 campaign_with (Some limits) (Some threads) (Some calls) =
     if nat_lt threads 256 && nat_lt calls 256 then Some (record { bounds = limits; threads = threads; calls = calls }) else None
@@ -119,7 +140,7 @@ order_by name rows =
     if bytes_eq name (codes "replay") then Some Replay
     else (if bytes_eq name (codes "trace") then Some Trace
     else (if bytes_eq name (codes "serial") then option_map Serial (limits_in rows)
-    else (if bytes_eq name (codes "check") then option_map Check (choice_in rows)
+    else (if bytes_eq name (codes "check") then check_in rows
     else (if bytes_eq name (codes "refute") then Some Refute
     else (if bytes_eq name (codes "shrink") then option_map Shrink (limits_in rows)
     else (if bytes_eq name (codes "campaign") then option_map Campaign (campaign_in rows) else None))))))

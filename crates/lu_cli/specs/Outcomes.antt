@@ -15,6 +15,10 @@ refused why = record { text = codes "refused " ++ why ++ 10 ∷ []; status = 2 }
 abbrev pub refused_on_line : List ℕ → ℕ → Answer
 refused_on_line code n = refused (code ++ codes " line " ++ decimal n)
 
+-- call k of the setup does not end
+abbrev pub unsettled : ℕ → Answer
+unsettled k = refused (codes "U1 call " ++ decimal k)
+
 abbrev pub no_memory : Answer
 no_memory = record { text = codes "refused memory\n"; status = 4 }
 

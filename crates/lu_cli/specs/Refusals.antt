@@ -8,8 +8,7 @@ use Rattle.lu_test.specs.declared.schedule_fault.ScheduleFault.TheVariants as sc
 use Rattle.lu_test.specs.Codes.{matrix_code_of, schedule_code_of}
 use Rattle.lu_parallel.specs.declared.fault.CheckFault.{CheckFault}
 use Rattle.lu_parallel.specs.declared.fault.CheckFault.TheVariants as check
-use Rattle.lu_replay.specs.declared.report_fault.ReportFault.{ReportFault}
-use Rattle.lu_replay.specs.declared.report_fault.ReportFault.TheVariants as report
+use Rattle.lu_report.specs.Codes.{report_code_of}
 use Rattle.lu_spec.specs.Codes.{spec_code_of}
 use Rattle.lu_refute.specs.declared.fault.RefuteFault.{RefuteFault}
 use Rattle.lu_refute.specs.declared.fault.RefuteFault.TheVariants as refute
@@ -17,10 +16,10 @@ use Rattle.lu_refine.specs.declared.campaigns.CampaignFault.{CampaignFault}
 use Rattle.lu_refine.specs.declared.campaigns.CampaignFault.TheVariants as campaign
 use Rattle.lu_refine.specs.Codes.{campaign_code_of}
 use Rattle.lu_cli.specs.declared.texts.Fault.{Fault as TextsFault}
-use Rattle.lu_cli.specs.declared.texts.Fault.TheVariants.{Component, Matrix, Check}
+use Rattle.lu_cli.specs.declared.texts.Fault.TheVariants.{Component, Matrix, Setup, Spec, Check}
 use Rattle.lu_cli.specs.declared.refusal.Refusal.{Refusal}
 use Rattle.lu_cli.specs.declared.refusal.Refusal.TheVariants as refusal
-use Rattle.lu_cli.specs.Outcomes.{Answer, refused, refused_on_line, no_worker}
+use Rattle.lu_cli.specs.Outcomes.{Answer, refused, refused_on_line, no_worker, unsettled}
 
 -- a fault by line; nothing is written for want of memory here
 abbrev pub line_answer : {Kind : Type 0} → (Kind → List ℕ) → Fault Kind → Option Answer
@@ -35,10 +34,6 @@ abbrev pub schedule_answer : ScheduleFault → Option Answer
 schedule_answer schedule.Memory = None
 schedule_answer fault = Some (refused (schedule_code_of fault))
 
-abbrev pub report_answer : ReportFault → Option Answer
-report_answer (report.Form n) = Some (refused_on_line (codes "E1") n)
-report_answer report.Memory = None
-
 abbrev pub refute_refusal : RefuteFault → Option Answer
 refute_refusal refute.NotShown = Some (refused (codes "F2"))
 refute_refusal refute.Memory = None
@@ -50,6 +45,8 @@ campaign_refusal fault = Some (refused (campaign_code_of fault))
 abbrev pub texts_answer : TextsFault → Option Answer
 texts_answer (Component fault) = line_answer code_of fault
 texts_answer (Matrix fault) = line_answer matrix_code_of fault
+texts_answer (Setup k) = Some (unsettled k)
+texts_answer (Spec fault) = line_answer spec_code_of fault
 texts_answer (Check fault) = worker_answer fault
 
 -- the line of a refusal, and its status; none for want of memory, of which the program tells in one place
@@ -57,8 +54,7 @@ abbrev pub refusal_answer : Refusal → Option Answer
 refusal_answer refusal.Parts = Some (refused (codes "B1"))
 refusal_answer (refusal.Texts fault) = texts_answer fault
 refusal_answer (refusal.Schedule fault) = schedule_answer fault
-refusal_answer (refusal.Report fault) = report_answer fault
-refusal_answer (refusal.Spec fault) = line_answer spec_code_of fault
+refusal_answer (refusal.Report fault) = line_answer report_code_of fault
 refusal_answer (refusal.Refute fault) = refute_refusal fault
 refusal_answer (refusal.Campaign fault) = campaign_refusal fault
 refusal_answer refusal.Memory = None

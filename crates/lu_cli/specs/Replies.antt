@@ -15,20 +15,24 @@ use Rattle.lu_test.specs.declared.schedule_fault.ScheduleFault.{ScheduleFault}
 use Rattle.lu_test.specs.Codes.{matrix_code_of, schedule_code_of}
 use Rattle.lu_test.specs.MatrixText.{matrix_grammar, matrix_text}
 use Rattle.lu_test.specs.ScheduleText.{schedule_of, schedule_text}
+use Rattle.lu_test.specs.Matrix.{Matrix}
 use Rattle.lu_machine.specs.declared.event.Event.{Event}
 use Rattle.lu_machine.specs.declared.event.Status.{Status}
 use Rattle.lu_machine.specs.States.{State}
-use Rattle.lu_machine.specs.Starts.{IsStart}
+use Rattle.lu_machine.specs.Starts.{IsStart, IsUnsettledAt, Settles}
 use Rattle.lu_history.specs.declared.serial.SerialOp.{SerialOp}
 use Rattle.lu_serial.specs.Serial.{IsSerialHistory}
 use Rattle.lu_serial.specs.Offences.{NoOffence}
-use Rattle.lu_replay.specs.declared.report.Finding.{Finding}
-use Rattle.lu_replay.specs.declared.report.Finding.TheVariants.{SerialCut, Nondeterministic, Fail, Pass}
-use Rattle.lu_replay.specs.Parts.{Parts}
-use Rattle.lu_replay.specs.Reports.{IsReport, IsOfOffence}
-use Rattle.lu_replay.specs.ReportText.{report_text}
-use Rattle.lu_replay.specs.declared.report_fault.ReportFault.TheVariants.{Form}
-use Rattle.lu_replay.specs.ReportForms.{IsFault, Spells}
+use Rattle.lu_report.specs.declared.report.Finding.{Finding}
+use Rattle.lu_report.specs.declared.report.Finding.TheVariants.{SerialCut, Nondeterministic, Fail, Pass}
+use Rattle.lu_report.specs.Parts.{Parts}
+use Rattle.lu_report.specs.Parts.{IsOfOffence}
+use Rattle.lu_witness.specs.Witnesses.{IsMember}
+use Rattle.lu_replay.specs.Reports.{IsReport, IsReportAgainst}
+use Rattle.lu_report.specs.Text.{report_text}
+use Rattle.lu_report.specs.declared.fault.ReportFaultKind.{ReportFaultKind}
+use Rattle.lu_report.specs.Codes.{report_code_of}
+use Rattle.lu_report.specs.Forms.{IsFault, Spells}
 use Rattle.lu_replay.specs.Confirmed.{IsFailure}
 use Rattle.lu_replay.specs.Replays.{Shows, IsInfeasibleAt}
 use Rattle.lu_replay.specs.Text.{replay_text}
@@ -49,10 +53,10 @@ use Rattle.lu_spec.specs.SpecText.{IsReadAs, IsSpecFault, spec_text}
 use Rattle.lu_refute.specs.Answers.{IsAnswer as IsRefutation, IsConfirmedFailure}
 use Rattle.lu_cli.specs.declared.order.CampaignOptions.{CampaignOptions}
 use Rattle.lu_cli.specs.declared.order.Order.{Order}
-use Rattle.lu_cli.specs.declared.order.Order.TheVariants.{Replay, Trace, Serial, Check, Refute, Shrink, Campaign as Campaigning}
+use Rattle.lu_cli.specs.declared.order.Order.TheVariants.{Replay, Trace, Serial, Check, CheckAgainst, Refute, Shrink, Campaign as Campaigning}
 use Rattle.lu_cli.specs.Bundle.{parts_of}
 use Rattle.lu_cli.specs.Orders.{Limits}
-pub use Rattle.lu_cli.specs.Outcomes.{Answer, refused, refused_on_line, infeasible, no_memory, no_command, no_device, no_worker}
+pub use Rattle.lu_cli.specs.Outcomes.{Answer, refused, refused_on_line, infeasible, no_memory, no_command, no_device, no_worker, unsettled}
 
 -- the answer to a text: its refusal, by a code and a line, or what is answered to its value
 abbrev pub ToValue : {Kind A : Type 0} → (Kind → List ℕ) → Result A (Fault Kind) → (A → Answer → Type 0) → Answer → Type 0
@@ -67,7 +71,7 @@ ToSchedule (Err fault) IsAnswer answer = answer ≡ refused (schedule_code_of fa
 -- ---- `replay`
 
 -- what the schedule shows, or where it is infeasible
-abbrev pub IsReplayed : Declarations → List (List Call) → List Move → Answer → Type 0
+abbrev pub IsReplayed : Declarations → Matrix → List Move → Answer → Type 0
 IsReplayed c matrix u answer =
     ((history : List Event) × (status : Status) × Shows c matrix u history status
     × (answer ≡ record { text = replay_text history status; status = 0 }))
@@ -77,7 +81,7 @@ IsReplayed c matrix u answer =
 -- ---- `trace`
 
 -- the trace of the schedule, or where it is infeasible
-abbrev pub IsTraced : Declarations → List (List Call) → List Move → Answer → Type 0
+abbrev pub IsTraced : Declarations → Matrix → List Move → Answer → Type 0
 IsTraced c matrix u answer =
     ((text : List ℕ) × IsTrace c matrix u text × (answer ≡ record { text = text; status = 0 }))
     ⊎ ((i : ℕ) × IsInfeasibleAt c matrix u i
@@ -115,7 +119,7 @@ ListsSerial s answer =
     × AreSerial s histories × IsClosureOf histories members × IsListed members answer
 
 -- where there is no serial offence, the specification of the serial histories; else the report of the least offence
-abbrev pub IsRunSerially : Declarations → List (List Call) → Limits → Answer → Type 0
+abbrev pub IsRunSerially : Declarations → Matrix → Limits → Answer → Type 0
 IsRunSerially c matrix limits answer =
     ((s : State) × IsStart c matrix s × NoOffence s limits.serial × ListsSerial s answer)
     ⊎ ((r : Parts) × IsReport c matrix limits.bound limits.serial r × IsOfOffence r.finding × (answer ≡ reported r))
@@ -123,54 +127,67 @@ IsRunSerially c matrix limits answer =
 -- ---- `check`
 
 -- the report, whatever the number of workers and the depth; or, with more than one worker, that a thread could not start
-abbrev pub IsChecked : Declarations → List (List Call) → Choice → Answer → Type 0
+abbrev pub IsChecked : Declarations → Matrix → Choice → Answer → Type 0
 IsChecked c matrix choice answer =
     ((r : Parts) × IsReport c matrix choice.bound choice.serial r × (answer ≡ reported r))
+    ⊎ ((choice.workers ≢ 1) × (answer ≡ no_worker))
+
+-- ---- `check --spec`
+
+-- the report against the set of these members, whatever the number of workers and the depth; or, with more than one worker, that
+-- a thread could not start
+abbrev pub IsCheckedAgainst : Declarations → Matrix → Choice → List (List SerialOp) → Answer → Type 0
+IsCheckedAgainst c matrix choice members answer =
+    ((r : Parts) × IsReportAgainst (IsMember members) c matrix choice.bound r × (answer ≡ reported r))
     ⊎ ((choice.workers ≢ 1) × (answer ≡ no_worker))
 
 -- ---- `shrink`
 
 -- a matrix and its report, and the report's status
-abbrev pub with_matrix : Declarations → List (List Call) → Parts → Answer
+abbrev pub with_matrix : Declarations → Matrix → Parts → Answer
 with_matrix c matrix r = record { text = matrix_text c matrix ++ codes "---\n" ++ report_text r; status = status_of r.finding }
 
 -- the last matrix of the chain of removals, with its report; or the report of a matrix that does not fail
-abbrev pub IsShrinkAnswer : Declarations → List (List Call) → Limits → Answer → Type 0
+abbrev pub IsShrinkAnswer : Declarations → Matrix → Limits → Answer → Type 0
 IsShrinkAnswer c matrix limits answer =
-    ((smaller : List (List Call)) × (r : Parts) × IsShrunk c matrix limits.bound limits.serial (smaller, r)
+    ((smaller : Matrix) × (r : Parts) × IsShrunk c matrix limits.bound limits.serial (smaller, r)
     × (answer ≡ with_matrix c smaller r))
     ⊎ ((r : Parts) × IsReport c matrix limits.bound limits.serial r × (IsFailure r.finding → ⊥) × (answer ≡ reported r))
 
 -- ---- `refute`
 
 -- a matrix, and a schedule of it
-abbrev pub with_schedule : Declarations → List (List Call) × List Move → Answer
+abbrev pub with_schedule : Declarations → Matrix × List Move → Answer
 with_schedule c example = record {
   text = matrix_text c example.0 ++ codes "---\n" ++ schedule_text example.1;
   status = 1;
 }
 
 -- a schedule that the specification does not explain; or F2, where no run confirms that the report is a failure or nondeterministic
-abbrev pub IsRefuteAnswer : Declarations → List (List Call) → Parts → List (List SerialOp) → Answer → Type 0
+abbrev pub IsRefuteAnswer : Declarations → Matrix → Parts → List (List SerialOp) → Answer → Type 0
 IsRefuteAnswer c matrix r members answer =
     (IsConfirmedFailure c matrix r
-    × ((example : List (List Call) × List Move) × IsRefutation c matrix r members example × (answer ≡ with_schedule c example)))
+    × ((example : Matrix × List Move) × IsRefutation c matrix r members example × (answer ≡ with_schedule c example)))
     ⊎ ((IsConfirmedFailure c matrix r → ⊥) × (answer ≡ refused (codes "F2")))
 
--- the answer to the text of a report: E1 with its line, or what is answered to the report
+-- the answer to the text of a report: the fault with its line, or what is answered to the report
 abbrev pub ToReport : List ℕ → (Parts → Answer → Type 0) → Answer → Type 0
 ToReport text IsAnswer answer =
     ((r : Parts) × Spells text r × IsAnswer r answer)
-    ⊎ ((n : ℕ) × IsFault text (Form n) × (answer ≡ refused_on_line (codes "E1") n))
+    ⊎ ((kind : ReportFaultKind) × (n : ℕ) × IsFault text (At kind n) × (answer ≡ refused_on_line (report_code_of kind) n))
 
 -- the answer to the text of a specification of the matrix: the fault with its line, or what is answered to its members
-abbrev pub ToSpec : List (List Call) → List ℕ → (List (List SerialOp) → Answer → Type 0) → Answer → Type 0
+abbrev pub ToSpec : Matrix → List ℕ → (List (List SerialOp) → Answer → Type 0) → Answer → Type 0
 ToSpec matrix text IsAnswer answer =
     ((members : List (List SerialOp)) × IsReadAs matrix text members × IsAnswer members answer)
     ⊎ ((kind : SpecFaultKind) × (n : ℕ) × IsSpecFault matrix text (At kind n) × (answer ≡ refused_on_line (spec_code_of kind) n))
 
+-- the specification is read, and then the matrix is checked against it
+abbrev pub IsCheckAgainstFrom : Declarations → Matrix → Choice → List ℕ → Answer → Type 0
+IsCheckAgainstFrom c matrix choice spec = ToSpec matrix spec (IsCheckedAgainst c matrix choice)
+
 -- the report is read first, and then the specification
-abbrev pub IsRefuteFrom : Declarations → List (List Call) → List ℕ → List ℕ → Answer → Type 0
+abbrev pub IsRefuteFrom : Declarations → Matrix → List ℕ → List ℕ → Answer → Type 0
 IsRefuteFrom c matrix report spec = ToReport report (λ r. ToSpec matrix spec (IsRefuteAnswer c matrix r))
 
 -- ---- `campaign`
@@ -184,35 +201,40 @@ abbrev pub found_answer : Declarations → Campaign → Answer
 found_answer c (AllPass count) = all_pass count
 found_answer c (First matrix r) = with_matrix c matrix r
 
-abbrev pub options_of : Declarations → List Call → CampaignOptions → Campaigned
-options_of c candidates o = campaigned c candidates o.threads o.calls o.bounds.bound o.bounds.serial
+abbrev pub options_of : Declarations → List Call → List Call → CampaignOptions → Campaigned
+options_of c setup candidates o = campaigned c setup candidates o.threads o.calls o.bounds.bound o.bounds.serial
 
--- what the campaign over these calls finds, or why there is none
-abbrev pub IsCampaignAnswer : Declarations → List Call → CampaignOptions → Answer → Type 0
-IsCampaignAnswer c candidates o answer =
-    ((found : Campaign) × IsFound (options_of c candidates o) found × (answer ≡ found_answer c found))
+-- what the campaign over these calls finds, with this setup, or why there is none
+abbrev pub IsCampaignAnswer : Declarations → List Call → List Call → CampaignOptions → Answer → Type 0
+IsCampaignAnswer c setup candidates o answer =
+    ((found : Campaign) × IsFound (options_of c setup candidates o) found × (answer ≡ found_answer c found))
     ⊎ ((fault : CampaignFault) × (fault ≢ NoMemory) × IsLimitFault (length candidates) o.threads o.calls fault
     × (answer ≡ refused (campaign_code_of fault)))
 
--- the calls of the matrix's one thread are the candidates
+-- the calls of the one thread are the candidates
 abbrev pub ToCandidates : List (List Call) → (List Call → Answer → Type 0) → Answer → Type 0
 ToCandidates (candidates ∷ []) IsAnswer answer = IsAnswer candidates answer
-ToCandidates matrix IsAnswer answer = answer ≡ refused (codes "G2")
+ToCandidates threads IsAnswer answer = answer ≡ refused (codes "G2")
 
--- what the campaign over the calls of the matrix's one thread finds
-abbrev pub IsCampaignFrom : Declarations → CampaignOptions → List (List Call) → Answer → Type 0
-IsCampaignFrom c options matrix = ToCandidates matrix (λ candidates. IsCampaignAnswer c candidates options)
+-- what the campaign over the calls of the matrix's one thread finds, with the matrix's setup
+abbrev pub IsCampaignFrom : Declarations → CampaignOptions → Matrix → Answer → Type 0
+IsCampaignFrom c options matrix = ToCandidates matrix.threads (λ candidates. IsCampaignAnswer c matrix.setup candidates options)
 
 -- ---- texts of components and matrices
 
 -- the answer to a matrix text of the component
-abbrev pub ToMatrix : Declarations → List ℕ → (List (List Call) → Answer → Type 0) → Answer → Type 0
+abbrev pub ToMatrix : Declarations → List ℕ → (Matrix → Answer → Type 0) → Answer → Type 0
 ToMatrix c matrix IsAnswer = ToValue matrix_code_of (value_of (matrix_grammar c) matrix) IsAnswer
 
--- the component is read first, and then the matrix
-abbrev pub ToTexts : List ℕ → List ℕ → (Declarations → List (List Call) → Answer → Type 0) → Answer → Type 0
+-- the answer where the setup settles; else the number of its first call that does not end
+abbrev pub ToSettled : Declarations → Matrix → (Answer → Type 0) → Answer → Type 0
+ToSettled c matrix IsAnswer answer =
+    (Settles c matrix × IsAnswer answer) ⊎ ((k : ℕ) × IsUnsettledAt c matrix k × (answer ≡ unsettled k))
+
+-- the component is read first, and then the matrix, whose setup is run
+abbrev pub ToTexts : List ℕ → List ℕ → (Declarations → Matrix → Answer → Type 0) → Answer → Type 0
 ToTexts component matrix IsAnswer =
-    ToValue code_of (value_of component_grammar component) (λ c. ToMatrix c matrix (IsAnswer c))
+    ToValue code_of (value_of component_grammar component) (λ c. ToMatrix c matrix (λ m. ToSettled c m (IsAnswer c m)))
 
 -- ---- the whole program
 
@@ -233,6 +255,9 @@ IsSerialOf limits parts = ToParts (two parts) (λ p. ToTexts p.0 p.1 (λ c m. Is
 abbrev pub IsCheckOf : Choice → List (List ℕ) → Answer → Type 0
 IsCheckOf choice parts = ToParts (two parts) (λ p. ToTexts p.0 p.1 (λ c m. IsChecked c m choice))
 
+abbrev pub IsCheckAgainstOf : Choice → List (List ℕ) → Answer → Type 0
+IsCheckAgainstOf choice parts = ToParts (three parts) (λ p. ToTexts p.0 p.1 (λ c m. IsCheckAgainstFrom c m choice p.2))
+
 abbrev pub IsShrinkOf : Limits → List (List ℕ) → Answer → Type 0
 IsShrinkOf limits parts = ToParts (two parts) (λ p. ToTexts p.0 p.1 (λ c m. IsShrinkAnswer c m limits))
 
@@ -249,6 +274,7 @@ IsAnswerTo Replay parts = IsReplayOf parts
 IsAnswerTo Trace parts = IsTraceOf parts
 IsAnswerTo (Serial limits) parts = IsSerialOf limits parts
 IsAnswerTo (Check choice) parts = IsCheckOf choice parts
+IsAnswerTo (CheckAgainst choice) parts = IsCheckAgainstOf choice parts
 IsAnswerTo Refute parts = IsRefuteOf parts
 IsAnswerTo (Shrink limits) parts = IsShrinkOf limits parts
 IsAnswerTo (Campaigning options) parts = IsCampaignOf options parts

@@ -3,25 +3,33 @@ use Rattle.std.specs.Prelude.{◌≡◌, ℕ, List, Ok}
 use Rattle.lu_text.specs.Faults.{value_of, IsUnlessMemory}
 use Rattle.lu_component.specs.Component.{Declarations}
 use Rattle.lu_lang.specs.Grammar.{component_grammar}
-use Rattle.lu_test.specs.declared.matrix.Call.{Call}
 use Rattle.lu_test.specs.MatrixText.{matrix_grammar}
-use Rattle.lu_replay.specs.Parts.{Parts}
-use Rattle.lu_replay.specs.Reports.{IsReport}
-use Rattle.lu_replay.specs.ReportText.{report_text}
+use Rattle.lu_test.specs.Matrix.{Matrix as AMatrix}
+use Rattle.lu_machine.specs.Starts.{IsUnsettledAt, Settles}
+use Rattle.lu_report.specs.Parts.{Parts}
+use Rattle.lu_history.specs.declared.serial.SerialOp.{SerialOp}
+use Rattle.lu_witness.specs.Witnesses.{IsMember}
+use Rattle.lu_replay.specs.Reports.{IsReport, IsReportAgainst}
+use Rattle.lu_report.specs.Text.{report_text}
 use Rattle.lu_parallel.specs.Ranges.{Choice}
 use Rattle.lu_parallel.specs.declared.fault.CheckFault.TheVariants.{Memory}
+use Rattle.lu_spec.specs.SpecText.{IsReadAs, IsSpecFault}
 use Rattle.lu_cli.specs.declared.texts.Fault.{Fault as TextsFault}
-use Rattle.lu_cli.specs.declared.texts.Fault.TheVariants.{Component, Matrix, Check}
+use Rattle.lu_cli.specs.declared.texts.Fault.TheVariants.{Component, Matrix, Setup, Spec, Check}
 
 -- the texts are those of the component c and the matrix m
-abbrev pub AreTexts : List ℕ → List ℕ → Declarations → List (List Call) → Type 0
+abbrev pub AreTexts : List ℕ → List ℕ → Declarations → AMatrix → Type 0
 AreTexts component matrix c m =
     (value_of component_grammar component ≡ Ok c) × (value_of (matrix_grammar c) matrix ≡ Ok m)
+
+-- they are, and the setup settles
+abbrev pub AreSettled : List ℕ → List ℕ → Declarations → AMatrix → Type 0
+AreSettled component matrix c m = AreTexts component matrix c m × Settles c m
 
 -- the one report of the component and the matrix of these texts
 abbrev pub IsReportOfTexts : List ℕ → List ℕ → Choice → Parts → Type 0
 IsReportOfTexts component matrix choice r =
-    (c : Declarations) × (m : List (List Call)) × AreTexts component matrix c m
+    (c : Declarations) × (m : AMatrix) × AreSettled component matrix c m
     × IsReport c m choice.bound choice.serial r
 
 -- its text
@@ -29,16 +37,56 @@ abbrev pub IsReportOf : List ℕ → List ℕ → Choice → List ℕ → Type 0
 IsReportOf component matrix choice text =
     (r : Parts) × IsReportOfTexts component matrix choice r × (text ≡ report_text r)
 
--- the fault of the first text that has one
+-- the fault of the first text that has one; or the number of the first call of the setup that does not end
 abbrev pub IsFaultOfTexts : List ℕ → List ℕ → TextsFault → Type 0
 IsFaultOfTexts component matrix (Component fault) = IsUnlessMemory fault (value_of component_grammar component)
 IsFaultOfTexts component matrix (Matrix fault) =
     (c : Declarations) × (value_of component_grammar component ≡ Ok c) × IsUnlessMemory fault (value_of (matrix_grammar c) matrix)
+IsFaultOfTexts component matrix (Setup k) =
+    (c : Declarations) × (m : AMatrix) × AreTexts component matrix c m × IsUnsettledAt c m k
+IsFaultOfTexts component matrix (Spec fault) = ⊥
 IsFaultOfTexts component matrix (Check fault) = ⊥
 
--- the fault of the first text that has one; of the check, want of memory, or a thread that could not start
+-- the fault of the texts or of the setup; of the check, want of memory, or a thread that could not start
 abbrev pub IsFaultOf : List ℕ → List ℕ → Choice → TextsFault → Type 0
 IsFaultOf component matrix choice (Component fault) = IsFaultOfTexts component matrix (Component fault)
 IsFaultOf component matrix choice (Matrix fault) = IsFaultOfTexts component matrix (Matrix fault)
+IsFaultOf component matrix choice (Setup k) = IsFaultOfTexts component matrix (Setup k)
+IsFaultOf component matrix choice (Spec fault) = ⊥
 IsFaultOf component matrix choice (Check fault) =
-    (c : Declarations) × (m : List (List Call)) × AreTexts component matrix c m × (choice.workers ≡ 1 → fault ≡ Memory)
+    (c : Declarations) × (m : AMatrix) × AreSettled component matrix c m × (choice.workers ≡ 1 → fault ≡ Memory)
+
+-- ---- against a specification
+
+-- the text lists histories of the matrix, and r is the one report against their set
+abbrev pub IsReportRead : Declarations → AMatrix → List ℕ → Choice → Parts → Type 0
+IsReportRead c m spec choice r =
+    (members : List (List SerialOp)) × IsReadAs m spec members × IsReportAgainst (IsMember members) c m choice.bound r
+
+-- the fault of the specification's text; of the check, want of memory, or a thread that could not start
+abbrev pub IsFaultAgainst : Declarations → AMatrix → List ℕ → Choice → TextsFault → Type 0
+IsFaultAgainst c m spec choice (Component fault) = ⊥
+IsFaultAgainst c m spec choice (Matrix fault) = ⊥
+IsFaultAgainst c m spec choice (Setup k) = ⊥
+IsFaultAgainst c m spec choice (Spec fault) = IsSpecFault m spec fault
+IsFaultAgainst c m spec choice (Check fault) =
+    (members : List (List SerialOp)) × IsReadAs m spec members × (choice.workers ≡ 1 → fault ≡ Memory)
+
+-- the text of the one report of the component and the matrix of two texts against the specification of a third
+abbrev pub IsReportReadOf : List ℕ → List ℕ → List ℕ → Choice → List ℕ → Type 0
+IsReportReadOf component matrix spec choice text =
+    (c : Declarations) × (m : AMatrix) × AreSettled component matrix c m
+    × ((r : Parts) × IsReportRead c m spec choice r × (text ≡ report_text r))
+
+-- where the first two texts are those of a component and a matrix whose setup settles, this is the fault
+abbrev pub IsFaultBehind : List ℕ → List ℕ → List ℕ → Choice → TextsFault → Type 0
+IsFaultBehind component matrix spec choice fault =
+    (c : Declarations) × (m : AMatrix) × AreSettled component matrix c m × IsFaultAgainst c m spec choice fault
+
+-- the fault of the first text that has one, or of the setup; or that of the check
+abbrev pub IsFaultAgainstTexts : List ℕ → List ℕ → List ℕ → Choice → TextsFault → Type 0
+IsFaultAgainstTexts component matrix spec choice (Component fault) = IsFaultOfTexts component matrix (Component fault)
+IsFaultAgainstTexts component matrix spec choice (Matrix fault) = IsFaultOfTexts component matrix (Matrix fault)
+IsFaultAgainstTexts component matrix spec choice (Setup k) = IsFaultOfTexts component matrix (Setup k)
+IsFaultAgainstTexts component matrix spec choice (Spec fault) = IsFaultBehind component matrix spec choice (Spec fault)
+IsFaultAgainstTexts component matrix spec choice (Check fault) = IsFaultBehind component matrix spec choice (Check fault)

@@ -12,7 +12,7 @@ use lu_component::Component;
 use lu_parallel::CheckFault;
 use lu_refine::CampaignFault;
 use lu_refute::RefuteFault;
-use lu_replay::{Finding, Report, ReportFault, write_report};
+use lu_report::{Finding, Report, write_report};
 use lu_spec::{Spec, write_spec};
 use lu_test::{Matrix, Schedule, ScheduleFault, write_matrix, write_schedule};
 use lu_text::Fault;
@@ -142,6 +142,16 @@ pub fn show_schedule(
     Ok(Answer { text, status: 1 })
 }
 
+/// That call number `call` of the setup does not end.
+fn unsettled(alloc: Global, call: u8) -> Result<Answer, AllocError>
+    ensures { IfOk result (λ answer. answer ≡ spec.unsettled call) }
+{
+    Ok(Answer {
+        text: format!(in alloc; "refused U1 call {call}\n")?,
+        status: 2,
+    })
+}
+
 /// That the start of a worker's thread was refused.
 fn no_worker(alloc: Global) -> Result<Answer, AllocError>
     ensures { IfOk result (λ answer. answer ≡ spec.no_worker) }
@@ -168,21 +178,24 @@ pub fn show_refusal(alloc: Global, refusal: Refusal) -> Result<Answer, AllocErro
         Refusal::Texts(TextsFault::Matrix(Fault::At(kind, line))) => {
             refused_on_line(alloc, kind.code(), line)
         }
+        Refusal::Texts(TextsFault::Spec(Fault::At(kind, line))) => {
+            refused_on_line(alloc, kind.code(), line)
+        }
+        Refusal::Texts(TextsFault::Setup(call)) => unsettled(alloc, call),
         Refusal::Texts(TextsFault::Check(CheckFault::Worker)) => no_worker(alloc),
         Refusal::Schedule(ScheduleFault::Form) => refused(alloc, "C1"),
         Refusal::Schedule(ScheduleFault::Number) => refused(alloc, "C2"),
         Refusal::Schedule(ScheduleFault::Limit) => refused(alloc, "C3"),
-        Refusal::Report(ReportFault::Form(line)) => refused_on_line(alloc, "E1", line),
-        Refusal::Spec(Fault::At(kind, line)) => refused_on_line(alloc, kind.code(), line),
+        Refusal::Report(Fault::At(kind, line)) => refused_on_line(alloc, kind.code(), line),
         Refusal::Refute(RefuteFault::NotShown) => refused(alloc, "F2"),
         Refusal::Campaign(CampaignFault::Candidates) => refused(alloc, "G2"),
         Refusal::Campaign(CampaignFault::Limit) => refused(alloc, "G3"),
         Refusal::Texts(TextsFault::Component(Fault::Memory))
         | Refusal::Texts(TextsFault::Matrix(Fault::Memory))
+        | Refusal::Texts(TextsFault::Spec(Fault::Memory))
         | Refusal::Texts(TextsFault::Check(CheckFault::Memory))
         | Refusal::Schedule(ScheduleFault::Memory)
-        | Refusal::Report(ReportFault::Memory)
-        | Refusal::Spec(Fault::Memory)
+        | Refusal::Report(Fault::Memory)
         | Refusal::Refute(RefuteFault::Memory)
         | Refusal::Campaign(CampaignFault::Memory)
         | Refusal::Memory => Err(AllocError),

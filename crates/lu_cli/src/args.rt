@@ -9,7 +9,7 @@ ghost use Rattle.lu_cli.specs.Args.{lineup, order_of};
 use crate::order::{ArgsFault, Bounds, CampaignOptions, Order};
 use clap::builder::ValueParserFactory;
 use clap::error::ErrorKind;
-use clap::{Arg, ArgMatches, Command};
+use clap::{Arg, ArgAction, ArgMatches, Command};
 use lu_parallel::Options;
 use std::alloc::{AllocError, Global};
 use std::convert::AsStr;
@@ -32,6 +32,14 @@ fn number_option<'a>(
         .default_value(default)
 }
 
+/// An option `--NAME` without a word.
+fn flag<'a>(alloc: Global, name: &'a str) -> Arg<'a>
+    ensures rule { rule_of result ≡ spec.flag name.entry.now }
+    ensures local { result.global ≡ false }
+{
+    Arg::new(alloc, name).long(name).action(ArgAction::SetTrue)
+}
+
 /// A command with the options `--bound` and `--serial`.
 fn bounded<'a>(alloc: Global, name: &'a str) -> Result<Command<'a>, AllocError>
     ensures app { IfOk result (λ command. app_of command ≡ spec.bounded name.entry.now) }
@@ -48,7 +56,8 @@ fn check_command<'a>(alloc: Global) -> Result<Command<'a>, AllocError>
 {
     bounded(alloc, "check")?
         .arg(number_option(alloc, "workers", 1, 16, "1"))?
-        .arg(number_option(alloc, "depth", 0, 8, "4"))
+        .arg(number_option(alloc, "depth", 0, 8, "4"))?
+        .arg(flag(alloc, "spec"))
 }
 
 fn campaign_command<'a>(alloc: Global) -> Result<Command<'a>, AllocError>
@@ -118,6 +127,12 @@ fn number_in(given: &ArgMatches<'_>, name: &str) -> Option<u16>
     given.get_one::<u16>(name)
 }
 
+fn flag_in(given: &ArgMatches<'_>, name: &str) -> bool
+    ensures { result ≡ spec.flag_in name.now (rows_of (found_of given.now)) }
+{
+    given.get_one::<bool>(name).unwrap_or(false)
+}
+
 fn bounds_in(given: &ArgMatches<'_>) -> Option<Bounds>
     ensures { result ≡ spec.limits_in (rows_of (found_of given.now)) }
 {
@@ -153,6 +168,24 @@ fn campaign_in(given: &ArgMatches<'_>) -> Option<CampaignOptions>
     })
 }
 
+/// A check against the serial runs, or one against a specification.
+fn check_order(options: Options, against: bool) -> Order
+    ensures { result ≡ spec.check_order against options }
+{
+    if against {
+        Order::CheckAgainst(options)
+    } else {
+        Order::Check(options)
+    }
+}
+
+fn check_in(given: &ArgMatches<'_>) -> Option<Order>
+    ensures { result ≡ spec.check_in (rows_of (found_of given.now)) }
+{
+    let options = options_in(given)?;
+    Some(check_order(options, flag_in(given, "spec")))
+}
+
 /// The order of a parse.
 fn order_in(matches: &ArgMatches<'_>) -> Option<Order>
     ensures { result ≡ spec.order_in (subcommand_rows_of matches.now) }
@@ -168,7 +201,7 @@ fn order_in(matches: &ArgMatches<'_>) -> Option<Order>
         return Some(Order::Serial(bounds_in(given)?));
     }
     if name == "check" {
-        return Some(Order::Check(options_in(given)?));
+        return check_in(given);
     }
     if name == "refute" {
         return Some(Order::Refute);

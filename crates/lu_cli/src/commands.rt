@@ -2,10 +2,11 @@
 
 ghost use Rattle.std.specs.Prelude.{◌≡◌, IfOk};
 ghost use Rattle.lu_text.specs.Lines.{texts};
-ghost use Rattle.lu_test.specs.Matrix.{IsOf};
+ghost use Rattle.lu_test.specs.Matrix.{IsSetup};
 ghost use Rattle.lu_machine.specs.States.{State};
-ghost use Rattle.lu_machine.specs.Starts.{IsStart};
-ghost use Rattle.lu_replay.specs.Reports.{IsFinding, IsOfOffence};
+ghost use Rattle.lu_machine.specs.Starts.{AllEnd, CanRun, IsStart};
+ghost use Rattle.lu_report.specs.Parts.{IsOfOffence};
+ghost use Rattle.lu_replay.specs.Reports.{IsFinding};
 ghost use Rattle.lu_spec.specs.Specs.{AreOf};
 ghost use Rattle.lu_refine.specs.Campaigns.{AreCallsOf, HaveArguments};
 ghost use Rattle.lu_cli.specs.Refusals.{Answered};
@@ -17,15 +18,16 @@ use crate::answer::{
 };
 use crate::order::{Bounds, CampaignOptions, Order};
 use crate::refusal::Refusal;
-use crate::texts::{read_texts, report_of};
+use crate::texts::{read_texts, report_against, report_of};
 use lu_lang::Component;
 use lu_parallel::Options;
 use lu_refine::{Campaign, CampaignFault, ShrinkFault, campaign, shrink};
 use lu_refute::refute;
-use lu_replay::{Finding, ReplayFault, Report, read_report, replay, set_or_offence, write_replay};
+use lu_replay::{ReplayFault, replay, set_or_offence, write_replay};
+use lu_report::{Finding, Report, read_report};
 use lu_serial::learn;
 use lu_spec::{Spec, read_spec};
-use lu_test::{Call, Matrix, Schedule, read_schedule};
+use lu_test::{Call, Calls, Matrix, Schedule, read_schedule};
 use lu_text::{four, three, two};
 use lu_trace::{TraceFault, write_trace};
 use std::alloc::{AllocError, Global};
@@ -39,7 +41,7 @@ fn play(
     matrix: &Matrix,
     schedule: &Schedule,
 ) -> Result<Answer, AllocError>
-    requires { IsOf matrix.now component.now }
+    requires { CanRun component.now matrix.now }
     ensures { IfOk result (spec.IsReplayed component.now matrix.now schedule.now) }
 {
     match replay(alloc, component, matrix, schedule) {
@@ -69,7 +71,7 @@ fn trace(
     matrix: &Matrix,
     schedule: &Schedule,
 ) -> Result<Answer, AllocError>
-    requires { IsOf matrix.now component.now }
+    requires { CanRun component.now matrix.now }
     ensures { IfOk result (spec.IsTraced component.now matrix.now schedule.now) }
 {
     match write_trace(alloc, component, matrix, schedule) {
@@ -97,6 +99,7 @@ fn show_offence(
     bounds: Bounds,
     finding: Finding,
 ) -> Result<Answer, AllocError>
+    requires of { CanRun component.now matrix.now }
     requires offence { IsOfOffence finding }
     requires found { (s : State) → IsStart component.now matrix.now s → IsFinding s bounds.bound bounds.serial finding }
     ensures { IfOk result (spec.IsRunSerially component.now matrix.now bounds) }
@@ -116,7 +119,7 @@ fn run_serially(
     matrix: &Matrix,
     bounds: Bounds,
 ) -> Result<Answer, AllocError>
-    requires { IsOf matrix.now component.now }
+    requires { CanRun component.now matrix.now }
     ensures { IfOk result (spec.IsRunSerially component.now matrix.now bounds) }
 {
     let learnt = learn(alloc, alloc, component, matrix, bounds.serial())?;
@@ -148,6 +151,34 @@ fn answer_check<X: AllocGlobal + Threads + Wait>(
     Ok(show_report(rt.alloc(), &report)?)
 }
 
+/// The report of the component and the matrix against the specification of a text.
+fn check_against_text<X: AllocGlobal + Threads + Wait>(
+    rt: &X,
+    component: &Component,
+    matrix: &Matrix,
+    specification: &[u8],
+    options: Options,
+) -> Result<Answer, Refusal>
+    requires { CanRun component.now matrix.now }
+    ensures { Answered (spec.IsCheckAgainstFrom component.now matrix.now options specification.now) result }
+{
+    let report = report_against(rt, rt.alloc(), component, matrix, specification, options)?;
+    Ok(show_report(rt.alloc(), &report)?)
+}
+
+/// `lineup check --spec`: component, matrix and specification.
+fn answer_check_against<X: AllocGlobal + Threads + Wait>(
+    rt: &X,
+    options: Options,
+    parts: &[&[u8]],
+) -> Result<Answer, Refusal>
+    ensures { Answered (spec.IsCheckAgainstOf options (texts parts.now)) result }
+{
+    let (component, matrix, specification) = three(parts).ok_or(Refusal::Parts)?;
+    let (component, matrix) = read_texts(rt.alloc(), component, matrix)?;
+    check_against_text(rt, &component, &matrix, specification, options)
+}
+
 /// A schedule that the specification does not explain, where a run confirms that the report is a failure or nondeterministic.
 fn refute_spec(
     alloc: Global,
@@ -156,7 +187,7 @@ fn refute_spec(
     report: &Report,
     specification: &Spec,
 ) -> Result<Answer, Refusal>
-    requires component { IsOf matrix.now component.now }
+    requires component { CanRun component.now matrix.now }
     requires spec { AreOf matrix.now specification.now }
     ensures { Answered (spec.IsRefuteAnswer component.now matrix.now report.now specification.now) result }
 {
@@ -172,7 +203,7 @@ fn refute_texts(
     report: &[u8],
     specification: &[u8],
 ) -> Result<Answer, Refusal>
-    requires { IsOf matrix.now component.now }
+    requires { CanRun component.now matrix.now }
     ensures { Answered (spec.IsRefuteFrom component.now matrix.now report.now specification.now) result }
 {
     let report = read_report(alloc, report)?;
@@ -196,7 +227,7 @@ fn shrink_matrix(
     matrix: &Matrix,
     bounds: Bounds,
 ) -> Result<Answer, AllocError>
-    requires { IsOf matrix.now component.now }
+    requires { CanRun component.now matrix.now }
     ensures { IfOk result (spec.IsShrinkAnswer component.now matrix.now bounds) }
 {
     match shrink(alloc, component, matrix, bounds.bound(), bounds.serial()) {
@@ -215,21 +246,26 @@ fn answer_shrink(alloc: Global, bounds: Bounds, parts: &[&[u8]]) -> Result<Answe
     Ok(shrink_matrix(alloc, &component, &matrix, bounds)?)
 }
 
-/// What the campaign over these calls finds.
+/// What the campaign over these calls finds, with this setup.
 fn try_matrices(
     alloc: Global,
     component: &Component,
+    setup: &Calls,
     candidates: &[Call],
     options: CampaignOptions,
 ) -> Result<Answer, Refusal>
+    requires setup { IsSetup setup.now }
+    requires setup_of { AreCallsOf component.now setup.now }
+    requires settles { AllEnd component.now setup.now }
     requires of { AreCallsOf component.now candidates.now }
     requires arguments { HaveArguments candidates.now }
-    ensures { Answered (spec.IsCampaignAnswer component.now candidates.now options) result }
+    ensures { Answered (spec.IsCampaignAnswer component.now setup.now candidates.now options) result }
 {
     let bounds = options.bounds;
     let found = campaign(
         alloc,
         component,
+        setup,
         candidates,
         options.threads,
         options.calls,
@@ -242,18 +278,21 @@ fn try_matrices(
     }
 }
 
-/// What the campaign over the calls of the matrix's one thread finds.
+/// What the campaign over the calls of the matrix's one thread finds, with the matrix's setup.
 fn try_candidates(
     alloc: Global,
     component: &Component,
     matrix: &Matrix,
     options: CampaignOptions,
 ) -> Result<Answer, Refusal>
-    requires { IsOf matrix.now component.now }
+    requires { CanRun component.now matrix.now }
     ensures { Answered (spec.IsCampaignFrom component.now options matrix.now) result }
 {
     match matrix.as_slice() {
-        [candidates] => try_matrices(alloc, component, candidates.as_slice(), options),
+        [candidates] => {
+            let setup = matrix.setup();
+            try_matrices(alloc, component, setup, candidates.as_slice(), options)
+        }
         _ => Err(Refusal::Campaign(CampaignFault::Candidates)),
     }
 }
@@ -284,6 +323,7 @@ fn carry_out<X: AllocGlobal + Threads + Wait>(
         Order::Trace => answer_trace(rt.alloc(), parts),
         Order::Serial(bounds) => answer_serial(rt.alloc(), bounds, parts),
         Order::Check(options) => answer_check(rt, options, parts),
+        Order::CheckAgainst(options) => answer_check_against(rt, options, parts),
         Order::Refute => answer_refute(rt.alloc(), parts),
         Order::Shrink(bounds) => answer_shrink(rt.alloc(), bounds, parts),
         Order::Campaign(options) => answer_campaign(rt.alloc(), options, parts),

@@ -15,4 +15,4 @@ mod texts;
 
 pub use counted::Counted;
 pub use program::run;
-pub use texts::{Fault, check_texts};
+pub use texts::{Fault, check_texts, check_texts_against};

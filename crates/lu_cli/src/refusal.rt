@@ -6,7 +6,7 @@ ghost use Rattle.lu_cli.specs.declared.refusal.Refusal.TheVariants.{Memory};
 use crate::texts::Fault;
 use lu_refine::CampaignFault;
 use lu_refute::RefuteFault;
-use lu_replay::ReportFault;
+use lu_report::ReportFault;
 use lu_spec::SpecFault;
 use lu_test::ScheduleFault;
 use std::alloc::AllocError;
@@ -17,7 +17,7 @@ pub(crate) enum Refusal {
     /// `B1`: the bundle has another number of parts.
     Parts,
 
-    /// What is wrong with the texts of the component and the matrix, or a worker's thread that could not start.
+    /// What is wrong with the text of the component, the matrix or the specification, or with the setup, or a worker's thread that could not start.
     Texts(Fault),
 
     /// What is wrong with the text of the schedule.
@@ -25,9 +25,6 @@ pub(crate) enum Refusal {
 
     /// What is wrong with the text of the report.
     Report(ReportFault),
-
-    /// What is wrong with the text of the specification.
-    Spec(SpecFault),
 
     /// That the report shows nothing.
     Refute(RefuteFault),
@@ -70,12 +67,13 @@ impl From<ReportFault> for Refusal {
 }
 
 impl From<SpecFault> for Refusal {
-    ghost use Rattle.lu_cli.specs.declared.refusal.Refusal.TheVariants.{Spec};
+    ghost use Rattle.lu_cli.specs.declared.texts.Fault.TheVariants.{Spec};
+    ghost use Rattle.lu_cli.specs.declared.refusal.Refusal.TheVariants.{Texts};
 
-    ghost from_gives = { λ fault e. e ≡ Spec fault };
+    ghost from_gives = { λ fault e. e ≡ Texts (Spec fault) };
 
     fn from(fault: SpecFault) -> Refusal {
-        Refusal::Spec(fault)
+        Refusal::Texts(Fault::Spec(fault))
     }
 }
 

@@ -1,30 +1,42 @@
 //! Checks of texts.
 
-ghost use Rattle.std.specs.Prelude.{◌≡◌, IfErr, IfOk, string_bytes};
+ghost use Rattle.std.specs.Prelude.{◌≡◌, IfErr, IfOk, MatchOption, string_bytes};
+ghost use Rattle.lu_text.specs.declared.fault.Fault.TheVariants.{Memory};
 ghost use Rattle.lu_test.specs.Matrix.{IsOf};
-ghost use Rattle.lu_cli.specs.Texts.{AreTexts, IsFaultOf, IsFaultOfTexts, IsReportOf, IsReportOfTexts};
+ghost use Rattle.lu_machine.specs.Starts.{CanRun, IsUnsettledAt, Settles};
+ghost use Rattle.lu_cli.specs.Texts.{AreSettled, IsFaultAgainst, IsFaultAgainstTexts, IsFaultOf, IsFaultOfTexts, IsReportOf, IsReportOfTexts, IsReportRead, IsReportReadOf};
 
 use lu_lang::{Component, LangFault, read_component};
-use lu_parallel::{CheckFault, OpenGate, Options, check};
-use lu_replay::{Report, write_report};
+use lu_machine::settles;
+use lu_parallel::{CheckFault, OpenGate, Options, check, check_against};
+use lu_report::{Report, write_report};
+use lu_spec::{SpecFault, read_spec};
 use lu_test::{Matrix, MatrixFault, read_matrix};
 use std::alloc::{AllocError, Global};
 use std::sync::Wait;
 use std::thread::Threads;
 use thiserror::Error;
 
-/// Why two texts have no report. It is shown as what went wrong is shown.
+/// Why texts have no report. It is shown as what went wrong is shown.
 #[derive(Clone, Copy, Debug, PartialEq, Eq, Error)]
 pub enum Fault {
     /// The component's text is refused.
     #[error("{0}")]
     Component(LangFault),
 
-    /// The component is read, and the matrix's text is refused.
+    /// The component is read, and the matrix's text is refused, or memory for it or its setup.
     #[error("{0}")]
     Matrix(MatrixFault),
 
-    /// Both are read, and memory or the start of a worker's thread was refused.
+    /// Both are read, and this call of the setup, from 0, is the first that does not end within 256 moves after it.
+    #[error("U1 call {0}")]
+    Setup(u8),
+
+    /// Both are read, the setup settles, and the specification's text is refused.
+    #[error("{0}")]
+    Spec(SpecFault),
+
+    /// All are read, and memory or the start of a worker's thread was refused.
     #[error("{0}")]
     Check(CheckFault),
 }
@@ -49,6 +61,16 @@ impl From<MatrixFault> for Fault {
     }
 }
 
+impl From<SpecFault> for Fault {
+    ghost use Rattle.lu_cli.specs.declared.texts.Fault.TheVariants.{Spec};
+
+    ghost from_gives = { λ fault e. e ≡ Spec fault };
+
+    fn from(fault: SpecFault) -> Fault {
+        Fault::Spec(fault)
+    }
+}
+
 impl From<CheckFault> for Fault {
     ghost use Rattle.lu_cli.specs.declared.texts.Fault.TheVariants.{Check};
 
@@ -70,23 +92,40 @@ impl From<AllocError> for Fault {
     }
 }
 
-/// The component and the matrix of two texts. The component's text is read first.
+/// The number of the first call of the setup that does not end, if there is one. Want of memory is one of the matrix.
+fn unsettled(
+    alloc: Global,
+    component: &Component,
+    matrix: &Matrix,
+) -> Result<Option<u8>, MatrixFault>
+    requires { IsOf matrix.now component.now }
+    ensures unsettled { IfOk result (λ unsettled. MatchOption unsettled (Settles component.now matrix.now) (IsUnsettledAt component.now matrix.now)) }
+    ensures fault { IfErr result (λ fault. fault ≡ Memory) }
+{
+    Ok(settles(alloc, component, matrix)?)
+}
+
+/// The component and the matrix of two texts. The component's text is read first, and the matrix's setup is run last.
 ///
 /// # Errors
 ///
-/// [`Fault::Component`] or [`Fault::Matrix`] with the fault of the first text that has one.
+/// [`Fault::Component`] or [`Fault::Matrix`] with the fault of the first text that has one. [`Fault::Setup`] where both are read,
+/// and the setup does not settle.
 pub(crate) fn read_texts(
     alloc: Global,
     component: &[u8],
     matrix: &[u8],
 ) -> Result<(Component, Matrix), Fault>
-    ensures read { IfOk result (λ r. AreTexts component.now matrix.now r.0 r.1) }
-    ensures of { IfOk result (λ r. IsOf r.1 r.0) }
+    ensures read { IfOk result (λ r. AreSettled component.now matrix.now r.0 r.1) }
+    ensures runs { IfOk result (λ r. CanRun r.0 r.1) }
     ensures fault { IfErr result (IsFaultOfTexts component.now matrix.now) }
 {
     let component = read_component(alloc, component)?;
     let matrix = read_matrix(alloc, &component, matrix)?;
-    Ok((component, matrix))
+    match unsettled(alloc, &component, &matrix)? {
+        Some(call) => Err(Fault::Setup(call)),
+        None => Ok((component, matrix)),
+    }
 }
 
 /// The report of the component and the matrix of two texts.
@@ -114,8 +153,8 @@ pub(crate) fn report_of<X: Threads + Wait>(
 ///
 /// # Errors
 ///
-/// [`Fault::Component`] or [`Fault::Matrix`] with the fault of the first text that has one. [`Fault::Check`] where both are
-/// read, and memory was refused, or the start of a worker's thread, which one worker doesn't need.
+/// [`Fault::Component`] or [`Fault::Matrix`] with the fault of the first text that has one. [`Fault::Setup`] where both are read,
+/// and the setup does not settle. [`Fault::Check`] where it does, and memory was refused, or the start of a worker's thread, which one worker doesn't need.
 pub fn check_texts<X: Threads + Wait>(
     rt: &X,
     alloc: Global,
@@ -127,5 +166,52 @@ pub fn check_texts<X: Threads + Wait>(
     ensures fault { IfErr result (IsFaultOf component.now matrix.now options) }
 {
     let report = report_of(rt, alloc, component, matrix, options)?;
+    Ok(write_report(alloc, &report)?)
+}
+
+/// The report of a component and a matrix against the specification of a text.
+///
+/// # Errors
+///
+/// [`Fault::Spec`] and [`Fault::Check`], as those of [`check_texts_against`].
+pub(crate) fn report_against<X: Threads + Wait>(
+    rt: &X,
+    alloc: Global,
+    component: &Component,
+    matrix: &Matrix,
+    specification: &[u8],
+    options: Options,
+) -> Result<Report, Fault>
+    requires { CanRun component.now matrix.now }
+    ensures report { IfOk result (IsReportRead component.now matrix.now specification.now options) }
+    ensures fault { IfErr result (IsFaultAgainst component.now matrix.now specification.now options) }
+{
+    let specification = read_spec(alloc, matrix, specification)?;
+    let tree = specification.tree();
+    let report = check_against(rt, alloc, &OpenGate, component, matrix, &tree, options)?;
+    Ok(report)
+}
+
+/// Checks the component and the matrix of two texts against the specification of a third: answers the text of their report, which
+/// is the same for any number of workers and any depth. The component's text is read first, and then the matrix's. No serial run
+/// is made. With two workers or more the call waits for them.
+///
+/// # Errors
+///
+/// [`Fault::Component`], [`Fault::Matrix`] or [`Fault::Spec`] with the fault of the first text that has one. [`Fault::Setup`] where
+/// the first two are read, and the setup does not settle. [`Fault::Check`] where all are read, and memory was refused, or the start of a worker's thread, which one worker doesn't need.
+pub fn check_texts_against<X: Threads + Wait>(
+    rt: &X,
+    alloc: Global,
+    component: &[u8],
+    matrix: &[u8],
+    specification: &[u8],
+    options: Options,
+) -> Result<String, Fault>
+    ensures report { IfOk result (λ text. IsReportReadOf component.now matrix.now specification.now options (string_bytes text)) }
+    ensures fault { IfErr result (IsFaultAgainstTexts component.now matrix.now specification.now options) }
+{
+    let (component, matrix) = read_texts(alloc, component, matrix)?;
+    let report = report_against(rt, alloc, &component, &matrix, specification, options)?;
     Ok(write_report(alloc, &report)?)
 }

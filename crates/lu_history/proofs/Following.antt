@@ -1,27 +1,30 @@
 -- A history follows a machine: its events fit, move after move.
-use Rattle.std.proofs.Common.{◌≡◌, ℕ, zero, suc, ◌<◌, false, List, [], ◌∷◌, ◌++◌, Option, Some, map, length, replicate, slice_set, get_or, refl, sym, ◌∙◌, ap}
+use Rattle.std.proofs.Common.{◌≡◌, ℕ, zero, suc, ◌<◌, false, List, [], ◌∷◌, ◌++◌, Option, Some, map, length, replicate, slice_set, get_or, refl, sym, subst, ◌∙◌, ap}
 use Rattle.std.proofs.lemmas.List.{append-nil, set-get_or}
 use Rattle.std.proofs.lemmas.Option.{none-some, same_Some}
 use Rattle.lu_component.specs.Component.{Declarations}
-use Rattle.lu_test.specs.declared.matrix.Call.{Call as ACall}
 use Rattle.lu_test.specs.declared.schedule.Move.{Move}
+use Rattle.lu_test.specs.Matrix.{Matrix}
 use Rattle.lu_machine.specs.declared.event.Event.{Event}
 use Rattle.lu_machine.specs.declared.event.Event.TheVariants.{Call, Return}
 use Rattle.lu_machine.specs.declared.thread.Activity.TheVariants.{Idle}
+use Rattle.lu_machine.specs.declared.thread.Thread.{Thread}
 use Rattle.lu_machine.specs.Events.{IsInRange}
 use Rattle.lu_machine.specs.Runs.{with_event}
 use Rattle.lu_machine.specs.Starts.{IsStart}
 use Rattle.lu_machine.specs.States.{State, progress, progress_of}
 use Rattle.lu_machine.specs.Steps.{Step}
+use Rattle.lu_machine.proofs.Starting.{start_threads}
 use Rattle.lu_machine.proofs.Progress.{Way, opens, goes_on, ends, step_goes}
 use Rattle.lu_history.specs.Histories.{Fits}
 use Rattle.lu_history.specs.Standing.{Standing, Agree}
 use Rattle.lu_history.proofs.Agreement.{agree_start, agree_call, agree_return, call_fits, return_fits}
 
 -- at the start nothing has happened
-pub start_agrees : (c : Declarations) (matrix : List (List ACall)) (s : State) → IsStart c matrix s → Agree (progress s) []
+pub start_agrees : (c : Declarations) (matrix : Matrix) (s : State) → IsStart c matrix s → Agree (progress s) []
 start_agrees c matrix s is =
-    rw is (rw (idle_progress (length matrix)) (agree_start (length matrix)))
+    let n = length matrix.threads in
+    subst (λ (threads : List Thread). Agree (map progress_of threads) []) (sym (start_threads c matrix s is)) (rw (idle_progress n) (agree_start n))
   where
     idle_progress : (n : ℕ) → map progress_of (replicate n (record { done = 0; activity = Idle })) ≡ replicate n (0, false)
     idle_progress zero = refl

@@ -90,7 +90,7 @@ struct Case<'a> {
     status: u8,
 }
 
-const CASES: [Case<'static>; 9] = [
+const CASES: [Case<'static>; 10] = [
     Case {
         words: &["replay"],
         input: b"component c\nop f 0\nreturn 7\nend\n---\nthread f\n---\nschedule 0 0\n",
@@ -113,6 +113,12 @@ const CASES: [Case<'static>; 9] = [
         words: &["check", "--workers", "2"],
         input: b"component c\nop f 0\npick r0 2\nreturn r0\nend\n---\nthread f\n",
         output: b"lineup report 1\nbound 40\nserial 40\nnondeterministic\nschedule 0 0:1 0\nbefore 0\nearlier ret 0\n",
+        status: 1,
+    },
+    Case {
+        words: &["check", "--spec"],
+        input: b"component c\nop f 0\npick r0 2\nreturn r0\nend\n---\nthread f\n---\nlineup spec 1\nhistory 0=0\n",
+        output: b"lineup report 3\nbound 40\nlocal 0\nfail complete\nschedule 0 0:1 0\n",
         status: 1,
     },
     Case {

@@ -4,7 +4,7 @@ use crate::bent::{Outcome, Tally, Texts, try_all};
 use lu_component::Component;
 use lu_examples::ROWS;
 use lu_lang::{read_component, write_component};
-use lu_replay::{ReportFault, read_report, write_report};
+use lu_report::{read_report, write_report};
 use lu_spec::{read_spec, write_spec};
 use lu_test::{Matrix, ScheduleFault, read_matrix, read_schedule, write_matrix, write_schedule};
 use lu_text::Fault;
@@ -80,8 +80,8 @@ impl Texts for Reports {
                 assert_eq!(rt; written.as_bytes(), text);
                 Ok(Outcome::Read)
             }
-            Err(ReportFault::Form(line)) => Ok(Outcome::Refused(line)),
-            Err(ReportFault::Memory) => panic!(rt; "memory"),
+            Err(Fault::At(_, line)) => Ok(Outcome::Refused(line)),
+            Err(Fault::Memory) => panic!(rt; "memory"),
         }
     }
 }
@@ -179,6 +179,8 @@ fn reports_are_read_or_refused(rt: HostRuntime) -> Result<(), Fail> {
         b"lineup report 1\nbound 40\nserial 40\nnondeterministic\nschedule 0 0:1\nbefore 0\nearlier stuck\n",
         b"lineup report 1\nbound 40\nserial 3\nserial-cut\nschedule 0 0 0 0\n",
         b"lineup report 2\nbound 40\nserial 40\nlocal 16\nfail complete\nschedule 0 0 1 1 0 0 1 1\n",
+        b"lineup report 3\nbound 40\nlocal 0\nfail stuck 7\nschedule 0 0 0 1 1 0 0 1 1 1\n",
+        b"lineup report 3\nbound 3\nlocal 16\npass\ncomplete 0\nstuck 0\ncut 1\n",
     ] {
         let tally = try_all(&rt, &Reports, text)?;
         all.read = all.read.saturating_add(tally.read);
@@ -187,8 +189,8 @@ fn reports_are_read_or_refused(rt: HostRuntime) -> Result<(), Fail> {
     assert_eq!(rt;
         all,
         Tally {
-            read: 224,
-            refused: 8429
+            read: 286,
+            refused: 10475
         }
     );
     Ok(())

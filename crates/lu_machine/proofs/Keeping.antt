@@ -1,5 +1,5 @@
 -- What a move changes and what stays.
-use Rattle.std.proofs.Common.{◌≡◌, ℕ, ◌+◌, ◌==◌, Bool, true, false, List, Option, Some, None, MatchOption, MatchBool, slice_get, slice_set, length, refl, ◌∙◌, ap, sym, subst}
+use Rattle.std.proofs.Common.{◌≡◌, ℕ, ◌+◌, ◌==◌, Bool, true, false, List, Option, Some, None, MatchOption, MatchBool, slice_get, slice_set, length, refl, ◌∙◌, ap, subst}
 use Rattle.std.proofs.lemmas.List.{length-set, set-set}
 use Rattle.lu_component.specs.declared.instr.Instr.{Instr}
 use Rattle.lu_component.specs.declared.instr.Instr.TheVariants.{Set, Compute, Load, Store, Cas, Lock, Unlock, Await, AwaitNot, Pick, Jump, JumpIfZero, Return}
@@ -16,7 +16,7 @@ use Rattle.lu_machine.specs.Effects.{Effect}
 use Rattle.lu_machine.specs.Effects.Effect.{GoesOn, Ends}
 use Rattle.lu_machine.specs.declared.thread.Thread.{Thread}
 use Rattle.lu_machine.specs.Effects.{value_of, onward, onward_with}
-use Rattle.lu_machine.specs.States.{State, cell_at, value_at, with_cell, with_owner, with_thread}
+use Rattle.lu_machine.specs.States.{State, cell_at, value_at, with_cell, with_owner}
 use Rattle.lu_machine.specs.Steps.{Carries, ByActivity, OneStep, Step, event_after, more_local, opened, owns, thread_after}
 use Rattle.lu_machine.proofs.Running.{GoesOnTo, ran}
 use Rattle.lu_machine.proofs.Undoing.{moved_there}
@@ -61,7 +61,7 @@ cas_alike s new f to v n None e h = alike s new h.0
 cas_alike s new f to v n (Some p) e h =
     match_alike s new (value_at s p == v) (with_cell s p n) (onward_with f to 1) (onward_with f to 0) e (alike_cell s new p n) h
 
-carries_alike : (s : State) (m : Move) (f : Frame) (instr : Instr) (new : State) (e : Effect) → Carries s m f instr new e → AreAlike s new
+pub carries_alike : (s : State) (m : Move) (f : Frame) (instr : Instr) (new : State) (e : Effect) → Carries s m f instr new e → AreAlike s new
 carries_alike s m f (Set to v) new e h = alike s new h.0
 carries_alike s m f (Compute by to x y) new e h = alike s new h.0
 carries_alike s m f (Load to w i) new e h = alike s new h.0

@@ -1,16 +1,21 @@
 -- Where the cells of each array stand among all.
-use Rattle.std.proofs.Common.{◌≡◌, ℕ, zero, suc, ◌+◌, ◌<◌, ◌≤◌, List, [], ◌∷◌, ◌++◌, length, replicate, take, Option, Some, None, slice_get, get_or, refl, sym, ◌∙◌, ap, arith, length-append}
-use Rattle.std.proofs.lemmas.List.{take_more, append-nil, length-replicate}
+use Rattle.std.proofs.Common.{◌≡◌, ℕ, zero, suc, ◌+◌, ◌<◌, ◌≤◌, List, [], ◌∷◌, ◌++◌, length, replicate, take, Option, Some, None, slice_get, slice_set, get_or, refl, sym, ◌∙◌, ap, arith, length-append}
+use Rattle.std.proofs.lemmas.List.{take_more, append-nil, length-replicate, length-set}
 use Rattle.std.proofs.lemmas.List.Concat.{flat_map-append}
 use Rattle.std.proofs.lemmas.List.Sums.{sum_by-cons}
 use Rattle.std.proofs.lemmas.Bool.{lt-ltb, le-ltb}
 use Rattle.std.proofs.lemmas.Option.{same_Some, slice_get-get_or, get_or_from_slice_get}
 use Rattle.lu_component.specs.declared.component.Array.{Array}
+use Rattle.lu_machine.specs.declared.program.Agenda.{Agenda}
+use Rattle.lu_machine.specs.declared.program.Task.{Task}
 use Rattle.lu_machine.specs.declared.span.Span.{Span}
 use Rattle.lu_component.specs.Component.{Declarations}
 use Rattle.lu_machine.specs.States.{State, first_cell, cell_of}
 use Rattle.lu_machine.specs.Starts.{initial_cells}
-use Rattle.lu_machine.specs.Layout.{IsLaidOut, spans_of}
+use Rattle.lu_machine.specs.Layout.{IsLaidOut, IsStanding, StandsIn, spans_of}
+use Rattle.lu_test.specs.Matrix.{Matrix}
+use Rattle.lu_machine.specs.declared.thread.Thread.{Thread}
+use Rattle.std.proofs.lemmas.List.Elements.{All-set}
 
 first_cell-none : (arrays : List Array) → first_cell arrays zero ≡ 0
 unfolding first_cell
@@ -70,15 +75,15 @@ span_tells c spans cells w i span are many below read =
     let is : span ≡ expected = read ∙ get_or_from_slice_get spans w expected span there in
     array_tells c cells w i a span at many (omega (arith, ap (λ (x : Span). x.first) is)) (ap (λ (x : Span). x.len) is)
 
--- a state whose machine keeps these spans
-abbrev pub Keeps : List Span → State → Type 0
-Keeps spans s = IsLaidOut s.component s.matrix spans s.cells s.locks s.threads
+-- a state whose machine keeps these spans, rows and agendas
+abbrev pub Keeps : List Span → List (List Task) → List Agenda → State → Type 0
+Keeps spans rows agendas s = IsLaidOut s.component s.matrix spans rows agendas s.cells s.locks s.threads
 
-pub spans_many : (spans : List Span) (s : State) → Keeps spans s → length spans ≡ length s.component.arrays
-spans_many spans s keeps = ap length keeps.spans_are ∙ length-spans_of 0 s.component.arrays
+pub spans_many : (spans : List Span) (rows : List (List Task)) (agendas : List Agenda) (s : State) → Keeps spans rows agendas s → length spans ≡ length s.component.arrays
+spans_many spans rows agendas s keeps = ap length keeps.spans_are ∙ length-spans_of 0 s.component.arrays
 
-pub kept_tells : (spans : List Span) (s : State) (w n i : ℕ) (span : Span) → Keeps spans s → w < length s.component.arrays → n ≡ w → span ≡ get_or spans n span → Tells s.component s.cells w i span
-kept_tells spans s w n i span keeps below same read =
+pub kept_tells : (spans : List Span) (rows : List (List Task)) (agendas : List Agenda) (s : State) (w n i : ℕ) (span : Span) → Keeps spans rows agendas s → w < length s.component.arrays → n ≡ w → span ≡ get_or spans n span → Tells s.component s.cells w i span
+kept_tells spans rows agendas s w n i span keeps below same read =
     span_tells s.component spans s.cells w i span keeps.spans_are keeps.cells_are below (rw same at read)
 
 length-initial_cells-cons : (a : Array) (arrays : List Array) → length (initial_cells (a ∷ arrays)) ≡ a.len + length (initial_cells arrays)
@@ -119,3 +124,20 @@ laid_more arrays many spans cells a laid below read =
   where
     initial_cells-append : (arrays : List Array) (a : Array) → initial_cells (arrays ++ a ∷ []) ≡ initial_cells arrays ++ replicate a.len a.init
     initial_cells-append arrays a = rw (flat_map-append, append-nil) refl
+
+-- a thread that stands elsewhere leaves the layout as it is
+pub laid_moved : (c : Declarations) (matrix : Matrix) (spans : List Span) (rows : List (List Task)) (agendas : List Agenda) (cells : List ℕ) (locks : List (Option ℕ)) (threads : List Thread) (t : ℕ) (now : Thread) → IsLaidOut c matrix spans rows agendas cells locks threads → IsStanding now → StandsIn c now → IsLaidOut c matrix spans rows agendas cells locks (slice_set threads t now)
+laid_moved c matrix spans rows agendas cells locks threads t now laid stands in_code = record {
+  component = laid.component;
+  matrix_is = laid.matrix_is;
+  matrix_of = laid.matrix_of;
+  spans_are = laid.spans_are;
+  rows_are = laid.rows_are;
+  agendas_are = laid.agendas_are;
+  cells_are = laid.cells_are;
+  cells_fit = laid.cells_fit;
+  locks_are = laid.locks_are;
+  threads_are = rw (length-set threads t now) laid.threads_are;
+  stand = All-set IsStanding threads t now stands laid.stand;
+  in_code = All-set (StandsIn c) threads t now in_code laid.in_code;
+}

@@ -9,6 +9,8 @@ pub mod Orders
 pub mod Paths
 pub mod Progress
 pub mod Running
+pub mod Starting
 pub mod StepLaws
 pub mod Undoing
 pub mod Unseen
+mod RowLists

@@ -8,7 +8,9 @@ use Rattle.lu_component.specs.declared.component.Op.{Op}
 use Rattle.lu_component.specs.declared.instr.Instr.{Instr}
 use Rattle.lu_component.specs.declared.instr.Instr.TheVariants.{Set, Compute, Load, Store, Cas, Lock, Unlock, Await, AwaitNot, Pick, Jump, JumpIfZero, Return}
 use Rattle.lu_component.specs.Component.{Declarations, IsComponent, IsInstr, IsOp}
+use Rattle.lu_test.specs.declared.matrix.Call.{Call}
 use Rattle.lu_test.specs.declared.schedule.Move.{Move}
+use Rattle.lu_test.specs.Matrix.{Matrix, calls_of}
 use Rattle.lu_test.specs.Schedule.{IsMove}
 use Rattle.lu_machine.specs.declared.thread.Activity.{Activity}
 use Rattle.lu_machine.specs.declared.thread.Activity.TheVariants.{Idle, Open}
@@ -84,3 +86,11 @@ feasible_within s m f =
 pub next_same : (u : List Move) (m n : Move) (x y : List Move) → (u ++ m ∷ []) ++ x ≡ (u ++ n ∷ []) ++ y → m ≡ n
 next_same [] m n x y e = cc
 next_same (k ∷ u) m n x y e = next_same u m n x y (cc)
+
+-- a thread makes at most 8 calls
+pub calls_few : (matrix : Matrix) (t : ℕ) → All (λ calls. length calls ≤ 8) matrix.threads → length (calls_of matrix t) ≤ 8
+calls_few matrix t few = by_thread (slice_get matrix.threads t) refl
+  where
+    by_thread : (o : Option (List Call)) → slice_get matrix.threads t ≡ o → length (calls_of matrix t) ≤ 8
+    by_thread None is = rw is (omega arith)
+    by_thread (Some calls) is = rw is (all_at (λ calls. length calls ≤ 8) matrix.threads t calls few is)

@@ -1,27 +1,28 @@
 -- Local instructions: each changes where its thread stands, in its operation, and nothing else.
-use Rattle.std.proofs.Common.{◌≡◌, ℕ, zero, suc, ◌+◌, ◌<◌, ◌==◌, Bool, true, false, if◌then◌else◌, MatchBool, List, length, Option, Some, None, get_or, slice_get, slice_set, refl, sym, ◌∙◌, ap, subst, arith}
+use Rattle.std.proofs.Common.{◌≡◌, ℕ, zero, suc, ◌+◌, ◌-◌, ◌<◌, ◌==◌, Bool, true, false, if◌then◌else◌, MatchBool, List, length, Option, Some, None, get_or, slice_get, slice_set, refl, sym, ◌∙◌, ap, subst, arith}
 use Rattle.std.proofs.lemmas.List.{set-set}
+use Rattle.std.proofs.lemmas.Bool.{lt-ltb}
 use Rattle.std.proofs.lemmas.Option.{same_Some, slice_get-get_or}
 use Rattle.std.specs.Option.{option_map_or}
 use Rattle.lu_component.specs.declared.instr.Instr.{Instr}
 use Rattle.lu_component.specs.declared.instr.Instr.TheVariants.{Set, Compute, Load, Store, Cas, Lock, Unlock, Await, AwaitNot, Pick, Jump, JumpIfZero, Return}
 use Rattle.lu_test.specs.declared.schedule.Move.{Move}
 use Rattle.lu_machine.specs.declared.event.Event.{Event}
+use Rattle.lu_machine.specs.declared.event.Event.TheVariants.{Call as Called, Return as Returned}
 use Rattle.lu_machine.specs.declared.thread.Frame.{Frame}
 use Rattle.lu_machine.specs.declared.thread.Activity.{Activity}
 use Rattle.lu_machine.specs.declared.thread.Activity.TheVariants.{Idle, Open}
 use Rattle.lu_machine.specs.declared.thread.Thread.{Thread}
-use Rattle.lu_machine.specs.declared.thread.Was.TheVariants.{Standing}
+use Rattle.lu_machine.specs.declared.thread.Was.{Was}
 use Rattle.lu_machine.specs.declared.undo.Undo.{Undo}
-use Rattle.lu_machine.specs.Effects.{Effect, computed, value_of}
+use Rattle.lu_machine.specs.Effects.{computed, value_of}
 use Rattle.lu_machine.specs.Effects.Effect.{GoesOn}
 use Rattle.lu_machine.specs.States.{State, instr_at, with_thread}
-use Rattle.lu_machine.specs.Layout.{IsStanding}
 use Rattle.lu_machine.specs.Changes.{before}
-use Rattle.lu_machine.specs.Undoes.{CanTake, restored}
+use Rattle.lu_machine.specs.Undoes.{CanTake, has_local, restored, with_shared, with_thread_back}
 use Rattle.lu_machine.specs.Steps.{Carries, IsFeasible, OneStep, RunsOn, activity_is_local, choices, is_at_local, is_local}
 use Rattle.lu_machine.proofs.OneStepLaws.{one_feasible, one_same}
-use Rattle.lu_machine.proofs.Undoing.{back_there, fits_still, long_back, moved_there, stays}
+use Rattle.lu_machine.proofs.Undoing.{fits_still, moved_there, restored-component, stays, still_back}
 
 -- of two operations that go on, the one that a test chooses goes on
 if_goes_on : (b : Bool) (f g : Frame) → (h : Frame) × ((if b then GoesOn f else GoesOn g) ≡ GoesOn h)
@@ -164,25 +165,37 @@ nowhere_runs (suc n) s t end none h = rw none at h
 there_is : (s : State) (t : ℕ) (d : Thread) → t < length s.threads → slice_get s.threads t ≡ Some (get_or s.threads t d)
 there_is s t d within = slice_get-get_or s.threads t d within
 
--- where the thread stood before a move, by what the move overwrote of it
-pub stood_before : (s mid : State) (undo : Undo) (t : ℕ) (standing : Thread) → undo.thread ≡ t → restored undo mid ≡ s → CanTake mid undo
-    → ((now : Thread) → slice_get mid.threads t ≡ Some now → standing ≡ before undo.was now) → slice_get s.threads t ≡ Some standing
-stood_before s mid undo t standing same back fits is =
-    let within : t < length mid.threads = subst (λ i. i < length mid.threads) same fits.thread in
-    let now : Thread = get_or mid.threads t standing in
-    let there : slice_get mid.threads t ≡ Some now = there_is mid t standing within in
-    rw (is now there) (back_there s mid undo t now same back there)
+-- what puts a whole operation back does so wherever the thread has gone on to
 
--- a move whose thread ran on is taken back by where its thread stood, and by what else its first step overwrote
-pub run_back : (s mid : State) (undo : Undo) (t n : ℕ) (standing : Thread) (end : State) (event : Option Event) → undo.thread ≡ t → restored undo mid ≡ s → CanTake mid undo → slice_get s.threads t ≡ Some standing → RunsOn n mid t end → restored (record { thread = t; was = Standing standing; overwritten = undo.overwritten; event = event }) end ≡ s
-run_back s mid undo t n standing end event same back fits stands runs =
+same_activity : (event : Option Event) (was : Was) (done : ℕ) (activity : Activity) (on : Thread) → GoesOnTo done activity on → before true event was on ≡ before true event was (record { done = done; activity = activity })
+same_activity (Some (Called t k)) was done Idle on is = rw is refl
+same_activity (Some (Called t k)) was done (Open f) on is = rw is.1 refl
+same_activity (Some (Returned t k outcome)) was done activity on is = refl
+same_activity None was done Idle on is = rw is refl
+same_activity None was done (Open f) on is = rw is.1 refl
+
+-- a move whose thread ran on is taken back as before that
+pub run_back : (s mid : State) (undo : Undo) (t n : ℕ) (end : State) → undo.thread ≡ t → has_local mid ≡ true → restored undo mid ≡ s → CanTake mid undo → RunsOn n mid t end → restored undo end ≡ s
+run_back s mid undo t n end same some back fits runs =
+    let idle : Thread = record { done = 0; activity = Idle } in
     let within : t < length mid.threads = subst (λ i. i < length mid.threads) same fits.thread in
-    let on = ran n mid t end (get_or mid.threads t standing) (there_is mid t standing within) runs in
-    rw on.moved (long_back s mid undo t standing on.now same back within stands)
+    let now : Thread = get_or mid.threads t idle in
+    let there : slice_get mid.threads t ≡ Some now = there_is mid t idle within in
+    let on = ran n mid t end now there runs in
+    let whole : Thread → Thread = before (has_local mid) undo.event undo.was in
+    let alike : whole on.now ≡ whole now = rw some (same_activity undo.event undo.was now.done now.activity on.now on.goes) in
+    let still : with_thread_back (with_shared (with_thread mid t on.now) undo.overwritten) t whole ≡ with_thread_back (with_shared mid undo.overwritten) t whole = still_back mid undo.overwritten t now on.now whole there alike in
+    rw (on.moved, same) (still ∙ subst (λ i. with_thread_back (with_shared mid undo.overwritten) i whole ≡ s) same back)
 
 -- and the state after it has all that this puts back
-pub run_fits : (mid : State) (undo : Undo) (t n : ℕ) (standing : Thread) (end : State) (event : Option Event) → undo.thread ≡ t → CanTake mid undo → IsStanding standing → RunsOn n mid t end → CanTake end (record { thread = t; was = Standing standing; overwritten = undo.overwritten; event = event })
-run_fits mid undo t n standing end event same fits sound runs =
+pub run_fits : (mid : State) (undo : Undo) (t n : ℕ) (end : State) → undo.thread ≡ t → CanTake mid undo → RunsOn n mid t end → CanTake end undo
+run_fits mid undo t n end same fits runs =
+    let idle : Thread = record { done = 0; activity = Idle } in
     let within : t < length mid.threads = subst (λ i. i < length mid.threads) same fits.thread in
-    let on = ran n mid t end (get_or mid.threads t standing) (there_is mid t standing within) runs in
-    rw on.moved (fits_still mid undo t standing on.now event within fits sound)
+    let on = ran n mid t end (get_or mid.threads t idle) (there_is mid t idle within) runs in
+    rw on.moved (fits_still mid undo t on.now same fits)
+
+-- where some instructions may run on, local instructions run with moves
+pub has_some : (s mid : State) (undo : Undo) (more counted : ℕ) → restored undo mid ≡ s → more ≡ s.component.local - counted → 0 < more → has_local mid ≡ true
+has_some s mid undo more counted back is some =
+    rw (restored-component s mid undo back) (lt-ltb 0 s.component.local (omega arith))

@@ -1,6 +1,8 @@
 -- How a thread is changed where it stands, and put back.
-use Rattle.std.specs.Prelude.{◌≡◌, ℕ, slice_set}
+use Rattle.std.specs.Prelude.{◌≡◌, ◌≤◌, ℕ, Bool, true, false, Option, Some, None, slice_set}
 use Rattle.lu_component.specs.Component.{IsRegister}
+use Rattle.lu_machine.specs.declared.event.Event.{Event}
+use Rattle.lu_machine.specs.declared.event.Event.TheVariants.{Call as Called, Return as Returned}
 use Rattle.lu_machine.specs.declared.thread.Activity.{Activity}
 use Rattle.lu_machine.specs.declared.thread.Activity.TheVariants.{Idle, Open}
 use Rattle.lu_machine.specs.declared.thread.Change.{Change}
@@ -8,12 +10,10 @@ use Rattle.lu_machine.specs.declared.thread.Change.TheVariants.{GoesTo, Sets, En
 use Rattle.lu_machine.specs.declared.thread.Frame.{Frame}
 use Rattle.lu_machine.specs.declared.thread.Thread.{Thread}
 use Rattle.lu_machine.specs.declared.thread.Was.{Was}
-use Rattle.lu_machine.specs.declared.thread.Was.TheVariants.{Idle as WasIdle, At, With, Standing}
 use Rattle.lu_machine.specs.Effects.{Effect, onward_at}
 use Rattle.lu_machine.specs.Effects.Effect.{Ends}
-use Rattle.lu_machine.specs.Layout.{IsStanding}
 use Rattle.lu_machine.specs.States.{State, with_thread}
-use Rattle.lu_machine.specs.Steps.{thread_after}
+use Rattle.lu_machine.specs.Steps.{event_after, thread_after}
 
 -- what a change makes of the operation f
 abbrev pub effect_of : Frame → Change → Effect
@@ -21,35 +21,11 @@ effect_of f (GoesTo place) = onward_at f place
 effect_of f (Sets place r n) = onward_at (record f { registers = slice_set f.registers r n }) place
 effect_of f (Finishes outcome) = Ends outcome
 
--- what is set is a register
+-- the place is one of code or right behind, and what is set is a register
 abbrev pub IsChange : Change → Type 0
-IsChange (GoesTo place) = Unit {0}
-IsChange (Sets place r n) = IsRegister r
+IsChange (GoesTo place) = place ≤ 64
+IsChange (Sets place r n) = (place ≤ 64) × IsRegister r
 IsChange (Finishes outcome) = Unit {0}
-
--- an open operation at this place
-abbrev pub at_place : ℕ → Activity → Activity
-at_place place Idle = Idle
-at_place place (Open f) = Open (record f { place = place })
-
--- an open operation at this place, with n in register r
-abbrev pub at_place_with : ℕ → ℕ → ℕ → Activity → Activity
-at_place_with place r n Idle = Idle
-at_place_with place r n (Open f) = Open (record f { place = place; registers = slice_set f.registers r n })
-
--- where a thread stood, from where it stands
-abbrev pub before : Was → Thread → Thread
-before WasIdle thread = record thread { activity = Idle }
-before (At place) thread = record thread { activity = at_place place thread.activity }
-before (With place r n) thread = record thread { activity = at_place_with place r n thread.activity }
-before (Standing standing) thread = standing
-
--- what is put back is a register, or where a thread can stand
-abbrev pub CanStand : Was → Type 0
-CanStand WasIdle = Unit {0}
-CanStand (At place) = Unit {0}
-CanStand (With place r n) = IsRegister r
-CanStand (Standing standing) = IsStanding standing
 
 -- a thread that is idle, after so many operations
 abbrev pub idle : ℕ → Thread
@@ -59,10 +35,37 @@ idle done = record { done = done; activity = Idle }
 abbrev pub at_work : ℕ → Frame → Thread
 at_work done f = record { done = done; activity = Open f }
 
+-- the operation that was open, with all its registers
+abbrev pub whole_frame : Was → Frame
+whole_frame was = record { registers = was.registers; op = was.op; place = was.place }
+
+-- the operation that was open, from what it has become: whole, or with its place and one register put back
+abbrev pub frame_before : Bool → Was → Frame → Frame
+frame_before true was f = whole_frame was
+frame_before false was f = record f { place = was.place; registers = slice_set f.registers was.register was.value }
+
+-- what a thread was at whose operation went on
+abbrev pub activity_before : Bool → Was → Activity → Activity
+activity_before whole was Idle = Idle
+activity_before whole was (Open f) = Open (frame_before whole was f)
+
+-- Where a thread stood before a move with this event or none, from where it stands after it: an operation that was called is
+-- not open, one that returned is open again, and one that went on goes back.
+abbrev pub before : Bool → Option Event → Was → Thread → Thread
+before whole (Some (Called t k)) was now = record now { activity = Idle }
+before whole (Some (Returned t k outcome)) was now = at_work k (whole_frame was)
+before whole None was now = record now { activity = activity_before whole was now.activity }
+
+-- what was kept puts back where a thread stood whose operation was changed: whole where all registers were kept
+abbrev pub PutsBack : Bool → Thread → Change → Was → Thread → Type 0
+PutsBack kept standing change was now =
+    (f : Frame) → standing.activity ≡ Open f → (t : ℕ) (whole : Bool) → (whole ≡ true → kept ≡ true)
+    → before whole (event_after t standing.done (effect_of f change)) was now ≡ standing
+
 -- thread t stood so in s; it is changed in `new`, and `was` tells how to put it back
-pub record IsChanged (s : State) (t : ℕ) (standing : Thread) (change : Change) (new : State) (was : Was) : Type 0 where
+pub record IsChanged (s : State) (t : ℕ) (standing : Thread) (change : Change) (kept : Bool) (new : State) (was : Was) : Type 0 where
   pub now : Thread
   pub moved : new ≡ with_thread s t now
   pub after : (f : Frame) → standing.activity ≡ Open f → now ≡ thread_after standing.done (effect_of f change)
-  pub back : before was now ≡ standing
-  pub fits : CanStand was
+  pub back : PutsBack kept standing change was now
+  pub register : IsRegister was.register

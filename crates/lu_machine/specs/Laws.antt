@@ -1,18 +1,36 @@
 -- Laws of steps, starts and ends.
-use Rattle.std.specs.Prelude.{◌≡◌, ◌≢◌, ◌↔◌, ◌⊎◌, ℕ, List, Option, slice_get}
+use Rattle.std.specs.Prelude.{◌≡◌, ◌≢◌, ◌↔◌, ◌⊎◌, ℕ, Option, slice_get}
 use Rattle.lu_component.specs.Component.{Declarations}
-use Rattle.lu_test.specs.declared.matrix.Call.{Call}
 use Rattle.lu_test.specs.declared.schedule.Move.{Move}
+use Rattle.lu_test.specs.Matrix.{Matrix}
 use Rattle.lu_machine.specs.declared.event.Event.{Event}
 use Rattle.lu_machine.specs.declared.event.Status.{Status}
 use Rattle.lu_machine.specs.States.{State}
 use Rattle.lu_machine.specs.Steps.{OneStep, RunsOn, Step, IsFeasible}
-use Rattle.lu_machine.specs.Starts.{IsStart}
+use Rattle.lu_machine.specs.Starts.{IsStart, IsUnsettledAt, Settles}
 use Rattle.lu_machine.specs.Ends.{HasMove, HasStatus, HasNoMove, IsComplete}
 
 -- a component and a matrix start in at most one state
 abbrev pub OneStart : Type 0
-OneStart = (c : Declarations) (matrix : List (List Call)) (a b : State) → IsStart c matrix a → IsStart c matrix b → a ≡ b
+OneStart = (c : Declarations) (matrix : Matrix) (a b : State) → IsStart c matrix a → IsStart c matrix b → a ≡ b
+
+-- they start somewhere exactly where the setup settles
+abbrev pub StartsWhereSettled : Type 0
+StartsWhereSettled = (c : Declarations) (matrix : Matrix) → Settles c matrix ↔ ((s : State) × IsStart c matrix s)
+
+-- where a call of the setup does not end, the setup does not settle
+abbrev pub NeverBoth : Type 0
+NeverBoth = (c : Declarations) (matrix : Matrix) (k : ℕ) → IsUnsettledAt c matrix k → Settles c matrix → ⊥
+
+-- at most one call of the setup is the first that does not end
+abbrev pub OneUnsettled : Type 0
+OneUnsettled = (c : Declarations) (matrix : Matrix) (i j : ℕ) → IsUnsettledAt c matrix i → IsUnsettledAt c matrix j → i ≡ j
+
+-- of two matrices with one setup, the cells and locks are the same at the start
+abbrev pub SetupsAlike : Type 0
+SetupsAlike =
+    (c : Declarations) (matrix other : Matrix) (a b : State) → matrix.setup ≡ other.setup →
+    IsStart c matrix a → IsStart c other b → (a.cells ≡ b.cells) × (a.locks ≡ b.locks)
 
 -- a move leads to at most one state, with one event or none
 abbrev pub OneOutcome : Type 0

@@ -1,16 +1,19 @@
 -- How a machine keeps its state.
-use Rattle.std.specs.Prelude.{◌≡◌, ℕ, ◌+◌, ◌^◌, ◌<◌, List, [], ◌∷◌, length, Option, All}
+use Rattle.std.specs.Prelude.{◌≡◌, ℕ, ◌+◌, ◌^◌, ◌<◌, ◌≤◌, List, [], ◌∷◌, length, map, Option, All}
 use Rattle.lu_component.specs.declared.component.Array.{Array}
 use Rattle.lu_component.specs.declared.instr.Instr.{Instr}
 use Rattle.lu_component.specs.Component.{Declarations, IsComponent, IsInstr}
-use Rattle.lu_test.specs.declared.matrix.Call.{Call}
-use Rattle.lu_test.specs.Matrix.{IsMatrix}
+use Rattle.lu_test.specs.Matrix.{IsMatrix, IsOf, Matrix, thread_count}
 use Rattle.lu_machine.specs.declared.span.Span.{Span}
 use Rattle.lu_machine.specs.declared.thread.Activity.{Activity}
 use Rattle.lu_machine.specs.declared.thread.Activity.TheVariants.{Idle, Open}
 use Rattle.lu_machine.specs.declared.thread.Frame.{Frame}
 use Rattle.lu_machine.specs.declared.thread.Thread.{Thread}
+use Rattle.lu_machine.specs.declared.thread.Was.{Was}
+use Rattle.lu_machine.specs.declared.program.Agenda.{Agenda}
+use Rattle.lu_machine.specs.declared.program.Task.{Task}
 use Rattle.lu_machine.specs.States.{State, first_cell}
+use Rattle.lu_machine.specs.Tasks.{agenda_of, rows_of}
 
 -- where the cells of the arrays stand, behind so many others
 abbrev pub spans_of : ℕ → List Array → List Span
@@ -26,17 +29,35 @@ HasRoom done (Open f) = done < 8
 abbrev pub IsStanding : Thread → Type 0
 IsStanding thread = HasRoom thread.done thread.activity
 
--- a span for each array, and as many cells, locks and threads as the component and the matrix have
-pub record IsLaidOut (c : Declarations) (matrix : List (List Call)) (spans : List Span)
+-- an open operation is one of the component's, at a place of its code or right behind
+abbrev pub IsInCode : Declarations → Activity → Type 0
+IsInCode c Idle = Unit {0}
+IsInCode c (Open f) = (f.op < length c.operations) × (f.place ≤ 64)
+
+-- the operation that a thread has open, if it has one, is at such a place
+abbrev pub StandsIn : Declarations → Thread → Type 0
+StandsIn c thread = IsInCode c thread.activity
+
+-- so was the operation of which this was kept
+abbrev pub WasIn : Declarations → Was → Type 0
+WasIn c was = (was.op < length c.operations) × (was.place ≤ 64)
+
+-- a span for each array, a row of tasks for each operation, each thread's calls as they are opened, and as many cells, locks and
+-- threads as the component and the matrix have
+pub record IsLaidOut (c : Declarations) (matrix : Matrix) (spans : List Span) (rows : List (List Task)) (agendas : List Agenda)
     (cells : List ℕ) (locks : List (Option ℕ)) (threads : List Thread) : Type 0 where
   pub component : IsComponent c
   pub matrix_is : IsMatrix matrix
+  pub matrix_of : IsOf matrix c
   pub spans_are : spans ≡ spans_of 0 c.arrays
+  pub rows_are : rows ≡ rows_of c
+  pub agendas_are : agendas ≡ map agenda_of matrix.threads
   pub cells_are : length cells ≡ first_cell c.arrays (length c.arrays)
   pub cells_fit : length cells < 2 ^ 64
   pub locks_are : length locks ≡ length c.locks
-  pub threads_are : length threads ≡ length matrix
+  pub threads_are : length threads ≡ thread_count matrix
   pub stand : All IsStanding threads
+  pub in_code : All (StandsIn c) threads
 
 -- the instruction stands at a place of code, and what it names is there
 pub record IsSound (s : State) (f : Frame) (instr : Instr) : Type 0 where

@@ -8,6 +8,7 @@ pub mod Runs
 pub mod Order
 pub mod Changes
 pub mod Undoes
+pub mod Tasks
 pub mod Layout
 pub mod Laws
 pub mod Schedules

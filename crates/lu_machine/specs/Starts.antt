@@ -1,26 +1,82 @@
--- Where a run starts.
-use Rattle.std.specs.Prelude.{◌≡◌, ℕ, List, length, replicate, None}
+-- Where a run starts: after the calls of the setup, which thread 0 makes alone.
+use Rattle.std.specs.Prelude.{◌≡◌, ℕ, ◌+◌, ◌<◌, ◌≤◌, zero, suc, false, List, [], ◌∷◌, length, replicate, Option, None}
 use Rattle.std.specs.List.{flat_map}
 use Rattle.lu_component.specs.declared.component.Array.{Array}
 use Rattle.lu_component.specs.Component.{Declarations}
 use Rattle.lu_test.specs.declared.matrix.Call.{Call}
+use Rattle.lu_test.specs.declared.schedule.Move.{Move}
+use Rattle.lu_test.specs.Matrix.{Matrix, IsOf, alone, thread_count}
+use Rattle.lu_machine.specs.declared.event.Event.{Event}
 use Rattle.lu_machine.specs.declared.thread.Activity.TheVariants.{Idle}
-use Rattle.lu_machine.specs.States.{State}
+use Rattle.lu_machine.specs.States.{State, progress}
+use Rattle.lu_machine.specs.Runs.{Leads}
 
 -- the cells of all arrays, one array after the other, each with its array's initial value
 abbrev pub initial_cells : List Array → List ℕ
 initial_cells arrays = flat_map (λ a. replicate a.len a.init) arrays
 
--- each cell has its array's initial value, locks are free, threads are idle, and no call is made
-abbrev pub start_of : Declarations → List (List Call) → State
-start_of c matrix = record {
+-- these cells and locks; threads are idle, and no call is made
+abbrev pub at_rest : Declarations → Matrix → List ℕ → List (Option ℕ) → State
+at_rest c matrix cells locks = record {
   component = c;
   matrix = matrix;
-  cells = initial_cells c.arrays;
-  locks = replicate (length c.locks) None;
-  threads = replicate (length matrix) (record { done = 0; activity = Idle });
+  cells = cells;
+  locks = locks;
+  threads = replicate (thread_count matrix) (record { done = 0; activity = Idle });
 }
 
--- A run of the component and the matrix starts in the state s.
-abbrev pub IsStart : Declarations → List (List Call) → State → Type 0
-IsStart c matrix s = s ≡ start_of c matrix
+-- each cell has its array's initial value, locks are free, threads are idle, and no call is made
+abbrev pub empty_state : Declarations → Matrix → State
+empty_state c matrix = at_rest c matrix (initial_cells c.arrays) (replicate (length c.locks) None)
+
+-- the move of thread 0 with pick 0
+abbrev pub first_move : Move
+first_move = record { thread = 0; pick = 0 }
+
+-- From s thread 0 makes call k, which ends within 256 moves after the call, each pick 0: in the state `end`.
+pub record Makes (s : State) (k : ℕ) (end : State) : Type 0 where
+  pub moves : ℕ
+  pub few : moves ≤ 256
+  pub history : List Event
+  pub leads : Leads s (first_move ∷ replicate moves first_move) end history
+  pub ended : progress end ≡ (k + 1, false) ∷ []
+
+-- From the empty state one thread makes the first k of these calls so, and no other move is made.
+abbrev pub MakesAll : Declarations → List Call → ℕ → State → Type 0
+MakesAll c calls zero end = end ≡ empty_state c (alone calls)
+MakesAll c calls (suc k) end = (before : State) × MakesAll c calls k before × Makes before k end
+
+-- the setup's calls lead from the empty state to the state `end`
+abbrev pub SetsUp : Declarations → Matrix → State → Type 0
+SetsUp c matrix end = MakesAll c matrix.setup (length matrix.setup) end
+
+-- A run of the component and the matrix starts in the state s: the setup leaves its cells and locks.
+pub record IsStart (c : Declarations) (matrix : Matrix) (s : State) : Type 0 where
+  pub end : State
+  pub made : SetsUp c matrix end
+  pub is : s ≡ at_rest c matrix end.cells end.locks
+
+-- each of these calls ends within 256 moves after it
+pub record AllEnd (c : Declarations) (calls : List Call) : Type 0 where
+  pub end : State
+  pub made : MakesAll c calls (length calls) end
+
+-- each call of the setup ends
+abbrev pub Settles : Declarations → Matrix → Type 0
+Settles c matrix = AllEnd c matrix.setup
+
+-- call k of these is the first that does not end within 256 moves after it
+pub record IsFirstOpen (c : Declarations) (calls : List Call) (k : ℕ) : Type 0 where
+  pub there : k < length calls
+  pub before : State
+  pub made : MakesAll c calls k before
+  pub open_still : (end : State) → Makes before k end → ⊥
+
+-- call k of the setup is the first that does not end
+abbrev pub IsUnsettledAt : Declarations → Matrix → ℕ → Type 0
+IsUnsettledAt c matrix k = IsFirstOpen c matrix.setup k
+
+-- the matrix is one of the component, and its setup settles
+pub record CanRun (c : Declarations) (matrix : Matrix) : Type 0 where
+  pub of : IsOf matrix c
+  pub settles : Settles c matrix

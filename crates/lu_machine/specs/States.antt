@@ -5,8 +5,7 @@ use Rattle.lu_component.specs.declared.component.Array.{Array}
 use Rattle.lu_component.specs.declared.instr.Instr.{Instr}
 use Rattle.lu_component.specs.declared.instr.Operand.{Operand}
 use Rattle.lu_component.specs.Component.{Declarations}
-use Rattle.lu_test.specs.declared.matrix.Call.{Call}
-use Rattle.lu_test.specs.Matrix.{calls_of}
+use Rattle.lu_test.specs.Matrix.{Matrix, calls_of}
 use Rattle.lu_machine.specs.declared.thread.Activity.{Activity}
 use Rattle.lu_machine.specs.declared.thread.Activity.TheVariants.{Idle, Open}
 use Rattle.lu_machine.specs.declared.thread.Frame.{Frame}
@@ -17,7 +16,7 @@ use Rattle.lu_machine.specs.Effects.{value_of}
 -- lock, and where each thread stands.
 pub record State : Type 0 where
   pub component : Declarations
-  pub matrix : List (List Call)
+  pub matrix : Matrix
   pub cells : List ℕ
   pub locks : List (Option ℕ)
   pub threads : List Thread

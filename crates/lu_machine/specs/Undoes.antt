@@ -1,11 +1,14 @@
 -- How a move is taken back.
-use Rattle.std.specs.Prelude.{◌<◌, ℕ, length, slice_get}
+use Rattle.std.specs.Prelude.{◌<◌, ℕ, Bool, nat_lt, IfSome, length, slice_get}
 use Rattle.std.specs.Option.{option_map_or}
 use Rattle.lu_machine.specs.declared.undo.Shared.{Shared}
 use Rattle.lu_machine.specs.declared.undo.Shared.TheVariants.{Nothing, Cell, Owner}
 use Rattle.lu_machine.specs.declared.undo.Undo.{Undo}
-use Rattle.lu_machine.specs.declared.thread.Was.{Was}
-use Rattle.lu_machine.specs.Changes.{CanStand, before}
+use Rattle.lu_component.specs.Component.{IsRegister}
+use Rattle.lu_machine.specs.declared.thread.Thread.{Thread}
+use Rattle.lu_machine.specs.Changes.{before}
+use Rattle.lu_machine.specs.Events.{IsInRange}
+use Rattle.lu_machine.specs.Layout.{WasIn}
 use Rattle.lu_machine.specs.States.{State, with_cell, with_owner, with_thread}
 
 -- s with this value in its cell, or this owner of its lock
@@ -14,13 +17,19 @@ with_shared s Nothing = s
 with_shared s (Cell p n) = with_cell s p n
 with_shared s (Owner l owner) = with_owner s l owner
 
--- s with thread t as it stood, where there is such a thread
-abbrev pub with_thread_back : State → ℕ → Was → State
-with_thread_back s t was = option_map_or (λ thread. with_thread s t (before was thread)) (slice_get s.threads t) s
+-- whether local instructions run with moves
+abbrev pub has_local : State → Bool
+has_local s = nat_lt 0 s.component.local
 
--- the state before the move, from the state after it
+-- s with thread t put back so, where there is such a thread
+abbrev pub with_thread_back : State → ℕ → (Thread → Thread) → State
+with_thread_back s t back = option_map_or (λ thread. with_thread s t (back thread)) (slice_get s.threads t) s
+
+-- The state before the move, from the state after it. Of an operation that went on all is put back where local instructions run
+-- with moves, and else its place and one register.
 abbrev pub restored : Undo → State → State
-restored undo s = with_thread_back (with_shared s undo.overwritten) undo.thread undo.was
+restored undo s =
+    with_thread_back (with_shared s undo.overwritten) undo.thread (before (has_local s) undo.event undo.was)
 
 -- s has the cell or the lock
 abbrev pub IsThere : State → Shared → Type 0
@@ -31,5 +40,7 @@ IsThere s (Owner l owner) = l < length s.component.locks
 -- s has all that the undo puts back: the thread, and the cell or the lock
 pub record CanTake (s : State) (undo : Undo) : Type 0 where
   pub thread : undo.thread < length s.threads
-  pub standing : CanStand undo.was
+  pub register : IsRegister undo.was.register
+  pub code : WasIn s.component undo.was
+  pub event : IfSome undo.event IsInRange
   pub overwritten : IsThere s undo.overwritten

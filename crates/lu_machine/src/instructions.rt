@@ -1,6 +1,6 @@
 //! What each instruction does.
 
-ghost use Rattle.std.specs.Prelude.{◌≡◌, ◌<◌, ◌==◌, length, MatchOption};
+ghost use Rattle.std.specs.Prelude.{◌≡◌, ◌<◌, ◌==◌, length, IfSome, MatchOption};
 ghost use Rattle.std.specs.Option.{option_map};
 ghost use Rattle.lu_component.specs.Component.{IsOperand};
 ghost use Rattle.lu_test.specs.declared.schedule.Move.{Move as AMove};
@@ -10,11 +10,13 @@ ghost use Rattle.lu_machine.specs.Effects.{onward, value_of};
 ghost use Rattle.lu_machine.specs.Effects.Effect.{Ends};
 ghost use Rattle.lu_machine.specs.Layout.{IsSound};
 ghost use Rattle.lu_machine.specs.States.{cell_at, value_at};
-ghost use Rattle.lu_machine.specs.Steps.{Carries, choices, instr_picks, is_blocked, is_local};
+ghost use Rattle.lu_machine.specs.Steps.{Carries, instr_picks, is_blocked, is_local};
+ghost use Rattle.lu_machine.specs.Tasks.{IsAwaitable, task_picks, waits};
 ghost use Rattle.lu_machine.specs.Undoes.{IsThere, with_shared};
 
 use crate::event::Outcome;
 use crate::machine::Machine;
+use crate::program::{Task, Wait, wait_of};
 use crate::thread::{Change, Frame, compute};
 use crate::undo::Shared;
 use lu_component::{Instr, Operand};
@@ -39,17 +41,6 @@ fn alone(change: Change) -> Act
     }
 }
 
-/// How many choices the instruction leaves to the move.
-#[inline(always)]
-fn choices(instr: &Instr) -> u8
-    ensures { result ≡ choices instr.now }
-{
-    match *instr {
-        Instr::Pick { count, .. } => count,
-        _ => 1,
-    }
-}
-
 /// Whether the instruction is local: it reads and writes registers alone, or jumps.
 pub(crate) fn is_local(instr: &Instr) -> bool
     ensures { result ≡ is_local instr.now }
@@ -61,39 +52,54 @@ pub(crate) fn is_local(instr: &Instr) -> bool
 }
 
 impl Machine<'_> {
-    /// How many picks the instruction has: none where it is blocked.
+    /// How many picks the task of the open operation has: none where it waits.
     #[inline(always)]
-    pub(crate) fn instr_picks(&self, frame: &Frame, instr: &Instr) -> u8
-        requires { IsSound self.now frame.now instr.now }
-        ensures { result ≡ instr_picks self.now frame.now instr.now }
+    pub(crate) fn task_picks(&self, frame: &Frame, task: &Task) -> u8
+        requires { IfSome task.now.wait (IsAwaitable self.now) }
+        ensures { result ≡ task_picks self.now frame.now task.now }
     {
-        if self.is_blocked(frame, instr) {
-            0
-        } else {
-            choices(instr)
+        match &task.wait {
+            None => task.picks,
+            Some(wait) => {
+                if self.waits(frame, wait) {
+                    0
+                } else {
+                    task.picks
+                }
+            }
+        }
+    }
+
+    /// Whether the open operation has to wait for that.
+    #[inline(always)]
+    fn waits(&self, frame: &Frame, wait: &Wait) -> bool
+        requires { IsAwaitable self.now wait.now }
+        ensures { result ≡ waits self.now frame.now wait.now }
+    {
+        match *wait {
+            Wait::Unowned(lock) => self.owner(lock).is_some(),
+            Wait::Equal {
+                array,
+                index,
+                value,
+            } => self.equals(frame, array, index, value) == Some(false),
+            Wait::Differs {
+                array,
+                index,
+                value,
+            } => self.equals(frame, array, index, value) == Some(true),
         }
     }
 
     /// Whether the instruction of the open operation is blocked. It is asked to be one of its code
     /// ([`Machine::instr`]).
-    #[inline(always)]
     pub fn is_blocked(&self, frame: &Frame, instr: &Instr) -> bool
         requires { IsSound self.now frame.now instr.now }
         ensures { result ≡ is_blocked self.now frame.now instr.now }
     {
-        match *instr {
-            Instr::Lock(lock) => self.owner(lock).is_some(),
-            Instr::Await {
-                array,
-                index,
-                value,
-            } => self.equals(frame, array, index, value) == Some(false),
-            Instr::AwaitNot {
-                array,
-                index,
-                value,
-            } => self.equals(frame, array, index, value) == Some(true),
-            _ => false,
+        match wait_of(instr) {
+            None => false,
+            Some(wait) => self.waits(frame, &wait),
         }
     }
 

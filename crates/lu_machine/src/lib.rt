@@ -8,8 +8,11 @@
 //! What a machine does can be looked at step by step: [`Machine::standing`] says where a thread stands,
 //! [`Machine::instr`] which instruction comes next, and [`Machine::step_once`] carries out that one alone.
 //!
+//! A run starts after the calls of the matrix's setup, which thread 0 makes alone, each pick 0. [`settles`]
+//! says whether each of them ends.
+//!
 //! A search makes a move by [`Machine::apply`] and takes it back by [`Machine::undo`]. None of the calls
-//! but [`Machine::start`] takes memory.
+//! but [`Machine::start`] and [`settles`] takes memory.
 //!
 //! ```text
 //! let mut machine = Machine::start(alloc, &component, &matrix)?;
@@ -26,6 +29,8 @@ mod event;
 mod instructions;
 mod laws;
 mod machine;
+mod program;
+mod setup;
 mod span;
 mod thread;
 mod undo;
@@ -34,5 +39,6 @@ pub use counts::Counts;
 pub use event::{Event, Outcome, Status};
 pub use laws::{local_laws, step_laws};
 pub use machine::Machine;
+pub use setup::settles;
 pub use thread::{Activity, Frame, Thread, compute};
 pub use undo::Undo;

@@ -1,30 +1,40 @@
 //! The machine.
 
-ghost use Rattle.std.specs.Prelude.{◌≡◌, ℕ, false, ◌+◌, ◌<◌, ◌≤◌, ◌↔◌, length, IsTrue, IsSome, IfSome, IfOk, slice_get, Some};
-ghost use Rattle.std.specs.Option.{option_copied};
-ghost use Rattle.lu_component.specs.Component.{IsComponent};
+ghost use Rattle.std.specs.Prelude.{◌≡◌, ℕ, true, false, ◌+◌, ◌<◌, ◌≤◌, ◌↔◌, [], ◌∷◌, length, IsTrue, IsSome, IfSome, IfOk, MatchOption, slice_get, Some};
+ghost use Rattle.std.specs.Option.{option_copied, option_map_or};
 ghost use Rattle.lu_test.specs.declared.schedule.Move.{Move as AMove};
-ghost use Rattle.lu_test.specs.Matrix.{IsMatrix, IsOf};
+ghost use Rattle.lu_test.specs.declared.matrix.Call.{Call as ACall};
+ghost use Rattle.lu_test.specs.Matrix.{IsMatrix, IsOf, alone, calls_of};
+ghost use Rattle.lu_machine.specs.declared.thread.Activity.TheVariants.{Open};
 ghost use Rattle.lu_machine.specs.declared.thread.Frame.{Frame as AFrame};
 ghost use Rattle.lu_machine.specs.declared.thread.Thread.{Thread as AThread};
-ghost use Rattle.lu_machine.specs.Changes.{CanStand, IsChange, IsChanged, at_work, before, effect_of, idle};
-ghost use Rattle.lu_machine.specs.States.{call_count, cell_of, instr_at, owner_of, value_at, with_cell, with_owner, with_thread};
-ghost use Rattle.lu_machine.specs.Steps.{IsEnabled, IsFeasible, OneStep, RunsOn, Step, event_after, is_at_local, more_local, picks_of, thread_after};
-ghost use Rattle.lu_machine.specs.Layout.{IsSound, IsStanding};
+ghost use Rattle.lu_component.specs.Component.{IsComponent, IsRegister};
+ghost use Rattle.lu_machine.specs.Changes.{IsChange, IsChanged, at_work, before, effect_of, idle};
+ghost use Rattle.lu_machine.specs.States.{State as AState, call_count, cell_of, instr_at, owner_of, progress, value_at, with_cell, with_owner, with_thread};
+ghost use Rattle.lu_machine.specs.Steps.{IsEnabled, IsFeasible, OneStep, RunsOn, Step, event_after, is_at_local, more_local, opened, picks_of, thread_after};
+ghost use Rattle.lu_machine.specs.Layout.{IsInCode, IsSound, IsStanding, StandsIn, WasIn};
 ghost use Rattle.lu_machine.specs.Events.{IsInRange};
 ghost use Rattle.lu_machine.specs.Ends.{HasStatus, IsFinished};
-ghost use Rattle.lu_machine.specs.Undoes.{CanTake, IsThere, restored, with_shared, with_thread_back};
-ghost use Rattle.lu_machine.specs.Starts.{IsStart};
+ghost use Rattle.lu_machine.specs.Undoes.{CanTake, IsThere, has_local, restored, with_shared, with_thread_back};
+ghost use Rattle.lu_machine.specs.Starts.{CanRun, IsFirstOpen, IsStart, Makes, MakesAll, empty_state};
+ghost use Rattle.lu_machine.specs.Tasks.{IsAwaitable, task_at};
 
 use crate::event::{Event, Status};
 use crate::instructions::{Act, is_local};
+use crate::program::{Agenda, Task, agendas, rows};
 use crate::span::{Span, lay_out};
-use crate::thread::{Activity, Change, Frame, Thread, Was, event_after, first_registers};
+use crate::thread::{Activity, Change, Frame, Thread, Was, event_after};
 use crate::undo::{Shared, Undo};
 use lu_component::{Component, Instr};
-use lu_test::{Matrix, Move};
+use lu_test::{Matrix, Move, setup_alone};
 use std::alloc::{AllocError, Global};
 use std::marker::Model;
+
+/// The most moves that a call of a setup takes after its first.
+const MOST_MOVES_OF_CALL: u16 = 256;
+
+/// The move of thread 0 with pick 0.
+const FIRST_MOVE: Move = Move { thread: 0, pick: 0 };
 
 /// A component and a matrix as they are run.
 #[derive(Debug, Drop)]
@@ -32,6 +42,8 @@ pub struct Machine<'a> {
     component: &'a Component,
     matrix: &'a Matrix,
     spans: Vec<Span>,
+    rows: Vec<[Task; 65]>,
+    agendas: Vec<Agenda>,
     cells: Vec<u32>,
     locks: Vec<Option<u8>>,
     threads: Vec<Thread>,
@@ -45,12 +57,13 @@ impl<'a> Model for Machine<'a> {
 
     ghost view = { λ m. record { component = m.component.now; matrix = m.matrix.now; cells = m.cells.items; locks = m.locks.items; threads = m.threads.items } };
 
-    ghost invariant = { λ m. IsLaidOut m.component.now m.matrix.now m.spans.items m.cells.items m.locks.items m.threads.items };
+    ghost invariant = { λ m. IsLaidOut m.component.now m.matrix.now m.spans.items m.rows.items m.agendas.items m.cells.items m.locks.items m.threads.items };
 }
 
 impl<'a> Machine<'a> {
-    /// The machine of the component and the matrix, at the start of a run. The matrix is asked to be one of
-    /// the component ([`Matrix::of`]).
+    /// The machine of the component and the matrix, at the start of a run: after the calls of the setup, which
+    /// thread 0 makes alone. The matrix is asked to be one of the component ([`Matrix::of`]), and its setup to
+    /// settle ([`settles`](crate::settles)).
     ///
     /// # Errors
     ///
@@ -60,8 +73,27 @@ impl<'a> Machine<'a> {
         component: &'a Component,
         matrix: &'a Matrix,
     ) -> Result<Machine<'a>, AllocError>
-        requires { IsOf matrix.now component.now }
+        requires { CanRun component.now matrix.now }
         ensures starts { IfOk result (λ m. IsStart component.now matrix.now m) }
+        ensures limits { IsComponent component.now × IsMatrix matrix.now }
+    {
+        let mut machine = Machine::empty(alloc, component, matrix)?;
+        let alone = setup_alone(alloc, matrix)?;
+        let mut setup = Machine::empty(alloc, component, &alone)?;
+        setup.make_all();
+        machine.cells = setup.cells;
+        machine.locks = setup.locks;
+        Ok(machine)
+    }
+
+    /// The machine before any call: the cells have their initial values, and locks are free.
+    pub(crate) fn empty(
+        alloc: Global,
+        component: &'a Component,
+        matrix: &'a Matrix,
+    ) -> Result<Machine<'a>, AllocError>
+        requires { IsOf matrix.now component.now }
+        ensures empty { IfOk result (λ m. m ≡ empty_state component.now matrix.now) }
         ensures limits { IsComponent component.now × IsMatrix matrix.now }
     {
         let threads = usize::from(matrix.threads());
@@ -74,10 +106,59 @@ impl<'a> Machine<'a> {
             component,
             matrix,
             spans,
+            rows: rows(alloc, component)?,
+            agendas: agendas(alloc, matrix)?,
             cells,
             locks: vec![in alloc; None; component.locks().len()]?,
             threads: vec![in alloc; idle; threads]?,
         })
+    }
+
+    /// Thread 0 makes all its calls, one after the other, each pick 0: the number of the first that does not
+    /// end within 256 moves after its call, if there is one. Asks for a machine before any call, of one thread.
+    pub(crate) fn make_all(&mut self) -> Option<u8>
+        requires { self.old ≡ empty_state self.old.component (alone (calls_of self.old.matrix 0)) }
+        ensures { MatchOption result
+            (MakesAll self.old.component (calls_of self.old.matrix 0) (call_count self.old 0) self.new)
+            (IsFirstOpen self.old.component (calls_of self.old.matrix 0)) }
+    {
+        for k in 0..self.matrix.calls(0) {
+            if !self.make(k) {
+                return Some(k);
+            }
+        }
+        None
+    }
+
+    /// Thread 0 makes its next call, number `k`, and moves on, each pick 0: whether the call ends within 256
+    /// moves after it. Asks for a machine of one thread.
+    fn make(&mut self, k: u8) -> bool
+        requires stands { progress self.old ≡ (k, false) ∷ [] }
+        requires left { k < call_count self.old 0 }
+        ensures ends { result ≡ true → Makes self.old k self.new }
+        ensures open_still { result ≡ false → (end : AState) → Makes self.old k end → ⊥ }
+    {
+        self.step(FIRST_MOVE);
+        for _moved in 0..MOST_MOVES_OF_CALL {
+            if !self.feasible(FIRST_MOVE) {
+                return false;
+            }
+            self.step(FIRST_MOVE);
+            if !self.is_open(0) {
+                return true;
+            }
+        }
+        false
+    }
+
+    /// Whether an operation of the thread is open.
+    fn is_open(&self, t: u8) -> bool
+        ensures { result ≡ option_map_or (λ p. p.1) (slice_get (progress self.now) t) false }
+    {
+        let Some(standing) = self.standing(t) else {
+            return false;
+        };
+        matches!(standing.activity, Activity::Open(_))
     }
 
     /// The number of threads, 1 to 8.
@@ -101,6 +182,7 @@ impl<'a> Machine<'a> {
     pub fn standing(&self, thread: u8) -> Option<&Thread>
         ensures value { option_copied result ≡ slice_get self.now.threads thread }
         ensures stands { IfSome result (λ standing. IsStanding standing.now) }
+        ensures in_code { IfSome result (λ standing. StandsIn self.now.component standing.now) }
         ensures few { length self.now.threads ≤ 8 }
     {
         self.threads.get(usize::from(thread))
@@ -115,6 +197,30 @@ impl<'a> Machine<'a> {
     {
         let op = self.component.operations().get(usize::from(frame.op))?;
         op.code.instrs().get(usize::from(frame.place))
+    }
+
+    /// The task at the operation's place. The operation is asked to be one of the component's, and its place one of its code or
+    /// right behind.
+    #[inline(always)]
+    fn task(&self, frame: &Frame) -> &Task
+        requires op { frame.now.op < length self.now.component.operations }
+        requires place { frame.now.place ≤ 64 }
+        ensures value { result.now ≡ task_at self.now.component frame.now }
+        ensures wait { IfSome result.now.wait (IsAwaitable self.now) }
+        ensures sound { IfSome (instr_at self.now.component frame.now.op frame.now.place) (IsSound self.now frame.now) }
+    {
+        &self.rows[usize::from(frame.op)][usize::from(frame.place)]
+    }
+
+    /// Call `k` of the thread, as it is opened. It is asked to be there.
+    #[inline(always)]
+    fn opening(&self, thread: u8, k: u8) -> &Frame
+        requires { k < call_count self.now thread }
+        ensures opened { (call : ACall) × (slice_get (calls_of self.now.matrix thread) k ≡ Some call) × (result.now ≡ opened call) }
+        ensures few { k < 8 }
+        ensures in_code { IsInCode self.now.component (Open result.now) }
+    {
+        &self.agendas[usize::from(thread)].frames[usize::from(k)]
     }
 
     /// The place of cell `index` of the array among all cells: none at or past the array's length. The
@@ -203,29 +309,34 @@ impl<'a> Machine<'a> {
     fn set_thread(&mut self, thread: u8, standing: Thread)
         requires there { thread < length self.old.threads }
         requires stands { IsStanding standing }
+        requires in_code { StandsIn self.old.component standing }
         ensures { self.new ≡ with_thread self.old thread standing }
     {
         self.threads[usize::from(thread)] = standing;
     }
 
-    /// Changes the open operation of the thread, and says what that overwrote.
+    /// Changes the open operation of the thread, and says what that overwrote. With `WHOLE` true all registers are kept.
     #[inline(always)]
-    fn change(&mut self, thread: u8, change: Change) -> Was
+    fn change<const WHOLE: bool>(&mut self, thread: u8, change: Change) -> Was
         requires there { thread < length self.old.threads }
         requires sound { IsChange change }
-        ensures { (standing : AThread) → slice_get self.old.threads thread ≡ Some standing → IsChanged self.old thread standing change self.new result }
+        ensures changed { (standing : AThread) → slice_get self.old.threads thread ≡ Some standing → IsChanged self.old thread standing change WHOLE self.new result }
+        ensures was_in { (standing : AThread) (f : AFrame) → slice_get self.old.threads thread ≡ Some standing → standing.activity ≡ Open f → WasIn self.old.component result }
     {
-        self.threads[usize::from(thread)].change(change)
+        self.threads[usize::from(thread)].change::<WHOLE>(change)
     }
 
-    /// Puts back where the thread stood.
+    /// Puts back where the thread stood before a move with this event, or none.
     #[inline(always)]
-    fn put_back(&mut self, thread: u8, was: Was)
+    fn put_back(&mut self, thread: u8, event: Option<Event>, was: Was)
         requires there { thread < length self.old.threads }
-        requires stands { CanStand was }
-        ensures { self.new ≡ with_thread_back self.old thread was }
+        requires register { IsRegister was.register }
+        requires code { WasIn self.old.component was }
+        requires event { IfSome event IsInRange }
+        ensures { self.new ≡ with_thread_back self.old thread (before (has_local self.old) event was) }
     {
-        self.threads[usize::from(thread)].put_back(was);
+        let whole = self.component.local() > 0;
+        self.threads[usize::from(thread)].put_back(event, was, whole);
     }
 
     /// How many picks thread `t` has: 0 where there is no such thread, no call is left or the instruction is
@@ -238,11 +349,8 @@ impl<'a> Machine<'a> {
             return 0;
         };
         match &standing.activity {
-            Activity::Idle => u8::from(standing.done < self.matrix.calls(t)),
-            Activity::Open(frame) => match self.instr(frame) {
-                None => 0,
-                Some(instr) => self.instr_picks(frame, instr),
-            },
+            Activity::Idle => u8::from(standing.done < self.agendas[usize::from(t)].count),
+            Activity::Open(frame) => self.task_picks(frame, self.task(frame)),
         }
     }
 
@@ -329,21 +437,14 @@ impl<'a> Machine<'a> {
         ensures fits { CanTake self.new result }
     {
         if !LONG {
-            return self.one_step(next);
+            return self.one_step::<false>(next);
         }
         let more = self.more_local(next.thread);
-        let first = self.one_step(next);
-        if more == 0 {
-            return first;
+        let undo = self.one_step::<true>(next);
+        if more > 0 {
+            self.run_on(next.thread, more);
         }
-        let was = Was::Standing(self.stood(next.thread, first.was));
-        self.run_on(next.thread, more);
-        Undo {
-            thread: next.thread,
-            was,
-            overwritten: first.overwritten,
-            event: first.event,
-        }
+        undo
     }
 
     /// How many local instructions may follow the first step of a move of thread `t`.
@@ -356,19 +457,6 @@ impl<'a> Machine<'a> {
             return 0;
         }
         local - u8::from(self.is_at_local(t))
-    }
-
-    /// Where the thread stood before a change that overwrote this.
-    #[inline(always)]
-    fn stood(&self, thread: u8, was: Was) -> Thread
-        requires there { thread < length self.now.threads }
-        requires fits { CanStand was }
-        ensures stood { (now : AThread) → slice_get self.now.threads thread ≡ Some now → result ≡ before was now }
-        ensures stands { IsStanding result }
-    {
-        let mut standing = self.threads[usize::from(thread)];
-        standing.put_back(was);
-        standing
     }
 
     /// Whether the next instruction of thread `t` is local: not where no operation of it is open.
@@ -394,19 +482,20 @@ impl<'a> Machine<'a> {
         ensures { RunsOn most self.old t self.new }
     {
         if most > 0 && self.is_at_local(t) {
-            self.one_step(Move { thread: t, pick: 0 });
+            self.one_step::<false>(Move { thread: t, pick: 0 });
             self.run_on(t, most - 1);
         }
     }
 
-    /// Opens the thread's next call or carries out its next instruction, and says how to take it back.
+    /// Opens the thread's next call or carries out its next instruction, and says how to take it back. With `WHOLE` true all
+    /// registers are kept, as is needed where local instructions run with a move.
     #[inline(always)]
-    fn one_step(&mut self, next: Move) -> Undo
+    fn one_step<const WHOLE: bool>(&mut self, next: Move) -> Undo
         requires { IsFeasible self.old next }
         ensures step { OneStep self.old next self.new result.event }
         ensures thread { result.thread ≡ next.thread }
         ensures range { IfSome result.event IsInRange }
-        ensures back { restored result self.new ≡ self.old }
+        ensures back { (WHOLE ≡ false → self.old.component.local ≡ 0) → restored result self.new ≡ self.old }
         ensures fits { CanTake self.new result }
     {
         let Some(standing) = self.standing(next.thread) else {
@@ -416,11 +505,9 @@ impl<'a> Machine<'a> {
         match &standing.activity {
             Activity::Idle => self.open(next.thread, done),
             Activity::Open(frame) => {
-                let Some(instr) = self.instr(frame) else {
-                    unreachable!()
-                };
-                let act = self.act(next, frame, instr);
-                self.go_on(next.thread, done, act)
+                let task = self.task(frame);
+                let act = self.act(next, frame, &task.instr);
+                self.go_on::<WHOLE>(next.thread, done, act)
             }
         }
     }
@@ -437,12 +524,7 @@ impl<'a> Machine<'a> {
         ensures back { restored result self.new ≡ self.old }
         ensures fits { CanTake self.new result }
     {
-        let call = self.matrix.call(thread, done);
-        let frame = Frame {
-            op: call.op,
-            place: 0,
-            registers: first_registers(call.args.as_slice()),
-        };
+        let frame = *self.opening(thread, done);
         self.set_thread(
             thread,
             Thread {
@@ -452,7 +534,10 @@ impl<'a> Machine<'a> {
         );
         Undo {
             thread,
-            was: Was::Idle,
+            was: Was {
+                op: frame.op,
+                ..Was::NOTHING
+            },
             overwritten: Shared::Nothing,
             event: Some(Event::Call { t: thread, k: done }),
         }
@@ -460,7 +545,7 @@ impl<'a> Machine<'a> {
 
     /// Carries out what an instruction does in the open operation of a thread, which is number `done`.
     #[inline(always)]
-    fn go_on(&mut self, thread: u8, done: u8, act: Act) -> Undo
+    fn go_on<const WHOLE: bool>(&mut self, thread: u8, done: u8, act: Act) -> Undo
         requires few { thread < 8 }
         requires counted { done < 8 }
         requires stands { (f : AFrame) × (slice_get self.old.threads thread ≡ Some (at_work done f)) }
@@ -470,11 +555,11 @@ impl<'a> Machine<'a> {
         ensures thread { result.thread ≡ thread }
         ensures event { (f : AFrame) → result.event ≡ event_after thread done (effect_of f act.change) }
         ensures range { IfSome result.event IsInRange }
-        ensures back { restored result self.new ≡ self.old }
+        ensures back { (WHOLE ≡ false → self.old.component.local ≡ 0) → restored result self.new ≡ self.old }
         ensures fits { CanTake self.new result }
     {
         let overwritten = self.write(act.shared);
-        let was = self.change(thread, act.change);
+        let was = self.change::<WHOLE>(thread, act.change);
         Undo {
             thread,
             was,
@@ -495,7 +580,7 @@ impl<'a> Machine<'a> {
             Shared::Cell { place, value } => self.cells[place] = value,
             Shared::Owner { lock, owner } => self.locks[usize::from(lock)] = owner,
         }
-        self.put_back(undo.thread, undo.was);
+        self.put_back(undo.thread, undo.event, undo.was);
     }
 
     /// The component that is run.
@@ -519,6 +604,6 @@ impl<'a> Machine<'a> {
         requires { IsFeasible self.old next }
         ensures { OneStep self.old next self.new result }
     {
-        self.one_step(next).event()
+        self.one_step::<false>(next).event()
     }
 }

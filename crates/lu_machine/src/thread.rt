@@ -1,13 +1,13 @@
 //! Where a thread stands.
 
 ghost use Rattle.std.specs.Prelude.{◌≡◌, ◌-◌, ◌<◌, ◌≤◌, ◌++◌, length, replicate, IfSome};
-ghost use Rattle.lu_component.specs.Component.{IsRegister, IsOperand};
+ghost use Rattle.lu_component.specs.Component.{Declarations, IsRegister, IsOperand};
 ghost use Rattle.lu_machine.specs.declared.thread.Activity.TheVariants.{Open};
 ghost use Rattle.lu_machine.specs.declared.thread.Frame.{Frame as AFrame};
-ghost use Rattle.lu_machine.specs.Changes.{CanStand, IsChange, before, effect_of};
+ghost use Rattle.lu_machine.specs.Changes.{IsChange, PutsBack, before, effect_of, whole_frame};
 ghost use Rattle.lu_machine.specs.Effects.{computed, onward, onward_with, value_of};
 ghost use Rattle.lu_machine.specs.Events.{IsInRange};
-ghost use Rattle.lu_machine.specs.Layout.{IsStanding};
+ghost use Rattle.lu_machine.specs.Layout.{IsStanding, StandsIn, WasIn};
 ghost use Rattle.lu_machine.specs.Steps.{event_after, thread_after};
 
 use crate::event::{Event, Outcome};
@@ -60,20 +60,44 @@ pub(crate) enum Change {
     Ends(Outcome),
 }
 
-/// What a change overwrote of where a thread stood.
+/// What a move overwrote of the operation that was open, or is. All parts are small values, and none an enum of large ones: so they
+/// stay in registers from the move to its undo.
 #[derive(Clone, Copy, Debug)]
-pub(crate) enum Was {
-    /// The thread was idle.
-    Idle,
+pub(crate) struct Was {
+    /// The number of the operation in its component, and the place of its next instruction.
+    pub(crate) op: u8,
+    pub(crate) place: u8,
 
-    /// The operation was at this place.
-    At(u8),
+    /// The register that was written, and its value: where none was, one with the value that it has.
+    pub(crate) register: u8,
+    pub(crate) value: u32,
 
-    /// The operation was at this place, and the register had this value.
-    With { place: u8, register: u8, value: u32 },
+    /// All registers, where the operation ended or all were kept.
+    pub(crate) registers: Registers,
+}
 
-    /// The thread stood so.
-    Standing(Thread),
+impl Was {
+    /// What is kept where no operation was open.
+    pub(crate) const NOTHING: Was = Was {
+        op: 0,
+        place: 0,
+        register: 0,
+        value: 0,
+        registers: [0; 8],
+    };
+
+    /// The operation that was open, with all its registers.
+    #[inline(always)]
+    fn whole_frame(self) -> Frame
+        ensures { result ≡ whole_frame self }
+    {
+        let registers = self.registers;
+        Frame {
+            registers,
+            op: self.op,
+            place: self.place,
+        }
+    }
 }
 
 impl Frame {
@@ -116,73 +140,79 @@ impl Frame {
 }
 
 impl Thread {
-    /// Changes its open operation, and says what that overwrote.
+    /// Changes its open operation, and says what that overwrote. With `WHOLE` true all registers are kept.
     #[inline(always)]
-    pub(crate) fn change(&mut self, change: Change) -> Was
+    pub(crate) fn change<const WHOLE: bool>(&mut self, change: Change) -> Was
         requires stands { IsStanding self.old }
         requires sound { IsChange change }
         ensures after { (f : AFrame) → self.old.activity ≡ Open f → self.new ≡ thread_after self.old.done (effect_of f change) }
         ensures stands { IsStanding self.new }
-        ensures back { before result self.new ≡ self.old }
-        ensures fits { CanStand result }
+        ensures back { PutsBack WHOLE self.old change result self.new }
+        ensures register { IsRegister result.register }
+        ensures in_code { (c : Declarations) → StandsIn c self.old → StandsIn c self.new }
+        ensures was_in { (c : Declarations) (f : AFrame) → self.old.activity ≡ Open f → StandsIn c self.old → WasIn c result }
     {
-        match &mut self.activity {
-            Activity::Idle => Was::Idle,
-            Activity::Open(frame) => match change {
-                Change::GoesTo(place) => {
-                    let was = Was::At(frame.place);
-                    frame.place = place;
-                    was
-                }
-                Change::Sets {
-                    place,
-                    register,
-                    value,
-                } => {
-                    let was = Was::With {
-                        place: frame.place,
-                        register,
-                        value: frame.registers[usize::from(register)],
-                    };
-                    frame.place = place;
-                    frame.registers[usize::from(register)] = value;
-                    was
-                }
-                Change::Ends(_) => {
-                    let was = Was::Standing(*self);
-                    self.done += 1;
-                    self.activity = Activity::Idle;
-                    was
-                }
-            },
+        let Activity::Open(frame) = &mut self.activity else {
+            return Was::NOTHING;
+        };
+        let registers = frame.registers;
+        let mut was = Was {
+            op: frame.op,
+            place: frame.place,
+            ..Was::NOTHING
+        };
+        if WHOLE {
+            was.registers = registers;
         }
-    }
-
-    /// Puts back what a change overwrote.
-    #[inline(always)]
-    pub(crate) fn put_back(&mut self, was: Was)
-        requires { CanStand was }
-        ensures before { self.new ≡ before was self.old }
-        ensures stands { IsStanding self.old → IsStanding self.new }
-    {
-        match was {
-            Was::Idle => self.activity = Activity::Idle,
-            Was::At(place) => {
-                if let Activity::Open(frame) = &mut self.activity {
-                    frame.place = place;
-                }
+        match change {
+            Change::GoesTo(place) => {
+                was.value = frame.registers[0];
+                frame.place = place;
             }
-            Was::With {
+            Change::Sets {
                 place,
                 register,
                 value,
             } => {
+                was.register = register;
+                was.value = frame.registers[usize::from(register)];
+                frame.place = place;
+                frame.registers[usize::from(register)] = value;
+            }
+            Change::Ends(_) => {
+                was.registers = registers;
+                self.done += 1;
+                self.activity = Activity::Idle;
+            }
+        }
+        was
+    }
+
+    /// Puts back where it stood before a move with this event, or none. With `whole` true all registers were kept.
+    #[inline(always)]
+    pub(crate) fn put_back(&mut self, event: Option<Event>, was: Was, whole: bool)
+        requires register { IsRegister was.register }
+        requires event { IfSome event IsInRange }
+        ensures before { self.new ≡ before whole event was self.old }
+        ensures stands { IsStanding self.old → IsStanding self.new }
+        ensures in_code { (c : Declarations) → WasIn c was → StandsIn c self.old → StandsIn c self.new }
+    {
+        match event {
+            None => {
                 if let Activity::Open(frame) = &mut self.activity {
-                    frame.place = place;
-                    frame.registers[usize::from(register)] = value;
+                    if whole {
+                        *frame = was.whole_frame();
+                    } else {
+                        frame.place = was.place;
+                        frame.registers[usize::from(was.register)] = was.value;
+                    }
                 }
             }
-            Was::Standing(standing) => *self = standing,
+            Some(Event::Call { .. }) => self.activity = Activity::Idle,
+            Some(Event::Return { k, .. }) => {
+                self.done = k;
+                self.activity = Activity::Open(was.whole_frame());
+            }
         }
     }
 }

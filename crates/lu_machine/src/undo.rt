@@ -23,7 +23,7 @@ pub struct Undo {
     /// The thread that moved.
     pub(crate) thread: u8,
 
-    /// What that overwrote of where it stood.
+    /// What that overwrote of the operation that was open.
     pub(crate) was: Was,
 
     /// What that overwrote of what all threads share.
@@ -34,6 +34,7 @@ pub struct Undo {
 
 impl Undo {
     /// The event of the move, if it had one.
+    #[inline(always)]
     pub fn event(&self) -> Option<Event>
         ensures { result ≡ self.now.event }
     {

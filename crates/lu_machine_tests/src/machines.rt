@@ -1,10 +1,30 @@
 //! Runs of small components, with the events that the step language asks for.
 
+ghost use Rattle.std.specs.Prelude.{OnOk};
+ghost use Rattle.lu_test.specs.Matrix.{IsOf};
+ghost use Rattle.lu_machine.specs.Starts.{CanRun};
+
+use lu_component::Component;
 use lu_lang::read_component;
-use lu_machine::{Counts, Event, Machine, Outcome, Status};
-use lu_test::{Move, read_matrix};
+use lu_machine::{Counts, Event, Machine, Outcome, Status, settles};
+use lu_test::{Matrix, Move, read_matrix};
 use std::process::Abort;
 use std::test::Fail;
+
+/// The setup of the matrix settles.
+fn assert_settles(
+    rt: &(impl AllocGlobal + Abort),
+    component: &Component,
+    matrix: &Matrix,
+) -> Result<(), Fail>
+    requires { IsOf matrix.now component.now }
+    ensures { OnOk result (CanRun component.now matrix.now) }
+{
+    match settles(rt.alloc(), component, matrix)? {
+        None => Ok(()),
+        Some(call) => panic!(rt; "call {call} of the setup does not end"),
+    }
+}
 
 /// Makes the moves of these threads from the start, each with pick 0, and answers the last event and
 /// how the state then stands.
@@ -16,6 +36,7 @@ fn played(
 ) -> Result<(Option<Event>, Status), Fail> {
     let component = read_component(rt.alloc(), component)?;
     let matrix = read_matrix(rt.alloc(), &component, matrix)?;
+    assert_settles(rt, &component, &matrix)?;
     let mut machine = Machine::start(rt.alloc(), &component, &matrix)?;
     let mut last = None;
     for thread in threads {
@@ -123,6 +144,7 @@ fn taken_back(
 ) -> Result<Option<Event>, Fail> {
     let component = read_component(rt.alloc(), component)?;
     let matrix = read_matrix(rt.alloc(), &component, matrix)?;
+    assert_settles(rt, &component, &matrix)?;
     let mut machine = Machine::start(rt.alloc(), &component, &matrix)?;
     let next = Move { thread: 0, pick: 0 };
     let mut last = None;
@@ -319,6 +341,7 @@ end
 fn picks(rt: HostRuntime) -> Result<(), Fail> {
     let component = read_component(rt.alloc(), PICKS)?;
     let matrix = read_matrix(rt.alloc(), &component, b"thread choose\n")?;
+    assert_settles(&rt, &component, &matrix)?;
     let mut machine = Machine::start(rt.alloc(), &component, &matrix)?;
     assert_eq!(rt; (machine.picks(0), machine.picks(1)), (1, 0));
     let first = Move { thread: 0, pick: 0 };
@@ -346,4 +369,71 @@ fn counts_are_added(rt: HostRuntime) {
     assert_eq!(rt; sum.complete, u64::MAX);
     assert_eq!(rt; sum.stuck, 4);
     assert_eq!(rt; sum.cut, 6);
+}
+
+/// `exact` ends with its 256th move after the call, `over` with its 257th.
+const SETUPS: &[u8] = b"component c
+word x 1 0
+lock m
+op exact 0
+set r0 85
+L1: sub r0 r0 1
+jz r0 L4
+jump L1
+L4: return 0
+end
+op over 0
+set r0 85
+set r1 0
+L2: sub r0 r0 1
+jz r0 L5
+jump L2
+L5: return 0
+end
+op hold 0
+lock m
+store x 0 7
+return 0
+end
+op free 0
+unlock m
+load r0 x 0
+return r0
+end
+";
+
+/// The first call of the setup that does not end.
+fn unsettled(rt: &impl AllocGlobal, matrix: &[u8]) -> Result<Option<u8>, Fail> {
+    let component = read_component(rt.alloc(), SETUPS)?;
+    let matrix = read_matrix(rt.alloc(), &component, matrix)?;
+    Ok(settles(rt.alloc(), &component, &matrix)?)
+}
+
+/// A call of a setup has 256 moves, and is blocked by a lock that is taken.
+#[test]
+fn setups_settle(rt: HostRuntime) -> Result<(), Fail> {
+    for (matrix, wanted) in [
+        (b"thread over\n".as_slice(), None),
+        (b"setup exact\nthread over\n".as_slice(), None),
+        (b"setup over\nthread\n".as_slice(), Some(0)),
+        (b"setup exact;over;over\nthread\n".as_slice(), Some(1)),
+        (b"setup hold;free;hold\nthread\n".as_slice(), None),
+        (b"setup hold;hold\nthread\n".as_slice(), Some(1)),
+        (b"setup free\nthread\n".as_slice(), None),
+    ] {
+        assert_eq!(rt; unsettled(&rt, matrix)?, wanted);
+    }
+    Ok(())
+}
+
+/// What a setup leaves in cells and locks is there at the start, and thread 0 owns what it took.
+#[test]
+fn runs_start_after_their_setup(rt: HostRuntime) -> Result<(), Fail> {
+    let (last, status) = played(&rt, SETUPS, b"setup hold\nthread free\n", &[0, 0, 0, 0])?;
+    assert_eq!(rt; last, returned(0, 0, 7));
+    assert_eq!(rt; status, Status::Complete);
+    let (last, status) = played(&rt, SETUPS, b"setup hold\nthread hold\n", &[0])?;
+    assert_eq!(rt; last, called(0, 0));
+    assert_eq!(rt; status, Status::Stuck);
+    Ok(())
 }

@@ -1,6 +1,7 @@
 -- From a set of serial histories and what a search finds over it to a finding.
 use Rattle.std.proofs.Common.{◌≡◌, ℕ, List, [], Option, Some, IsSome, IsSomeAnd, refl}
-use Rattle.lu_replay.specs.declared.report.Finding.{Finding}
+use Rattle.lu_report.specs.declared.report.Finding.{Finding}
+use Rattle.lu_report.specs.declared.report.Finding.TheVariants.{SerialCut, Nondeterministic, Fail, Pass}
 use Rattle.lu_test.specs.declared.schedule.Move.{Move}
 use Rattle.lu_machine.specs.States.{State}
 use Rattle.lu_machine.specs.Schedules.{IsSchedule, IsNumber}
@@ -12,7 +13,7 @@ use Rattle.lu_witness.specs.Witnesses.{IsMember}
 use Rattle.lu_tree.specs.declared.found.Found.{Found}
 use Rattle.lu_tree.specs.declared.found.Found.TheVariants.{Clean, Bad, Abandoned}
 use Rattle.lu_tree.specs.Trees.{Below, IsFound}
-use Rattle.lu_replay.specs.Reports.{IsFinding}
+use Rattle.lu_replay.specs.Reports.{IsFinding, IsFindingAgainst}
 use Rattle.lu_replay.proofs.Sets.{first_bad_alike, all_good_alike}
 use Rattle.lu_parallel.specs.declared.parts.Work.{Work}
 use Rattle.lu_parallel.specs.Conclusions.{IsAnswer}
@@ -26,12 +27,22 @@ empty_leads s = record { end = s; history = []; leads = (refl, refl); holds = tt
 pub below_empty : (u : List Move) → Below [] u
 below_empty u = (u, refl)
 
--- what is found over the set of all serial histories is what the check finds
+-- what is found over a set is what a check against it finds
+pub found_against : (Set : List SerialOp → Type 0) (s : State) (bound : ℕ) (found : Found) → IsFound Set s bound Any found → IsSomeAnd (finding_of found) (IsFindingAgainst Set s bound)
+found_against Set s bound (Clean counts) is = is
+found_against Set s bound (Bad schedule why) is = is
+found_against Set s bound Abandoned is = elim is [ ]
+
+-- against the set of all serial histories that is what the check finds
+pub against_serially : (members : List (List SerialOp)) (s : State) (bound serial : ℕ) (finding : Finding) → IsSetOf s serial members → IsFindingAgainst (IsMember members) s bound finding → IsFinding s bound serial finding
+against_serially members s bound serial (SerialCut u) set is = absurd is
+against_serially members s bound serial (Nondeterministic u before earlier) set is = absurd is
+against_serially members s bound serial (Fail u why) set is = (set.none, first_bad_alike (IsMember members) (IsSerialHistory s) set.are s bound Any u why is)
+against_serially members s bound serial (Pass counts) set is = (set.none, all_good_alike (IsMember members) (IsSerialHistory s) set.are s bound Any counts is)
+
 pub found_finding : (members : List (List SerialOp)) (s : State) (bound serial : ℕ) (found : Found) → IsSetOf s serial members → IsFound (IsMember members) s bound Any found → IsSomeAnd (finding_of found) (IsFinding s bound serial)
-found_finding members s bound serial (Clean counts) set is =
-    (set.none, all_good_alike (IsMember members) (IsSerialHistory s) set.are s bound Any counts is)
-found_finding members s bound serial (Bad schedule why) set is =
-    (set.none, first_bad_alike (IsMember members) (IsSerialHistory s) set.are s bound Any schedule why is)
+found_finding members s bound serial (Clean counts) set is = against_serially members s bound serial (Pass counts) set is
+found_finding members s bound serial (Bad schedule why) set is = against_serially members s bound serial (Fail schedule why) set is
 found_finding members s bound serial Abandoned set is = elim is [ ]
 
 -- what is found was not abandoned
@@ -40,8 +51,8 @@ some_finding Set s bound Part (Clean counts) is = refl
 some_finding Set s bound Part (Bad schedule why) is = refl
 some_finding Set s bound Part Abandoned is = elim is [ ]
 
-pub same_finding : (s : State) (bound serial : ℕ) (found : Option Finding) (finding : Finding) → found ≡ Some finding → IsSomeAnd found (IsFinding s bound serial) → IsFinding s bound serial finding
-same_finding s bound serial found finding is h = rw is at h
+pub same_finding : (P : Finding → Type 0) (found : Option Finding) (finding : Finding) → found ≡ Some finding → IsSomeAnd found P → P finding
+same_finding P found finding is h = rw is at h
 
 number_of : (P Q : List Move → Type 0) (n : ℕ) → ((u : List Move) → P u → Q u) → ((u : List Move) → Q u → P u) → IsNumber P n → IsNumber Q n
 number_of P Q n into back is = record {
@@ -67,10 +78,6 @@ all_below Set s bound (Bad schedule why) is = record {
   why_is = is.why_is;
 }
 all_below Set s bound Abandoned is = elim is [ ]
-
--- what is found below the empty schedule, over the set of all serial histories
-pub whole_finding : (members : List (List SerialOp)) (s : State) (bound serial : ℕ) (found : Found) → IsSetOf s serial members → IsFound (IsMember members) s bound (Below []) found → IsSomeAnd (finding_of found) (IsFinding s bound serial)
-whole_finding members s bound serial found set is = found_finding members s bound serial found set (all_below (IsMember members) s bound found is)
 
 -- what works conclude was not abandoned
 pub concluded_finding : (works : List Work) (found : Found) → IsAnswer works found → IsSome (finding_of found)

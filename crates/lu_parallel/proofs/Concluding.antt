@@ -7,8 +7,8 @@ use Rattle.std.proofs.lemmas.List.Elements.{Contains-append_cases}
 use Rattle.std.proofs.lemmas.List.Sums.{sum_by-append, sum_by-cons}
 use Rattle.atomic_table.specs.Seated.{TableId}
 use Rattle.lu_component.specs.Component.{Declarations}
-use Rattle.lu_test.specs.declared.matrix.Call.{Call}
 use Rattle.lu_test.specs.declared.schedule.Move.{Move}
+use Rattle.lu_test.specs.Matrix.{Matrix}
 use Rattle.lu_machine.specs.declared.counts.Counts.{Counts}
 use Rattle.lu_machine.specs.States.{State}
 use Rattle.lu_machine.specs.Starts.{IsStart}
@@ -175,7 +175,7 @@ count_four x a b c d =
 sums_join : (get : Counts → ℕ) (c : Counts) (cs numbers more : List Counts) → get c ≡ capped (sum_by get numbers) → capped (sum_by get cs) ≡ capped (sum_by get more) → capped (sum_by get (c ∷ cs)) ≡ capped (sum_by get (numbers ++ more))
 sums_join get c cs numbers more first rest = (let a = sum_by-cons get c cs in let b = sum_by-append get numbers more in omega arith)
 
-module _ (c : Declarations) (matrix : List (List Call)) (members : List (List SerialOp)) (s : State) (bound : ℕ) (pieces : List (List Move)) (board : TableId) (start : IsStart c matrix s) where
+module _ (c : Declarations) (matrix : Matrix) (members : List (List SerialOp)) (s : State) (bound : ℕ) (pieces : List (List Move)) (board : TableId) (start : IsStart c matrix s) where
   -- the numbers of all clean pieces
   record Numbered (works : List Work) : Type 0 where
     numbers : List Counts

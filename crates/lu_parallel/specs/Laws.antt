@@ -2,8 +2,8 @@
 use Rattle.std.specs.Prelude.{ℕ, List, length, Some, IsSomeAnd, All}
 use Rattle.atomic_table.specs.Seated.{TableId}
 use Rattle.lu_component.specs.Component.{Declarations}
-use Rattle.lu_test.specs.declared.matrix.Call.{Call}
 use Rattle.lu_test.specs.declared.schedule.Move.{Move}
+use Rattle.lu_test.specs.Matrix.{Matrix}
 use Rattle.lu_machine.specs.States.{State}
 use Rattle.lu_machine.specs.Starts.{IsStart}
 use Rattle.lu_machine.specs.Schedules.{IsCover}
@@ -14,7 +14,7 @@ use Rattle.lu_witness.specs.Witnesses.{IsMember}
 use Rattle.lu_tree.specs.declared.found.Found.{Found}
 use Rattle.lu_tree.specs.Trees.{IsFound}
 use Rattle.lu_board.specs.Close.{SharesOut}
-use Rattle.lu_replay.specs.Reports.{IsFinding}
+use Rattle.lu_replay.specs.Reports.{IsFinding, IsFindingAgainst}
 use Rattle.lu_parallel.specs.declared.parts.Work.{Work}
 use Rattle.lu_parallel.specs.Findings.{finding_of}
 use Rattle.lu_parallel.specs.Works.{IsWork}
@@ -23,10 +23,16 @@ use Rattle.lu_parallel.specs.Conclusions.{IsConclusion, SkipsAbove, seats_of}
 -- What the works over a cover conclude is what a search of all schedules finds.
 abbrev pub Concludes : Type 0
 Concludes =
-    (c : Declarations) (matrix : List (List Call)) (members : List (List SerialOp)) (s : State) (bound : ℕ) (pieces : List (List Move)) (board : TableId) (works : List Work) (found : Found) →
+    (c : Declarations) (matrix : Matrix) (members : List (List SerialOp)) (s : State) (bound : ℕ) (pieces : List (List Move)) (board : TableId) (works : List Work) (found : Found) →
     IsStart c matrix s → IsCover s bound pieces → All (IsWork c matrix members bound pieces board) works →
     SharesOut (length pieces) (seats_of works) → SkipsAbove works → IsConclusion works (Some found) →
     IsFound (IsMember members) s bound Any found
+
+-- What is found over a set is the finding of the report against it.
+abbrev pub IsReportedAgainst : Type 0
+IsReportedAgainst =
+    (s : State) (bound : ℕ) (members : List (List SerialOp)) (found : Found) →
+    IsFound (IsMember members) s bound Any found → IsSomeAnd (finding_of found) (IsFindingAgainst (IsMember members) s bound)
 
 -- What is found over the set of all serial histories is the finding of the report.
 abbrev pub IsReported : Type 0

@@ -3,13 +3,12 @@ use Rattle.std.specs.Prelude.{◌≡◌, ℕ, ◌≤◌, List, [], map, length, 
 use Rattle.std.specs.List.{AllZip, slice_index_or}
 use Rattle.atomic_table.specs.Seated.{TableId}
 use Rattle.lu_component.specs.Component.{Declarations}
-use Rattle.lu_test.specs.declared.matrix.Call.{Call}
 use Rattle.lu_test.specs.declared.schedule.Move.{Move}
-use Rattle.lu_test.specs.Matrix.{IsOf as IsMatrixOf}
+use Rattle.lu_test.specs.Matrix.{Matrix}
 use Rattle.lu_machine.specs.declared.counts.Counts.{Counts}
 use Rattle.lu_machine.specs.States.{State}
 use Rattle.lu_machine.specs.Schedules.{IsSchedule}
-use Rattle.lu_machine.specs.Starts.{IsStart}
+use Rattle.lu_machine.specs.Starts.{CanRun, IsStart}
 use Rattle.lu_machine.specs.Sums.{total}
 use Rattle.lu_history.specs.declared.serial.SerialOp.{SerialOp}
 use Rattle.lu_witness.specs.Goodness.{IsFirstBad, AreAllGood}
@@ -35,8 +34,8 @@ abbrev pub IsFresh : TableId → SeatModel → Type 0
 IsFresh board seat = (seat.board ≡ board) × (seat.view.spent ≡ 0) × (seat_pieces seat.view ≡ [])
 
 -- what workers share: a matrix of the component, and as many pieces as the board has
-pub record IsJob (c : Declarations) (matrix : List (List Call)) (bound : ℕ) (pieces : List (List Move)) (board : BoardModel) : Type 0 where
-  pub of : IsMatrixOf matrix c
+pub record IsJob (c : Declarations) (matrix : Matrix) (bound : ℕ) (pieces : List (List Move)) (board : BoardModel) : Type 0 where
+  pub of : CanRun c matrix
   pub few : bound ≤ 256
   pub schedules : (s : State) → IsStart c matrix s → All (IsPiece s bound) pieces
   pub numbered : board.pieces ≡ length pieces
@@ -68,7 +67,7 @@ pub record IsOver (board : TableId) (w : Work) : Type 0 where
   pub listed : pieces_of w.found.items ≡ w.seat.view.found
 
 -- a work that is over, and the clean and found pieces of its seat have their answers
-pub record IsWork (c : Declarations) (matrix : List (List Call)) (members : List (List SerialOp)) (bound : ℕ) (pieces : List (List Move)) (board : TableId) (w : Work) : Type 0 where
+pub record IsWork (c : Declarations) (matrix : Matrix) (members : List (List SerialOp)) (bound : ℕ) (pieces : List (List Move)) (board : TableId) (w : Work) : Type 0 where
   pub over : IsOver board w
   pub holds : (s : State) → IsStart c matrix s → Holds (IsMember members) s bound pieces w.seat.view w.counts w.found.items
 

@@ -1,12 +1,10 @@
 //! A check by many workers.
 
-ghost use Rattle.std.specs.Prelude.{◌≡◌, ◌≤◌, ◌<◌, ℕ, IfOk, IfErr};
-ghost use Rattle.lu_test.specs.Matrix.{IsOf};
+ghost use Rattle.std.specs.Prelude.{◌≡◌, ◌≤◌, ◌<◌, IfOk, IfErr};
 ghost use Rattle.lu_machine.specs.States.{State};
-ghost use Rattle.lu_machine.specs.Starts.{IsStart};
-ghost use Rattle.lu_serial.specs.Offences.{IsSetOf};
-ghost use Rattle.lu_trie.specs.Packed.{members_of};
-ghost use Rattle.lu_replay.specs.Reports.{IsFinding, IsReport};
+ghost use Rattle.lu_machine.specs.Starts.{CanRun, IsStart};
+ghost use Rattle.lu_witness.specs.Witnesses.{IsMember};
+ghost use Rattle.lu_replay.specs.Reports.{IsFinding, IsFindingAgainst, IsReport, IsReportAgainst};
 ghost use Rattle.lu_parallel.specs.declared.fault.CheckFault.TheVariants.{Memory};
 
 use crate::conclusion::conclude;
@@ -17,27 +15,30 @@ use crate::options::Options;
 use crate::threads::run_workers;
 use lu_board::board::Board;
 use lu_component::Component;
-use lu_replay::{Finding, Report, set_or_offence};
+use lu_replay::set_or_offence;
+use lu_report::{Finding, Report};
 use lu_serial::learn;
 use lu_test::Matrix;
 use lu_tree::frontier;
-use lu_trie::{PackedTrie, Trie};
+use lu_trie::{PackedTrie, SerialTree, Trie};
 use std::alloc::Global;
 use std::sync::Wait;
 use std::thread::Threads;
 
-/// What the workers find over a set of serial histories.
-fn search_by_workers<R: Threads + Wait, G: Gate>(
+/// What the workers find against the set of a tree.
+fn search_by_workers<R: Threads + Wait, G: Gate, T: SerialTree + Sync>(
     rt: &R,
     alloc: Global,
     gate: &G,
     component: &Component,
     matrix: &Matrix,
-    tree: &PackedTrie<Global>,
+    tree: &T,
     options: Options,
 ) -> Result<Finding, CheckFault>
-    requires of { IsOf matrix.now component.now }
-    ensures { (s : State) → IsStart component.now matrix.now s → IfOk result (λ finding. (serial : ℕ) → IsSetOf s serial (members_of tree.now) → IsFinding s options.bound serial finding) }
+where
+    T::Place: Send + Sync,
+    requires of { CanRun component.now matrix.now }
+    ensures { (s : State) → IsStart component.now matrix.now s → IfOk result (IsFindingAgainst (IsMember (T.members tree.now)) s options.bound) }
 {
     let bound = options.bound();
     let pieces = frontier(alloc, component, matrix, bound, options.depth())?;
@@ -51,7 +52,30 @@ fn search_by_workers<R: Threads + Wait, G: Gate>(
     }
 }
 
-/// What is found over a set of serial histories, which is packed once for all workers. One worker searches all schedules.
+/// What is found against the set of a tree. One worker searches all schedules on the calling thread.
+fn search_tree<R: Threads + Wait, G: Gate, T: SerialTree + Sync>(
+    rt: &R,
+    alloc: Global,
+    gate: &G,
+    component: &Component,
+    matrix: &Matrix,
+    tree: &T,
+    options: Options,
+) -> Result<Finding, CheckFault>
+where
+    T::Place: Send + Sync,
+    requires of { CanRun component.now matrix.now }
+    ensures found { (s : State) → IsStart component.now matrix.now s → IfOk result (IsFindingAgainst (IsMember (T.members tree.now)) s options.bound) }
+    ensures alone { IfErr result (λ fault. options.workers ≡ 1 → fault ≡ Memory) }
+{
+    if options.workers() == 1 {
+        let finding = search_all(alloc, component, matrix, tree, options.bound())?;
+        return Ok(finding);
+    }
+    search_by_workers(rt, alloc, gate, component, matrix, tree, options)
+}
+
+/// What is found against a set of serial histories, which is packed once for all workers.
 fn search_packed<R: Threads + Wait, G: Gate>(
     rt: &R,
     alloc: Global,
@@ -61,17 +85,13 @@ fn search_packed<R: Threads + Wait, G: Gate>(
     set: Trie<Global>,
     options: Options,
 ) -> Result<Finding, CheckFault>
-    requires of { IsOf matrix.now component.now }
-    ensures found { (s : State) → IsStart component.now matrix.now s → IfOk result (λ finding. (serial : ℕ) → IsSetOf s serial set → IsFinding s options.bound serial finding) }
+    requires of { CanRun component.now matrix.now }
+    ensures found { (s : State) → IsStart component.now matrix.now s → IfOk result (IsFindingAgainst (IsMember set) s options.bound) }
     ensures alone { IfErr result (λ fault. options.workers ≡ 1 → fault ≡ Memory) }
 {
     let packed = PackedTrie::pack(alloc, &set)?;
     drop(set);
-    if options.workers() == 1 {
-        let finding = search_all(alloc, component, matrix, &&packed, options.bound())?;
-        return Ok(finding);
-    }
-    search_by_workers(rt, alloc, gate, component, matrix, &packed, options)
+    search_tree(rt, alloc, gate, component, matrix, &&packed, options)
 }
 
 /// The least serial offence, or what is found among all schedules.
@@ -83,7 +103,7 @@ fn find<R: Threads + Wait, G: Gate>(
     matrix: &Matrix,
     options: Options,
 ) -> Result<Finding, CheckFault>
-    requires of { IsOf matrix.now component.now }
+    requires of { CanRun component.now matrix.now }
     ensures found { (s : State) → IsStart component.now matrix.now s → IfOk result (IsFinding s options.bound options.serial) }
     ensures alone { IfErr result (λ fault. options.workers ≡ 1 → fault ≡ Memory) }
 {
@@ -110,7 +130,7 @@ pub fn check<R: Threads + Wait, G: Gate>(
     matrix: &Matrix,
     options: Options,
 ) -> Result<Report, CheckFault>
-    requires of { IsOf matrix.now component.now }
+    requires of { CanRun component.now matrix.now }
     ensures report { IfOk result (IsReport component.now matrix.now options.bound options.serial) }
     ensures alone { IfErr result (λ fault. options.workers ≡ 1 → fault ≡ Memory) }
 {
@@ -123,4 +143,32 @@ pub fn check<R: Threads + Wait, G: Gate>(
         component.local(),
         finding,
     ))
+}
+
+/// The report of a component and a matrix against the set of a tree, as a specification lends it, by as many workers as the options
+/// say. No serial run is made, and the options' bound of serial runs has no effect. Else it is as [`check`]: the report is the same
+/// for any number of workers and any depth. The calling thread waits until the workers are done.
+///
+/// # Errors
+///
+/// As those of [`check`].
+pub fn check_against<R: Threads + Wait, G: Gate, T: SerialTree + Sync>(
+    rt: &R,
+    alloc: Global,
+    gate: &G,
+    component: &Component,
+    matrix: &Matrix,
+    tree: &T,
+    options: Options,
+) -> Result<Report, CheckFault>
+where
+    T::Place: Send + Sync,
+    requires of { CanRun component.now matrix.now }
+    ensures report { IfOk result (IsReportAgainst (IsMember (T.members tree.now)) component.now matrix.now options.bound) }
+    ensures alone { IfErr result (λ fault. options.workers ≡ 1 → fault ≡ Memory) }
+{
+    // Its clause says that the matrix is within its limits.
+    let _threads = matrix.threads();
+    let finding = search_tree(rt, alloc, gate, component, matrix, tree, options)?;
+    Ok(Report::against(options.bound(), component.local(), finding))
 }

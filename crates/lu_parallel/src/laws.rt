@@ -6,7 +6,7 @@ ghost use Rattle.lu_history.specs.declared.serial.SerialOp.{SerialOp};
 ghost use Rattle.lu_serial.specs.Serial.{IsSerialHistory};
 ghost use Rattle.lu_witness.specs.Witnesses.{IsMember};
 ghost use Rattle.lu_tree.specs.Covers.{FirstOfCover, SumsOfCover};
-ghost use Rattle.lu_parallel.specs.Laws.{Concludes, IsReported};
+ghost use Rattle.lu_parallel.specs.Laws.{Concludes, IsReported, IsReportedAgainst};
 
 /// What the pieces of a cover say together. The first bad schedule below the first piece that has one is the first of all.
 /// Where no piece has one, all schedules are good, and their numbers are the sums of the pieces' numbers.
@@ -24,8 +24,9 @@ pub fn works_conclude()
     ensures { Concludes }
 {}
 
-/// What a search of all schedules finds over the set of all serial histories is what the report says. The function does
-/// nothing.
+/// What a search of all schedules finds over a set is what the report against it says; over the set of all serial histories it is
+/// what the report says. The function does nothing.
 pub fn found_is_reported()
-    ensures { IsReported }
+    ensures against { IsReportedAgainst }
+    ensures serially { IsReported }
 {}

@@ -3,7 +3,8 @@
 //! A check learns the serial histories of the matrix. Without a serial offence it judges each schedule that ends within a bound
 //! (Burckhardt, Dern, Musuvathi and Tan, 2010). [`check_one`] does all on the calling thread. [`check`] has as many workers as its
 //! options say: they claim pieces of the tree of schedules from a board, and [`conclude`] tells what they found together. The
-//! report is the same for any number of workers.
+//! report is the same for any number of workers. [`check_one_against`] and [`check_against`] learn nothing: they judge the schedules
+//! against the set of a tree that is given, as that of a specification.
 //!
 //! ```text
 //! let options = Options::new(40, 40, 4, 6)?;
@@ -26,11 +27,11 @@ mod seat_watch;
 mod threads;
 mod worker;
 
-pub use checks::check;
+pub use checks::{check, check_against};
 pub use conclusion::conclude;
 pub use fault::CheckFault;
 pub use gate::{Gate, OpenGate};
-pub use one::check_one;
+pub use one::{check_one, check_one_against};
 pub use options::Options;
 pub use parts::{FoundPiece, Work};
 pub use worker::work;

@@ -1,22 +1,22 @@
 //! A check on the calling thread.
 
-ghost use Rattle.std.specs.Prelude.{◌≡◌, ◌≤◌, ℕ, IfOk, IsSome, Some};
-ghost use Rattle.lu_test.specs.Matrix.{IsOf};
+ghost use Rattle.std.specs.Prelude.{◌≡◌, ◌≤◌, IfOk, IsSome, Some};
 ghost use Rattle.lu_machine.specs.States.{State};
-ghost use Rattle.lu_machine.specs.Starts.{IsStart};
-ghost use Rattle.lu_serial.specs.Offences.{IsSetOf};
-ghost use Rattle.lu_replay.specs.Reports.{IsReport, IsFinding};
+ghost use Rattle.lu_machine.specs.Starts.{CanRun, IsStart};
+ghost use Rattle.lu_witness.specs.Witnesses.{IsMember};
+ghost use Rattle.lu_replay.specs.Reports.{IsReport, IsReportAgainst, IsFinding, IsFindingAgainst};
 ghost use Rattle.lu_parallel.specs.Findings.{finding_of};
 
 use lu_component::Component;
-use lu_replay::{Finding, Report, set_or_offence};
+use lu_replay::set_or_offence;
+use lu_report::{Finding, Report};
 use lu_serial::learn;
 use lu_test::{Matrix, Schedule};
 use lu_tree::{Found, search};
 use lu_trie::SerialTree;
 use std::alloc::{AllocError, Allocator, Global};
 
-/// What a search of all schedules finds that was not abandoned, where no serial run offends.
+/// What a search of all schedules finds that was not abandoned.
 pub(crate) fn finding_of(found: Found) -> Finding
     requires { IsSome (finding_of found) }
     ensures { finding_of found ≡ Some result }
@@ -28,7 +28,7 @@ pub(crate) fn finding_of(found: Found) -> Finding
     }
 }
 
-/// What a search of all schedules finds over the set of a tree.
+/// What a search of all schedules finds against the set of a tree.
 pub(crate) fn search_all<T: SerialTree>(
     alloc: Global,
     component: &Component,
@@ -36,9 +36,9 @@ pub(crate) fn search_all<T: SerialTree>(
     tree: &T,
     bound: u16,
 ) -> Result<Finding, AllocError>
-    requires of { IsOf matrix.now component.now }
+    requires of { CanRun component.now matrix.now }
     requires bound { bound ≤ 256 }
-    ensures { (s : State) → IsStart component.now matrix.now s → IfOk result (λ finding. (serial : ℕ) → IsSetOf s serial (T.members tree.now) → IsFinding s bound serial finding) }
+    ensures { (s : State) → IsStart component.now matrix.now s → IfOk result (IsFindingAgainst (IsMember (T.members tree.now)) s bound) }
 {
     let whole = Schedule::new(Vec::new(alloc));
     let found = search(alloc, component, matrix, tree, &whole, bound)?;
@@ -54,7 +54,7 @@ fn find<A: Allocator + Clone>(
     bound: u16,
     serial: u16,
 ) -> Result<Finding, AllocError>
-    requires of { IsOf matrix.now component.now }
+    requires of { CanRun component.now matrix.now }
     requires bound { bound ≤ 256 }
     requires serial { (1 ≤ serial) × (serial ≤ 256) }
     ensures { (s : State) → IsStart component.now matrix.now s → IfOk result (IsFinding s bound serial) }
@@ -80,7 +80,7 @@ pub fn check_one<A: Allocator + Clone>(
     bound: u16,
     serial: u16,
 ) -> Result<Report, AllocError>
-    requires of { IsOf matrix.now component.now }
+    requires of { CanRun component.now matrix.now }
     requires bound { bound ≤ 256 }
     requires serial { (1 ≤ serial) × (serial ≤ 256) }
     ensures { IfOk result (IsReport component.now matrix.now bound serial) }
@@ -89,4 +89,28 @@ pub fn check_one<A: Allocator + Clone>(
     let _threads = matrix.threads();
     let finding = find(alloc, set_alloc, component, matrix, bound, serial)?;
     Ok(Report::new(bound, serial, component.local(), finding))
+}
+
+/// The report of a component and a matrix against the set of a tree, as a specification lends it, on the calling thread. No serial
+/// run is made: the schedules of up to `bound` moves, 0 to 256, have their witnesses in that set or not (Burckhardt, Dern,
+/// Musuvathi and Tan, 2010).
+///
+/// # Errors
+///
+/// `AllocError` where memory was refused.
+pub fn check_one_against<T: SerialTree>(
+    alloc: Global,
+    component: &Component,
+    matrix: &Matrix,
+    tree: &T,
+    bound: u16,
+) -> Result<Report, AllocError>
+    requires of { CanRun component.now matrix.now }
+    requires bound { bound ≤ 256 }
+    ensures { IfOk result (IsReportAgainst (IsMember (T.members tree.now)) component.now matrix.now bound) }
+{
+    // Its clause says that the matrix is within its limits.
+    let _threads = matrix.threads();
+    let finding = search_all(alloc, component, matrix, tree, bound)?;
+    Ok(Report::against(bound, component.local(), finding))
 }

@@ -1,7 +1,6 @@
 //! Workers in threads of their own.
 
 ghost use Rattle.std.specs.Prelude.{◌≡◌, ◌≤◌, IfOk, All, vec_len, false};
-ghost use Rattle.lu_trie.specs.Packed.{members_of};
 ghost use Rattle.lu_parallel.specs.Works.{IsFresh, IsJob, IsWork};
 
 use crate::fault::CheckFault;
@@ -11,41 +10,44 @@ use crate::worker::work;
 use lu_board::board::{Board, Seat};
 use lu_component::Component;
 use lu_test::{Matrix, Schedule};
-use lu_trie::PackedTrie;
+use lu_trie::SerialTree;
 use std::alloc::{AllocError, Global};
 use std::sync::Wait;
 use std::thread;
 use std::thread::{Promise, PromisedHandle, Scope, Threads, join_promised};
 
 /// What all workers share. What a worker's thread hands back is the work of its seat.
-#[derive(Clone, Copy, Drop)]
-struct Shared<'a> {
+#[derive(Drop)]
+#[derive_where(Clone, Copy)]
+struct Shared<'a, T> {
     component: &'a Component,
     matrix: &'a Matrix,
-    tree: &'a PackedTrie<Global>,
+    tree: &'a T,
     pieces: &'a [Schedule],
     bound: u16,
     board: &'a Board,
 }
 
-impl<'a> Promise<Work> for Shared<'a> {
-    ghost kept_by = { λ p w. IsWork p.component.now p.matrix.now (members_of p.tree.now) p.bound p.pieces.now p.board.now.board w };
+impl<'a, T: SerialTree> Promise<Work> for Shared<'a, T> {
+    ghost kept_by = { λ p w. IsWork p.component.now p.matrix.now (T.members p.tree.now) p.bound p.pieces.now p.board.now.board w };
 }
 
 /// The threads that were started, and whether a start was refused.
-struct Started<'a> {
-    children: Vec<PromisedHandle<Work, Shared<'a>>>,
+struct Started<'a, T: SerialTree> {
+    children: Vec<PromisedHandle<Work, Shared<'a, T>>>,
     refused: bool,
 }
 
 /// Starts a worker for each seat, until a start is refused.
-fn start_workers<'s, E, G: Gate>(
+fn start_workers<'s, E, G: Gate, T: SerialTree + Sync>(
     scope: &Scope<'s, E>,
     alloc: Global,
-    shared: Shared<'s>,
+    shared: Shared<'s, T>,
     seats: Vec<Seat>,
     gate: &'s G,
-) -> Result<Started<'s>, AllocError>
+) -> Result<Started<'s, T>, AllocError>
+where
+    T::Place: Send + Sync,
     requires job { IsJob shared.component.now shared.matrix.now shared.bound shared.pieces.now shared.board.now }
     requires fresh { All (IsFresh shared.board.now.board) seats.items }
     requires few { vec_len seats ≤ 16 }
@@ -61,13 +63,13 @@ fn start_workers<'s, E, G: Gate>(
             move || -> Work
                 requires job { IsJob shared.component.now shared.matrix.now shared.bound shared.pieces.now shared.board.now }
                 requires fresh { IsFresh shared.board.now.board seat }
-                ensures { IsWork shared.entry.component.now shared.entry.matrix.now (members_of shared.entry.tree.now) shared.entry.bound shared.entry.pieces.now shared.entry.board.now.board result }
+                ensures { IsWork shared.entry.component.now shared.entry.matrix.now (T.members shared.entry.tree.now) shared.entry.bound shared.entry.pieces.now shared.entry.board.now.board result }
             {
                 work(
                     alloc,
                     shared.component,
                     shared.matrix,
-                    &shared.tree,
+                    shared.tree,
                     shared.pieces,
                     shared.bound,
                     shared.board,
@@ -95,19 +97,21 @@ fn start_workers<'s, E, G: Gate>(
 }
 
 /// Starts the workers in this scope, and joins each that was started.
-fn run_in<'s, E, R: Threads, G: Gate>(
+fn run_in<'s, E, R: Threads, G: Gate, T: SerialTree + Sync>(
     scope: &Scope<'s, E>,
     rt: &R,
     alloc: Global,
-    shared: Shared<'s>,
+    shared: Shared<'s, T>,
     seats: Vec<Seat>,
     gate: &'s G,
 ) -> Result<Vec<Work>, CheckFault>
+where
+    T::Place: Send + Sync,
     requires job { IsJob shared.component.now shared.matrix.now shared.bound shared.pieces.now shared.board.now }
     requires fresh { All (IsFresh shared.board.now.board) seats.items }
     requires few { vec_len seats ≤ 16 }
     ensures all { IfOk result (λ works. vec_len works ≡ vec_len seats) }
-    ensures each { IfOk result (λ works. All (IsWork shared.entry.component.now shared.entry.matrix.now (members_of shared.entry.tree.now) shared.entry.bound shared.entry.pieces.now shared.entry.board.now.board) works.items) }
+    ensures each { IfOk result (λ works. All (IsWork shared.entry.component.now shared.entry.matrix.now (T.members shared.entry.tree.now) shared.entry.bound shared.entry.pieces.now shared.entry.board.now.board) works.items) }
 {
     let Started { children, refused } = start_workers(scope, alloc, shared, seats, gate)?;
     match join_promised(rt, children) {
@@ -127,23 +131,25 @@ fn run_in<'s, E, R: Threads, G: Gate>(
 }
 
 /// Runs a worker in a thread of its own for each seat. The works stand in the order of the seats.
-pub(crate) fn run_workers<R: Threads + Wait, G: Gate>(
+pub(crate) fn run_workers<R: Threads + Wait, G: Gate, T: SerialTree + Sync>(
     rt: &R,
     alloc: Global,
     component: &Component,
     matrix: &Matrix,
-    tree: &PackedTrie<Global>,
+    tree: &T,
     pieces: &[Schedule],
     bound: u16,
     board: &Board,
     seats: Vec<Seat>,
     gate: &G,
 ) -> Result<Vec<Work>, CheckFault>
+where
+    T::Place: Send + Sync,
     requires job { IsJob component.now matrix.now bound pieces.now board.now }
     requires fresh { All (IsFresh board.now.board) seats.items }
     requires few { vec_len seats ≤ 16 }
     ensures all { IfOk result (λ works. vec_len works ≡ vec_len seats) }
-    ensures each { IfOk result (λ works. All (IsWork component.now matrix.now (members_of tree.now) bound pieces.now board.now.board) works.items) }
+    ensures each { IfOk result (λ works. All (IsWork component.now matrix.now (T.members tree.now) bound pieces.now board.now.board) works.items) }
 {
     thread::scope(
         thread::scope_env(),
@@ -153,7 +159,7 @@ pub(crate) fn run_workers<R: Threads + Wait, G: Gate>(
             requires fresh { All (IsFresh board.now.board) seats.items }
             requires few { vec_len seats ≤ 16 }
             ensures all { IfOk result (λ works. vec_len works ≡ vec_len seats) }
-            ensures each { IfOk result (λ works. All (IsWork component.entry.now matrix.entry.now (members_of tree.entry.now) bound pieces.entry.now board.entry.now.board) works.items) }
+            ensures each { IfOk result (λ works. All (IsWork component.entry.now matrix.entry.now (T.members tree.entry.now) bound pieces.entry.now board.entry.now.board) works.items) }
         {
             let shared = Shared {
                 component,

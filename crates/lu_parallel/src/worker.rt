@@ -1,9 +1,8 @@
 //! The life of a worker.
 
 ghost use Rattle.std.specs.Prelude.{◌≡◌, ◌<◌, ◌≤◌, ◌∷◌, [], List, All, IfOk, length};
-ghost use Rattle.lu_test.specs.Matrix.{IsOf};
 ghost use Rattle.lu_machine.specs.States.{State};
-ghost use Rattle.lu_machine.specs.Starts.{IsStart};
+ghost use Rattle.lu_machine.specs.Starts.{CanRun, IsStart};
 ghost use Rattle.lu_history.specs.declared.serial.SerialOp.{SerialOp};
 ghost use Rattle.lu_witness.specs.Caches.{SameButEntries};
 ghost use Rattle.lu_witness.specs.Witnesses.{IsMember};
@@ -242,7 +241,7 @@ pub fn work<T: SerialTree, G: Gate>(
     gate: &G,
     worker: u8,
 ) -> Work
-    requires of { IsOf matrix.now component.now }
+    requires of { CanRun component.now matrix.now }
     requires bound { bound ≤ 256 }
     requires pieces { (s : State) → IsStart component.now matrix.now s → All (IsPiece s bound) pieces.now }
     requires board { board.now.pieces ≡ length pieces.now }

@@ -1,7 +1,7 @@
 use lu_lang::{Component, read_component};
 use lu_test::{
-    Arguments, Call, Calls, Matrix, MatrixFaultKind, Move, Schedule, ScheduleFault, cut_to,
-    read_matrix, read_schedule, remove, write_matrix, write_schedule,
+    Arguments, Call, Calls, Matrix, MatrixFaultKind, Move, Schedule, ScheduleFault, copy_calls,
+    cut_to, read_matrix, read_schedule, remove, setup_alone, write_matrix, write_schedule,
 };
 use lu_text::Fault;
 use std::process::Abort;
@@ -100,6 +100,22 @@ fn faults_of_matrices(rt: HostRuntime) -> Result<(), Fail> {
             3,
         ),
         (b"# nothing\n\n".as_slice(), MatrixFaultKind::Limit, 3),
+        (b"setup inc\n".as_slice(), MatrixFaultKind::Limit, 2),
+        (
+            b"thread inc\nsetup inc\n".as_slice(),
+            MatrixFaultKind::Form,
+            2,
+        ),
+        (
+            b"setup\nsetup inc\nthread\n".as_slice(),
+            MatrixFaultKind::Form,
+            2,
+        ),
+        (
+            b"setup inc;inc;inc;inc;inc;inc;inc;inc;inc\nthread\n".as_slice(),
+            MatrixFaultKind::Limit,
+            1,
+        ),
     ] {
         refuses(&rt, text, kind, line)?;
     }
@@ -113,6 +129,61 @@ fn calls_are_taken_away(rt: HostRuntime) -> Result<(), Fail> {
     let smaller = remove(rt.alloc(), &whole, 0, 1)?;
     assert_eq!(rt; numbers(&rt, &smaller, 0)?.as_slice(), [0, 0].as_slice());
     assert_eq!(rt; numbers(&rt, &smaller, 1)?.as_slice(), [1, 0].as_slice());
+    Ok(())
+}
+
+/// The operation numbers of a setup's calls.
+fn setup_numbers(rt: &impl AllocGlobal, matrix: &Matrix) -> Result<Vec<u8>, Fail> {
+    let mut numbers = Vec::new(rt.alloc());
+    for call in matrix.setup().as_slice() {
+        numbers.push(call.op)?;
+    }
+    Ok(numbers)
+}
+
+const WITH_SETUP: &[u8] = b"\n# first\nsetup add 1 2;inc\nthread inc;add 3 4\n";
+
+#[test]
+fn a_setup_is_read(rt: HostRuntime) -> Result<(), Fail> {
+    let whole = matrix(&rt, WITH_SETUP)?;
+    assert_eq!(rt; setup_numbers(&rt, &whole)?.as_slice(), [1, 0].as_slice());
+    assert_eq!(rt; (whole.threads(), whole.calls(0)), (1, 2));
+    Ok(())
+}
+
+#[test]
+fn a_setup_stays_where_a_call_is_removed(rt: HostRuntime) -> Result<(), Fail> {
+    let whole = matrix(&rt, WITH_SETUP)?;
+    assert_eq!(rt; whole.calls(0), 2);
+    let smaller = remove(rt.alloc(), &whole, 0, 0)?;
+    assert_eq!(rt; setup_numbers(&rt, &smaller)?.as_slice(), [1, 0].as_slice());
+    Ok(())
+}
+
+#[test]
+fn a_setup_stays_where_calls_are_cut(rt: HostRuntime) -> Result<(), Fail> {
+    let whole = matrix(&rt, WITH_SETUP)?;
+    assert_eq!(rt; whole.threads(), 1);
+    assert_eq!(rt; whole.calls(0), 2);
+    let first = cut_to(rt.alloc(), &whole, &[1])?;
+    assert_eq!(rt; setup_numbers(&rt, &first)?.as_slice(), [1, 0].as_slice());
+    Ok(())
+}
+
+#[test]
+fn a_setup_is_a_matrix_of_its_own(rt: HostRuntime) -> Result<(), Fail> {
+    let whole = matrix(&rt, WITH_SETUP)?;
+    let alone = setup_alone(rt.alloc(), &whole)?;
+    assert_eq!(rt; setup_numbers(&rt, &alone)?.as_slice(), [].as_slice());
+    assert_eq!(rt; numbers(&rt, &alone, 0)?.as_slice(), [1, 0].as_slice());
+    Ok(())
+}
+
+#[test]
+fn calls_are_copied(rt: HostRuntime) -> Result<(), Fail> {
+    let whole = matrix(&rt, WITH_SETUP)?;
+    let copy = copy_calls(rt.alloc(), whole.setup().as_slice())?;
+    assert_eq!(rt; copy.as_slice().len(), 2);
     Ok(())
 }
 
@@ -194,16 +265,19 @@ fn a_matrix_is_made_of_calls(rt: HostRuntime) -> Result<(), Fail> {
     calls.remove(0);
     let mut threads = Vec::new(rt.alloc());
     threads.push(calls)?;
-    let matrix = Matrix::new(threads);
+    let matrix = Matrix::new(Calls::new(Vec::new(rt.alloc())), threads);
     assert_eq!(rt; numbers(&rt, &matrix, 0)?.as_slice(), [5].as_slice());
     Ok(())
 }
 
 #[test]
 fn a_schedule_is_made_of_moves(rt: HostRuntime) -> Result<(), Fail> {
-    let schedule = Schedule::new(Vec::new(rt.alloc()));
+    let mut moves = Vec::new(rt.alloc());
+    moves.push(Move { thread: 1, pick: 0 })?;
+    moves.push(Move { thread: 7, pick: 2 })?;
+    let schedule = Schedule::new(moves);
     let written = write_schedule(rt.alloc(), &schedule)?;
-    assert_eq!(rt; written.as_str(), "schedule\n");
+    assert_eq!(rt; written.as_str(), "schedule 1 7:2\n");
     Ok(())
 }
 
@@ -227,6 +301,17 @@ fn matrices_are_written(rt: HostRuntime) -> Result<(), Fail> {
     )?;
     let written = write_matrix(rt.alloc(), &component, &read)?;
     assert_eq!(rt; written.as_str(), "thread inc;add 1 20\nthread\n");
+    for (text, wanted) in [
+        (b"setup\nthread\n".as_slice(), "thread\n"),
+        (
+            b" setup inc ; add 1 2\nthread\n".as_slice(),
+            "setup inc;add 1 2\nthread\n",
+        ),
+    ] {
+        let read = read_matrix(rt.alloc(), &component, text)?;
+        let written = write_matrix(rt.alloc(), &component, &read)?;
+        assert_eq!(rt; written.as_str(), wanted);
+    }
     Ok(())
 }
 

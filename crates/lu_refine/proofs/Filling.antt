@@ -1,13 +1,14 @@
 -- The matrix that a choice fills.
 use Rattle.std.proofs.Common.{◌≡◌, ℕ, zero, suc, ◌+◌, ◌-◌, ◌*◌, ◌<◌, ◌≤◌, List, [], ◌∷◌, ◌++◌, length, map, take, drop, refl, sym, ap, subst, ◌∙◌, arith, append_assoc, append-nil}
-use Rattle.std.specs.Prelude.{All}
+use Rattle.std.specs.Prelude.{All, sum_by}
 use Rattle.std.proofs.Math.Nat.{suc-mul}
 use Rattle.std.proofs.lemmas.List.{length-map, length-take-le, length-drop}
 use Rattle.std.proofs.lemmas.List.Elements.{All-take, All-drop}
 use Rattle.std.proofs.lemmas.List.Sums.{sum_by-cons}
 use Rattle.lu_component.specs.Component.{Declarations}
 use Rattle.lu_test.specs.declared.matrix.Call.{Call}
-use Rattle.lu_test.specs.Matrix.{AreArguments, IsCallOf, IsMatrix, IsOf, total_calls}
+use Rattle.lu_test.specs.Matrix.{AreArguments, IsCallOf, IsMatrix, IsOf, IsSetup, Matrix}
+use Rattle.lu_machine.specs.Starts.{AllEnd, CanRun}
 use Rattle.lu_refine.specs.Choices.{IsChoice, candidate_at, filled}
 use Rattle.lu_refine.specs.Campaigns.{AreCallsOf, HaveArguments, IsGrid}
 use Rattle.lu_refine.proofs.Places.{AreBelow}
@@ -36,7 +37,7 @@ parts threads calls choice long =
     let more : suc threads * calls ≡ threads * calls + calls = suc-mul threads calls in
     (omega (arith, long, more), omega (arith, long, more, length-drop calls choice))
 
-count_filled : (candidates : List Call) (threads calls : ℕ) (choice : List ℕ) → length choice ≡ threads * calls → total_calls (filled candidates threads calls choice) ≡ threads * calls
+count_filled : (candidates : List Call) (threads calls : ℕ) (choice : List ℕ) → length choice ≡ threads * calls → sum_by length (filled candidates threads calls choice) ≡ threads * calls
 count_filled candidates zero calls choice long = omega arith
 count_filled candidates (suc threads) calls choice long =
     let parted = parts threads calls choice long in
@@ -50,19 +51,28 @@ rows_short candidates (suc threads) calls choice long few zero d h =
     omega (arith, row_long candidates (take calls choice), length-take-le calls choice (parts threads calls choice long).0, few)
 rows_short candidates (suc threads) calls choice long few (suc k) d h = rows_short candidates threads calls (drop calls choice) (parts threads calls choice long).1 few k d (omega arith)
 
-pub filled_matrix : (candidates : List Call) (threads calls : ℕ) (choice : List ℕ) → IsGrid threads calls → IsChoice (length candidates) (threads * calls) choice → HaveArguments candidates → IsMatrix (filled candidates threads calls choice)
-filled_matrix candidates threads calls choice grid chosen arguments = record {
+pub filled_matrix : (setup candidates : List Call) (threads calls : ℕ) (choice : List ℕ) → IsSetup setup → IsGrid threads calls → IsChoice (length candidates) (threads * calls) choice → HaveArguments candidates → IsMatrix (record { setup = setup; threads = filled candidates threads calls choice })
+filled_matrix setup candidates threads calls choice before grid chosen arguments = record {
   some = omega (arith, length-filled candidates threads calls choice, grid.some_threads);
   limits = record {
-    threads = omega (arith, length-filled candidates threads calls choice, grid.few_threads);
+    few = omega (arith, length-filled candidates threads calls choice, grid.few_threads);
     each = rows_short candidates threads calls choice chosen.0 grid.few_calls;
     calls = omega (arith, count_filled candidates threads calls choice chosen.0, grid.positions);
     arguments = filled_all (λ call. AreArguments call.args) candidates arguments threads calls choice chosen.1;
   };
+  before = before;
 }
 
-pub filled_of : (c : Declarations) (candidates : List Call) (threads calls : ℕ) (choice : List ℕ) → AreCallsOf c candidates → AreBelow (length candidates) choice → IsOf (filled candidates threads calls choice) c
-filled_of c candidates threads calls choice of below = filled_all (λ call. IsCallOf c call) candidates of threads calls choice below
+pub filled_of : (c : Declarations) (setup candidates : List Call) (threads calls : ℕ) (choice : List ℕ) → AreCallsOf c setup → AreCallsOf c candidates → AreBelow (length candidates) choice → IsOf (record { setup = setup; threads = filled candidates threads calls choice }) c
+filled_of c setup candidates threads calls choice before of below = (before, filled_all (λ call. IsCallOf c call) candidates of threads calls choice below)
+
+-- and it can run where the setup does
+pub filled_runs : (c : Declarations) (setup candidates : List Call) (threads calls : ℕ) (choice : List ℕ) → AreCallsOf c setup → AllEnd c setup → AreCallsOf c candidates → AreBelow (length candidates) choice → CanRun c (record { setup = setup; threads = filled candidates threads calls choice })
+filled_runs c setup candidates threads calls choice before ends of below = record { of = filled_of c setup candidates threads calls choice before of below; settles = ends }
+
+-- the same of a setup and rows that are these
+pub filled_made : (setup now : List Call) (rows all : List (List Call)) → now ≡ setup → rows ≡ all → let made : Matrix = record { setup = now; threads = rows } in made ≡ record { setup = setup; threads = all }
+filled_made setup now rows all p q = rw (p, q) refl
 
 -- ---- thread after thread
 

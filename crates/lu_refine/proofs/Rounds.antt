@@ -1,8 +1,8 @@
 -- What is known of the matrices of a campaign up to a place.
 use Rattle.std.proofs.Common.{◌≡◌, ℕ, ◌+◌, ◌*◌, ◌^◌, ◌<◌, ◌≤◌, List, length, sym, subst, ◌∙◌, inl, inr, arith}
 use Rattle.std.proofs.lemmas.Bool.{cases_lt}
-use Rattle.lu_test.specs.declared.matrix.Call.{Call}
-use Rattle.lu_replay.specs.declared.report.Report.{Report}
+use Rattle.lu_test.specs.Matrix.{Matrix}
+use Rattle.lu_report.specs.declared.report.Report.{Report}
 use Rattle.lu_replay.specs.Confirmed.{IsPass}
 use Rattle.lu_refine.specs.Choices.{place_of}
 use Rattle.lu_refine.specs.Campaigns.{Campaigned, IsChoiceOf, IsReportAt, PassesAt, IsFirst, matrix_of}
@@ -24,7 +24,7 @@ passes_more asked place choice r before chosen is report passes other other_chos
       subst (PassesAt asked) (sym same) (r, report, passes)
 ]
 
-pub first_found : (asked : Campaigned) (place : ℕ) (choice : List ℕ) (matrix : List (List Call)) (r : Report) → PassBefore asked place → IsChoiceOf asked choice → place_of (length asked.candidates) choice ≡ place → matrix ≡ matrix_of asked choice → IsReportAt asked choice r → (IsPass r.finding → ⊥) → IsFirst asked matrix r
+pub first_found : (asked : Campaigned) (place : ℕ) (choice : List ℕ) (matrix : Matrix) (r : Report) → PassBefore asked place → IsChoiceOf asked choice → place_of (length asked.candidates) choice ≡ place → matrix ≡ matrix_of asked choice → IsReportAt asked choice r → (IsPass r.finding → ⊥) → IsFirst asked matrix r
 first_found asked place choice matrix r before chosen is same report fails = record {
   choice = choice;
   chosen = chosen;

@@ -2,8 +2,8 @@
 use Rattle.std.specs.Prelude.{◌≡◌, ℕ, ◌*◌, ◌^◌, ◌≤◌, List, length, All}
 use Rattle.lu_component.specs.Component.{Declarations}
 use Rattle.lu_test.specs.declared.matrix.Call.{Call}
-use Rattle.lu_test.specs.Matrix.{AreArguments, IsCallOf, IsOf}
-use Rattle.lu_replay.specs.declared.report.Report.{Report}
+use Rattle.lu_test.specs.Matrix.{Matrix, AreArguments, IsCallOf, IsOf}
+use Rattle.lu_report.specs.declared.report.Report.{Report}
 use Rattle.lu_replay.specs.Reports.{IsReport}
 use Rattle.lu_replay.specs.Confirmed.{IsPass}
 use Rattle.lu_refine.specs.declared.campaigns.Campaign.{Campaign}
@@ -15,15 +15,17 @@ use Rattle.lu_refine.specs.Choices.{IsChoice, IsBefore, filled}
 -- what a campaign is asked for
 pub record Campaigned : Type 0 where
   pub component : Declarations
+  pub setup : List Call
   pub candidates : List Call
   pub threads : ℕ
   pub calls : ℕ
   pub bound : ℕ
   pub serial : ℕ
 
-abbrev pub campaigned : Declarations → List Call → ℕ → ℕ → ℕ → ℕ → Campaigned
-campaigned c candidates threads calls bound serial = record {
+abbrev pub campaigned : Declarations → List Call → List Call → ℕ → ℕ → ℕ → ℕ → Campaigned
+campaigned c setup candidates threads calls bound serial = record {
   component = c;
+  setup = setup;
   candidates = candidates;
   threads = threads;
   calls = calls;
@@ -55,9 +57,12 @@ pub record IsGrid (threads calls : ℕ) : Type 0 where
 abbrev pub IsChoiceOf : Campaigned → List ℕ → Type 0
 IsChoiceOf asked choice = IsChoice (length asked.candidates) (asked.threads * asked.calls) choice
 
--- the matrix that a choice fills
-abbrev pub matrix_of : Campaigned → List ℕ → List (List Call)
-matrix_of asked choice = filled asked.candidates asked.threads asked.calls choice
+-- the matrix that a choice fills, with the setup
+abbrev pub matrix_of : Campaigned → List ℕ → Matrix
+matrix_of asked choice = record {
+  setup = asked.setup;
+  threads = filled asked.candidates asked.threads asked.calls choice;
+}
 
 -- r is the report of the matrix that the choice fills
 abbrev pub IsReportAt : Campaigned → List ℕ → Report → Type 0
@@ -68,7 +73,7 @@ abbrev pub PassesAt : Campaigned → List ℕ → Type 0
 PassesAt asked choice = (r : Report) × IsReportAt asked choice r × IsPass r.finding
 
 -- the choice's matrix, with its report, which is no pass; the matrices of all choices before it pass
-pub record IsFirst (asked : Campaigned) (matrix : List (List Call)) (r : Report) : Type 0 where
+pub record IsFirst (asked : Campaigned) (matrix : Matrix) (r : Report) : Type 0 where
   pub choice : List ℕ
   pub chosen : IsChoiceOf asked choice
   pub is : matrix ≡ matrix_of asked choice

@@ -17,7 +17,7 @@ IsBefore (m ∷ u) (n ∷ v) = (m < n) ⊎ (m ≡ n) × IsBefore u v
 abbrev pub candidate_at : List Call → ℕ → Call
 candidate_at candidates n = slice_index_or candidates n (record { op = 0; args = [] })
 
--- the matrix of so many threads of so many calls: the candidates with these numbers, thread 0's calls first
+-- the calls of so many threads, so many of each: the candidates with these numbers, thread 0's calls first
 abbrev pub filled : List Call → ℕ → ℕ → List ℕ → List (List Call)
 filled candidates threads calls choice = map (λ row. map (candidate_at candidates) row) (first_chunks calls threads choice)
 

@@ -1,13 +1,13 @@
 //! Checks whose serial histories lie in an arena.
 
 ghost use Rattle.std.specs.Prelude.{◌≤◌, IfOk};
-ghost use Rattle.lu_test.specs.Matrix.{IsOf};
+ghost use Rattle.lu_machine.specs.Starts.{CanRun};
 ghost use Rattle.lu_replay.specs.Reports.{IsReport};
 
 use bumpalo::Bump;
 use lu_component::Component;
 use lu_parallel::check_one;
-use lu_replay::Report;
+use lu_report::Report;
 use lu_test::Matrix;
 use std::alloc::{AllocError, Global};
 
@@ -19,7 +19,7 @@ pub(crate) fn check_in_arena(
     bound: u16,
     serial: u16,
 ) -> Result<Report, AllocError>
-    requires of { IsOf matrix.now component.now }
+    requires of { CanRun component.now matrix.now }
     requires bound { bound ≤ 256 }
     requires serial { (1 ≤ serial) × (serial ≤ 256) }
     ensures { IfOk result (IsReport component.now matrix.now bound serial) }

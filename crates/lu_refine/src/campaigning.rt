@@ -1,7 +1,8 @@
 //! All matrices of a size over some calls.
 
 ghost use Rattle.std.specs.Prelude.{◌≡◌, ◌≤◌, ◌↔◌, ◌*◌, IsTrue, IsOk, IfOk, IfErr, length};
-ghost use Rattle.lu_test.specs.Matrix.{IsOf};
+ghost use Rattle.lu_test.specs.Matrix.{IsSetup};
+ghost use Rattle.lu_machine.specs.Starts.{AllEnd};
 ghost use Rattle.lu_replay.specs.Confirmed.{IsPass};
 ghost use Rattle.lu_refine.specs.Campaigns.{AreCallsOf, AreEnough, HaveArguments, IsAnswer, IsFoundOf, IsGrid, IsLimitFault, campaigned};
 
@@ -9,8 +10,8 @@ use crate::arena::check_in_arena;
 use crate::campaigns::{Campaign, CampaignFault};
 use crate::choice::{choice_at, fill};
 use lu_component::Component;
-use lu_replay::{Finding, Report};
-use lu_test::{Call, MOST_CALLS, MOST_CALLS_OF_THREAD, MOST_THREADS};
+use lu_report::{Finding, Report};
+use lu_test::{Call, Calls, MOST_CALLS, MOST_CALLS_OF_THREAD, MOST_THREADS};
 use std::alloc::Global;
 
 /// The most candidates of a campaign.
@@ -51,10 +52,11 @@ fn positions_of(candidates: usize, threads: u8, calls: u8) -> Result<u32, Campai
 }
 
 /// Checks all matrices of `threads` threads with `calls` calls each, filled from the candidates, in lexicographic order of the
-/// numbers of the candidates, thread 0's calls first. A candidate that is listed twice counts twice. The answer is the first
+/// numbers of the candidates, thread 0's calls first; each begins with the setup. A candidate that is listed twice counts twice. The answer is the first
 /// matrix whose report is no pass, with that report, or the number of matrices. `bound` is 0 to 256 moves of a schedule, and
 /// `serial` 1 to 256 moves of an operation after its call that is run serially. Asks for candidates that are calls of the
-/// component, each with at most 4 arguments.
+/// component, each with at most 4 arguments, and for a setup of at most 8 such calls, each of which ends within 256 moves after it,
+/// where they are made alone.
 ///
 /// # Errors
 ///
@@ -63,17 +65,21 @@ fn positions_of(candidates: usize, threads: u8, calls: u8) -> Result<u32, Campai
 pub fn campaign(
     alloc: Global,
     component: &Component,
+    setup: &Calls,
     candidates: &[Call],
     threads: u8,
     calls: u8,
     bound: u16,
     serial: u16,
 ) -> Result<Campaign, CampaignFault>
+    requires setup { IsSetup setup.now }
+    requires setup_of { AreCallsOf component.now setup.now }
+    requires settles { AllEnd component.now setup.now }
     requires of { AreCallsOf component.now candidates.now }
     requires arguments { HaveArguments candidates.now }
     requires bound { bound ≤ 256 }
     requires serial { (1 ≤ serial) × (serial ≤ 256) }
-    ensures answer { IfOk result (IsAnswer (campaigned component.now candidates.now threads calls bound serial)) }
+    ensures answer { IfOk result (IsAnswer (campaigned component.now setup.now candidates.now threads calls bound serial)) }
     ensures of { IfOk result (IsFoundOf component.now) }
     ensures fault { IfErr result (IsLimitFault (length candidates.now) threads calls) }
 {
@@ -81,7 +87,7 @@ pub fn campaign(
     let count = (candidates.len() as u64).pow(positions);
     for place in 0..count {
         let choice = choice_at(alloc, place, candidates.len() as u64, positions)?;
-        let matrix = fill(alloc, candidates, threads, calls, choice.as_slice())?;
+        let matrix = fill(alloc, setup, candidates, threads, calls, choice.as_slice())?;
         let report = check_in_arena(alloc, component, &matrix, bound, serial)?;
         if !is_pass(&report) {
             return Ok(Campaign::First { matrix, report });

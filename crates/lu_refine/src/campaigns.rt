@@ -4,7 +4,7 @@ ghost use Rattle.std.specs.Prelude.{◌≡◌};
 ghost use Rattle.lu_refine.specs.declared.campaigns.CampaignFault.TheVariants.{Memory};
 ghost use Rattle.lu_refine.specs.Codes.{campaign_code_of};
 
-use lu_replay::Report;
+use lu_report::Report;
 use lu_test::Matrix;
 use std::alloc::AllocError;
 use thiserror::Error;

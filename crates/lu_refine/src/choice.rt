@@ -1,10 +1,11 @@
 //! Choices of candidates: a number for each position of a matrix.
 
 ghost use Rattle.std.specs.Prelude.{◌≡◌, ◌<◌, ◌≤◌, ◌*◌, ◌^◌, IfOk, length, map, All};
+ghost use Rattle.lu_test.specs.Matrix.{IsSetup};
 ghost use Rattle.lu_refine.specs.Campaigns.{HaveArguments, AreEnough, IsGrid};
 ghost use Rattle.lu_refine.specs.Choices.{IsChoice, candidate_at, filled, place_of};
 
-use lu_test::{Arguments, Call, Calls, MOST_CALLS, Matrix};
+use lu_test::{Arguments, Call, Calls, MOST_CALLS, Matrix, copy_calls};
 use smallvec::SmallVec;
 use std::alloc::{AllocError, Global};
 
@@ -57,18 +58,20 @@ fn calls_of(alloc: Global, candidates: &[Call], numbers: &[u8]) -> Result<Calls,
     Ok(Calls::new(calls))
 }
 
-/// The matrix of so many threads of so many calls: the candidates of the choice, thread 0's calls first.
+/// The matrix of this setup and of so many threads of so many calls: the candidates of the choice, thread 0's calls first.
 pub(crate) fn fill(
     alloc: Global,
+    setup: &Calls,
     candidates: &[Call],
     threads: u8,
     calls: u8,
     choice: &[u8],
 ) -> Result<Matrix, AllocError>
+    requires setup { IsSetup setup.now }
     requires grid { IsGrid threads calls }
     requires choice { IsChoice (length candidates.now) (threads * calls) choice.now }
     requires arguments { HaveArguments candidates.now }
-    ensures { IfOk result (λ matrix. matrix ≡ filled candidates.now threads calls choice.now) }
+    ensures { IfOk result (λ matrix. matrix ≡ record { setup = setup.now; threads = filled candidates.now threads calls choice.now }) }
 {
     let mut rows = Vec::with_capacity(alloc, usize::from(threads))?;
     let mut rest = choice;
@@ -77,5 +80,5 @@ pub(crate) fn fill(
         rows.push(calls_of(alloc, candidates, row)?)?;
         rest = others;
     }
-    Ok(Matrix::new(rows))
+    Ok(Matrix::new(copy_calls(alloc, setup.as_slice())?, rows))
 }

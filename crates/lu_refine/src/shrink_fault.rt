@@ -4,7 +4,7 @@ ghost use Rattle.std.specs.Prelude.{◌≡◌};
 ghost use Rattle.lu_refine.specs.declared.shrink_fault.ShrinkFault.TheVariants.{Memory};
 ghost use Rattle.lu_refine.specs.Codes.{shrink_code_of};
 
-use lu_replay::Report;
+use lu_report::Report;
 use std::alloc::AllocError;
 use thiserror::Error;
 

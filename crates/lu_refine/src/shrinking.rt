@@ -2,13 +2,14 @@
 
 ghost use Rattle.std.specs.Prelude.{◌≡◌, ◌≤◌, ◌↔◌, IsTrue, IfOk, IfErr};
 ghost use Rattle.lu_test.specs.Matrix.{IsOf};
+ghost use Rattle.lu_machine.specs.Starts.{CanRun};
 ghost use Rattle.lu_replay.specs.Reports.{IsReport};
 ghost use Rattle.lu_refine.specs.Removals.{IsFailure, IsRound, IsShrinkFault, IsShrunk};
 
 use crate::arena::check_in_arena;
 use crate::shrink_fault::ShrinkFault;
 use lu_component::Component;
-use lu_replay::{Finding, Report};
+use lu_report::{Finding, Report};
 use lu_test::{MOST_THREADS, Matrix, cut_to, remove};
 use smallvec::SmallVec;
 use std::alloc::{AllocError, Global};
@@ -44,7 +45,7 @@ fn take_least(
     bound: u16,
     serial: u16,
 ) -> Result<Option<(Matrix, Report)>, AllocError>
-    requires of { IsOf matrix.now component.now }
+    requires of { CanRun component.now matrix.now }
     requires bound { bound ≤ 256 }
     requires serial { (1 ≤ serial) × (serial ≤ 256) }
     ensures round { IfOk result (IsRound component.now matrix.now bound serial) }
@@ -63,8 +64,9 @@ fn take_least(
 
 /// Takes calls away from a matrix that fails: as long as the matrix without some call has a report that is a failure or
 /// nondeterministic, the first such call is taken away, by thread and then by number. The answer is the last matrix, with its
-/// report. Its threads stay, also those without calls. `bound` is 0 to 256 moves of a schedule, and `serial` 1 to 256 moves of an
-/// operation after its call that is run serially. Asks for a matrix of the component.
+/// report. Its setup stays, and so do its threads, also those without calls. `bound` is 0 to 256 moves of a schedule, and `serial` 1 to 256 moves of an
+/// operation after its call that is run serially. Asks for a matrix of the component, whose
+/// setup settles.
 ///
 /// # Errors
 ///
@@ -77,7 +79,7 @@ pub fn shrink(
     bound: u16,
     serial: u16,
 ) -> Result<(Matrix, Report), ShrinkFault>
-    requires of { IsOf matrix.now component.now }
+    requires of { CanRun component.now matrix.now }
     requires bound { bound ≤ 256 }
     requires serial { (1 ≤ serial) × (serial ≤ 256) }
     ensures shrunk { IfOk result (IsShrunk component.now matrix.now bound serial) }

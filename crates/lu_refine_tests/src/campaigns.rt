@@ -1,6 +1,8 @@
 //! Tests of campaigns.
 
-use crate::texts::{LOST_INCREMENT, TWO_INCREMENTS, is_matrix, is_report};
+ghost use Rattle.lu_machine.specs.Starts.{CanRun};
+
+use crate::texts::{LOST_INCREMENT, TWO_INCREMENTS, assert_settles, is_matrix, is_report};
 use lu_component::Component;
 use lu_examples::ROWS;
 use lu_lang::read_component;
@@ -10,19 +12,22 @@ use std::process::Abort;
 use std::test::Fail;
 
 /// What a campaign finds over the calls of the matrix's first thread.
-fn campaign_over<R: AllocGlobal + Abort>(
+fn campaign_over<R: AllocGlobal>(
     rt: &R,
     component: &Component,
     listed: &Matrix,
     threads: u8,
     calls: u8,
-) -> Result<Campaign, CampaignFault> {
-    assert!(rt; listed.of(component));
+) -> Result<Campaign, CampaignFault>
+    requires { CanRun component.now listed.now }
+{
+    let setup = listed.setup();
     match listed.as_slice() {
         [first, ..] => {
             campaign(
                 rt.alloc(),
                 component,
+                setup,
                 first.as_slice(),
                 threads,
                 calls,
@@ -30,7 +35,7 @@ fn campaign_over<R: AllocGlobal + Abort>(
                 40,
             )
         }
-        [] => campaign(rt.alloc(), component, &[], threads, calls, 40, 40),
+        [] => campaign(rt.alloc(), component, setup, &[], threads, calls, 40, 40),
     }
 }
 
@@ -42,6 +47,7 @@ fn assert_passes<R: AllocGlobal + Abort>(
 ) -> Result<(), Fail> {
     let component = read_component(rt.alloc(), ROWS.as_bytes())?;
     let listed = read_matrix(rt.alloc(), &component, candidates)?;
+    assert_settles(rt, &component, &listed)?;
     match campaign_over(rt, &component, &listed, 2, 1)? {
         Campaign::AllPass(passed) => assert_eq!(rt; passed, count),
         Campaign::First { .. } => panic!(rt; "a matrix does not pass"),
@@ -58,6 +64,7 @@ fn assert_first<R: AllocGlobal + Abort>(
 ) -> Result<(), Fail> {
     let component = read_component(rt.alloc(), ROWS.as_bytes())?;
     let listed = read_matrix(rt.alloc(), &component, candidates)?;
+    assert_settles(rt, &component, &listed)?;
     match campaign_over(rt, &component, &listed, 2, 1)? {
         Campaign::AllPass(_) => panic!(rt; "all matrices pass"),
         Campaign::First { matrix, report } => {
@@ -78,6 +85,7 @@ fn assert_refused<R: AllocGlobal + Abort>(
 ) -> Result<(), Fail> {
     let component = read_component(rt.alloc(), ROWS.as_bytes())?;
     let listed = read_matrix(rt.alloc(), &component, candidates)?;
+    assert_settles(rt, &component, &listed)?;
     match campaign_over(rt, &component, &listed, threads, calls) {
         Ok(_) => panic!(rt; "nothing is refused"),
         Err(fault) => assert!(rt; fault.code() == code),

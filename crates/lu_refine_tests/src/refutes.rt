@@ -1,10 +1,10 @@
 //! Tests of refutations of specifications.
 
-use crate::texts::{LOST_INCREMENT, TWO_INCREMENTS, is_matrix};
+use crate::texts::{LOST_INCREMENT, TWO_INCREMENTS, assert_settles, is_matrix};
 use lu_examples::ROWS;
 use lu_lang::read_component;
 use lu_refute::refute;
-use lu_replay::read_report;
+use lu_report::read_report;
 use lu_spec::read_spec;
 use lu_test::{read_matrix, write_schedule};
 use std::process::Abort;
@@ -25,6 +25,7 @@ fn assert_refuted<R: AllocGlobal + Abort>(
 ) -> Result<(), Fail> {
     let component = read_component(rt.alloc(), ROWS.as_bytes())?;
     let matrix = read_matrix(rt.alloc(), &component, matrix)?;
+    assert_settles(rt, &component, &matrix)?;
     let report = read_report(rt.alloc(), report.as_bytes())?;
     let spec = read_spec(rt.alloc(), &matrix, spec)?;
     let (cut, schedule) = refute(rt.alloc(), &component, &matrix, &report, &spec)?;
@@ -43,6 +44,7 @@ fn assert_not_shown<R: AllocGlobal + Abort>(
 ) -> Result<(), Fail> {
     let component = read_component(rt.alloc(), ROWS.as_bytes())?;
     let matrix = read_matrix(rt.alloc(), &component, matrix)?;
+    assert_settles(rt, &component, &matrix)?;
     let report = read_report(rt.alloc(), report)?;
     let spec = read_spec(rt.alloc(), &matrix, spec)?;
     match refute(rt.alloc(), &component, &matrix, &report, &spec) {

@@ -2,7 +2,7 @@
 
 ghost use Rattle.std.specs.Prelude.{◌≤◌};
 
-use crate::texts::{LOST_INCREMENT, TWO_INCREMENTS, is_matrix, is_report};
+use crate::texts::{LOST_INCREMENT, TWO_INCREMENTS, assert_settles, is_matrix, is_report};
 use lu_examples::ROWS;
 use lu_lang::read_component;
 use lu_refine::{ShrinkFault, shrink};
@@ -19,6 +19,7 @@ fn assert_shrinks<R: AllocGlobal + Abort>(
 ) -> Result<(), Fail> {
     let component = read_component(rt.alloc(), ROWS.as_bytes())?;
     let matrix = read_matrix(rt.alloc(), &component, matrix)?;
+    assert_settles(rt, &component, &matrix)?;
     let (shrunk, report) = shrink(rt.alloc(), &component, &matrix, 40, 40)?;
     assert!(rt; is_matrix(rt, &component, &shrunk, smaller)?);
     assert!(rt; is_report(rt, &report, expected)?);
@@ -77,6 +78,7 @@ fn assert_not_failing<R: AllocGlobal + Abort>(
 {
     let component = read_component(rt.alloc(), ROWS.as_bytes())?;
     let matrix = read_matrix(rt.alloc(), &component, matrix)?;
+    assert_settles(rt, &component, &matrix)?;
     match shrink(rt.alloc(), &component, &matrix, 40, serial) {
         Ok(_) => panic!(rt; "it is shrunk"),
         Err(ShrinkFault::Memory) => panic!(rt; "memory was refused"),

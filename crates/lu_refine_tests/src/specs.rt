@@ -1,7 +1,8 @@
 //! Tests of specifications.
 
-ghost use Rattle.lu_test.specs.Matrix.{IsOf};
+ghost use Rattle.lu_machine.specs.Starts.{CanRun};
 
+use crate::texts::assert_settles;
 use lu_component::Component;
 use lu_examples::ROWS;
 use lu_history::{SerialOp, SerialOutcome};
@@ -151,7 +152,7 @@ fn what_is_read_is_written_as_it_was(rt: HostRuntime) -> Result<(), Fail> {
 
 /// The specification of the serial histories of a matrix, where no serial run offends.
 fn closed(alloc: Global, component: &Component, matrix: &Matrix) -> Result<Option<Spec>, AllocError>
-    requires { IsOf matrix.now component.now }
+    requires { CanRun component.now matrix.now }
 {
     match learn(alloc, alloc, component, matrix, 40)? {
         Learnt::Set(set) => Ok(Some(Spec::closure(alloc, matrix, &set)?)),
@@ -168,6 +169,7 @@ fn assert_closed<R: AllocGlobal + Abort>(
 ) -> Result<(), Fail> {
     let component = read_component(rt.alloc(), ROWS.as_bytes())?;
     let matrix = read_matrix(rt.alloc(), &component, matrix)?;
+    assert_settles(rt, &component, &matrix)?;
     match closed(rt.alloc(), &component, &matrix)? {
         None => panic!(rt; "a serial run offends"),
         Some(spec) => {

@@ -2,15 +2,13 @@
 use Rattle.std.proofs.Common.{arith, ◌≡◌, ◌≢◌, ◌<◌, ◌≤◌, ◌+◌, ◌⊎◌, ℕ, suc, List, [], ◌∷◌, ◌++◌, length, if◌then◌else◌, refl, sym, ◌∙◌, ap, subst, inl, inr}
 use Rattle.std.proofs.lemmas.Bool.{ne_eqb}
 use Rattle.std.proofs.lemmas.List.{length-replicate}
-use Rattle.lu_component.specs.Component.{Declarations}
-use Rattle.lu_test.specs.declared.matrix.Call.{Call as ACall}
 use Rattle.lu_test.proofs.FewerCalls.{is_thread}
+use Rattle.lu_test.specs.Matrix.{Matrix}
 use Rattle.lu_machine.specs.declared.event.Outcome.{Outcome}
 use Rattle.lu_machine.specs.declared.event.Outcome.TheVariants.{Ret, Trap}
 use Rattle.lu_machine.specs.declared.thread.Activity.TheVariants.{Idle}
 use Rattle.lu_machine.specs.declared.thread.Thread.{Thread}
 use Rattle.lu_machine.specs.States.{State, call_count}
-use Rattle.lu_machine.specs.Starts.{start_of}
 use Rattle.lu_history.specs.declared.serial.SerialOutcome.{SerialOutcome}
 use Rattle.lu_history.specs.declared.serial.SerialOutcome.TheVariants.{Ret as Returned_with, Trap as Trapped, Stuck}
 use Rattle.lu_history.specs.declared.serial.SerialOp.{SerialOp}
@@ -23,6 +21,7 @@ use Rattle.lu_serial.proofs.Opening.{same_or_not}
 use Rattle.lu_witness.specs.Witnesses.{entries}
 use Rattle.lu_witness.proofs.Entries.{entries_own}
 use Rattle.lu_refute.specs.Whole.{IsQuiet}
+use Rattle.lu_refute.proofs.Grounds.{Ground, start_on}
 use Rattle.lu_refute.proofs.Moves.{HasSeats, done_of, done_complete}
 use Rattle.lu_refute.proofs.Serially.{ended_run}
 use Rattle.lu_refute.proofs.Ops.{NoCut, Ran, entry_of_run, ran_count, ran_no_cut, ran_on, ran_seats, run_op, some_serial}
@@ -141,11 +140,11 @@ whole_is_serial (op ∷ q) s bound Set quiet seats none has one member serial ro
 
 -- ---- at the start
 
-pub seats_start : (c : Declarations) (matrix : List (List ACall)) → HasSeats (start_of c matrix)
-seats_start c matrix t some =
+pub seats_start : (g : Ground) (matrix : Matrix) → HasSeats (start_on g matrix)
+seats_start g matrix t some =
     let idle : Thread = record { done = 0; activity = Idle } in
-    let threads : length (start_of c matrix).threads ≡ length matrix = length-replicate (length matrix) idle in
-    let there : t < length matrix = is_thread matrix t 0 some in
+    let threads : length (start_on g matrix).threads ≡ length matrix.threads = length-replicate (length matrix.threads) idle in
+    let there : t < length matrix.threads = is_thread matrix t 0 some in
     omega (arith, threads, there)
 
 pub stuck_last : (before : List SerialOp) (t : ℕ) → HasStuck (before ++ stuck_of t ∷ [])

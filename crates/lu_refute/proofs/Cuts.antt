@@ -1,5 +1,6 @@
 -- A serial schedule over the matrix that has just the calls made in it.
 use Rattle.std.proofs.Common.{arith, ◌≡◌, ◌≢◌, ◌<◌, ◌≤◌, ◌+◌, ◌-◌, ◌==◌, Bool, true, false, if◌then◌else◌, ℕ, zero, suc, List, [], ◌∷◌, length, take, map, replicate, slice_get, Option, Some, None, MatchOption, MatchBool, refl, sym, ◌∙◌, ap, subst, inl, inr}
+use Rattle.std.specs.List.{AllZip}
 use Rattle.std.specs.Option.{option_map_or}
 use Rattle.std.proofs.lemmas.Bool.{le-ltb}
 use Rattle.std.proofs.lemmas.List.{length-replicate}
@@ -8,7 +9,7 @@ use Rattle.lu_component.specs.declared.instr.Instr.TheVariants.{Set, Compute, Lo
 use Rattle.lu_component.specs.Component.{Declarations}
 use Rattle.lu_test.specs.declared.matrix.Call.{Call as ACall}
 use Rattle.lu_test.specs.declared.schedule.Move.{Move}
-use Rattle.lu_test.specs.Matrix.{calls_of, cut}
+use Rattle.lu_test.specs.Matrix.{Matrix, calls_of, cut, first_calls, row_of}
 use Rattle.lu_machine.specs.declared.event.Event.{Event}
 use Rattle.lu_machine.specs.declared.event.Outcome.TheVariants.{Trap}
 use Rattle.lu_machine.specs.declared.thread.Activity.{Activity}
@@ -19,7 +20,6 @@ use Rattle.lu_machine.specs.Effects.{Effect, value_of, onward, onward_with}
 use Rattle.lu_machine.specs.Effects.Effect.{Ends}
 use Rattle.lu_machine.specs.States.{State, call_count, cell_at, instr_at, value_at, with_cell, with_owner}
 use Rattle.lu_machine.specs.Steps.{ByActivity, Carries, OneStep, RunsOn, Step, activity_is_local, activity_picks, choices, instr_picks, is_at_local, is_blocked, more_local, owns, picks_of}
-use Rattle.lu_machine.specs.Starts.{start_of}
 use Rattle.lu_machine.specs.Ends.{IsComplete, IsFinished, IsStuck}
 use Rattle.lu_machine.specs.Runs.{Leads}
 use Rattle.lu_machine.proofs.Keeping.{step_keeps_threads}
@@ -29,16 +29,17 @@ use Rattle.lu_serial.proofs.Opening.{complete_not_open, same_or_not}
 use Rattle.lu_serial.proofs.Single.{AtMostOne, one_along}
 use Rattle.lu_refute.specs.Linearizable.{AreLengths}
 use Rattle.lu_refute.specs.Whole.{IsQuiet, made, made_calls}
+use Rattle.lu_refute.proofs.Grounds.{Ground, start_on}
 use Rattle.lu_refute.proofs.Moves.{Stepped, step_stepped, the_thread, idle_or_not, done_in, done_of}
 use Rattle.lu_refute.proofs.Serially.{LeadsSerially, leads_count, leads_matrix, serially_leads, serially_to}
 use Rattle.lu_refute.proofs.Fails.{made_at, made_busy, made_idle, made_in, made_of, made_others}
 
 -- ---- the same state over another matrix
 
-abbrev pub with_matrix : State → List (List ACall) → State
+abbrev pub with_matrix : State → Matrix → State
 with_matrix s matrix = record s { matrix = matrix }
 
-module _ (matrix : List (List ACall)) where
+module _ (matrix : Matrix) where
   same_with : (s new : State) → new ≡ s → with_matrix new matrix ≡ with_matrix s matrix
   same_with s new e = ap (λ x. with_matrix x matrix) e
 
@@ -217,12 +218,12 @@ run_few s (m ∷ u) end h p few = run_few p.0 u end p.2 p.4 (made_few s m p.0 p.
 -- ---- the cut
 
 -- a matrix with the calls made up to the end, and no others
-record IsCutAt (end : State) (from to : List (List ACall)) : Type 0 where
+record IsCutAt (end : State) (from to : Matrix) : Type 0 where
   pub same : (t k : ℕ) → k < made_of end t → slice_get (calls_of to t) k ≡ slice_get (calls_of from t) k
   pub few : (t : ℕ) → length (calls_of to t) ≤ made_of end t
 
 -- the same schedule, with the same history
-cut_leads : (matrix : List (List ACall)) (s : State) (u : List Move) (end : State) (h : List Event) → IsCutAt end s.matrix matrix → Leads s u end h → Leads (with_matrix s matrix) u (with_matrix end matrix) h
+cut_leads : (matrix : Matrix) (s : State) (u : List Move) (end : State) (h : List Event) → IsCutAt end s.matrix matrix → Leads s u end h → Leads (with_matrix s matrix) u (with_matrix end matrix) h
 cut_leads matrix s [] end h is p = (ap (λ x. with_matrix x matrix) p.0, p.1)
 cut_leads matrix s (m ∷ u) end h is p =
     let by = step_stepped s m p.0 p.1 p.3 in
@@ -235,7 +236,7 @@ cut_leads matrix s (m ∷ u) end h is p =
     (with_matrix p.0 matrix, p.1, p.2, step_with matrix s m p.0 p.1 same p.3, cut_leads matrix p.0 u end p.2 on p.4, p.5)
 
 -- with no operation open it is complete
-cut_complete : (matrix : List (List ACall)) (end : State) → IsCutAt end end.matrix matrix → IsQuiet end → IsComplete (with_matrix end matrix)
+cut_complete : (matrix : Matrix) (end : State) → IsCutAt end end.matrix matrix → IsQuiet end → IsComplete (with_matrix end matrix)
 cut_complete matrix end is quiet t within = by_thread (slice_get end.threads t) refl
   where
     by_thread : (o : Option Thread) → slice_get end.threads t ≡ o → IsFinished (with_matrix end matrix) t
@@ -252,7 +253,7 @@ picks_idle s t a stands idle over = rw (stands, idle, le-ltb a.done (call_count 
 picks_nobody : (s : State) (t : ℕ) → slice_get s.threads t ≡ None → picks_of s t ≡ 0
 picks_nobody s t e = rw e refl
 
-no_picks : (matrix : List (List ACall)) (end : State) (t : ℕ) → IsCutAt end end.matrix matrix → ((x : ℕ) → HasOpen end x → x ≡ t) → picks_of end t ≡ 0 → (x : ℕ) (o : Option Thread) → slice_get end.threads x ≡ o → picks_of (with_matrix end matrix) x ≡ 0
+no_picks : (matrix : Matrix) (end : State) (t : ℕ) → IsCutAt end end.matrix matrix → ((x : ℕ) → HasOpen end x → x ≡ t) → picks_of end t ≡ 0 → (x : ℕ) (o : Option Thread) → slice_get end.threads x ≡ o → picks_of (with_matrix end matrix) x ≡ 0
 no_picks matrix end t is only blocked x None e = picks_nobody (with_matrix end matrix) x e
 no_picks matrix end t is only blocked x (Some a) e =
     elim (idle_or_not a.activity) as (λ _. picks_of (with_matrix end matrix) x ≡ 0) [
@@ -263,7 +264,7 @@ no_picks matrix end t is only blocked x (Some a) e =
     ]
 
 -- where only a blocked operation is open it is stuck
-cut_stuck : (matrix : List (List ACall)) (end : State) (t : ℕ) → IsCutAt end end.matrix matrix → HasOpen end t → ((x : ℕ) → HasOpen end x → x ≡ t) → picks_of end t ≡ 0 → IsStuck (with_matrix end matrix)
+cut_stuck : (matrix : Matrix) (end : State) (t : ℕ) → IsCutAt end end.matrix matrix → HasOpen end t → ((x : ℕ) → HasOpen end x → x ≡ t) → picks_of end t ≡ 0 → IsStuck (with_matrix end matrix)
 cut_stuck matrix end t is busy only blocked = (
   λ complete. complete_not_open (with_matrix end matrix) complete t busy,
   λ x. no_picks matrix end t is only blocked x (slice_get end.threads x) refl,
@@ -280,21 +281,21 @@ take_few zero xs = omega arith
 take_few (suc n) [] = omega arith
 take_few (suc n) (x ∷ xs) = let rest = take_few n xs in omega (arith, rest)
 
-cut_same : (rows : List (List ACall)) (threads : List Thread) (t k : ℕ) → k < made_in (slice_get threads t) → slice_get (calls_of (cut rows (map made threads)) t) k ≡ slice_get (calls_of rows t) k
+cut_same : (rows : List (List ACall)) (threads : List Thread) (t k : ℕ) → k < made_in (slice_get threads t) → slice_get (row_of (first_calls rows (map made threads)) t) k ≡ slice_get (row_of rows t) k
 cut_same [] threads t k h = refl
 cut_same (row ∷ rows) [] t k h = absurd (omega arith)
 cut_same (row ∷ rows) (a ∷ threads) zero k h = take_within (made a) row k h
 cut_same (row ∷ rows) (a ∷ threads) (suc t) k h = cut_same rows threads t k h
 
-cut_few : (rows : List (List ACall)) (threads : List Thread) (t : ℕ) → length (calls_of (cut rows (map made threads)) t) ≤ made_in (slice_get threads t)
+cut_few : (rows : List (List ACall)) (threads : List Thread) (t : ℕ) → length (row_of (first_calls rows (map made threads)) t) ≤ made_in (slice_get threads t)
 cut_few [] threads t = omega arith
 cut_few (row ∷ rows) [] t = omega arith
 cut_few (row ∷ rows) (a ∷ threads) zero = take_few (made a) row
 cut_few (row ∷ rows) (a ∷ threads) (suc t) = cut_few rows threads t
 
 -- the calls made are a cut
-cut_at_end : (matrix : List (List ACall)) (end : State) → IsCutAt end matrix (cut matrix (made_calls end))
-cut_at_end matrix end = record { same = λ t k h. cut_same matrix end.threads t k h; few = λ t. cut_few matrix end.threads t }
+cut_at_end : (matrix : Matrix) (end : State) → IsCutAt end matrix (cut matrix (made_calls end))
+cut_at_end matrix end = record { same = λ t k h. cut_same matrix.threads end.threads t k h; few = λ t. cut_few matrix.threads end.threads t }
 
 -- The same schedule over the matrix cut to the calls made in it, with the same history.
 pub record Cut (s : State) (u : List Move) (before : State) (h : List Event) : Type 0 where
@@ -323,8 +324,8 @@ keeps_threads : (s : State) (u : List Move) (end : State) (h : List Event) → L
 keeps_threads s [] end h p = ap (λ (x : State). length x.threads) p.0
 keeps_threads s (m ∷ u) end h p = keeps_threads p.0 u end p.2 p.4 ∙ step_keeps_threads s m p.0 p.1 p.3
 
-start_threads : (c : Declarations) (matrix : List (List ACall)) → length (start_of c matrix).threads ≡ length matrix
-start_threads c matrix = let idle : Thread = record { done = 0; activity = Idle } in length-replicate (length matrix) idle
+start_threads : (g : Ground) (matrix : Matrix) → length (start_on g matrix).threads ≡ length matrix.threads
+start_threads g matrix = let idle : Thread = record { done = 0; activity = Idle } in length-replicate (length matrix.threads) idle
 
 none_made : (n t : ℕ) → made_in (slice_get (replicate n (record { done = 0; activity = Idle })) t) ≡ 0
 none_made zero t = refl
@@ -337,10 +338,10 @@ none_done (suc n) zero = refl
 none_done (suc n) (suc t) = none_done n t
 
 -- at the start no operation has ended
-pub start_done : (c : Declarations) (matrix : List (List ACall)) (t : ℕ) → done_of (start_of c matrix) t ≡ 0
-start_done c matrix t = none_done (length matrix) t
+pub start_done : (g : Ground) (matrix : Matrix) (t : ℕ) → done_of (start_on g matrix) t ≡ 0
+start_done g matrix t = none_done (length matrix.threads) t
 
-zip_lengths : (rows : List (List ACall)) (threads : List Thread) → length threads ≡ length rows → ((t : ℕ) → made_in (slice_get threads t) ≤ length (calls_of rows t)) → AreLengths rows (map made threads)
+zip_lengths : (rows : List (List ACall)) (threads : List Thread) → length threads ≡ length rows → ((t : ℕ) → made_in (slice_get threads t) ≤ length (row_of rows t)) → AllZip (λ (calls : List ACall) n. n ≤ length calls) rows (map made threads)
 zip_lengths [] [] e few = tt
 zip_lengths [] (a ∷ threads) e few = absurd (omega arith)
 zip_lengths (row ∷ rows) [] e few = absurd (omega arith)
@@ -348,24 +349,24 @@ zip_lengths (row ∷ rows) (a ∷ threads) e few = (few 0, zip_lengths rows thre
 
 -- the numbers of calls made are lengths of the matrix
 -- no thread makes more calls than it has
-pub made_within : (c : Declarations) (matrix : List (List ACall)) (u : List Move) (end : State) (h : List Event) → Leads (start_of c matrix) u end h → (t : ℕ) → made_of end t ≤ length (calls_of matrix t)
-made_within c matrix u end h leads t =
-    let few = run_few (start_of c matrix) u end h leads (λ x. (let none : made_of (start_of c matrix) x ≡ 0 = none_made (length matrix) x in omega (arith, none))) t in
-    let count = leads_count (start_of c matrix) u end h leads t in
+pub made_within : (g : Ground) (matrix : Matrix) (u : List Move) (end : State) (h : List Event) → Leads (start_on g matrix) u end h → (t : ℕ) → made_of end t ≤ length (calls_of matrix t)
+made_within g matrix u end h leads t =
+    let few = run_few (start_on g matrix) u end h leads (λ x. (let none : made_of (start_on g matrix) x ≡ 0 = none_made (length matrix.threads) x in omega (arith, none))) t in
+    let count = leads_count (start_on g matrix) u end h leads t in
     omega (arith, few, count)
 
-pub made_lengths : (c : Declarations) (matrix : List (List ACall)) (u : List Move) (end : State) (h : List Event) → Leads (start_of c matrix) u end h → AreLengths matrix (made_calls end)
-made_lengths c matrix u end h leads =
-    zip_lengths matrix end.threads (keeps_threads (start_of c matrix) u end h leads ∙ start_threads c matrix) (made_within c matrix u end h leads)
+pub made_lengths : (g : Ground) (matrix : Matrix) (u : List Move) (end : State) (h : List Event) → Leads (start_on g matrix) u end h → AreLengths matrix (made_calls end)
+made_lengths g matrix u end h leads =
+    zip_lengths matrix.threads end.threads (keeps_threads (start_on g matrix) u end h leads ∙ start_threads g matrix) (made_within g matrix u end h leads)
 
-cut_length : (rows : List (List ACall)) (lengths : List ℕ) → AreLengths rows lengths → length (cut rows lengths) ≡ length rows
+cut_length : (rows : List (List ACall)) (lengths : List ℕ) → AllZip (λ (calls : List ACall) n. n ≤ length calls) rows lengths → length (first_calls rows lengths) ≡ length rows
 cut_length [] [] h = refl
 cut_length [] (n ∷ lengths) h = absurd h
 cut_length (row ∷ rows) [] h = absurd h
 cut_length (row ∷ rows) (n ∷ lengths) h = let rest = cut_length rows lengths h.1 in omega (arith, rest)
 
 -- the start of the cut matrix
-pub cut_start : (c : Declarations) (matrix : List (List ACall)) (lengths : List ℕ) → AreLengths matrix lengths → with_matrix (start_of c matrix) (cut matrix lengths) ≡ start_of c (cut matrix lengths)
-cut_start c matrix lengths are =
+pub cut_start : (g : Ground) (matrix : Matrix) (lengths : List ℕ) → AreLengths matrix lengths → with_matrix (start_on g matrix) (cut matrix lengths) ≡ start_on g (cut matrix lengths)
+cut_start g matrix lengths are =
     let idle : Thread = record { done = 0; activity = Idle } in
-    ap (λ (n : ℕ). let x : State = record (start_of c (cut matrix lengths)) { threads = replicate n idle } in x) (sym (cut_length matrix lengths are))
+    ap (λ (n : ℕ). let x : State = record (start_on g (cut matrix lengths)) { threads = replicate n idle } in x) (sym (cut_length matrix.threads lengths are))

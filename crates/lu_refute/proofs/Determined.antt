@@ -1,10 +1,10 @@
 -- One thing is answered.
 use Rattle.std.proofs.Common.{◌≡◌, ◌⊎◌, ℕ, false, true, List, [], ◌∷◌, ◌++◌, refl, sym, ◌∙◌, ap, subst, inl, inr}
-use Rattle.lu_test.specs.declared.matrix.Call.{Call}
+use Rattle.std.specs.Prelude.{Option, Some, None, IsSomeAnd}
 use Rattle.lu_test.specs.declared.schedule.Move.{Move}
-use Rattle.lu_test.specs.Matrix.{cut}
+use Rattle.lu_test.specs.Matrix.{Matrix, cut}
 use Rattle.lu_machine.specs.States.{State}
-use Rattle.lu_machine.specs.Starts.{start_of}
+use Rattle.lu_machine.proofs.Starting.{start_there}
 use Rattle.lu_machine.specs.Order.{IsSmaller}
 use Rattle.lu_machine.specs.Runs.{Leads}
 use Rattle.lu_machine.specs.Schedules.{BeginsWith}
@@ -14,10 +14,10 @@ use Rattle.lu_machine.proofs.Paths.{leads_same}
 use Rattle.lu_history.specs.declared.serial.SerialOp.{SerialOp}
 use Rattle.lu_trie.specs.Members.{contains}
 use Rattle.lu_serial.specs.Offences.{IsOutside}
-use Rattle.lu_replay.specs.declared.report.Finding.{Finding}
-use Rattle.lu_replay.specs.declared.report.Finding.TheVariants.{SerialCut, Nondeterministic, Fail, Pass}
+use Rattle.lu_report.specs.declared.report.Finding.{Finding}
+use Rattle.lu_report.specs.declared.report.Finding.TheVariants.{SerialCut, Nondeterministic, Fail, Pass}
 use Rattle.lu_refute.specs.Whole.{made_calls}
-use Rattle.lu_refute.specs.Answers.{IsAnswerTo, IsOutsideAnswer, IsShortest}
+use Rattle.lu_refute.specs.Answers.{IsAnswerTo, IsAnswerWith, IsOutsideAnswer, IsShortest}
 use Rattle.lu_refute.specs.Laws.{OneAnswer}
 
 same_pair : {A B : Type 0} (a b : A × B) → a.0 ≡ b.0 → a.1 ≡ b.1 → a ≡ b
@@ -63,7 +63,7 @@ shortest_same s members w u v x y =
       ]
     ]
 
-outside_same : (s : State) (serial : ℕ) (members : List (List SerialOp)) (a b : List (List Call) × List Move) → IsOutsideAnswer s serial members a → IsOutsideAnswer s serial members b → a ≡ b
+outside_same : (s : State) (serial : ℕ) (members : List (List SerialOp)) (a b : Matrix × List Move) → IsOutsideAnswer s serial members a → IsOutsideAnswer s serial members b → a ≡ b
 outside_same s serial members a b x y =
     let w : x.outside ≡ y.outside = least_same (IsOutside s serial members) x.outside y.outside x.least y.least in
     let u : a.1 ≡ b.1 = shortest_same s members y.outside a.1 b.1 (subst (λ z. IsShortest s members z a.1) w x.short) y.short in
@@ -71,7 +71,7 @@ outside_same s serial members a b x y =
     let matrices : a.0 ≡ b.0 = x.matrix_is ∙ (ap (λ z. cut s.matrix (made_calls z)) ends.0 ∙ sym y.matrix_is) in
     same_pair a b matrices u
 
-answer_same : (s : State) (serial : ℕ) (members : List (List SerialOp)) (finding : Finding) (a b : List (List Call) × List Move) → IsAnswerTo s serial members finding a → IsAnswerTo s serial members finding b → a ≡ b
+answer_same : (s : State) (serial : ℕ) (members : List (List SerialOp)) (finding : Finding) (a b : Matrix × List Move) → IsAnswerTo s serial members finding a → IsAnswerTo s serial members finding b → a ≡ b
 answer_same s serial members (SerialCut u) a b x y = absurd x
 answer_same s serial members (Nondeterministic u before earlier) a b x y = outside_same s serial members a b x y
 answer_same s serial members (Fail u why) a b (inl x) (inl y) = x.1 ∙ sym y.1
@@ -81,4 +81,10 @@ answer_same s serial members (Fail u why) a b (inr x) (inr y) = outside_same s s
 answer_same s serial members (Pass counts) a b x y = absurd x
 
 pub one_answer : OneAnswer
-one_answer c matrix r members a b x y = answer_same (start_of c matrix) r.serial members r.finding a b (x (start_of c matrix) refl) (y (start_of c matrix) refl)
+one_answer c matrix r members a b settles x y = with_bound r.serial x y
+  where
+    with_bound : (serial : Option ℕ) → IsSomeAnd serial (λ n. IsAnswerWith c matrix r n members a) → IsSomeAnd serial (λ n. IsAnswerWith c matrix r n members b) → a ≡ b
+    with_bound None p q = absurd p
+    with_bound (Some n) p q =
+        let start = start_there c matrix settles in
+        answer_same start.0 n members r.finding a b (p start.0 start.1) (q start.0 start.1)

@@ -2,8 +2,8 @@
 use Rattle.std.proofs.Common.{◌≡◌, ◌≢◌, ℕ, List, [], ◌∷◌, ◌++◌, append_assoc, refl, sym, ap, subst, ◌∙◌, inl, inr}
 use Rattle.std.proofs.lemmas.List.{append-nil}
 use Rattle.lu_component.specs.Component.{Declarations}
-use Rattle.lu_test.specs.declared.matrix.Call.{Call as ACall}
 use Rattle.lu_test.specs.declared.schedule.Move.{Move}
+use Rattle.lu_test.specs.Matrix.{Matrix}
 use Rattle.lu_machine.specs.declared.event.Event.{Event}
 use Rattle.lu_machine.specs.declared.event.Status.{Status}
 use Rattle.lu_machine.specs.declared.event.Status.TheVariants.{Running, Complete, Stuck}
@@ -12,6 +12,7 @@ use Rattle.lu_machine.specs.Starts.{IsStart}
 use Rattle.lu_machine.specs.Runs.{Leads, with_event}
 use Rattle.lu_machine.specs.Ends.{HasStatus, IsEnded}
 use Rattle.lu_machine.specs.Schedules.{Reaches}
+use Rattle.lu_machine.proofs.Starting.{start_same}
 use Rattle.lu_machine.proofs.Ahead.{not_both, ended_no_move}
 use Rattle.lu_machine.proofs.Paths.{leads_same, with_event-append}
 use Rattle.lu_history.specs.Histories.{IsWellFormed}
@@ -41,7 +42,7 @@ status_of : (end : State) → IsEnded end → (status : Status) × HasStatus end
 status_of end (inl complete) = (Complete, complete)
 status_of end (inr stuck) = (Stuck, stuck)
 
-module _ (c : Declarations) (matrix : List (List ACall)) (s : State) (is : IsStart c matrix s) (M : List SerialOp → Type 0) (u : List Move) where
+module _ (c : Declarations) (matrix : Matrix) (s : State) (is : IsStart c matrix s) (M : List SerialOp → Type 0) (u : List Move) where
   -- an infeasible schedule refutes nothing
   pub infeasible_refutes : (i : ℕ) → IsInfeasibleAt c matrix u i → Refutes M s u → ⊥
   infeasible_refutes i at r =
@@ -50,7 +51,7 @@ module _ (c : Declarations) (matrix : List (List ACall)) (s : State) (is : IsSta
 
   module _ (end : Status) (h : List Event) (shows : Shows c matrix u h end) (well : IsWellFormed h) (v : Verdict) (judged : IsVerdict M h v) where
     leads : Leads s u (shows.0) h
-    leads = subst (λ (x : State). Leads x u (shows.0) h) (shows.1.1 ∙ sym is) shows.1.2
+    leads = subst (λ (x : State). Leads x u (shows.0) h) (start_same c matrix shows.1.0 s shows.1.1 is) shows.1.2
 
     agree : Agree (progress (shows.0)) h
     agree = agrees_along s u (shows.0) h [] (start_agrees c matrix s is) leads

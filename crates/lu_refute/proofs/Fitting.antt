@@ -3,16 +3,15 @@ use Rattle.std.proofs.Common.{arith, ◌≡◌, ◌+◌, ◌≤◌, Bool, true, 
 use Rattle.std.specs.Prelude.{◌==◌}
 use Rattle.std.proofs.lemmas.Bool.{eq-eqb, ne_eqb}
 use Rattle.lu_component.specs.Component.{Declarations}
-use Rattle.lu_test.specs.declared.matrix.Call.{Call as ACall}
 use Rattle.lu_test.specs.declared.schedule.Move.{Move}
-use Rattle.lu_test.specs.Matrix.{calls_of}
+use Rattle.lu_test.specs.Matrix.{Matrix, calls_of}
 use Rattle.lu_machine.specs.declared.event.Event.{Event}
 use Rattle.lu_machine.specs.declared.event.Event.TheVariants.{Call, Return}
 use Rattle.lu_machine.specs.declared.event.Outcome.{Outcome}
 use Rattle.lu_machine.specs.declared.event.Outcome.TheVariants.{Ret, Trap}
 use Rattle.lu_machine.specs.declared.thread.Thread.{Thread}
 use Rattle.lu_machine.specs.States.{State, is_open}
-use Rattle.lu_machine.specs.Starts.{IsStart, start_of}
+use Rattle.lu_machine.specs.Starts.{IsStart}
 use Rattle.lu_machine.specs.Runs.{Leads}
 use Rattle.lu_history.specs.declared.serial.SerialOp.{SerialOp}
 use Rattle.lu_history.specs.declared.serial.SerialOutcome.TheVariants as serial
@@ -27,6 +26,7 @@ use Rattle.lu_spec.specs.Specs.{Fits}
 use Rattle.lu_refute.specs.Laws.{LearntCloses}
 use Rattle.lu_refute.proofs.Moves.{done_in, done_of}
 use Rattle.lu_refute.proofs.Fails.{made_in, made_of, made_open, run_returns}
+use Rattle.lu_refute.proofs.Grounds.{Ground, ground_of, grounded, start_on}
 use Rattle.lu_refute.proofs.Cuts.{made_within}
 
 as_many : {X Y : Type 0} (b : Bool) (x : X) (xs : List X) (y : Y) (ys : List Y) → length xs ≡ length ys → length (if b then x ∷ xs else xs) ≡ length (if b then y ∷ ys else ys)
@@ -62,11 +62,11 @@ done_made s t = by_thread (slice_get s.threads t)
     by_thread (Some a) = by_open (is_open a.activity) a.done
 
 -- what has ended, and the one that is stuck, was called
-fits : (c : Declarations) (matrix : List (List ACall)) (u : List Move) (end : State) (h : List Event) (q : List SerialOp) → Leads (start_of c matrix) u end h → EndsAs end h q → Fits matrix q
-fits c matrix u end h q leads ends t =
-    let returned = run_returns (start_of c matrix) u end h leads t in
+fits : (g : Ground) (matrix : Matrix) (u : List Move) (end : State) (h : List Event) (q : List SerialOp) → Leads (start_on g matrix) u end h → EndsAs end h q → Fits matrix q
+fits g matrix u end h q leads ends t =
+    let returned = run_returns (start_on g matrix) u end h leads t in
     let entered = entries_returned t h in
-    let within = made_within c matrix u end h leads t in
+    let within = made_within g matrix u end h leads t in
     let ended = done_made end t in
     elim ends as (λ _. length (entries t q) ≤ length (calls_of matrix t)) [
       | inl whole ↦
@@ -103,10 +103,11 @@ ends_serial end h q ends = elim ends as (λ _. IsSerial q) [
   | inr stops ↦ subst IsSerial (sym stops.3) (serial_entries h (stuck_of stops.0 ∷ []) ((λ e. refl), tt))
 ]
 
-pub serial_fits : (c : Declarations) (matrix : List (List ACall)) (s : State) (q : List SerialOp) → IsStart c matrix s → IsSerialHistory s q → IsSerial q × Fits matrix q
+pub serial_fits : (c : Declarations) (matrix : Matrix) (s : State) (q : List SerialOp) → IsStart c matrix s → IsSerialHistory s q → IsSerial q × Fits matrix q
 serial_fits c matrix s q is history =
-    let there : IsSerialHistory (start_of c matrix) q = subst (λ x. IsSerialHistory x q) is history in
-    (ends_serial there.1.end there.1.history q there.1.holds, fits c matrix there.0 there.1.end there.1.history q there.1.leads there.1.holds)
+    let g = ground_of c s in
+    let there : IsSerialHistory (start_on g matrix) q = subst (λ x. IsSerialHistory x q) (grounded c matrix s is) history in
+    (ends_serial there.1.end there.1.history q there.1.holds, fits g matrix there.0 there.1.end there.1.history q there.1.leads there.1.holds)
 
 -- what is learnt may be closed to a specification
 pub learnt_closes : LearntCloses

@@ -1,3 +1,4 @@
+pub mod Grounds
 pub mod Moves
 pub mod Serially
 pub mod Ops

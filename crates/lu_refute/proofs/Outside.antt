@@ -1,55 +1,61 @@
 -- Serial schedules outside a specification, and what is answered.
-use Rattle.std.proofs.Common.{◌≡◌, ◌⊎◌, Bool, true, false, ℕ, List, [], ◌∷◌, length, take, map, refl, sym, ◌∙◌, ap, subst, inl, inr, arith}
+use Rattle.std.proofs.Common.{◌≡◌, ◌≤◌, ◌⊎◌, Bool, true, false, ℕ, List, [], ◌∷◌, length, take, map, refl, sym, ◌∙◌, ap, subst, inl, inr, arith}
+use Rattle.std.specs.List.{AllZip}
 use Rattle.std.proofs.lemmas.List.{take_all}
 use Rattle.lu_component.specs.Component.{Declarations}
 use Rattle.lu_test.specs.declared.matrix.Call.{Call}
 use Rattle.lu_test.specs.declared.schedule.Move.{Move}
-use Rattle.lu_test.specs.Matrix.{cut}
+use Rattle.lu_test.specs.Matrix.{Matrix, cut, first_calls}
 use Rattle.lu_machine.specs.declared.event.Event.{Event}
 use Rattle.lu_machine.specs.States.{State}
-use Rattle.lu_machine.specs.Starts.{IsStart, start_of}
+use Rattle.lu_machine.specs.Starts.{IsStart, Settles}
+use Rattle.lu_machine.proofs.Starting.{settles_too, start_matrix, start_same, start_there}
 use Rattle.lu_machine.proofs.Orders.{smaller_trans}
 use Rattle.lu_machine.proofs.Paths.{leads_same}
 use Rattle.lu_history.specs.declared.serial.SerialOp.{SerialOp}
 use Rattle.lu_trie.specs.Members.{contains}
 use Rattle.lu_serial.specs.Serial.{EndsAs, IsSerialHistory}
 use Rattle.lu_serial.specs.Offences.{IsOutside, NoOffence}
-use Rattle.lu_serial.proofs.CallsLeft.{none_at_start}
 use Rattle.lu_serial.proofs.Opening.{complete_not_open}
 use Rattle.lu_witness.specs.Goodness.{IsGoodAt}
 use Rattle.lu_witness.specs.Witnesses.{IsMember}
-use Rattle.lu_replay.specs.declared.report.Finding.TheVariants.{SerialCut, Nondeterministic, Fail, Pass}
+use Rattle.lu_report.specs.declared.report.Finding.TheVariants.{SerialCut, Nondeterministic, Fail, Pass}
 use Rattle.lu_refute.specs.Linearizable.{AreLengths, IsCounterexample, IsCutOf, IsLinearizable, Refutes}
 use Rattle.lu_refute.specs.Whole.{EndsWhole, made_calls}
 use Rattle.lu_refute.specs.Answers.{IsOutsideAnswer}
 use Rattle.lu_refute.specs.Laws.{AnswerRefutes, ConflictOutside, FailOutside, FailRefutes, HasAll, IsSpecOf, IsWhole, NotLinearizable, OutsideWhole, SpecIsSerial, WholeCut}
 use Rattle.lu_refute.proofs.Core.{HasStuck, IsWholeFrom, seats_start, stuck_last}
 use Rattle.lu_refute.proofs.Cuts.{start_done}
+use Rattle.lu_refute.proofs.Grounds.{Ground, ground_of, grounded, none_on, start_on}
 use Rattle.lu_refute.proofs.Fails.{AreFit, refutes_back, serial_member}
 use Rattle.lu_refute.proofs.Own.{cut_refutes, made_cut}
 
 -- ---- specifications that have every serial history
 
-spec_fits : (c : Declarations) (matrix : List (List Call)) (members : List (List SerialOp)) → IsSpecOf matrix members → AreFit (start_of c matrix) (IsMember members)
-spec_fits c matrix members spec = record {
+spec_fits : (g : Ground) (matrix : Matrix) (members : List (List SerialOp)) → IsSpecOf matrix members → AreFit (start_on g matrix) (IsMember members)
+spec_fits g matrix members spec = record {
   apart = λ p q i o x y conflict. spec.0.deterministic p q i o x y conflict;
   serial = λ q member. spec.0.serial q member;
-  room = λ q member t. (let none = start_done c matrix t in let fits = spec.1 q member t in omega (arith, none, fits));
+  room = λ q member t. (let none = start_done g matrix t in let fits = spec.1 q member t in omega (arith, none, fits));
 }
 
-whole_at_start : (c : Declarations) (matrix : List (List Call)) (q : List SerialOp) → IsWhole matrix q → IsWholeFrom (start_of c matrix) q
-whole_at_start c matrix q (inl stuck) = inl (subst HasStuck (sym stuck.2) (stuck_last stuck.0 stuck.1))
-whole_at_start c matrix q (inr all) = inr (λ t. (let none = start_done c matrix t in let is = all t in omega (arith, none, is)))
+whole_at_start : (g : Ground) (matrix : Matrix) (q : List SerialOp) → IsWhole matrix q → IsWholeFrom (start_on g matrix) q
+whole_at_start g matrix q (inl stuck) = inl (subst HasStuck (sym stuck.2) (stuck_last stuck.0 stuck.1))
+whole_at_start g matrix q (inr all) = inr (λ t. (let none = start_done g matrix t in let is = all t in omega (arith, none, is)))
 
 pub spec_is_serial : SpecIsSerial
 spec_is_serial c matrix s bound members q is =
-    subst (λ x. NoOffence x bound → IsSpecOf matrix members → HasAll x members → IsMember members q → IsWhole matrix q → IsSerialHistory x q) (sym is)
-    (λ none spec has member whole. serial_member (IsMember members) (start_of c matrix) bound (none_at_start c matrix) (seats_start c matrix) (λ u cut_so. none u (inl cut_so)) (spec_fits c matrix members spec) has q member (whole_at_start c matrix q whole))
+    subst (λ x. NoOffence x bound → IsSpecOf matrix members → HasAll x members → IsMember members q → IsWhole matrix q → IsSerialHistory x q) (sym (grounded c matrix s is))
+    (λ none spec has member whole.
+    let g = ground_of c s in
+    serial_member (IsMember members) (start_on g matrix) bound (none_on g matrix) (seats_start g matrix) (λ u cut_so. none u (inl cut_so)) (spec_fits g matrix members spec) has q member (whole_at_start g matrix q whole))
 
 pub fail_refutes : FailRefutes
 fail_refutes c matrix s bound members u is =
-    subst (λ x. NoOffence x bound → IsSpecOf matrix members → HasAll x members → Refutes (IsSerialHistory x) x u → Refutes (IsMember members) x u) (sym is)
-    (λ none spec has bad. refutes_back (IsMember members) (start_of c matrix) bound (none_at_start c matrix) (seats_start c matrix) (λ v cut_so. none v (inl cut_so)) (spec_fits c matrix members spec) has u bad)
+    subst (λ x. NoOffence x bound → IsSpecOf matrix members → HasAll x members → Refutes (IsSerialHistory x) x u → Refutes (IsMember members) x u) (sym (grounded c matrix s is))
+    (λ none spec has bad.
+    let g = ground_of c s in
+    refutes_back (IsMember members) (start_on g matrix) bound (none_on g matrix) (seats_start g matrix) (λ v cut_so. none v (inl cut_so)) (spec_fits g matrix members spec) has u bad)
 
 -- ---- schedules outside
 
@@ -91,33 +97,37 @@ outside_whole s w q ended = record {
 
 -- ---- answers
 
-lengths_of : (rows : List (List Call)) → AreLengths rows (map length rows)
+lengths_of : (rows : List (List Call)) → AllZip (λ (calls : List Call) n. n ≤ length calls) rows (map length rows)
 lengths_of [] = tt
 lengths_of (row ∷ rows) = (omega arith, lengths_of rows)
 
-cut_all : (rows : List (List Call)) → cut rows (map length rows) ≡ rows
-cut_all [] = refl
-cut_all (row ∷ rows) =
+all_calls : (rows : List (List Call)) → first_calls rows (map length rows) ≡ rows
+all_calls [] = refl
+all_calls (row ∷ rows) =
     let here : take (length row) row ≡ row = take_all (length row) row (omega arith) in
-    ap (λ x. x ∷ cut rows (map length rows)) here ∙ ap (λ x. row ∷ x) (cut_all rows)
+    ap (λ x. x ∷ first_calls rows (map length rows)) here ∙ ap (λ x. row ∷ x) (all_calls rows)
 
 pub whole_cut : WholeCut
-whole_cut matrix = (map length matrix, lengths_of matrix, sym (cut_all matrix))
+whole_cut matrix = (
+  map length matrix.threads,
+  lengths_of matrix.threads,
+  sym (ap (λ (rows : List (List Call)). let x : Matrix = record matrix { threads = rows } in x) (all_calls matrix.threads)),
+)
 
-outside_answer : (c : Declarations) (matrix : List (List Call)) (s : State) (serial : ℕ) (members : List (List SerialOp)) (answer : List (List Call) × List Move) → IsStart c matrix s → IsOutsideAnswer s serial members answer → IsCounterexample c matrix (IsMember members) answer
+outside_answer : (c : Declarations) (matrix : Matrix) (s : State) (serial : ℕ) (members : List (List SerialOp)) (answer : Matrix × List Move) → IsStart c matrix s → IsOutsideAnswer s serial members answer → IsCounterexample c matrix (IsMember members) answer
 outside_answer c matrix s serial members answer is a =
     let short = a.short in
     let lengths = made_calls short.whole.end in
-    let same : answer.0 ≡ cut matrix lengths = a.matrix_is ∙ ap (λ (x : State). cut x.matrix lengths) is in (
+    let same : answer.0 ≡ cut matrix lengths = a.matrix_is ∙ ap (λ (x : Matrix). cut x lengths) (start_matrix c matrix s is) in (
       (lengths, made_cut c matrix s answer.1 short.entries is short.whole, same),
       λ start at. cut_refutes c matrix s start members answer.1 short.entries is short.whole short.outside (subst (λ x. IsStart c x start) same at),
     )
 
-whole_answer : (c : Declarations) (matrix : List (List Call)) (s : State) (members : List (List SerialOp)) (u : List Move) → IsStart c matrix s → Refutes (IsMember members) s u → IsCounterexample c matrix (IsMember members) (s.matrix, u)
+whole_answer : (c : Declarations) (matrix : Matrix) (s : State) (members : List (List SerialOp)) (u : List Move) → IsStart c matrix s → Refutes (IsMember members) s u → IsCounterexample c matrix (IsMember members) (s.matrix, u)
 whole_answer c matrix s members u is bad =
-    let same : s.matrix ≡ matrix = ap (λ (x : State). x.matrix) is in (
+    let same : s.matrix ≡ matrix = start_matrix c matrix s is in (
       subst (IsCutOf matrix) (sym same) (whole_cut matrix),
-      λ start at. (let one : start ≡ s = at ∙ (ap (λ x. start_of c x) same ∙ sym is) in subst (λ x. Refutes (IsMember members) x u) (sym one) bad),
+      λ start at. (let one : start ≡ s = start_same c matrix start s (subst (λ x. IsStart c x start) same at) is in subst (λ x. Refutes (IsMember members) x u) (sym one) bad),
     )
 
 pub answer_refutes : AnswerRefutes
@@ -129,13 +139,17 @@ answer_refutes c matrix s serial members (Fail u why) answer is (inr a) = outsid
 answer_refutes c matrix s serial members (Pass counts) answer is a = absurd a
 
 -- where a cut has such a schedule the component is not linearizable
-pub refuted : (c : Declarations) (matrix smaller : List (List Call)) (Set : List SerialOp → Type 0) (u : List Move) → IsCutOf matrix smaller → Refutes Set (start_of c smaller) u → IsLinearizable c matrix Set → ⊥
-refuted c matrix smaller Set u is bad all =
-    let s = start_of c smaller in
-    let good = all smaller s u is refl (record { end = bad.end; history = bad.history; leads = bad.leads; holds = bad.holds.0 }) in
+pub refuted : (c : Declarations) (matrix smaller : Matrix) (s : State) (Set : List SerialOp → Type 0) (u : List Move) → IsCutOf matrix smaller → IsStart c smaller s → Refutes Set s u → IsLinearizable c matrix Set → ⊥
+refuted c matrix smaller s Set u is start bad all =
+    let good = all smaller s u is start (record { end = bad.end; history = bad.history; leads = bad.leads; holds = bad.holds.0 }) in
     let same = leads_same s u good.end bad.end good.history bad.history good.leads bad.leads in
     bad.holds.1 (subst (λ h. IsGoodAt Set bad.end h) same.1 (subst (λ x. IsGoodAt Set x good.history) same.0 good.holds))
 
+-- a cut keeps the setup
+cut_setup : (matrix smaller : Matrix) → IsCutOf matrix smaller → smaller.setup ≡ matrix.setup
+cut_setup matrix smaller is = ap (λ (x : Matrix). x.setup) is.2
+
 pub not_linearizable : NotLinearizable
-not_linearizable c matrix members example counter =
-    refuted c matrix example.0 (IsMember members) example.1 counter.0 (counter.1 (start_of c example.0) refl)
+not_linearizable c matrix members example settles counter =
+    let start = start_there c example.0 (settles_too c matrix example.0 settles (cut_setup matrix example.0 counter.0)) in
+    refuted c matrix example.0 start.0 (IsMember members) example.1 counter.0 start.1 (counter.1 start.0 start.1)

@@ -5,13 +5,12 @@ use Rattle.std.specs.List.{filter}
 use Rattle.std.proofs.lemmas.Bool.{eq-eqb}
 use Rattle.std.proofs.lemmas.List.{append-nil}
 use Rattle.lu_component.specs.Component.{Declarations}
-use Rattle.lu_test.specs.declared.matrix.Call.{Call as ACall}
 use Rattle.lu_test.specs.declared.schedule.Move.{Move}
-use Rattle.lu_test.specs.Matrix.{cut}
+use Rattle.lu_test.specs.Matrix.{Matrix, cut}
 use Rattle.lu_machine.specs.declared.event.Event.{Event}
 use Rattle.lu_machine.specs.declared.event.Event.TheVariants.{Call, Return}
 use Rattle.lu_machine.specs.States.{State}
-use Rattle.lu_machine.specs.Starts.{IsStart, start_of}
+use Rattle.lu_machine.specs.Starts.{IsStart}
 use Rattle.lu_machine.specs.Ends.{IsStuck}
 use Rattle.lu_machine.specs.Runs.{Leads}
 use Rattle.lu_history.specs.declared.operation.OpId.{OpId}
@@ -19,7 +18,6 @@ use Rattle.lu_history.specs.declared.serial.SerialOp.{SerialOp}
 use Rattle.lu_history.specs.Histories.{IsReturnAt, Precedes}
 use Rattle.lu_history.specs.Parts.{has_return, is_kept, keep_pending}
 use Rattle.lu_serial.specs.Serial.{HasOpen, entries_of, stuck_of}
-use Rattle.lu_serial.proofs.CallsLeft.{none_at_start}
 use Rattle.lu_serial.proofs.Opening.{same_or_not}
 use Rattle.lu_witness.specs.Goodness.{IsGoodAt}
 use Rattle.lu_trie.specs.Members.{contains}
@@ -31,6 +29,7 @@ use Rattle.lu_refute.proofs.Serially.{LeadsSerially, serially_from}
 use Rattle.lu_refute.proofs.Fails.{call_run}
 use Rattle.lu_refute.proofs.SameOrder.{same_order}
 use Rattle.lu_refute.proofs.Spelled.{IsSpelled, IsMode, Spells, entry_precedes, part_spelled, pending_spelled, placed, run_spelled, serial_by_returns, serial_of}
+use Rattle.lu_refute.proofs.Grounds.{Ground, ground_of, grounded, none_on, same_ground, start_on}
 use Rattle.lu_refute.proofs.Cuts.{cut_ends, cut_start, made_lengths, start_done, with_matrix}
 
 same_place : (base : ℕ → ℕ) → ((x : ℕ) → base x ≡ 0) → (a : OpId) → placed base a ≡ a
@@ -94,24 +93,24 @@ keep_all s u end h leads x only = filter_all (is_kept x h) h (λ i e at. stays e
 
 -- ---- from the start
 
-module _ (c : Declarations) (matrix : List (List ACall)) (u : List Move) (q : List SerialOp) (run : IsSeriallyWhole (start_of c matrix) u q) where
-  start_quiet : IsQuiet (start_of c matrix)
-  start_quiet = none_at_start c matrix
+module _ (g : Ground) (matrix : Matrix) (u : List Move) (q : List SerialOp) (run : IsSeriallyWhole (start_on g matrix) u q) where
+  start_quiet : IsQuiet (start_on g matrix)
+  start_quiet = none_on g matrix
 
-  along : LeadsSerially (start_of c matrix) u run.end run.history
-  along = serially_from (start_of c matrix) u run.end run.history run.serial run.leads
+  along : LeadsSerially (start_on g matrix) u run.end run.history
+  along = serially_from (start_on g matrix) u run.end run.history run.serial run.leads
 
   spells : Spells (λ x. 0) None run.history run.end
-  spells = run_spelled u (start_of c matrix) run.end run.history along None start_quiet (λ x. 0) (λ x. sym (start_done c matrix x))
+  spells = run_spelled u (start_on g matrix) run.end run.history along None start_quiet (λ x. 0) (λ x. sym (start_done g matrix x))
 
   is_serial : serial_of run.history ≡ q
   is_serial = whole_serial (λ x. 0) run.end run.history q spells.0 spells.1 spells.2 run.holds
 
   own_at_start : (p : List SerialOp) → IsWitness p run.history → p ≡ q
-  own_at_start p w = own_from (start_of c matrix) u run.end run.history p (λ x. 0) (λ x. refl) spells w ∙ is_serial
+  own_at_start p w = own_from (start_on g matrix) u run.end run.history p (λ x. 0) (λ x. refl) spells w ∙ is_serial
 
   pub lengths_at_start : AreLengths matrix (made_calls run.end)
-  lengths_at_start = made_lengths c matrix u run.end run.history run.leads
+  lengths_at_start = made_lengths g matrix u run.end run.history run.leads
 
   module _ (Set : List SerialOp → Type 0) where
     -- what has a witness in the set is in the set
@@ -125,11 +124,11 @@ module _ (c : Declarations) (matrix : List (List ACall)) (u : List Move) (q : Li
     stuck_witnessed after t busy stuck (inr good) (Some x) mode spelled =
         let pending = pending_spelled (λ y. 0) run.history x spelled in
         let w = good.1 (record { t = x; k = pending.0 }) pending.1 in
-        witnessed (subst (HasWitness Set) (keep_all (start_of c matrix) u run.end run.history run.leads x mode.1) w)
+        witnessed (subst (HasWitness Set) (keep_all (start_on g matrix) u run.end run.history run.leads x mode.1) w)
 
-    bad_at_cut : EndsWhole run.end run.history q → (Set q → ⊥) → Refutes Set (with_matrix (start_of c matrix) (cut matrix (made_calls run.end))) u
+    bad_at_cut : EndsWhole run.end run.history q → (Set q → ⊥) → Refutes Set (with_matrix (start_on g matrix) (cut matrix (made_calls run.end))) u
     bad_at_cut (inl calm) out =
-        let over = cut_ends (start_of c matrix) u run.end run.history start_quiet along in
+        let over = cut_ends (start_on g matrix) u run.end run.history start_quiet along in
         let complete = over.complete calm.0 in
         record {
           end = over.end;
@@ -138,7 +137,7 @@ module _ (c : Declarations) (matrix : List (List ACall)) (u : List Move) (q : Li
           holds = (inl complete, (λ good. elim good [ inl g ↦ out (witnessed g.1) | inr g ↦ g.0.0 complete ]));
         }
     bad_at_cut (inr blocked) out =
-        let over = cut_ends (start_of c matrix) u run.end run.history start_quiet along in
+        let over = cut_ends (start_on g matrix) u run.end run.history start_quiet along in
         let stuck = over.stuck blocked.0 blocked.1 blocked.2 in
         record {
           end = over.end;
@@ -147,21 +146,21 @@ module _ (c : Declarations) (matrix : List (List ACall)) (u : List Move) (q : Li
           holds = (inr stuck, (λ good. out (stuck_witnessed over.end blocked.0 blocked.1 stuck good spells.0 spells.1 spells.2)));
         }
 
-    pub refutes_at_cut : (Set q → ⊥) → Refutes Set (start_of c (cut matrix (made_calls run.end))) u
-    refutes_at_cut out = subst (λ x. Refutes Set x u) (cut_start c matrix (made_calls run.end) lengths_at_start) (bad_at_cut run.holds out)
+    pub refutes_at_cut : (Set q → ⊥) → Refutes Set (start_on g (cut matrix (made_calls run.end))) u
+    refutes_at_cut out = subst (λ x. Refutes Set x u) (cut_start g matrix (made_calls run.end) lengths_at_start) (bad_at_cut run.holds out)
 
 -- ---- the laws
 
-run_at : (c : Declarations) (matrix : List (List ACall)) (s : State) → IsStart c matrix s → (P : State → Type 0) → P (start_of c matrix) → P s
-run_at c matrix s is P h = subst P (sym is) h
+run_at : (c : Declarations) (matrix : Matrix) (s : State) → IsStart c matrix s → (P : State → Type 0) → P (start_on (ground_of c s) matrix) → P s
+run_at c matrix s is P h = subst P (sym (grounded c matrix s is)) h
 
 pub own_witness : OwnWitness
 own_witness c matrix s u q p is =
-    run_at c matrix s is (λ x. (run : IsSeriallyWhole x u q) → IsWitness p run.history → p ≡ q) (λ run w. own_at_start c matrix u q run p w)
+    run_at c matrix s is (λ x. (run : IsSeriallyWhole x u q) → IsWitness p run.history → p ≡ q) (λ run w. own_at_start (ground_of c s) matrix u q run p w)
 
 pub made_cut : MadeCut
 made_cut c matrix s u q is =
-    run_at c matrix s is (λ x. (run : IsSeriallyWhole x u q) → AreLengths matrix (made_calls run.end)) (lengths_at_start c matrix u q)
+    run_at c matrix s is (λ x. (run : IsSeriallyWhole x u q) → AreLengths matrix (made_calls run.end)) (lengths_at_start (ground_of c s) matrix u q)
 
 false_not_true : (b : Bool) → b ≡ false → b ≡ true → ⊥
 false_not_true b e f = cc
@@ -169,4 +168,6 @@ false_not_true b e f = cc
 pub cut_refutes : CutRefutes
 cut_refutes c matrix s start members u q is =
     run_at c matrix s is (λ x. (run : IsSeriallyWhole x u q) → contains members q ≡ false → IsStart c (cut matrix (made_calls run.end)) start → Refutes (IsMember members) start u)
-    (λ run out at. subst (λ x. Refutes (IsMember members) x u) (sym at) (refutes_at_cut c matrix u q run (IsMember members) (false_not_true (contains members q) out)))
+    (λ run out at.
+    let same = same_ground c matrix (cut matrix (made_calls run.end)) s start is refl at in
+    subst (λ x. Refutes (IsMember members) x u) (sym same) (refutes_at_cut (ground_of c s) matrix u q run (IsMember members) (false_not_true (contains members q) out)))

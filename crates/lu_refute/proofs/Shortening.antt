@@ -4,7 +4,7 @@ use Rattle.std.proofs.lemmas.List.{append-nil, take-append-drop, take_all, take_
 use Rattle.std.proofs.lemmas.List.Elements.{All-take}
 use Rattle.lu_test.specs.declared.matrix.Call.{Call as ACall}
 use Rattle.lu_test.specs.declared.schedule.Move.{Move}
-use Rattle.lu_test.specs.Matrix.{cut}
+use Rattle.lu_test.specs.Matrix.{Matrix, cut}
 use Rattle.lu_test.specs.Schedule.{IsMove, AreMoves}
 use Rattle.lu_machine.specs.declared.event.Event.{Event}
 use Rattle.lu_machine.specs.declared.event.Event.TheVariants.{Call, Return}
@@ -245,11 +245,11 @@ front_moves u n are = (omega (arith, are.0, length-take-most n u), All-take IsMo
 
 -- over the matrix cut to the calls made
 pub cut_over : (start s : State) → start ≡ s → (members : List (List SerialOp)) (moves w : List Move) → moves ≡ w → (v : List Move) (n : ℕ) → v ≡ take n moves
-    → (short : IsShortest start members moves (take n moves)) (lengths : List ℕ) → lengths ≡ made_calls short.whole.end → (matrix smaller : List (List ACall)) → start.matrix ≡ matrix → smaller ≡ cut matrix lengths → IsShortestOver s members w (smaller, v)
+    → (short : IsShortest start members moves (take n moves)) (lengths : List ℕ) → lengths ≡ made_calls short.whole.end → (matrix smaller : Matrix) → start.matrix ≡ matrix → smaller ≡ cut matrix lengths → IsShortestOver s members w (smaller, v)
 cut_over start s same members moves w whole v n front short lengths made matrix smaller of is =
     let here : IsShortestOver start members moves (smaller, take n moves) = record {
       short = short;
-      matrix_is = is ∙ (ap (cut matrix) made ∙ ap (λ (rows : List (List ACall)). cut rows (made_calls short.whole.end)) (sym of));
+      matrix_is = is ∙ (ap (cut matrix) made ∙ ap (λ (m : Matrix). cut m (made_calls short.whole.end)) (sym of));
     } in
     subst (λ (x : State). IsShortestOver x members w (smaller, v)) same
     (subst (λ (x : List Move). IsShortestOver start members x (smaller, v)) whole

@@ -1,9 +1,8 @@
 -- What is answered to a report and a specification.
-use Rattle.std.specs.Prelude.{◌≡◌, ◌≢◌, ℕ, ◌⊎◌, false, List, Some}
+use Rattle.std.specs.Prelude.{◌≡◌, ◌≢◌, ℕ, ◌⊎◌, false, List, Some, IsSomeAnd}
 use Rattle.lu_component.specs.Component.{Declarations}
-use Rattle.lu_test.specs.declared.matrix.Call.{Call}
 use Rattle.lu_test.specs.declared.schedule.Move.{Move}
-use Rattle.lu_test.specs.Matrix.{cut}
+use Rattle.lu_test.specs.Matrix.{Matrix, cut}
 use Rattle.lu_machine.specs.States.{State}
 use Rattle.lu_machine.specs.Starts.{IsStart}
 use Rattle.lu_machine.specs.Schedules.{BeginsWith}
@@ -11,9 +10,9 @@ use Rattle.lu_history.specs.declared.serial.SerialOp.{SerialOp}
 use Rattle.lu_trie.specs.Members.{contains}
 use Rattle.lu_serial.specs.Offences.{IsFirstOutside}
 use Rattle.lu_witness.specs.Witnesses.{IsMember}
-use Rattle.lu_replay.specs.declared.report.Finding.{Finding}
-use Rattle.lu_replay.specs.declared.report.Finding.TheVariants.{SerialCut, Nondeterministic, Fail, Pass}
-use Rattle.lu_replay.specs.declared.report.Report.{Report}
+use Rattle.lu_report.specs.declared.report.Finding.{Finding}
+use Rattle.lu_report.specs.declared.report.Finding.TheVariants.{SerialCut, Nondeterministic, Fail, Pass}
+use Rattle.lu_report.specs.declared.report.Report.{Report}
 use Rattle.lu_replay.specs.Confirmed.{IsConfirmed}
 pub use Rattle.lu_replay.specs.Confirmed.{IsFailure}
 use Rattle.lu_refute.specs.declared.fault.RefuteFault.{RefuteFault}
@@ -30,7 +29,7 @@ pub record IsShortest (s : State) (members : List (List SerialOp)) (w v : List M
   pub shortest : (x : List Move) (q : List SerialOp) → BeginsWith v x → x ≢ v → IsSeriallyWhole s x q → IsMember members q
 
 -- the shortest such beginning of the least schedule outside, over the matrix cut to the calls made in it
-pub record IsOutsideAnswer (s : State) (serial : ℕ) (members : List (List SerialOp)) (answer : List (List Call) × List Move) : Type 0 where
+pub record IsOutsideAnswer (s : State) (serial : ℕ) (members : List (List SerialOp)) (answer : Matrix × List Move) : Type 0 where
   pub outside : List Move
   pub least : IsFirstOutside s serial members (Some outside)
   pub short : IsShortest s members outside answer.1
@@ -38,7 +37,7 @@ pub record IsOutsideAnswer (s : State) (serial : ℕ) (members : List (List Seri
 
 -- To a failure: its schedule, over the whole matrix, where it is not good for the set; else the answer from outside. To a
 -- conflict: the answer from outside.
-abbrev pub IsAnswerTo : State → ℕ → List (List SerialOp) → Finding → List (List Call) × List Move → Type 0
+abbrev pub IsAnswerTo : State → ℕ → List (List SerialOp) → Finding → Matrix × List Move → Type 0
 IsAnswerTo s serial members (SerialCut u) answer = ⊥
 IsAnswerTo s serial members (Nondeterministic u before earlier) answer = IsOutsideAnswer s serial members answer
 IsAnswerTo s serial members (Fail u why) answer =
@@ -46,15 +45,19 @@ IsAnswerTo s serial members (Fail u why) answer =
     ⊎ ((Refutes (IsMember members) s u → ⊥) × IsOutsideAnswer s serial members answer)
 IsAnswerTo s serial members (Pass counts) answer = ⊥
 
--- what is answered to the report, with its own bound of serial runs
-abbrev pub IsAnswer : Declarations → List (List Call) → Report → List (List SerialOp) → List (List Call) × List Move → Type 0
-IsAnswer c matrix r members answer = (s : State) → IsStart c matrix s → IsAnswerTo s r.serial members r.finding answer
+-- what is answered to the report, with this bound of serial runs
+abbrev pub IsAnswerWith : Declarations → Matrix → Report → ℕ → List (List SerialOp) → Matrix × List Move → Type 0
+IsAnswerWith c matrix r serial members answer = (s : State) → IsStart c matrix s → IsAnswerTo s serial members r.finding answer
+
+-- what is answered to the report, with its own bound
+abbrev pub IsAnswer : Declarations → Matrix → Report → List (List SerialOp) → Matrix × List Move → Type 0
+IsAnswer c matrix r members answer = IsSomeAnd r.serial (λ serial. IsAnswerWith c matrix r serial members answer)
 
 -- a run confirms the report, which is a failure or nondeterministic
-abbrev pub IsConfirmedFailure : Declarations → List (List Call) → Report → Type 0
+abbrev pub IsConfirmedFailure : Declarations → Matrix → Report → Type 0
 IsConfirmedFailure c matrix r = IsConfirmed c matrix r × IsFailure r.finding
 
 -- the report is no such one; or memory was refused
-abbrev pub IsRefuteFault : Declarations → List (List Call) → Report → RefuteFault → Type 0
+abbrev pub IsRefuteFault : Declarations → Matrix → Report → RefuteFault → Type 0
 IsRefuteFault c matrix r NotShown = IsConfirmedFailure c matrix r → ⊥
 IsRefuteFault c matrix r Memory = Unit {0}

@@ -1,11 +1,10 @@
 -- Laws of specifications: what holds whatever deterministic specification somebody has in mind.
 use Rattle.std.specs.Prelude.{◌≡◌, ℕ, ◌⊎◌, Bool, false, IsTrue, List, [], ◌∷◌, ◌++◌, length, None}
 use Rattle.lu_component.specs.Component.{Declarations}
-use Rattle.lu_test.specs.declared.matrix.Call.{Call}
 use Rattle.lu_test.specs.declared.schedule.Move.{Move}
-use Rattle.lu_test.specs.Matrix.{calls_of, cut}
+use Rattle.lu_test.specs.Matrix.{Matrix, calls_of, cut}
 use Rattle.lu_machine.specs.States.{State}
-use Rattle.lu_machine.specs.Starts.{IsStart}
+use Rattle.lu_machine.specs.Starts.{IsStart, Settles}
 use Rattle.lu_history.specs.declared.serial.SerialOp.{SerialOp}
 use Rattle.lu_history.specs.declared.serial.SerialOutcome.{SerialOutcome}
 use Rattle.lu_trie.specs.Members.{AllSerial, contains}
@@ -14,8 +13,8 @@ use Rattle.lu_trie.specs.Conflicts.{ConflictAt, IsDeterministic}
 use Rattle.lu_serial.specs.Serial.{IsSerialHistory, IsSeriallyEnded, stuck_of}
 use Rattle.lu_serial.specs.Offences.{NoOffence, IsSetOf, IsFirstConflict, IsFirstOutside, IsOutside}
 use Rattle.lu_witness.specs.Witnesses.{IsMember, IsWitness, entries}
-use Rattle.lu_replay.specs.declared.report.Finding.{Finding}
-use Rattle.lu_replay.specs.declared.report.Report.{Report}
+use Rattle.lu_report.specs.declared.report.Finding.{Finding}
+use Rattle.lu_report.specs.declared.report.Report.{Report}
 use Rattle.lu_replay.specs.Reports.{IsReport}
 use Rattle.lu_spec.specs.Specs.{AreOf, Fits, IsSpec}
 use Rattle.lu_refute.specs.Linearizable.{AreLengths, IsCounterexample, IsCutOf, IsLinearizable, Refutes}
@@ -23,7 +22,7 @@ use Rattle.lu_refute.specs.Whole.{IsSeriallyWhole, made_calls}
 use Rattle.lu_refute.specs.Answers.{IsAnswer, IsAnswerTo, IsConfirmedFailure, IsFailure}
 
 -- a specification of the matrix
-abbrev pub IsSpecOf : List (List Call) → List (List SerialOp) → Type 0
+abbrev pub IsSpecOf : Matrix → List (List SerialOp) → Type 0
 IsSpecOf matrix members = IsSpec members × AreOf matrix members
 
 -- each serial history is a member
@@ -35,7 +34,7 @@ abbrev pub EndsStuck : List SerialOp → Type 0
 EndsStuck q = (before : List SerialOp) × (t : ℕ) × (q ≡ before ++ stuck_of t ∷ [])
 
 -- it ends stuck, or has an entry for each call of the matrix
-abbrev pub IsWhole : List (List Call) → List SerialOp → Type 0
+abbrev pub IsWhole : Matrix → List SerialOp → Type 0
 IsWhole matrix q = EndsStuck q ⊎ ((t : ℕ) → length (entries t q) ≡ length (calls_of matrix t))
 
 -- ---- failures
@@ -43,14 +42,14 @@ IsWhole matrix q = EndsStuck q ⊎ ((t : ℕ) → length (entries t q) ≡ lengt
 -- Where no serial run offends and a specification has every serial history, it has no other whole ones.
 abbrev pub SpecIsSerial : Type 0
 SpecIsSerial =
-    (c : Declarations) (matrix : List (List Call)) (s : State) (bound : ℕ) (members : List (List SerialOp)) (q : List SerialOp) →
+    (c : Declarations) (matrix : Matrix) (s : State) (bound : ℕ) (members : List (List SerialOp)) (q : List SerialOp) →
     IsStart c matrix s → NoOffence s bound → IsSpecOf matrix members → HasAll s members →
     IsMember members q → IsWhole matrix q → IsSerialHistory s q
 
 -- There a schedule that is not good for the serial histories is not good for the specification.
 abbrev pub FailRefutes : Type 0
 FailRefutes =
-    (c : Declarations) (matrix : List (List Call)) (s : State) (bound : ℕ) (members : List (List SerialOp)) (u : List Move) →
+    (c : Declarations) (matrix : Matrix) (s : State) (bound : ℕ) (members : List (List SerialOp)) (u : List Move) →
     IsStart c matrix s → NoOffence s bound → IsSpecOf matrix members → HasAll s members →
     Refutes (IsSerialHistory s) s u → Refutes (IsMember members) s u
 
@@ -59,19 +58,19 @@ FailRefutes =
 -- A serial schedule that ends with a whole entry has no other witness than its own entries.
 abbrev pub OwnWitness : Type 0
 OwnWitness =
-    (c : Declarations) (matrix : List (List Call)) (s : State) (u : List Move) (q p : List SerialOp) →
+    (c : Declarations) (matrix : Matrix) (s : State) (u : List Move) (q p : List SerialOp) →
     IsStart c matrix s → (run : IsSeriallyWhole s u q) → IsWitness p run.history → p ≡ q
 
 -- The calls made in a schedule make a cut of the matrix.
 abbrev pub MadeCut : Type 0
 MadeCut =
-    (c : Declarations) (matrix : List (List Call)) (s : State) (u : List Move) (q : List SerialOp) →
+    (c : Declarations) (matrix : Matrix) (s : State) (u : List Move) (q : List SerialOp) →
     IsStart c matrix s → (run : IsSeriallyWhole s u q) → AreLengths matrix (made_calls run.end)
 
 -- Where its entries are no member, it is an ended schedule of the matrix cut to the calls made in it, and not good for the set.
 abbrev pub CutRefutes : Type 0
 CutRefutes =
-    (c : Declarations) (matrix : List (List Call)) (s start : State) (members : List (List SerialOp)) (u : List Move) (q : List SerialOp) →
+    (c : Declarations) (matrix : Matrix) (s start : State) (members : List (List SerialOp)) (u : List Move) (q : List SerialOp) →
     IsStart c matrix s → (run : IsSeriallyWhole s u q) → contains members q ≡ false →
     IsStart c (cut matrix (made_calls run.end)) start → Refutes (IsMember members) start u
 
@@ -80,7 +79,7 @@ CutRefutes =
 -- Where nothing is outside a specification, a schedule that is not good for the serial histories is not good for it.
 abbrev pub FailOutside : Type 0
 FailOutside =
-    (c : Declarations) (matrix : List (List Call)) (s : State) (bound : ℕ) (members : List (List SerialOp)) (u : List Move) →
+    (c : Declarations) (matrix : Matrix) (s : State) (bound : ℕ) (members : List (List SerialOp)) (u : List Move) →
     IsStart c matrix s → NoOffence s bound → IsSpecOf matrix members → IsFirstOutside s bound members None →
     Refutes (IsSerialHistory s) s u → Refutes (IsMember members) s u
 
@@ -98,31 +97,31 @@ OutsideWhole = (s : State) (w : List Move) (q : List SerialOp) → IsSeriallyEnd
 
 -- The matrix is a cut of itself.
 abbrev pub WholeCut : Type 0
-WholeCut = (matrix : List (List Call)) → IsCutOf matrix matrix
+WholeCut = (matrix : Matrix) → IsCutOf matrix matrix
 
 -- What is answered to a finding is a counterexample.
 abbrev pub AnswerRefutes : Type 0
 AnswerRefutes =
-    (c : Declarations) (matrix : List (List Call)) (s : State) (serial : ℕ) (members : List (List SerialOp)) (finding : Finding)
-    (answer : List (List Call) × List Move) →
+    (c : Declarations) (matrix : Matrix) (s : State) (serial : ℕ) (members : List (List SerialOp)) (finding : Finding)
+    (answer : Matrix × List Move) →
     IsStart c matrix s → IsAnswerTo s serial members finding answer → IsCounterexample c matrix (IsMember members) answer
 
 -- One thing is answered to a report.
 abbrev pub OneAnswer : Type 0
 OneAnswer =
-    (c : Declarations) (matrix : List (List Call)) (r : Report) (members : List (List SerialOp)) (a b : List (List Call) × List Move) →
-    IsAnswer c matrix r members a → IsAnswer c matrix r members b → a ≡ b
+    (c : Declarations) (matrix : Matrix) (r : Report) (members : List (List SerialOp)) (a b : Matrix × List Move) →
+    Settles c matrix → IsAnswer c matrix r members a → IsAnswer c matrix r members b → a ≡ b
 
 -- Where there is a counterexample the component is not linearizable.
 abbrev pub NotLinearizable : Type 0
 NotLinearizable =
-    (c : Declarations) (matrix : List (List Call)) (members : List (List SerialOp)) (example : List (List Call) × List Move) →
-    IsCounterexample c matrix (IsMember members) example → IsLinearizable c matrix (IsMember members) → ⊥
+    (c : Declarations) (matrix : Matrix) (members : List (List SerialOp)) (example : Matrix × List Move) →
+    Settles c matrix → IsCounterexample c matrix (IsMember members) example → IsLinearizable c matrix (IsMember members) → ⊥
 
 -- ---- every specification
 
 -- A set of serial histories that a test tells: no two of them conflict, `Stuck` stands only last, and they fit the matrix.
-pub record IsDeterministicOf (matrix : List (List Call)) (spec : List SerialOp → Bool) : Type 0 where
+pub record IsDeterministicOf (matrix : Matrix) (spec : List SerialOp → Bool) : Type 0 where
   pub deterministic : (p q : List SerialOp) (i : ℕ) (o : SerialOutcome) → IsTrue (spec p) → IsTrue (spec q) → ConflictAt p q i o → ⊥
   pub serial : (q : List SerialOp) → IsTrue (spec q) → IsSerial q
   pub fits : (q : List SerialOp) → IsTrue (spec q) → Fits matrix q
@@ -130,14 +129,15 @@ pub record IsDeterministicOf (matrix : List (List Call)) (spec : List SerialOp �
 -- A failure that a run confirms refutes each of them: by none is the component linearizable.
 abbrev pub NoneLinearizable : Type 0
 NoneLinearizable =
-    (c : Declarations) (matrix : List (List Call)) (r : Report) (spec : List SerialOp → Bool) →
-    IsConfirmedFailure c matrix r → IsDeterministicOf matrix spec → IsLinearizable c matrix (λ q. IsTrue (spec q)) → ⊥
+    (c : Declarations) (matrix : Matrix) (r : Report) (spec : List SerialOp → Bool) →
+    Settles c matrix → IsConfirmedFailure c matrix r →
+    IsDeterministicOf matrix spec → IsLinearizable c matrix (λ q. IsTrue (spec q)) → ⊥
 
 -- So does what a check reports: where that is a failure, or nondeterminism, the component is linearizable by none of them.
 abbrev pub FailingIsNotLinearizable : Type 0
 FailingIsNotLinearizable =
-    (c : Declarations) (matrix : List (List Call)) (bound serial : ℕ) (r : Report) (spec : List SerialOp → Bool) →
-    IsReport c matrix bound serial r → IsFailure r.finding →
+    (c : Declarations) (matrix : Matrix) (bound serial : ℕ) (r : Report) (spec : List SerialOp → Bool) →
+    Settles c matrix → IsReport c matrix bound serial r → IsFailure r.finding →
     IsDeterministicOf matrix spec → IsLinearizable c matrix (λ q. IsTrue (spec q)) → ⊥
 
 -- ---- the set of the serial runs
@@ -145,5 +145,5 @@ FailingIsNotLinearizable =
 -- The histories of the serial runs, where none offends: no two of them conflict, `Stuck` stands only last, and they fit the matrix.
 abbrev pub LearntCloses : Type 0
 LearntCloses =
-    (c : Declarations) (matrix : List (List Call)) (s : State) (bound : ℕ) (members : List (List SerialOp)) →
+    (c : Declarations) (matrix : Matrix) (s : State) (bound : ℕ) (members : List (List SerialOp)) →
     IsStart c matrix s → IsSetOf s bound members → IsDeterministic members × AllSerial members × AreOf matrix members

@@ -3,9 +3,8 @@
 use Rattle.std.specs.Prelude.{◌≡◌, ℕ, ◌≤◌, List, length}
 use Rattle.std.specs.List.{AllZip}
 use Rattle.lu_component.specs.Component.{Declarations}
-use Rattle.lu_test.specs.declared.matrix.Call.{Call}
 use Rattle.lu_test.specs.declared.schedule.Move.{Move}
-use Rattle.lu_test.specs.Matrix.{cut}
+use Rattle.lu_test.specs.Matrix.{Matrix, cut}
 use Rattle.lu_machine.specs.States.{State}
 use Rattle.lu_machine.specs.Starts.{IsStart}
 use Rattle.lu_machine.specs.Ends.{IsEnded}
@@ -14,17 +13,17 @@ use Rattle.lu_history.specs.declared.serial.SerialOp.{SerialOp}
 use Rattle.lu_witness.specs.Goodness.{IsGoodAt}
 
 -- a length of each thread, at most its number of calls
-abbrev pub AreLengths : List (List Call) → List ℕ → Type 0
-AreLengths matrix lengths = AllZip (λ calls n. n ≤ length calls) matrix lengths
+abbrev pub AreLengths : Matrix → List ℕ → Type 0
+AreLengths matrix lengths = AllZip (λ calls n. n ≤ length calls) matrix.threads lengths
 
 -- the smaller matrix has of each thread some of its first calls, and no others
-abbrev pub IsCutOf : List (List Call) → List (List Call) → Type 0
+abbrev pub IsCutOf : Matrix → Matrix → Type 0
 IsCutOf matrix smaller = (lengths : List ℕ) × AreLengths matrix lengths × (smaller ≡ cut matrix lengths)
 
 -- each ended schedule of each cut of the matrix, of any length, is good for the set
-abbrev pub IsLinearizable : Declarations → List (List Call) → (List SerialOp → Type 0) → Type 0
+abbrev pub IsLinearizable : Declarations → Matrix → (List SerialOp → Type 0) → Type 0
 IsLinearizable c matrix Set =
-    (smaller : List (List Call)) (s : State) (u : List Move) →
+    (smaller : Matrix) (s : State) (u : List Move) →
     IsCutOf matrix smaller → IsStart c smaller s → Reaches s u (λ end _. IsEnded end) → Reaches s u (IsGoodAt Set)
 
 -- u is ended, and not good for the set
@@ -32,6 +31,6 @@ abbrev pub Refutes : (List SerialOp → Type 0) → State → List Move → Type
 Refutes Set s u = Reaches s u (λ end history. IsEnded end × (IsGoodAt Set end history → ⊥))
 
 -- a cut of the matrix, with a schedule of it that is ended and not good for the set
-abbrev pub IsCounterexample : Declarations → List (List Call) → (List SerialOp → Type 0) → List (List Call) × List Move → Type 0
+abbrev pub IsCounterexample : Declarations → Matrix → (List SerialOp → Type 0) → Matrix × List Move → Type 0
 IsCounterexample c matrix Set example =
     IsCutOf matrix example.0 × ((s : State) → IsStart c example.0 s → Refutes Set s example.1)

@@ -1,9 +1,8 @@
 -- What the steps of a refutation promise one another.
 use Rattle.std.specs.Prelude.{◌≡◌, ℕ, ◌≤◌, ◌↔◌, Bool, false, IsTrue, List, [], ◌++◌, length, take, Option, Some, None}
 use Rattle.lu_component.specs.Component.{Declarations}
-use Rattle.lu_test.specs.declared.matrix.Call.{Call}
 use Rattle.lu_test.specs.declared.schedule.Move.{Move}
-use Rattle.lu_test.specs.Matrix.{cut}
+use Rattle.lu_test.specs.Matrix.{Matrix, cut}
 use Rattle.lu_machine.specs.declared.event.Event.{Event}
 use Rattle.lu_machine.specs.States.{State}
 use Rattle.lu_machine.specs.Starts.{IsStart}
@@ -14,8 +13,8 @@ use Rattle.lu_serial.specs.Serial.{IsSeriallyEnded}
 use Rattle.lu_serial.specs.Offences.{IsFirstOutside}
 use Rattle.lu_serial.specs.Walks.{entry_if}
 use Rattle.lu_witness.specs.Witnesses.{IsMember}
-use Rattle.lu_replay.specs.declared.report.Finding.{Finding}
-use Rattle.lu_replay.specs.declared.report.Finding.TheVariants.{SerialCut, Nondeterministic, Fail, Pass}
+use Rattle.lu_report.specs.declared.report.Finding.{Finding}
+use Rattle.lu_report.specs.declared.report.Finding.TheVariants.{SerialCut, Nondeterministic, Fail, Pass}
 use Rattle.lu_refute.specs.declared.shortest.Walk.{Walk}
 use Rattle.lu_refute.specs.Whole.{IsQuiet, made_calls}
 use Rattle.lu_refute.specs.Linearizable.{Refutes}
@@ -47,30 +46,30 @@ pub record IsStop (s : State) (members : List (List SerialOp)) (w : List Move) (
   pub calls : walk.calls.items ≡ made_calls walk.machine
 
 -- the shortest such beginning of w, over the matrix cut to the calls made in it
-pub record IsShortestOver (s : State) (members : List (List SerialOp)) (w : List Move) (answer : List (List Call) × List Move) : Type 0 where
+pub record IsShortestOver (s : State) (members : List (List SerialOp)) (w : List Move) (answer : Matrix × List Move) : Type 0 where
   pub short : IsShortest s members w answer.1
   pub matrix_is : answer.0 ≡ cut s.matrix (made_calls short.whole.end)
 
 -- ---- from the start of a component and a matrix
 
 -- u is serially ended, and its history is no member
-abbrev pub IsOutsideOf : Declarations → List (List Call) → List (List SerialOp) → List Move → Type 0
+abbrev pub IsOutsideOf : Declarations → Matrix → List (List SerialOp) → List Move → Type 0
 IsOutsideOf c matrix members u = (s : State) → IsStart c matrix s → EndsOutside s members u
 
 -- its shortest such beginning
-abbrev pub IsShortestOf : Declarations → List (List Call) → List (List SerialOp) → List Move → List (List Call) × List Move → Type 0
+abbrev pub IsShortestOf : Declarations → Matrix → List (List SerialOp) → List Move → Matrix × List Move → Type 0
 IsShortestOf c matrix members w answer = (s : State) → IsStart c matrix s → IsShortestOver s members w answer
 
 -- some schedule is outside
-abbrev pub HasOutside : Declarations → List (List Call) → ℕ → List (List SerialOp) → Type 0
+abbrev pub HasOutside : Declarations → Matrix → ℕ → List (List SerialOp) → Type 0
 HasOutside c matrix serial members = (s : State) → IsStart c matrix s → IsFirstOutside s serial members None → ⊥
 
 -- the answer from outside
-abbrev pub IsFromOutside : Declarations → List (List Call) → ℕ → List (List SerialOp) → List (List Call) × List Move → Type 0
+abbrev pub IsFromOutside : Declarations → Matrix → ℕ → List (List SerialOp) → Matrix × List Move → Type 0
 IsFromOutside c matrix serial members answer = (s : State) → IsStart c matrix s → IsOutsideAnswer s serial members answer
 
 -- whether u is ended, and not good for the set
-abbrev pub TellsRefutation : Declarations → List (List Call) → List (List SerialOp) → List Move → Bool → Type 0
+abbrev pub TellsRefutation : Declarations → Matrix → List (List SerialOp) → List Move → Bool → Type 0
 TellsRefutation c matrix members u told = (s : State) → IsStart c matrix s → IsTrue told ↔ Refutes (IsMember members) s u
 
 -- the finding is a failure by this schedule, which is ended and not good for the set
@@ -81,6 +80,6 @@ IsOfFailure s members (Fail v why) u = (u ≡ v) × Refutes (IsMember members) s
 IsOfFailure s members (Pass counts) u = ⊥
 
 -- the schedule of such a failure, or none where the finding is no such one
-abbrev pub IsFailing : Declarations → List (List Call) → List (List SerialOp) → Finding → Option (List Move) → Type 0
+abbrev pub IsFailing : Declarations → Matrix → List (List SerialOp) → Finding → Option (List Move) → Type 0
 IsFailing c matrix members finding None = (s : State) (u : List Move) → IsStart c matrix s → IsOfFailure s members finding u → ⊥
 IsFailing c matrix members finding (Some u) = (s : State) → IsStart c matrix s → IsOfFailure s members finding u

@@ -1,20 +1,23 @@
 //! Refutations of specifications.
 
 ghost use Rattle.std.specs.Prelude.{◌≡◌, ◌≢◌, ◌↔◌, ◌≤◌, [], IsTrue, IfErr, IfOk, OnOk};
-ghost use Rattle.lu_test.specs.Matrix.{IsOf};
+ghost use Rattle.lu_machine.specs.Starts.{CanRun};
 ghost use Rattle.lu_machine.specs.declared.event.Status.TheVariants.{Running};
 ghost use Rattle.lu_witness.specs.declared.judgement.Verdict.TheVariants.{Good};
 ghost use Rattle.lu_witness.specs.Witnesses.{IsMember};
+ghost use Rattle.lu_report.specs.Parts.{IsSerialBound};
+ghost use Rattle.lu_replay.specs.Confirmed.{IsShownWith};
 ghost use Rattle.lu_spec.specs.Specs.{AreOf};
 ghost use Rattle.lu_refute.specs.Linearizable.{IsCounterexample, IsLinearizable};
-ghost use Rattle.lu_refute.specs.Answers.{IsAnswer, IsConfirmedFailure, IsFailure, IsRefuteFault};
+ghost use Rattle.lu_refute.specs.Answers.{IsAnswer, IsAnswerWith, IsConfirmedFailure, IsFailure, IsRefuteFault};
 ghost use Rattle.lu_refute.specs.Walks.{HasOutside, IsFailing, IsFromOutside, TellsRefutation};
 
 use crate::fault::RefuteFault;
 use crate::shortest::shortest;
 use lu_component::Component;
 use lu_machine::Status;
-use lu_replay::{Finding, ReplayFault, Report, confirm, replay};
+use lu_replay::{ReplayFault, confirm, replay};
+use lu_report::{Finding, Report};
 use lu_serial::first_outside;
 use lu_spec::Spec;
 use lu_test::{Matrix, Schedule, cut_to};
@@ -60,7 +63,7 @@ fn refutes(
     schedule: &Schedule,
     set: &Trie<Global>,
 ) -> Result<bool, AllocError>
-    requires { IsOf matrix.now component.now }
+    requires { CanRun component.now matrix.now }
     ensures { IfOk result (TellsRefutation component.now matrix.now set.now schedule.now) }
 {
     match replay(alloc, component, matrix, schedule) {
@@ -82,7 +85,7 @@ fn failing(
     finding: &Finding,
     set: &Trie<Global>,
 ) -> Result<Option<Schedule>, AllocError>
-    requires { IsOf matrix.now component.now }
+    requires { CanRun component.now matrix.now }
     ensures { IfOk result (IsFailing component.now matrix.now set.now finding.now) }
 {
     match finding {
@@ -108,7 +111,7 @@ fn from_outside(
     serial: u16,
     set: &Trie<Global>,
 ) -> Result<(Matrix, Schedule), AllocError>
-    requires of { IsOf matrix.now component.now }
+    requires of { CanRun component.now matrix.now }
     requires some { 1 ≤ serial }
     requires few { serial ≤ 256 }
     requires empty { IsMember set.now [] }
@@ -121,23 +124,26 @@ fn from_outside(
     }
 }
 
-/// What is answered to a report that is a confirmed failure, or confirmed nondeterminism.
+/// What is answered to a report that is a confirmed failure, or confirmed nondeterminism, with this bound of serial runs.
 fn answer_to(
     alloc: Global,
     component: &Component,
     matrix: &Matrix,
     report: &Report,
+    serial: u16,
     spec: &Spec,
 ) -> Result<(Matrix, Schedule), AllocError>
-    requires component { IsOf matrix.now component.now }
+    requires component { CanRun component.now matrix.now }
     requires spec { AreOf matrix.now spec.now }
-    requires shown { IsConfirmedFailure component.now matrix.now report.now }
-    ensures { IfOk result (IsAnswer component.now matrix.now report.now spec.now) }
+    requires range { IsSerialBound serial }
+    requires shown { IsShownWith component.now matrix.now report.now serial }
+    requires failure { IsFailure report.now.finding }
+    ensures { IfOk result (IsAnswerWith component.now matrix.now report.now serial spec.now) }
 {
     let set = spec.tree();
     match failing(alloc, component, matrix, report.finding(), set)? {
         Some(schedule) => Ok((copy_of(alloc, matrix)?, schedule)),
-        None => from_outside(alloc, component, matrix, report.serial(), set),
+        None => from_outside(alloc, component, matrix, serial, set),
     }
 }
 
@@ -148,11 +154,12 @@ fn answer_to(
 /// For a failure whose schedule does not have its witnesses in the specification the answer is the matrix and that schedule. Else
 /// it comes from the least serially ended schedule whose history is no member of the specification: it is the shortest beginning
 /// that ends with a whole entry of that history and whose entries are no member, over the matrix cut to the calls made in it. Asks
-/// for a matrix of the component ([`Matrix::of`]) and a specification of the matrix ([`Spec::of`]).
+/// for a matrix of the component ([`Matrix::of`]) whose setup settles (`lu_machine::settles`), and a specification of the matrix ([`Spec::of`]).
 ///
 /// # Errors
 ///
-/// [`RefuteFault::NotShown`] where the report is a pass or a serial cut, or is not confirmed ([`confirm`]).
+/// [`RefuteFault::NotShown`] where the report is a pass or a serial cut, or is not confirmed ([`confirm`]); so one of a check
+/// against a specification.
 /// [`RefuteFault::Memory`] where memory was refused.
 pub fn refute(
     alloc: Global,
@@ -161,7 +168,7 @@ pub fn refute(
     report: &Report,
     spec: &Spec,
 ) -> Result<(Matrix, Schedule), RefuteFault>
-    requires component { IsOf matrix.now component.now }
+    requires component { CanRun component.now matrix.now }
     requires spec { AreOf matrix.now spec.now }
     ensures shown { OnOk result (IsConfirmedFailure component.now matrix.now report.now) }
     ensures fault { IfErr result (IsRefuteFault component.now matrix.now report.now) }
@@ -169,8 +176,11 @@ pub fn refute(
     ensures counterexample { IfOk result (IsCounterexample component.now matrix.now (IsMember spec.now)) }
     ensures refuted { OnOk result (IsLinearizable component.now matrix.now (IsMember spec.now) → ⊥) }
 {
+    let Some(serial) = report.serial() else {
+        return Err(RefuteFault::NotShown);
+    };
     if !is_failure(report.finding()) || !confirm(alloc, component, matrix, report)? {
         return Err(RefuteFault::NotShown);
     }
-    Ok(answer_to(alloc, component, matrix, report, spec)?)
+    Ok(answer_to(alloc, component, matrix, report, serial, spec)?)
 }

@@ -1,8 +1,7 @@
 //! The shortest beginning of a serial schedule that shows a history outside a specification.
 
 ghost use Rattle.std.specs.Prelude.{◌≡◌, [], IfOk, OnOk};
-ghost use Rattle.lu_test.specs.Matrix.{IsOf};
-ghost use Rattle.lu_machine.specs.Starts.{IsStart};
+ghost use Rattle.lu_machine.specs.Starts.{CanRun, IsStart};
 ghost use Rattle.lu_machine.specs.Steps.{IsFeasible};
 ghost use Rattle.lu_witness.specs.Witnesses.{IsMember};
 ghost use Rattle.lu_refute.specs.Whole.{made_calls};
@@ -31,7 +30,7 @@ impl<'a> Walk<'a> {
         component: &'a Component,
         matrix: &'a Matrix,
     ) -> Result<Walk<'a>, AllocError>
-        requires { IsOf matrix.now component.now }
+        requires { CanRun component.now matrix.now }
         ensures start { IfOk result (λ walk. IsStart component.now matrix.now walk.machine) }
         ensures before { IfOk result IsBefore }
     {
@@ -86,7 +85,7 @@ pub(crate) fn shortest(
     outside: &Schedule,
     set: &Trie<Global>,
 ) -> Result<(Matrix, Schedule), AllocError>
-    requires of { IsOf matrix.now component.now }
+    requires of { CanRun component.now matrix.now }
     requires empty { IsMember set.now [] }
     requires outside { IsOutsideOf component.now matrix.now set.now outside.now }
     ensures { IfOk result (IsShortestOf component.now matrix.now set.now outside.now) }

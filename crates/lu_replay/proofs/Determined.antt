@@ -1,12 +1,13 @@
 -- A component and a matrix have one report.
 use Rattle.std.proofs.Common.{◌≡◌, ℕ, ◌<◌, List, refl, sym, ◌∙◌, ap, subst, inl, inr, arith}
 use Rattle.lu_component.specs.Component.{Declarations}
-use Rattle.lu_test.specs.declared.matrix.Call.{Call as ACall}
 use Rattle.lu_test.specs.declared.schedule.Move.{Move}
+use Rattle.lu_test.specs.Matrix.{Matrix}
 use Rattle.lu_machine.specs.declared.event.Event.{Event}
 use Rattle.lu_machine.specs.States.{State}
 use Rattle.lu_machine.specs.Steps.{picks_of}
-use Rattle.lu_machine.specs.Starts.{IsStart, start_of}
+use Rattle.lu_machine.specs.Starts.{IsStart, Settles}
+use Rattle.lu_machine.proofs.Starting.{start_there}
 use Rattle.lu_machine.specs.Ends.{IsComplete, IsStuck}
 use Rattle.lu_machine.proofs.Paths.{leads_same}
 use Rattle.lu_machine.proofs.Numbers.{least_same, numbers_same}
@@ -23,11 +24,11 @@ use Rattle.lu_witness.specs.declared.judgement.Verdict.TheVariants.{NoWitnessFor
 use Rattle.lu_witness.specs.Witnesses.{IsLeastWithout}
 use Rattle.lu_witness.specs.Goodness.{IsWhy, Any}
 use Rattle.lu_witness.proofs.Verdicts.{one_verdict}
-use Rattle.lu_replay.specs.declared.report.Finding.{Finding}
-use Rattle.lu_replay.specs.declared.report.Finding.TheVariants.{SerialCut, Nondeterministic, Fail, Pass}
-use Rattle.lu_replay.specs.declared.report.Report.{Report}
-use Rattle.lu_replay.specs.Parts.{Parts, parts_of}
-use Rattle.lu_replay.specs.Reports.{IsFinding, IsReport}
+use Rattle.lu_report.specs.declared.report.Finding.{Finding}
+use Rattle.lu_report.specs.declared.report.Finding.TheVariants.{SerialCut, Nondeterministic, Fail, Pass}
+use Rattle.lu_report.specs.declared.report.Report.{Report}
+use Rattle.lu_replay.specs.Reports.{IsFinding, IsFindingAgainst, IsReport, IsReportAgainst}
+use Rattle.lu_report.proofs.OneText.{same_parts}
 use Rattle.lu_replay.proofs.Sets.{good_not_bad, first_bad_same}
 
 -- ---- a serial schedule is not both cut and ended
@@ -39,9 +40,9 @@ not_ended end h q t one opened able (inr over) =
     let none : picks_of end over.0 ≡ 0 = over.2 in
     omega arith
 
-module _ (c : Declarations) (matrix : List (List ACall)) (s : State) (is : IsStart c matrix s) where
+module _ (c : Declarations) (matrix : Matrix) (s : State) (is : IsStart c matrix s) where
   one_at_start : AtMostOne s
-  one_at_start t i a b = absurd (none_at_start c matrix t (subst (λ x. HasOpen x t) is a))
+  one_at_start t i a b = absurd (none_at_start c matrix s is t a)
 
   pub cut_not_ended : (most : ℕ) (u : List Move) (q : List SerialOp) → IsSeriallyCut s most u → IsSeriallyEnded s u q → ⊥
   cut_not_ended most u q cut ended =
@@ -81,6 +82,22 @@ module _ (c : Declarations) (matrix : List (List ACall)) (s : State) (is : IsSta
 
   -- ---- what is found is one
 
+  pub one_against : (Set : List SerialOp → Type 0) (bound : ℕ) (f g : Finding) → IsFindingAgainst Set s bound f → IsFindingAgainst Set s bound g → f ≡ g
+  one_against Set bound (SerialCut u) g x y = absurd x
+  one_against Set bound (Nondeterministic u i o) g x y = absurd x
+  one_against Set bound (Fail u why) (SerialCut v) x y = absurd y
+  one_against Set bound (Fail u why) (Nondeterministic v j p) x y = absurd y
+  one_against Set bound (Fail u why) (Fail v other) x y =
+      let same : v ≡ u = first_bad_same Set s bound Any u v why other x y in
+      let reason : IsWhy Set s u other = subst (λ (w : List Move). IsWhy Set s w other) same y.why_is in
+      let e : why ≡ other = why_same Set u why other x.why_is reason in
+      cc
+  one_against Set bound (Fail u why) (Pass counts) x y = absurd (good_not_bad Set s bound Any u y.good tt x.bad)
+  one_against Set bound (Pass counts) (SerialCut v) x y = absurd y
+  one_against Set bound (Pass counts) (Nondeterministic v j p) x y = absurd y
+  one_against Set bound (Pass counts) (Fail v why) x y = absurd (good_not_bad Set s bound Any v x.good tt y.bad)
+  one_against Set bound (Pass counts) (Pass others) x y = ap Pass (numbers_same s bound Any counts others x.numbers y.numbers)
+
   pub one_finding : (bound most : ℕ) (f g : Finding) → IsFinding s bound most f → IsFinding s bound most g → f ≡ g
   one_finding bound most (SerialCut u) (SerialCut v) x y = ap SerialCut (least_same (IsOffence s most) u v x.0 y.0)
   one_finding bound most (SerialCut u) (Nondeterministic v j p) x y = absurd (cut_no_conflict most u v j p x y)
@@ -92,26 +109,23 @@ module _ (c : Declarations) (matrix : List (List ACall)) (s : State) (is : IsSta
   one_finding bound most (Nondeterministic u i o) (Pass counts) x y = absurd (y.0 u x.0.kind)
   one_finding bound most (Fail u why) (SerialCut v) x y = absurd (x.0 v y.0.kind)
   one_finding bound most (Fail u why) (Nondeterministic v j p) x y = absurd (x.0 v y.0.kind)
-  one_finding bound most (Fail u why) (Fail v other) x y =
-      let same : v ≡ u = first_bad_same (IsSerialHistory s) s bound Any u v why other x.1 y.1 in
-      let reason : IsWhy (IsSerialHistory s) s u other = subst (λ (w : List Move). IsWhy (IsSerialHistory s) s w other) same y.1.why_is in
-      let e : why ≡ other = why_same (IsSerialHistory s) u why other x.1.why_is reason in
-      cc
-  one_finding bound most (Fail u why) (Pass counts) x y = absurd (good_not_bad (IsSerialHistory s) s bound Any u y.1.good tt x.1.bad)
+  one_finding bound most (Fail u why) (Fail v other) x y = one_against (IsSerialHistory s) bound (Fail u why) (Fail v other) x.1 y.1
+  one_finding bound most (Fail u why) (Pass counts) x y = one_against (IsSerialHistory s) bound (Fail u why) (Pass counts) x.1 y.1
   one_finding bound most (Pass counts) (SerialCut v) x y = absurd (x.0 v y.0.kind)
   one_finding bound most (Pass counts) (Nondeterministic v j p) x y = absurd (x.0 v y.0.kind)
-  one_finding bound most (Pass counts) (Fail v why) x y = absurd (good_not_bad (IsSerialHistory s) s bound Any v x.1.good tt y.1.bad)
-  one_finding bound most (Pass counts) (Pass others) x y = ap Pass (numbers_same s bound Any counts others x.1.numbers y.1.numbers)
+  one_finding bound most (Pass counts) (Fail v why) x y = one_against (IsSerialHistory s) bound (Pass counts) (Fail v why) x.1 y.1
+  one_finding bound most (Pass counts) (Pass others) x y = one_against (IsSerialHistory s) bound (Pass counts) (Pass others) x.1 y.1
 
-pub same_parts : (a b : Parts) → a.bound ≡ b.bound → a.serial ≡ b.serial → a.local ≡ b.local → a.finding ≡ b.finding → a ≡ b
-same_parts a b e f g h =
-    ap (λ (x : ℕ). parts_of x a.serial a.local a.finding) e
-    ∙ (ap (λ (x : ℕ). parts_of b.bound x a.local a.finding) f
-    ∙ (ap (λ (x : ℕ). parts_of b.bound b.serial x a.finding) g
-    ∙ ap (λ (x : Finding). parts_of b.bound b.serial b.local x) h))
+pub one_report : (c : Declarations) (matrix : Matrix) (bound serial : ℕ) (r other : Report) → Settles c matrix → IsReport c matrix bound serial r → IsReport c matrix bound serial other → r ≡ other
+one_report c matrix bound serial r other settles x y =
+    let start = start_there c matrix settles in
+    let s : State = start.0 in
+    let found : r.finding ≡ other.finding = one_finding c matrix s start.1 bound serial r.finding other.finding (x.3 s start.1) (y.3 s start.1) in
+    same_parts r other (x.0 ∙ sym y.0) (x.1 ∙ sym y.1) (x.2 ∙ sym y.2) found
 
-pub one_report : (c : Declarations) (matrix : List (List ACall)) (bound serial : ℕ) (r other : Report) → IsReport c matrix bound serial r → IsReport c matrix bound serial other → r ≡ other
-one_report c matrix bound serial r other x y =
-    let s : State = start_of c matrix in
-    let found : r.finding ≡ other.finding = one_finding c matrix s refl bound serial r.finding other.finding (x.3 s refl) (y.3 s refl) in
+pub one_report_against : (Set : List SerialOp → Type 0) (c : Declarations) (matrix : Matrix) (bound : ℕ) (r other : Report) → Settles c matrix → IsReportAgainst Set c matrix bound r → IsReportAgainst Set c matrix bound other → r ≡ other
+one_report_against Set c matrix bound r other settles x y =
+    let start = start_there c matrix settles in
+    let s : State = start.0 in
+    let found : r.finding ≡ other.finding = one_against c matrix s start.1 Set bound r.finding other.finding (x.3 s start.1) (y.3 s start.1) in
     same_parts r other (x.0 ∙ sym y.0) (x.1 ∙ sym y.1) (x.2 ∙ sym y.2) found

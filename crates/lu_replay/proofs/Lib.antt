@@ -2,11 +2,5 @@ pub mod Playing
 pub mod Sets
 pub mod Determined
 pub mod Limits
-pub mod Texts
 pub mod RunsAnew
 pub mod Alike
-pub mod Numbers
-pub mod Outcomes
-pub mod Faulty
-pub mod Exits
-pub mod OneText

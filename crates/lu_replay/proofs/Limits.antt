@@ -6,7 +6,7 @@ use Rattle.std.proofs.lemmas.List.Sums.{sum_by-cons}
 use Rattle.lu_component.specs.Component.{Declarations}
 use Rattle.lu_test.specs.declared.matrix.Call.{Call as ACall}
 use Rattle.lu_test.specs.declared.schedule.Move.{Move}
-use Rattle.lu_test.specs.Matrix.{IsMatrix, calls_of}
+use Rattle.lu_test.specs.Matrix.{Matrix, IsMatrix, calls_of, row_of}
 use Rattle.lu_machine.specs.declared.event.Event.{Event}
 use Rattle.lu_machine.specs.declared.event.Event.TheVariants.{Call, Return}
 use Rattle.lu_machine.specs.declared.thread.Thread.{Thread}
@@ -22,10 +22,10 @@ use Rattle.lu_serial.proofs.Opening.{step_turned}
 use Rattle.lu_witness.specs.declared.judgement.Why.{Why}
 use Rattle.lu_witness.specs.declared.judgement.Why.TheVariants.{Complete, Stuck}
 use Rattle.lu_witness.specs.Goodness.{IsWhy}
-use Rattle.lu_replay.specs.declared.report.Finding.{Finding}
-use Rattle.lu_replay.specs.declared.report.Finding.TheVariants.{SerialCut, Nondeterministic, Fail, Pass}
-use Rattle.lu_replay.specs.Parts.{IsWithin, IsThreadOf}
-use Rattle.lu_replay.specs.Reports.{IsFinding}
+use Rattle.lu_report.specs.declared.report.Finding.{Finding}
+use Rattle.lu_report.specs.declared.report.Finding.TheVariants.{SerialCut, Nondeterministic, Fail, Pass}
+use Rattle.lu_report.specs.Parts.{IsJudgement, IsWithin, IsThreadOf}
+use Rattle.lu_replay.specs.Reports.{IsFinding, IsFindingAgainst}
 
 -- ---- threads
 
@@ -80,7 +80,7 @@ room [] (x ∷ xs) = share [] x + room [] xs
 room (row ∷ rows) [] = 0
 room (row ∷ rows) (x ∷ xs) = share row x + room rows xs
 
-room_set : (rows : List (List ACall)) (threads : List Thread) (t : ℕ) (x y : Thread) → slice_get threads t ≡ Some x → room rows (slice_set threads t y) + share (calls_of rows t) x ≡ room rows threads + share (calls_of rows t) y
+room_set : (rows : List (List ACall)) (threads : List Thread) (t : ℕ) (x y : Thread) → slice_get threads t ≡ Some x → room rows (slice_set threads t y) + share (row_of rows t) x ≡ room rows threads + share (row_of rows t) y
 room_set rows [] t x y at = absurd (none-some x at)
 room_set [] (z ∷ threads) zero x y at = (let e : share [] z ≡ share [] x = ap (share []) (same_Some z x at) in omega arith)
 room_set [] (z ∷ threads) (suc t) x y at = (let r = room_set [] threads t x y at in omega arith)
@@ -95,12 +95,12 @@ idle_is : (a : Activity) → a ≡ Idle → one_if a ≡ 0
 idle_is a is = ap one_if is
 
 -- each return ends one
-step_room : (s : State) (m : Move) (new : State) (event : Option Event) → Step s m new event → length (entries_of (with_event event [])) + room new.matrix new.threads ≡ room s.matrix s.threads
+step_room : (s : State) (m : Move) (new : State) (event : Option Event) → Step s m new event → length (entries_of (with_event event [])) + room new.matrix.threads new.threads ≡ room s.matrix.threads s.threads
 step_room s m new event step =
     let turned = step_turned s m new event step in
-    let same : room new.matrix new.threads ≡ room s.matrix (slice_set s.threads m.thread turned.after) =
-    ap (λ x. room x new.threads) turned.matrix ∙ ap (room s.matrix) turned.threads in
-    let moved = room_set s.matrix s.threads m.thread turned.before turned.after turned.stands in
+    let same : room new.matrix.threads new.threads ≡ room s.matrix.threads (slice_set s.threads m.thread turned.after) =
+    ap (λ (x : Matrix). room x.threads new.threads) turned.matrix ∙ ap (room s.matrix.threads) turned.threads in
+    let moved = room_set s.matrix.threads s.threads m.thread turned.before turned.after turned.stands in
     let was = turned.before.done in let now = turned.after.done in let most = length (calls_of s.matrix m.thread) in
     elim turned.how [
       | inl h ↦
@@ -121,10 +121,10 @@ entries_with None rest = omega arith
 entries_with (Some (Call t k)) rest = omega arith
 entries_with (Some (Return t k outcome)) rest = omega arith
 
-leads_room : (s : State) (u : List Move) (end : State) (h : List Event) → Leads s u end h → length (entries_of h) + room end.matrix end.threads ≡ room s.matrix s.threads
+leads_room : (s : State) (u : List Move) (end : State) (h : List Event) → Leads s u end h → length (entries_of h) + room end.matrix.threads end.threads ≡ room s.matrix.threads s.threads
 leads_room s [] end h leads =
     let a : length (entries_of h) ≡ 0 = ap (λ x. length (entries_of x)) leads.1 in
-    let b : room end.matrix end.threads ≡ room s.matrix s.threads = ap (λ (x : State). room x.matrix x.threads) leads.0 in
+    let b : room end.matrix.threads end.threads ≡ room s.matrix.threads s.threads = ap (λ (x : State). room x.matrix.threads x.threads) leads.0 in
     omega arith
 leads_room s (m ∷ u) end h leads =
     let a : length (entries_of h) ≡ length (entries_of (with_event leads.1 leads.2)) = ap (λ x. length (entries_of x)) leads.5 in
@@ -133,7 +133,7 @@ leads_room s (m ∷ u) end h leads =
     let d = leads_room leads.0 u end leads.2 leads.4 in
     omega arith
 
-start_room : (matrix : List (List ACall)) → room matrix (replicate (length matrix) (record { done = 0; activity = Idle })) ≡ sum_by length matrix
+start_room : (rows : List (List ACall)) → room rows (replicate (length rows) (record { done = 0; activity = Idle })) ≡ sum_by length rows
 start_room [] = refl
 start_room (row ∷ rows) = (let rest = start_room rows in let s = sum_by-cons length row rows in omega arith)
 
@@ -145,7 +145,7 @@ some_room (row ∷ rows) (z ∷ threads) zero x at busy = (let e : open_of z ≡
 some_room (row ∷ rows) (z ∷ threads) (suc t) x at busy = (let r = some_room rows threads t x at busy in omega arith)
 
 -- a serially ended schedule has at most as many operations
-ends_few : (s end : State) (u : List Move) (h : List Event) (q : List SerialOp) → Leads s u end h → EndsAs end h q → length q ≤ room s.matrix s.threads
+ends_few : (s end : State) (u : List Move) (h : List Event) (q : List SerialOp) → Leads s u end h → EndsAs end h q → length q ≤ room s.matrix.threads s.threads
 ends_few s end u h q leads ends =
     let all = leads_room s u end h leads in
     elim ends [
@@ -153,20 +153,20 @@ ends_few s end u h q leads ends =
       | inr stops ↦
           (let e : length q ≡ length (entries_of h ++ stuck_of stops.0 ∷ []) = ap length stops.3 in
           let a = length-append (entries_of h) (stuck_of stops.0 ∷ []) in
-          let r = some_room end.matrix end.threads stops.0 stops.1.0 stops.1.1 stops.1.2 in
+          let r = some_room end.matrix.threads end.threads stops.0 stops.1.0 stops.1.1 stops.1.2 in
           omega arith)
     ]
 
-module _ (c : Declarations) (matrix : List (List ACall)) (s : State) (is_matrix : IsMatrix matrix) (start : IsStart c matrix s) where
+module _ (c : Declarations) (matrix : Matrix) (s : State) (is_matrix : IsMatrix matrix) (start : IsStart c matrix s) where
   few_threads : length s.threads ≤ 8
   few_threads =
-      let e : length s.threads ≡ length matrix = ap (λ (x : State). length x.threads) start ∙ length-replicate (length matrix) _ in
-      let f = is_matrix.limits.threads in
+      let e : length s.threads ≡ length matrix.threads = ap (λ (x : State). length x.threads) start.is ∙ length-replicate (length matrix.threads) _ in
+      let f = is_matrix.limits.few in
       omega arith
 
-  few_operations : room s.matrix s.threads ≤ 16
+  few_operations : room s.matrix.threads s.threads ≤ 16
   few_operations =
-      let e : room s.matrix s.threads ≡ sum_by length matrix = ap (λ (x : State). room x.matrix x.threads) start ∙ start_room matrix in
+      let e : room s.matrix.threads s.threads ≡ sum_by length matrix.threads = ap (λ (x : State). room x.matrix.threads x.threads) start.is ∙ start_room matrix.threads in
       let f = is_matrix.limits.calls in
       omega arith
 
@@ -189,3 +189,10 @@ module _ (c : Declarations) (matrix : List (List ACall)) (s : State) (is_matrix 
       omega arith
   finding_within bound serial (Fail u why) is = why_within _ u why is.1.why_is
   finding_within bound serial (Pass counts) is = tt
+
+  -- and so has one against a set, which is a failure or a pass
+  pub against_within : (Set : List SerialOp → Type 0) (bound : ℕ) (finding : Finding) → IsFindingAgainst Set s bound finding → IsWithin finding × IsJudgement finding
+  against_within Set bound (SerialCut u) is = absurd is
+  against_within Set bound (Nondeterministic u before earlier) is = absurd is
+  against_within Set bound (Fail u why) is = (why_within Set u why is.why_is, tt)
+  against_within Set bound (Pass counts) is = (tt, tt)

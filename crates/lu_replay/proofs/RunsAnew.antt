@@ -1,15 +1,16 @@
 -- What a run of a report's schedule shows.
 use Rattle.std.proofs.Common.{◌≡◌, ℕ, ◌≤◌, List, [], ◌∷◌, ◌++◌, length, refl, sym, ◌∙◌, ap, subst, inl, inr, append_assoc}
-use Rattle.std.specs.Prelude.{Bool, false, IsTrue, ◌↔◌}
+use Rattle.std.specs.Prelude.{Bool, false, IsTrue, ◌↔◌, Option, Some, None, IsSomeAnd}
 use Rattle.std.proofs.lemmas.List.{append-nil}
 use Rattle.lu_component.specs.Component.{Declarations}
-use Rattle.lu_test.specs.declared.matrix.Call.{Call as ACall}
 use Rattle.lu_test.specs.declared.schedule.Move.{Move}
+use Rattle.lu_test.specs.Matrix.{Matrix}
 use Rattle.lu_machine.specs.declared.event.Event.{Event}
 use Rattle.lu_machine.specs.declared.event.Status.{Status}
 use Rattle.lu_machine.specs.declared.event.Status.TheVariants as status
 use Rattle.lu_machine.specs.States.{State, progress}
-use Rattle.lu_machine.specs.Starts.{IsStart, start_of}
+use Rattle.lu_machine.specs.Starts.{IsStart}
+use Rattle.lu_machine.proofs.Starting.{start_same}
 use Rattle.lu_machine.specs.Runs.{Leads, with_event}
 use Rattle.lu_machine.specs.Ends.{IsComplete, IsStuck, IsEnded, HasStatus}
 use Rattle.lu_machine.specs.Schedules.{IsLeast, Reaches}
@@ -33,12 +34,12 @@ use Rattle.lu_witness.specs.Witnesses.{IsLeastWithout, IsMember, IsVerdict}
 use Rattle.lu_witness.specs.Goodness.{IsGoodAt}
 use Rattle.lu_witness.proofs.Endings.{complete_alone, judged_bad, judged_without}
 use Rattle.lu_witness.proofs.Verdicts.{one_verdict}
-use Rattle.lu_replay.specs.declared.report.Finding.{Finding}
-use Rattle.lu_replay.specs.declared.report.Finding.TheVariants.{SerialCut, Nondeterministic, Fail, Pass}
-use Rattle.lu_replay.specs.declared.report.Report.{Report}
+use Rattle.lu_report.specs.declared.report.Finding.{Finding}
+use Rattle.lu_report.specs.declared.report.Finding.TheVariants.{SerialCut, Nondeterministic, Fail, Pass}
+use Rattle.lu_report.specs.declared.report.Report.{Report}
 use Rattle.lu_replay.specs.Replays.{Shows, IsInfeasibleAt}
-use Rattle.lu_replay.specs.Reports.{IsFinding, IsReport}
-use Rattle.lu_replay.specs.Confirmed.{IsBadFor, IsConfirmed, IsShown, IsPass, IsReason}
+use Rattle.lu_replay.specs.Reports.{IsFinding, IsFindingAgainst, IsReport, IsReportAgainst}
+use Rattle.lu_replay.specs.Confirmed.{IsBadFor, IsConfirmed, IsConfirmedAgainst, IsShown, IsShownAgainst, IsShownWith, IsPass, IsReason}
 use Rattle.lu_replay.proofs.Determined.{cut_no_conflict, conflict_same}
 use Rattle.lu_replay.proofs.Playing.{replay_or_fault}
 use Rattle.lu_replay.proofs.Sets.{bad_alike, bad_back, why_alike}
@@ -56,7 +57,7 @@ agrees_along s (m ∷ u) end h k agree p =
 
 -- ---- what was learnt is the one thing that can be
 
-module _ {A : Type 0} (c : Declarations) (matrix : List (List ACall)) (s : State) (is : IsStart c matrix s) (most : ℕ) where
+module _ {A : Type 0} (c : Declarations) (matrix : Matrix) (s : State) (is : IsStart c matrix s) (most : ℕ) where
   pub learnt_cut : (l : Learnt A) (u : List Move) → IsLearnt s most l → IsFirstCut s most u → l ≡ Cut u
   learnt_cut (Set members) u x y = absurd (x.none u y.0.kind)
   learnt_cut (Cut v) u x y = ap Cut (least_same (IsOffence s most) v u x.0 y.0)
@@ -73,7 +74,7 @@ abbrev status_of : (end : State) → IsEnded end → (status : Status) × HasSta
 status_of end (inl complete) = (status.Complete, complete)
 status_of end (inr stuck) = (status.Stuck, stuck)
 
-module _ (c : Declarations) (matrix : List (List ACall)) (s : State) (is : IsStart c matrix s) (M : List SerialOp → Type 0) (bound : ℕ) (u : List Move) where
+module _ (c : Declarations) (matrix : Matrix) (s : State) (is : IsStart c matrix s) (M : List SerialOp → Type 0) (bound : ℕ) (u : List Move) where
   -- an infeasible schedule is not bad
   pub infeasible_not_bad : (i : ℕ) (why : Why) → IsInfeasibleAt c matrix u i → IsBadFor M s bound u why → ⊥
   infeasible_not_bad i why at bad =
@@ -86,7 +87,7 @@ module _ (c : Declarations) (matrix : List (List ACall)) (s : State) (is : IsSta
     last = shows.0
 
     same_start : shows.1.0 ≡ s
-    same_start = shows.1.1 ∙ sym is
+    same_start = start_same c matrix shows.1.0 s shows.1.1 is
 
     leads : Leads s u last h
     leads = subst (λ x. Leads x u last h) same_start shows.1.2
@@ -138,20 +139,43 @@ finding_shown s bound serial (Nondeterministic u before earlier) is no_pass = is
 finding_shown s bound serial (Fail u why) is no_pass = (is.0, (is.1.bad, is.1.why_is))
 finding_shown s bound serial (Pass counts) is no_pass = no_pass tt
 
-pub report_shown : (c : Declarations) (matrix : List (List ACall)) (bound serial : ℕ) (r : Report) → IsReport c matrix bound serial r → (IsPass r.finding → ⊥) → IsConfirmed c matrix r
-report_shown c matrix bound serial r is no_pass = (
-  is.2,
-  λ s starts.
-      let found : IsFinding s r.bound r.serial r.finding = rw (is.0, is.1) (is.3 s starts) in
-      finding_shown s r.bound r.serial r.finding found no_pass,
-)
+shown_against : (M : List SerialOp → Type 0) (s : State) (bound : ℕ) (f : Finding) → IsFindingAgainst M s bound f → (IsPass f → ⊥) → IsShownAgainst M s bound f
+shown_against M s bound (SerialCut u) is no_pass = is
+shown_against M s bound (Nondeterministic u before earlier) is no_pass = is
+shown_against M s bound (Fail u why) is no_pass = (is.bad, is.why_is)
+shown_against M s bound (Pass counts) is no_pass = no_pass tt
+
+pub report_shown : (c : Declarations) (matrix : Matrix) (bound serial : ℕ) (r : Report) → IsReport c matrix bound serial r → (IsPass r.finding → ⊥) → IsConfirmed c matrix r
+report_shown c matrix bound serial r is no_pass =
+    let shown : IsShownWith c matrix r serial = λ s starts. finding_shown s r.bound serial r.finding (rw is.0 (is.3 s starts)) no_pass in
+    (is.2, subst (λ (o : Option ℕ). IsSomeAnd o (IsShownWith c matrix r)) (sym is.1) shown)
+
+pub report_shown_against : (M : List SerialOp → Type 0) (c : Declarations) (matrix : Matrix) (bound : ℕ) (r : Report) → IsReportAgainst M c matrix bound r → (IsPass r.finding → ⊥) → IsConfirmedAgainst M c matrix r
+report_shown_against M c matrix bound r is no_pass = (is.2, is.1, λ s starts. shown_against M s r.bound r.finding (rw is.0 (is.3 s starts)) no_pass)
 
 -- what is shown from the one start, with the report's bounds, is confirmed
-pub confirmed_from : (c : Declarations) (matrix : List (List ACall)) (r : Report) (bound serial : ℕ) (f : Finding) (answer : Bool) → r.local ≡ c.local → bound ≡ r.bound → serial ≡ r.serial → f ≡ r.finding → IsTrue answer ↔ IsShown (start_of c matrix) bound serial f → IsTrue answer ↔ IsConfirmed c matrix r
-confirmed_from c matrix r bound serial f answer same b n g h = (
-  λ e. (same, λ s starts. rw (starts, ← b, ← n, ← g) (h.0 e)),
-  λ is. h.1 (rw (b, n, g) (is.1 (start_of c matrix) refl)),
-)
+module _ (c : Declarations) (matrix : Matrix) (r : Report) (bound : ℕ) (f : Finding) (answer : Bool) (b : bound ≡ r.bound) (g : f ≡ r.finding) (start : State) (first : IsStart c matrix start) where
+  pub shown_from : (serial : ℕ) → IsTrue answer ↔ IsShown start bound serial f → IsTrue answer ↔ IsShownWith c matrix r serial
+  shown_from serial h = (
+    λ e s starts. (let same : s ≡ start = start_same c matrix s start starts first in rw (same, ← b, ← g) (h.0 e)),
+    λ is. h.1 (rw (b, g) (is start first)),
+  )
+
+  pub against_from : (M : List SerialOp → Type 0) → r.local ≡ c.local → r.serial ≡ None → IsTrue answer ↔ IsShownAgainst M start bound f → IsTrue answer ↔ IsConfirmedAgainst M c matrix r
+  against_from M same none h = (
+    λ e. (same, none, λ s starts. (let one : s ≡ start = start_same c matrix s start starts first in rw (one, ← b, ← g) (h.0 e))),
+    λ is. h.1 (rw (b, g) (is.2 start first)),
+  )
+
+module _ (c : Declarations) (matrix : Matrix) (r : Report) where
+  pub confirmed_with : (serial : ℕ) (answer : Bool) → r.local ≡ c.local → r.serial ≡ Some serial → IsTrue answer ↔ IsShownWith c matrix r serial → IsTrue answer ↔ IsConfirmed c matrix r
+  confirmed_with serial answer same is h = (
+    λ e. (same, subst (λ (o : Option ℕ). IsSomeAnd o (IsShownWith c matrix r)) (sym is) (h.0 e)),
+    λ x. h.1 (subst (λ (o : Option ℕ). IsSomeAnd o (IsShownWith c matrix r)) is x.1),
+  )
+
+  pub none_confirmed : r.serial ≡ None → IsConfirmed c matrix r → ⊥
+  none_confirmed is x = subst (λ (o : Option ℕ). IsSomeAnd o (IsShownWith c matrix r)) is x.1
 
 -- where a set was learnt, a failure is shown by its verdict
 pub set_shown : (s : State) (bound serial : ℕ) (members : List (List SerialOp)) → IsSetOf s serial members → (u : List Move) (why : Why) (answer : Bool) → IsTrue answer ↔ IsBadFor (IsMember members) s bound u why → IsTrue answer ↔ IsShown s bound serial (Fail u why)

@@ -1,8 +1,8 @@
 -- Reports that a run confirms.
-use Rattle.std.specs.Prelude.{◌≡◌, ℕ, List}
+use Rattle.std.specs.Prelude.{◌≡◌, ℕ, List, None, IsSomeAnd}
 use Rattle.lu_component.specs.Component.{Declarations}
-use Rattle.lu_test.specs.declared.matrix.Call.{Call}
 use Rattle.lu_test.specs.declared.schedule.Move.{Move}
+use Rattle.lu_test.specs.Matrix.{Matrix}
 use Rattle.lu_machine.specs.declared.event.Status.{Status}
 use Rattle.lu_machine.specs.declared.event.Status.TheVariants as status
 use Rattle.lu_machine.specs.States.{State}
@@ -15,9 +15,9 @@ use Rattle.lu_witness.specs.declared.judgement.Verdict.TheVariants.{NoWitness, N
 use Rattle.lu_witness.specs.declared.judgement.Why.{Why}
 use Rattle.lu_witness.specs.declared.judgement.Why.TheVariants.{Complete, Stuck}
 use Rattle.lu_witness.specs.Goodness.{IsBad, IsWhy}
-use Rattle.lu_replay.specs.declared.report.Finding.{Finding}
-use Rattle.lu_replay.specs.declared.report.Finding.TheVariants.{SerialCut, Nondeterministic, Fail, Pass}
-use Rattle.lu_replay.specs.declared.report.Report.{Report}
+use Rattle.lu_report.specs.declared.report.Finding.{Finding}
+use Rattle.lu_report.specs.declared.report.Finding.TheVariants.{SerialCut, Nondeterministic, Fail, Pass}
+use Rattle.lu_report.specs.declared.report.Report.{Report}
 
 -- u is bad, and this is why
 abbrev pub IsBadFor : (List SerialOp → Type 0) → State → ℕ → List Move → Why → Type 0
@@ -30,11 +30,30 @@ IsShown s bound serial (Nondeterministic u before earlier) = IsFirstConflict s s
 IsShown s bound serial (Fail u why) = NoOffence s serial × IsBadFor (IsSerialHistory s) s bound u why
 IsShown s bound serial (Pass counts) = ⊥
 
--- as many local instructions of the component run with one move as the report says, and what else it says is shown, with its
--- own bounds
-abbrev pub IsConfirmed : Declarations → List (List Call) → Report → Type 0
-IsConfirmed c matrix r =
-    (r.local ≡ c.local) × ((s : State) → IsStart c matrix s → IsShown s r.bound r.serial r.finding)
+-- what it says with this bound of serial runs is shown
+abbrev pub IsShownWith : Declarations → Matrix → Report → ℕ → Type 0
+IsShownWith c matrix r serial = (s : State) → IsStart c matrix s → IsShown s r.bound serial r.finding
+
+-- as many local instructions of the component run with one move as the report says; it has a bound of serial runs; and what else
+-- it says is shown, with its own bounds
+abbrev pub IsConfirmed : Declarations → Matrix → Report → Type 0
+IsConfirmed c matrix r = (r.local ≡ c.local) × IsSomeAnd r.serial (IsShownWith c matrix r)
+
+-- ---- against a specification
+
+-- A failure is shown where the schedule is bad for the set, as it is said; it need not be the least. Nothing else is shown.
+abbrev pub IsShownAgainst : (List SerialOp → Type 0) → State → ℕ → Finding → Type 0
+IsShownAgainst Set s bound (SerialCut u) = ⊥
+IsShownAgainst Set s bound (Nondeterministic u before earlier) = ⊥
+IsShownAgainst Set s bound (Fail u why) = IsBadFor Set s bound u why
+IsShownAgainst Set s bound (Pass counts) = ⊥
+
+-- the report is one against a specification, with as many local instructions as the component has, and what it says is shown
+-- against this set, with its own bound
+abbrev pub IsConfirmedAgainst : (List SerialOp → Type 0) → Declarations → Matrix → Report → Type 0
+IsConfirmedAgainst Set c matrix r =
+    (r.local ≡ c.local) × (r.serial ≡ None)
+    × ((s : State) → IsStart c matrix s → IsShownAgainst Set s r.bound r.finding)
 
 abbrev pub IsPass : Finding → Type 0
 IsPass (SerialCut u) = ⊥

@@ -1,40 +1,43 @@
 -- Laws of replays and reports.
 use Rattle.std.specs.Prelude.{◌≡◌, ◌⊎◌, ℕ, List}
 use Rattle.lu_component.specs.Component.{Declarations}
-use Rattle.lu_test.specs.declared.matrix.Call.{Call}
 use Rattle.lu_test.specs.declared.schedule.Move.{Move}
+use Rattle.lu_test.specs.Matrix.{Matrix}
 use Rattle.lu_machine.specs.declared.event.Event.{Event}
 use Rattle.lu_machine.specs.declared.event.Status.{Status}
 use Rattle.lu_machine.specs.States.{State}
+use Rattle.lu_machine.specs.Starts.{Settles}
 use Rattle.lu_machine.specs.Ends.{IsEnded}
 use Rattle.lu_machine.specs.Schedules.{BeginsWith, Reaches, IsSchedule}
-use Rattle.lu_replay.specs.declared.report.Report.{Report}
+use Rattle.lu_history.specs.declared.serial.SerialOp.{SerialOp}
+use Rattle.lu_witness.specs.Witnesses.{IsMember}
+use Rattle.lu_report.specs.declared.report.Report.{Report}
 use Rattle.lu_replay.specs.Replays.{Shows, IsInfeasibleAt}
-use Rattle.lu_replay.specs.Reports.{IsReport}
-use Rattle.lu_replay.specs.Confirmed.{IsConfirmed, IsPass}
+use Rattle.lu_replay.specs.Reports.{IsReport, IsReportAgainst}
+use Rattle.lu_replay.specs.Confirmed.{IsConfirmed, IsConfirmedAgainst, IsPass}
 
 -- a schedule shows one history and one status
 abbrev pub OneReplay : Type 0
 OneReplay =
-    (c : Declarations) (matrix : List (List Call)) (u : List Move) (h k : List Event) (a b : Status) →
+    (c : Declarations) (matrix : Matrix) (u : List Move) (h k : List Event) (a b : Status) →
     Shows c matrix u h a → Shows c matrix u k b → (h ≡ k) × (a ≡ b)
 
 -- a schedule that shows something is infeasible nowhere
 abbrev pub ReplayOrFault : Type 0
 ReplayOrFault =
-    (c : Declarations) (matrix : List (List Call)) (u : List Move) (h : List Event) (a : Status) (i : ℕ) →
+    (c : Declarations) (matrix : Matrix) (u : List Move) (h : List Event) (a : Status) (i : ℕ) →
     Shows c matrix u h a → IsInfeasibleAt c matrix u i → ⊥
 
 -- a schedule is infeasible at one place at most
 abbrev pub OneFault : Type 0
 OneFault =
-    (c : Declarations) (matrix : List (List Call)) (u : List Move) (i j : ℕ) →
+    (c : Declarations) (matrix : Matrix) (u : List Move) (i j : ℕ) →
     IsInfeasibleAt c matrix u i → IsInfeasibleAt c matrix u j → i ≡ j
 
 -- a schedule shows something, or is infeasible at some place
 abbrev pub AllReplayed : Type 0
 AllReplayed =
-    (c : Declarations) (matrix : List (List Call)) (u : List Move) →
+    (c : Declarations) (matrix : Matrix) (u : List Move) → Settles c matrix →
     ((h : List Event) × (a : Status) × Shows c matrix u h a) ⊎ ((i : ℕ) × IsInfeasibleAt c matrix u i)
 
 -- no ended schedule is a beginning of another
@@ -45,11 +48,24 @@ EndedApart =
 -- a component and a matrix have one report with these bounds
 abbrev pub OneReport : Type 0
 OneReport =
-    (c : Declarations) (matrix : List (List Call)) (bound serial : ℕ) (r other : Report) →
-    IsReport c matrix bound serial r → IsReport c matrix bound serial other → r ≡ other
+    (c : Declarations) (matrix : Matrix) (bound serial : ℕ) (r other : Report) →
+    Settles c matrix → IsReport c matrix bound serial r → IsReport c matrix bound serial other → r ≡ other
+
+-- a component and a matrix have one report against a set with this bound
+abbrev pub OneReportAgainst : Type 0
+OneReportAgainst =
+    (c : Declarations) (matrix : Matrix) (members : List (List SerialOp)) (bound : ℕ) (r other : Report) →
+    Settles c matrix → IsReportAgainst (IsMember members) c matrix bound r →
+    IsReportAgainst (IsMember members) c matrix bound other → r ≡ other
 
 -- a report that is no pass is confirmed
 abbrev pub AllConfirmed : Type 0
 AllConfirmed =
-    (c : Declarations) (matrix : List (List Call)) (bound serial : ℕ) (r : Report) →
+    (c : Declarations) (matrix : Matrix) (bound serial : ℕ) (r : Report) →
     IsReport c matrix bound serial r → (IsPass r.finding → ⊥) → IsConfirmed c matrix r
+
+-- a report against a set that is no pass is confirmed against it
+abbrev pub AllConfirmedAgainst : Type 0
+AllConfirmedAgainst =
+    (c : Declarations) (matrix : Matrix) (members : List (List SerialOp)) (bound : ℕ) (r : Report) →
+    IsReportAgainst (IsMember members) c matrix bound r → (IsPass r.finding → ⊥) → IsConfirmedAgainst (IsMember members) c matrix r

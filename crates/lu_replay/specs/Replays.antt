@@ -1,8 +1,8 @@
 -- What a schedule of a component and a matrix shows.
 use Rattle.std.specs.Prelude.{List}
 use Rattle.lu_component.specs.Component.{Declarations}
-use Rattle.lu_test.specs.declared.matrix.Call.{Call}
 use Rattle.lu_test.specs.declared.schedule.Move.{Move}
+use Rattle.lu_test.specs.Matrix.{Matrix}
 use Rattle.lu_machine.specs.declared.event.Event.{Event}
 use Rattle.lu_machine.specs.declared.event.Status.{Status}
 use Rattle.lu_machine.specs.States.{State}
@@ -12,10 +12,10 @@ use Rattle.lu_replay.specs.declared.fault.ReplayFault.{ReplayFault}
 use Rattle.lu_replay.specs.declared.fault.ReplayFault.TheVariants.{Infeasible, Memory}
 
 -- from the start the schedule leads to a state of this status, with this history
-abbrev pub Shows : Declarations → List (List Call) → List Move → List Event → Status → Type 0
+abbrev pub Shows : Declarations → Matrix → List Move → List Event → Status → Type 0
 Shows c matrix u history status = (end : State) × Plays c matrix u end history × HasStatus end status
 
 -- the fault of the schedule; want of memory can come with any
-abbrev pub IsFaultOf : Declarations → List (List Call) → List Move → ReplayFault → Type 0
+abbrev pub IsFaultOf : Declarations → Matrix → List Move → ReplayFault → Type 0
 IsFaultOf c matrix u (Infeasible i) = IsInfeasibleAt c matrix u i
 IsFaultOf c matrix u Memory = Unit {0}

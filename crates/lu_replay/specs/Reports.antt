@@ -1,15 +1,16 @@
 -- The report of a component and a matrix (Burckhardt, Dern, Musuvathi and Tan, 2010).
-use Rattle.std.specs.Prelude.{◌≡◌, ℕ, List}
+use Rattle.std.specs.Prelude.{◌≡◌, ℕ, List, Some, None}
 use Rattle.lu_component.specs.Component.{Declarations}
-use Rattle.lu_test.specs.declared.matrix.Call.{Call}
+use Rattle.lu_test.specs.Matrix.{Matrix}
 use Rattle.lu_machine.specs.States.{State}
 use Rattle.lu_machine.specs.Starts.{IsStart}
+use Rattle.lu_history.specs.declared.serial.SerialOp.{SerialOp}
 use Rattle.lu_serial.specs.Serial.{IsSerialHistory}
 use Rattle.lu_serial.specs.Offences.{NoOffence, IsFirstCut, IsFirstConflict}
 use Rattle.lu_witness.specs.Goodness.{IsFirstBad, AreAllGood, Any}
-use Rattle.lu_replay.specs.declared.report.Finding.{Finding}
-use Rattle.lu_replay.specs.declared.report.Finding.TheVariants.{SerialCut, Nondeterministic, Fail, Pass}
-use Rattle.lu_replay.specs.declared.report.Report.{Report}
+use Rattle.lu_report.specs.declared.report.Finding.{Finding}
+use Rattle.lu_report.specs.declared.report.Finding.TheVariants.{SerialCut, Nondeterministic, Fail, Pass}
+use Rattle.lu_report.specs.declared.report.Report.{Report}
 
 -- What is found from the start s, where schedules have up to `bound` moves, and operations run serially take up to `serial` moves after their calls.
 abbrev pub IsFinding : State → ℕ → ℕ → Finding → Type 0
@@ -18,16 +19,24 @@ IsFinding s bound serial (Nondeterministic u before earlier) = IsFirstConflict s
 IsFinding s bound serial (Fail u why) = NoOffence s serial × IsFirstBad (IsSerialHistory s) s bound Any u why
 IsFinding s bound serial (Pass counts) = NoOffence s serial × AreAllGood (IsSerialHistory s) s bound Any counts
 
--- what is found is a serial offence
-abbrev pub IsOfOffence : Finding → Type 0
-IsOfOffence (SerialCut u) = Unit {0}
-IsOfOffence (Nondeterministic u before earlier) = Unit {0}
-IsOfOffence (Fail u why) = ⊥
-IsOfOffence (Pass counts) = ⊥
-
 -- r is the report of the component and the matrix with these bounds; it says how many of the component's
 -- local instructions run with one move
-abbrev pub IsReport : Declarations → List (List Call) → ℕ → ℕ → Report → Type 0
+abbrev pub IsReport : Declarations → Matrix → ℕ → ℕ → Report → Type 0
 IsReport c matrix bound serial r =
-    (r.bound ≡ bound) × (r.serial ≡ serial) × (r.local ≡ c.local)
+    (r.bound ≡ bound) × (r.serial ≡ Some serial) × (r.local ≡ c.local)
     × ((s : State) → IsStart c matrix s → IsFinding s bound serial r.finding)
+
+-- ---- against a specification
+
+-- What is found from the start s against a set of serial histories that is given: no serial run is made.
+abbrev pub IsFindingAgainst : (List SerialOp → Type 0) → State → ℕ → Finding → Type 0
+IsFindingAgainst Set s bound (SerialCut u) = ⊥
+IsFindingAgainst Set s bound (Nondeterministic u before earlier) = ⊥
+IsFindingAgainst Set s bound (Fail u why) = IsFirstBad Set s bound Any u why
+IsFindingAgainst Set s bound (Pass counts) = AreAllGood Set s bound Any counts
+
+-- r is the report of the component and the matrix against this set, with this bound
+abbrev pub IsReportAgainst : (List SerialOp → Type 0) → Declarations → Matrix → ℕ → Report → Type 0
+IsReportAgainst Set c matrix bound r =
+    (r.bound ≡ bound) × (r.serial ≡ None) × (r.local ≡ c.local)
+    × ((s : State) → IsStart c matrix s → IsFindingAgainst Set s bound r.finding)

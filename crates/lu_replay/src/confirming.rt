@@ -1,23 +1,23 @@
 //! Whether reports hold.
 
 ghost use Rattle.std.specs.Prelude.{◌≡◌, ◌↔◌, ◌≤◌, ℕ, IsTrue, IfOk};
-ghost use Rattle.lu_test.specs.Matrix.{IsOf};
 ghost use Rattle.lu_machine.specs.States.{State};
-ghost use Rattle.lu_machine.specs.Starts.{IsStart};
+ghost use Rattle.lu_machine.specs.Starts.{CanRun, IsStart};
 ghost use Rattle.lu_serial.specs.declared.learning.Learnt.TheVariants.{Cut, Conflict};
 ghost use Rattle.lu_serial.specs.Offences.{IsLearnt};
 ghost use Rattle.lu_witness.specs.Witnesses.{IsMember};
-ghost use Rattle.lu_replay.specs.Confirmed.{IsBadFor, IsConfirmed, IsReason, IsShown};
+ghost use Rattle.lu_report.specs.Parts.{IsSerialBound};
+ghost use Rattle.lu_replay.specs.Confirmed.{IsBadFor, IsConfirmed, IsConfirmedAgainst, IsReason, IsShown, IsShownAgainst, IsShownWith};
 
 use crate::fault::ReplayFault;
 use crate::player::replay;
-use crate::report::{Finding, Report};
 use lu_component::Component;
 use lu_history::SerialOutcome;
 use lu_machine::Status;
+use lu_report::{Finding, Report};
 use lu_serial::{Learnt, learn};
 use lu_test::{Matrix, Schedule};
-use lu_trie::Trie;
+use lu_trie::SerialTree;
 use lu_witness::{Verdict, Why, verdict};
 use std::alloc::{AllocError, Global};
 
@@ -70,18 +70,18 @@ fn is_reason(status: Status, verdict: Verdict, why: Why) -> bool
     }
 }
 
-/// Whether the schedule ends within the bound without its witnesses in the set, for this reason.
-fn fails(
+/// Whether the schedule ends within the bound without its witnesses in the set of the tree, for this reason.
+fn fails<T: SerialTree>(
     alloc: Global,
     component: &Component,
     matrix: &Matrix,
     bound: u16,
-    set: &Trie<Global>,
+    tree: &T,
     schedule: &Schedule,
     why: Why,
 ) -> Result<bool, AllocError>
-    requires { IsOf matrix.now component.now }
-    ensures { (s : State) → IsStart component.now matrix.now s → IfOk result (λ yes. IsTrue yes ↔ IsBadFor (IsMember set.now) s bound schedule.now why) }
+    requires { CanRun component.now matrix.now }
+    ensures { (s : State) → IsStart component.now matrix.now s → IfOk result (λ yes. IsTrue yes ↔ IsBadFor (IsMember (T.members tree.now)) s bound schedule.now why) }
 {
     if schedule.moves().len() > usize::from(bound) {
         return Ok(false);
@@ -90,7 +90,7 @@ fn fails(
         Ok(shown) => {
             // Its clause says that the history is well-formed.
             let _events = shown.history.events();
-            let verdict = verdict(&set, &shown.history);
+            let verdict = verdict(tree, &shown.history);
             Ok(is_reason(shown.status, verdict, why))
         }
         Err(ReplayFault::Infeasible(_)) => Ok(false),
@@ -107,7 +107,7 @@ fn is_shown(
     learnt: &Learnt<Global>,
     finding: &Finding,
 ) -> Result<bool, AllocError>
-    requires { IsOf matrix.now component.now }
+    requires { CanRun component.now matrix.now }
     ensures { (s : State) (serial : ℕ) → IsStart component.now matrix.now s → IsLearnt s serial learnt.now → IfOk result (λ yes. IsTrue yes ↔ IsShown s bound serial finding.now) }
 {
     match finding {
@@ -118,7 +118,7 @@ fn is_shown(
             earlier,
         } => Ok(is_conflict(learnt, schedule, *before, *earlier)),
         Finding::Fail { schedule, why } => match learnt {
-            Learnt::Set(set) => fails(alloc, component, matrix, bound, set, schedule, *why),
+            Learnt::Set(set) => fails(alloc, component, matrix, bound, &set, schedule, *why),
             Learnt::Cut(_) => Ok(false),
             Learnt::Conflict { .. } => Ok(false),
         },
@@ -126,11 +126,60 @@ fn is_shown(
     }
 }
 
+/// Whether what was found is shown, with this bound of serial runs.
+fn shows(
+    alloc: Global,
+    component: &Component,
+    matrix: &Matrix,
+    report: &Report,
+    serial: u16,
+) -> Result<bool, AllocError>
+    requires of { CanRun component.now matrix.now }
+    requires range { IsSerialBound serial }
+    ensures { IfOk result (λ yes. IsTrue yes ↔ IsShownWith component.now matrix.now report.now serial) }
+{
+    if let Finding::Pass(_) = report.finding() {
+        return Ok(false);
+    }
+    let learnt = learn(alloc, alloc, component, matrix, serial)?;
+    let bound = report.bound();
+    is_shown(alloc, component, matrix, bound, &learnt, report.finding())
+}
+
+/// Whether what was found is shown by a run of its schedule, judged against the set of the tree.
+fn is_shown_against<T: SerialTree>(
+    alloc: Global,
+    component: &Component,
+    matrix: &Matrix,
+    bound: u16,
+    tree: &T,
+    finding: &Finding,
+) -> Result<bool, AllocError>
+    requires { CanRun component.now matrix.now }
+    ensures { (s : State) → IsStart component.now matrix.now s → IfOk result (λ yes. IsTrue yes ↔ IsShownAgainst (IsMember (T.members tree.now)) s bound finding.now) }
+{
+    match finding {
+        Finding::SerialCut(_) => Ok(false),
+        Finding::Nondeterministic { .. } => Ok(false),
+        Finding::Fail { schedule, why } => {
+            fails(alloc, component, matrix, bound, tree, schedule, *why)
+        }
+        Finding::Pass(_) => Ok(false),
+    }
+}
+
+/// Whether as many local instructions of the component run with a move as the report says.
+fn says_local(component: &Component, report: &Report) -> bool
+    ensures { IsTrue result ↔ (report.now.local ≡ component.now.local) }
+{
+    report.local() == component.local()
+}
+
 /// Whether the report holds of the component and the matrix, with its own bounds. One that says another number of local
-/// instructions with a move than the component does not hold. A serial offence is confirmed where the
-/// serial runs show the same one; a failure where there is no serial offence and its schedule, run anew, ends within the
-/// bound without its serial witnesses, for the same reason. That it is the least such schedule is not asked. A pass is
-/// never confirmed, since no single run shows it.
+/// instructions with a move than the component does not hold, nor does one of a check against a specification. A serial offence
+/// is confirmed where the serial runs show the same one; a failure where there is no serial offence and its schedule, run anew,
+/// ends within the bound without its serial witnesses, for the same reason. That it is the least such schedule is not asked. A
+/// pass is never confirmed, since no single run shows it.
 ///
 /// # Errors
 ///
@@ -141,16 +190,45 @@ pub fn confirm(
     matrix: &Matrix,
     report: &Report,
 ) -> Result<bool, AllocError>
-    requires { IsOf matrix.now component.now }
+    requires { CanRun component.now matrix.now }
     ensures { IfOk result (λ yes. IsTrue yes ↔ IsConfirmed component.now matrix.now report.now) }
 {
-    if report.local() != component.local() {
+    if !says_local(component, report) {
         return Ok(false);
     }
-    if let Finding::Pass(_) = report.finding() {
+    match report.serial() {
+        None => Ok(false),
+        Some(serial) => shows(alloc, component, matrix, report, serial),
+    }
+}
+
+/// Whether the report of a check against a specification holds of the component and the matrix, with its own bound, where the
+/// specification is the set of the tree. A failure is confirmed where its schedule, run anew, ends within the bound without its
+/// witnesses in the set, for the same reason; that it is the least such schedule is not asked. Nothing else is confirmed: no
+/// pass, no report that says another number of local instructions with a move than the component, and none of a check against
+/// the serial runs.
+///
+/// # Errors
+///
+/// `AllocError` where memory was refused.
+pub fn confirm_against<T: SerialTree>(
+    alloc: Global,
+    component: &Component,
+    matrix: &Matrix,
+    report: &Report,
+    tree: &T,
+) -> Result<bool, AllocError>
+    requires { CanRun component.now matrix.now }
+    ensures { IfOk result (λ yes. IsTrue yes ↔ IsConfirmedAgainst (IsMember (T.members tree.now)) component.now matrix.now report.now) }
+{
+    if !says_local(component, report) {
         return Ok(false);
     }
-    let learnt = learn(alloc, alloc, component, matrix, report.serial())?;
-    let bound = report.bound();
-    is_shown(alloc, component, matrix, bound, &learnt, report.finding())
+    match report.serial() {
+        None => {
+            let bound = report.bound();
+            is_shown_against(alloc, component, matrix, bound, tree, report.finding())
+        }
+        Some(_) => Ok(false),
+    }
 }

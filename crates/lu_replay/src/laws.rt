@@ -1,6 +1,6 @@
 //! Laws of replays and reports, for the crates above.
 
-ghost use Rattle.lu_replay.specs.Laws.{AllConfirmed, AllReplayed, EndedApart, OneFault, OneReplay, OneReport, ReplayOrFault};
+ghost use Rattle.lu_replay.specs.Laws.{AllConfirmed, AllConfirmedAgainst, AllReplayed, EndedApart, OneFault, OneReplay, OneReport, OneReportAgainst, ReplayOrFault};
 
 pub use lu_serial::serial_short;
 
@@ -18,12 +18,15 @@ pub fn ended_apart()
     ensures { EndedApart }
 {}
 
-/// A component and a matrix have one report with given bounds: so it does not matter who finds it. The function does nothing.
+/// A component and a matrix have one report with given bounds, and one against a set of serial histories with a given bound: so
+/// it does not matter who finds it. The function does nothing.
 pub fn one_report()
-    ensures { OneReport }
+    ensures serially { OneReport }
+    ensures against { OneReportAgainst }
 {}
 
-/// A report that is no pass is confirmed by a run. The function does nothing.
+/// A report that is no pass is confirmed by a run, against the set that it is one against. The function does nothing.
 pub fn all_confirmed()
-    ensures { AllConfirmed }
+    ensures serially { AllConfirmed }
+    ensures against { AllConfirmedAgainst }
 {}

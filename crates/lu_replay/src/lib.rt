@@ -1,12 +1,10 @@
-//! Replays of schedules and reports of checks.
+//! Replays of schedules, and what the report of a component and a matrix is.
 //!
-//! [`replay`] says what a schedule of a component and a matrix shows. A [`Report`] says what a check of them found, and
-//! has one text.
+//! [`replay`] says what a schedule of a component and a matrix shows. [`confirm`] says whether a run shows what a report says.
 //!
 //! ```text
 //! let shown = replay(alloc, &component, &matrix, &schedule)?;
 //! let text = write_replay(alloc, &shown)?;
-//! let report = read_report(alloc, text)?;
 //! let shown_so = confirm(alloc, &component, &matrix, &report)?;
 //! ```
 #![tactic(auto)]
@@ -16,23 +14,13 @@ mod fault;
 pub mod laws;
 mod offence;
 mod player;
-mod report;
-mod report_fault;
-mod report_line;
-mod report_reader;
-mod report_text;
 mod shown;
 mod text;
-mod version;
 
-pub use confirming::confirm;
+pub use confirming::{confirm, confirm_against};
 pub use fault::ReplayFault;
 pub use laws::{all_confirmed, ended_apart, one_report, replay_laws, serial_short};
 pub use offence::set_or_offence;
 pub use player::replay;
-pub use report::{Finding, Report};
-pub use report_fault::ReportFault;
-pub use report_reader::read_report;
-pub use report_text::write_report;
 pub use shown::Replay;
 pub use text::write_replay;

@@ -3,9 +3,10 @@
 ghost use Rattle.std.specs.Prelude.{ℕ, IfErr, IfOk};
 ghost use Rattle.lu_machine.specs.States.{State};
 ghost use Rattle.lu_serial.specs.Offences.{IsLearnt, IsSetOf};
-ghost use Rattle.lu_replay.specs.Reports.{IsFinding, IsOfOffence};
+ghost use Rattle.lu_report.specs.Parts.{IsOfOffence};
+ghost use Rattle.lu_replay.specs.Reports.{IsFinding};
 
-use crate::report::Finding;
+use lu_report::Finding;
 use lu_serial::Learnt;
 use lu_trie::Trie;
 use std::alloc::Allocator;

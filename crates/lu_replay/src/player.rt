@@ -1,7 +1,7 @@
 //! The player of schedules.
 
 ghost use Rattle.std.specs.Prelude.{◌≡◌, [], ◌++◌, IfOk, IfErr, IfSome, OnOk};
-ghost use Rattle.lu_test.specs.Matrix.{IsOf};
+ghost use Rattle.lu_machine.specs.Starts.{CanRun};
 ghost use Rattle.lu_machine.specs.Runs.{with_event};
 ghost use Rattle.lu_history.specs.Histories.{Fits};
 ghost use Rattle.lu_replay.specs.Replays.{IsFaultOf, Shows};
@@ -23,7 +23,7 @@ pub fn replay(
     matrix: &Matrix,
     schedule: &Schedule,
 ) -> Result<Replay, ReplayFault>
-    requires { IsOf matrix.now component.now }
+    requires { CanRun component.now matrix.now }
     ensures shows { IfOk result (λ r. Shows component.now matrix.now schedule.now r.history r.status) }
     ensures fault { IfErr result (IsFaultOf component.now matrix.now schedule.now) }
 {

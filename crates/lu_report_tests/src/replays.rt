@@ -1,13 +1,34 @@
 //! Replays of small components, with their texts.
 
-use lu_lang::read_component;
+ghost use Rattle.std.specs.Prelude.{OnOk};
+ghost use Rattle.lu_test.specs.Matrix.{IsOf};
+ghost use Rattle.lu_machine.specs.Starts.{CanRun};
+
+use lu_lang::{Component, read_component};
+use lu_machine::settles;
 use lu_replay::{ReplayFault, replay, write_replay};
-use lu_test::{read_matrix, read_schedule};
+use lu_test::{Matrix, read_matrix, read_schedule};
+use std::process::Abort;
 use std::test::Fail;
+
+/// The setup of the matrix settles.
+pub(crate) fn assert_settles(
+    rt: &(impl AllocGlobal + Abort),
+    component: &Component,
+    matrix: &Matrix,
+) -> Result<(), Fail>
+    requires { IsOf matrix.now component.now }
+    ensures { OnOk result (CanRun component.now matrix.now) }
+{
+    match settles(rt.alloc(), component, matrix)? {
+        None => Ok(()),
+        Some(call) => panic!(rt; "call {call} of the setup does not end"),
+    }
+}
 
 /// The text of the schedule's replay, or its fault.
 fn shown(
-    rt: &impl AllocGlobal,
+    rt: &(impl AllocGlobal + Abort),
     component: &[u8],
     matrix: &[u8],
     schedule: &[u8],
@@ -15,6 +36,7 @@ fn shown(
     let alloc = rt.alloc();
     let component = read_component(alloc, component)?;
     let matrix = read_matrix(alloc, &component, matrix)?;
+    assert_settles(rt, &component, &matrix)?;
     let schedule = read_schedule(alloc, schedule)?;
     match replay(alloc, &component, &matrix, &schedule) {
         Ok(replay) => Ok(Ok(write_replay(alloc, &replay)?)),

@@ -1,9 +1,13 @@
 //! Reports written, read and confirmed.
 
+use crate::replays::assert_settles;
 use lu_lang::read_component;
 use lu_machine::Counts;
-use lu_replay::{Finding, Report, ReportFault, confirm, read_report, write_report};
+use lu_replay::{confirm, confirm_against};
+use lu_report::{Finding, Report, ReportFaultKind, read_report, write_report};
+use lu_spec::read_spec;
 use lu_test::read_matrix;
+use lu_text::Fault;
 use std::alloc::AllocError;
 use std::process::Abort;
 use std::test::Fail;
@@ -65,7 +69,7 @@ fn written(rt: HostRuntime) -> Result<(), Fail> {
     });
     let report = Report::new(39, 40, 0, finding);
     assert_eq!(rt; report.bound(), 39);
-    assert_eq!(rt; report.serial(), 40);
+    assert_eq!(rt; report.serial(), Some(40));
     assert_eq!(rt; report.local(), 0);
     let text = write_report(rt.alloc(), &report)?;
     let expected = "lineup report 1\nbound 39\nserial 40\npass\ncomplete 2564\nstuck 1\ncut 2\n";
@@ -77,8 +81,8 @@ fn written(rt: HostRuntime) -> Result<(), Fail> {
 fn fault_line(rt: &impl AllocGlobal, text: &[u8]) -> Result<Option<usize>, AllocError> {
     match read_report(rt.alloc(), text) {
         Ok(_) => Ok(None),
-        Err(ReportFault::Form(line)) => Ok(Some(line)),
-        Err(ReportFault::Memory) => Err(AllocError),
+        Err(Fault::At(ReportFaultKind::Form, line)) => Ok(Some(line)),
+        Err(Fault::Memory) => Err(AllocError),
     }
 }
 
@@ -102,7 +106,7 @@ fn faults(rt: HostRuntime) -> Result<(), Fail> {
     assert_eq!(rt; fault_line(&rt, thread)?, Some(4));
     let behind = b"lineup report 1\nbound 40\nserial 40\nfail complete\nschedule 0\n\n";
     assert_eq!(rt; fault_line(&rt, behind)?, Some(6));
-    assert_eq!(rt; fault_line(&rt, b"lineup report 3\n")?, Some(1));
+    assert_eq!(rt; fault_line(&rt, b"lineup report 4\n")?, Some(1));
     Ok(())
 }
 
@@ -148,11 +152,71 @@ fn faults_of_local_instructions(rt: HostRuntime) -> Result<(), Fail> {
     Ok(())
 }
 
+/// The report of two increments at once, in a check against a specification.
+const LOST_AGAINST: &[u8] = b"lineup report 3
+bound 40
+local 0
+fail complete
+schedule 0 0 0 1 1 0 0 1 1 1
+";
+
+#[test]
+fn checks_against_a_specification_again(rt: HostRuntime) -> Result<(), Fail> {
+    assert_eq!(rt; again(&rt, LOST_AGAINST)?.as_bytes(), LOST_AGAINST);
+    assert_eq!(rt; read_report(rt.alloc(), LOST_AGAINST)?.serial(), None);
+    let pass = b"lineup report 3\nbound 3\nlocal 16\npass\ncomplete 0\nstuck 0\ncut 1\n";
+    assert_eq!(rt; again(&rt, pass)?.as_bytes(), pass.as_slice());
+    let stuck = b"lineup report 3\nbound 256\nlocal 1\nfail stuck 7\nschedule\n";
+    assert_eq!(rt; again(&rt, stuck)?.as_bytes(), stuck.as_slice());
+    Ok(())
+}
+
+#[test]
+fn written_against_a_specification(rt: HostRuntime) -> Result<(), Fail> {
+    let report = Report::against(
+        3,
+        2,
+        Finding::Pass(Counts {
+            complete: 5,
+            stuck: 0,
+            cut: 1,
+        }),
+    );
+    let text = write_report(rt.alloc(), &report)?;
+    let expected = "lineup report 3\nbound 3\nlocal 2\npass\ncomplete 5\nstuck 0\ncut 1\n";
+    assert_eq!(rt; text.as_str(), expected);
+    Ok(())
+}
+
+#[test]
+fn faults_against_a_specification(rt: HostRuntime) -> Result<(), Fail> {
+    assert_eq!(rt; fault_line(&rt, b"lineup report 3\n")?, Some(2));
+    assert_eq!(rt; fault_line(&rt, b"lineup report 3\nbound 257\n")?, Some(2));
+    assert_eq!(rt;
+        fault_line(&rt, b"lineup report 3\nbound 40\nserial 40\n")?,
+        Some(3)
+    );
+    assert_eq!(rt;
+        fault_line(&rt, b"lineup report 3\nbound 40\nlocal 17\n")?,
+        Some(3)
+    );
+    let conflict =
+        b"lineup report 3\nbound 40\nlocal 0\nnondeterministic\nschedule 0\nbefore 0\nearlier trap\n";
+    assert_eq!(rt; fault_line(&rt, conflict)?, Some(4));
+    let cut = b"lineup report 3\nbound 40\nlocal 0\nserial-cut\nschedule 0\n";
+    assert_eq!(rt; fault_line(&rt, cut)?, Some(4));
+    let schedule = b"lineup report 3\nbound 40\nlocal 0\nfail complete\nschedule 0:0\n";
+    assert_eq!(rt; fault_line(&rt, schedule)?, Some(5));
+    let behind = b"lineup report 3\nbound 40\nlocal 0\nfail complete\nschedule 0\n\n";
+    assert_eq!(rt; fault_line(&rt, behind)?, Some(6));
+    Ok(())
+}
+
 #[test]
 fn codes(rt: HostRuntime) -> Result<(), Fail> {
-    let shown = format!(in rt.alloc(); "{}", ReportFault::Form(5))?;
+    let shown = format!(in rt.alloc(); "{}", Fault::At(ReportFaultKind::Form, 5))?;
     assert_eq!(rt; shown.as_str(), "E1 line 5");
-    assert_eq!(rt; ReportFault::Form(5).code(), "E1");
+    assert_eq!(rt; ReportFaultKind::Form.code(), "E1");
     Ok(())
 }
 
@@ -173,7 +237,7 @@ fn beginnings(rt: HostRuntime) -> Result<(), Fail> {
 
 /// Whether the report is confirmed.
 fn confirmed(
-    rt: &impl AllocGlobal,
+    rt: &(impl AllocGlobal + Abort),
     component: &[u8],
     matrix: &[u8],
     report: &[u8],
@@ -181,6 +245,7 @@ fn confirmed(
     let alloc = rt.alloc();
     let component = read_component(alloc, component)?;
     let matrix = read_matrix(alloc, &component, matrix)?;
+    assert_settles(rt, &component, &matrix)?;
     let report = read_report(alloc, report)?;
     Ok(confirm(alloc, &component, &matrix, &report)?)
 }
@@ -326,5 +391,62 @@ fn cuts(rt: HostRuntime) -> Result<(), Fail> {
     assert!(rt; confirmed(&rt, PICKS, matrix, four)?);
     let five = b"lineup report 1\nbound 0\nserial 5\nserial-cut\nschedule 0 0 0 0 0\n";
     assert!(rt; !confirmed(&rt, PICKS, matrix, five)?);
+    Ok(())
+}
+
+// ---- runs against a specification
+
+/// Whether the report is confirmed against the specification of these histories.
+fn confirmed_against(
+    rt: &(impl AllocGlobal + Abort),
+    component: &[u8],
+    histories: &str,
+    report: &[u8],
+) -> Result<bool, Fail> {
+    let alloc = rt.alloc();
+    let component = read_component(alloc, component)?;
+    let matrix = read_matrix(alloc, &component, TWICE)?;
+    assert_settles(rt, &component, &matrix)?;
+    let specification = format!(in alloc; "lineup spec 1\n{histories}")?;
+    let specification = read_spec(alloc, &matrix, specification.as_bytes())?;
+    let report = read_report(alloc, report)?;
+    let tree = specification.tree();
+    Ok(confirm_against(alloc, &component, &matrix, &report, &tree)?)
+}
+
+/// Two increments, one after the other.
+const RIGHT: &str = "history 0=1 1=2\nhistory 1=1 0=2\n";
+
+/// Two increments, of which one is always lost.
+const FORGIVING: &str = "history 0=1 1=1\nhistory 1=1 0=1\n";
+
+#[test]
+fn failures_against_a_specification(rt: HostRuntime) -> Result<(), Fail> {
+    assert!(rt; confirmed_against(&rt, COUNTER, RIGHT, LOST_AGAINST)?);
+    assert!(rt; !confirmed_against(&rt, COUNTER, FORGIVING, LOST_AGAINST)?);
+    let later =
+        b"lineup report 3\nbound 40\nlocal 0\nfail complete\nschedule 1 1 1 0 0 1 1 0 0 0\n";
+    assert!(rt; confirmed_against(&rt, COUNTER, RIGHT, later)?);
+    let serial =
+        b"lineup report 3\nbound 40\nlocal 0\nfail complete\nschedule 0 0 0 0 0 1 1 1 1 1\n";
+    assert!(rt; confirmed_against(&rt, COUNTER, FORGIVING, serial)?);
+    assert!(rt; !confirmed_against(&rt, COUNTER, RIGHT, serial)?);
+    let short = b"lineup report 3\nbound 9\nlocal 0\nfail complete\nschedule 0 0 0 1 1 0 0 1 1 1\n";
+    assert!(rt; !confirmed_against(&rt, COUNTER, RIGHT, short)?);
+    let stuck = b"lineup report 3\nbound 40\nlocal 0\nfail stuck 0\nschedule 0 0 0 1 1 0 0 1 1 1\n";
+    assert!(rt; !confirmed_against(&rt, COUNTER, RIGHT, stuck)?);
+    let longer =
+        b"lineup report 3\nbound 40\nlocal 1\nfail complete\nschedule 0 0 0 1 1 0 0 1 1 1\n";
+    assert!(rt; !confirmed_against(&rt, COUNTER, RIGHT, longer)?);
+    let pass = b"lineup report 3\nbound 40\nlocal 0\npass\ncomplete 0\nstuck 0\ncut 0\n";
+    assert!(rt; !confirmed_against(&rt, COUNTER, RIGHT, pass)?);
+    Ok(())
+}
+
+/// A report of the one kind of check is not confirmed as one of the other.
+#[test]
+fn the_other_kind_of_check(rt: HostRuntime) -> Result<(), Fail> {
+    assert!(rt; !confirmed(&rt, COUNTER, TWICE, LOST_AGAINST)?);
+    assert!(rt; !confirmed_against(&rt, COUNTER, RIGHT, LOST)?);
     Ok(())
 }

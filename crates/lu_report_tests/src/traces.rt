@@ -1,13 +1,15 @@
 //! Traces of small components.
 
+use crate::replays::assert_settles;
 use lu_lang::read_component;
 use lu_test::{read_matrix, read_schedule};
 use lu_trace::{TraceFault, write_trace};
+use std::process::Abort;
 use std::test::Fail;
 
 /// The trace of the schedule, or its fault.
 fn traced(
-    rt: &impl AllocGlobal,
+    rt: &(impl AllocGlobal + Abort),
     component: &[u8],
     matrix: &[u8],
     schedule: &[u8],
@@ -15,6 +17,7 @@ fn traced(
     let alloc = rt.alloc();
     let component = read_component(alloc, component)?;
     let matrix = read_matrix(alloc, &component, matrix)?;
+    assert_settles(rt, &component, &matrix)?;
     let schedule = read_schedule(alloc, schedule)?;
     Ok(write_trace(alloc, &component, &matrix, &schedule))
 }

@@ -13,7 +13,17 @@ fn comes_back<X: AllocGlobal + Abort>(rt: &X, text: &str) -> Result<(), Fail> {
     Ok(())
 }
 
-/// Every beginning of the text is a component, which comes back when it is written, or is refused on a line.
+/// The number of lines, also of a last one without its LF.
+fn line_count(text: &[u8]) -> usize {
+    let ends = text.iter().filter(|byte| **byte == b'\n').count();
+    match text.last() {
+        None | Some(b'\n') => ends,
+        Some(_) => ends.saturating_add(1),
+    }
+}
+
+/// Every beginning of the text is a component, which comes back when it is written, or is refused on its
+/// last line or behind it.
 #[test]
 fn each_beginning_is_a_component_or_is_refused(rt: HostRuntime) -> Result<(), Fail> {
     comes_back(&rt, ROWS)?;
@@ -25,11 +35,17 @@ fn each_beginning_is_a_component_or_is_refused(rt: HostRuntime) -> Result<(), Fa
                 comes_back(&rt, write_component(rt.alloc(), &component)?.as_str())?;
                 components = components.saturating_add(1);
             }
-            Err(LangFault::At(_, line)) => assert!(rt; line >= 1),
+            Err(LangFault::At(_, line)) => {
+                let lines = line_count(&text[..end]);
+                assert!(rt;
+                    line == lines || line == lines.saturating_add(1),
+                    "{end}: {line}"
+                );
+            }
             Err(LangFault::Memory) => panic!(rt; "memory"),
         }
     }
     // Behind each line of a declaration and of an `end`, with its LF or without.
-    assert!(rt; components >= 40, "{components}");
+    assert_eq!(rt; components, 46);
     Ok(())
 }

@@ -23,7 +23,11 @@ mod programs;
 #[cfg(test)]
 mod refutations;
 #[cfg(test)]
+mod setups;
+#[cfg(test)]
 mod small_matrices;
+#[cfg(test)]
+mod specifications;
 #[cfg(test)]
 mod tests;
 #[cfg(test)]

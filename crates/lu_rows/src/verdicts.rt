@@ -1,14 +1,34 @@
 //! Verdicts on the histories of schedules, over the serial histories of their matrix.
 
+ghost use Rattle.std.specs.Prelude.{OnOk};
+ghost use Rattle.lu_test.specs.Matrix.{IsOf};
+ghost use Rattle.lu_machine.specs.Starts.{CanRun};
+
 use lu_examples::ROWS;
-use lu_lang::read_component;
+use lu_lang::{Component, read_component};
+use lu_machine::settles;
 use lu_replay::replay;
 use lu_serial::{Learnt, learn};
-use lu_test::{read_matrix, read_schedule};
+use lu_test::{Matrix, read_matrix, read_schedule};
 use lu_trie::PackedTrie;
 use lu_witness::{Verdict, has_witness, verdict};
 use std::process::Abort;
 use std::test::Fail;
+
+/// The setup of the matrix settles.
+fn assert_settles(
+    rt: &(impl AllocGlobal + Abort),
+    component: &Component,
+    matrix: &Matrix,
+) -> Result<(), Fail>
+    requires { IsOf matrix.now component.now }
+    ensures { OnOk result (CanRun component.now matrix.now) }
+{
+    match settles(rt.alloc(), component, matrix)? {
+        None => Ok(()),
+        Some(call) => panic!(rt; "call {call} of the setup does not end"),
+    }
+}
 
 /// The verdict on what the schedule shows, and whether its history has a witness, with its pending call as stuck: over the
 /// set of serial histories, and over the packed set.
@@ -20,6 +40,7 @@ fn judged<X: AllocGlobal + Abort>(
     let alloc = rt.alloc();
     let component = read_component(alloc, ROWS.as_bytes())?;
     let matrix = read_matrix(alloc, &component, matrix.as_bytes())?;
+    assert_settles(rt, &component, &matrix)?;
     let schedule = read_schedule(alloc, schedule.as_bytes())?;
     let shown = replay(alloc, &component, &matrix, &schedule)?;
     let Learnt::Set(set) = learn(alloc, alloc, &component, &matrix, 40)? else {

@@ -4,6 +4,8 @@
 #[cfg(test)]
 mod caches;
 #[cfg(test)]
+mod countings;
+#[cfg(test)]
 mod serial_runs;
 #[cfg(test)]
 mod trails;

@@ -1,5 +1,6 @@
 //! The serial histories of small components, and their least serial offences.
 
+use crate::trees::assert_settles;
 use lu_history::{SerialOp, SerialOutcome};
 use lu_lang::read_component;
 use lu_serial::{Learnt, first_outside, learn};
@@ -22,7 +23,7 @@ fn learnt(
 ) -> Result<Learnt<Global>, Fail> {
     let component = read_component(rt.alloc(), component)?;
     let matrix = read_matrix(rt.alloc(), &component, matrix)?;
-    assert!(rt; matrix.of(&component));
+    assert_settles(rt, &component, &matrix)?;
     assert!(rt; 1 <= bound && bound <= 256);
     Ok(learn(rt.alloc(), rt.alloc(), &component, &matrix, bound)?)
 }
@@ -35,22 +36,40 @@ fn is_one_of_two(learnt: &Learnt<Global>, history: &[SerialOp]) -> bool {
     }
 }
 
-fn is_cut_after(learnt: &Learnt<Global>, moves: usize) -> bool {
+/// The serial runs are cut, first by this schedule.
+fn assert_cut(
+    rt: &(impl AllocGlobal + Abort),
+    learnt: &Learnt<Global>,
+    text: &str,
+) -> Result<(), Fail> {
     match learnt {
-        Learnt::Cut(schedule) => schedule.moves().len() == moves,
-        _ => false,
+        Learnt::Cut(schedule) => {
+            assert_eq!(rt; write_schedule(rt.alloc(), schedule)?.as_str(), text);
+            Ok(())
+        }
+        _ => panic!(rt; "no serial cut"),
     }
 }
 
-/// The schedule has so many moves, and its first operation ends otherwise than in a smaller one, where it ended so.
-fn is_conflict_with(learnt: &Learnt<Global>, moves: usize, value: SerialOutcome) -> bool {
+/// The first operation ends otherwise by this schedule than in a smaller one, where it ended so.
+fn assert_conflict(
+    rt: &(impl AllocGlobal + Abort),
+    learnt: &Learnt<Global>,
+    text: &str,
+    value: SerialOutcome,
+) -> Result<(), Fail> {
     match learnt {
         Learnt::Conflict {
             schedule,
             before,
             earlier,
-        } => schedule.moves().len() == moves && *before == 0 && *earlier == value,
-        _ => false,
+        } => {
+            assert_eq!(rt; write_schedule(rt.alloc(), schedule)?.as_str(), text);
+            assert_eq!(rt; *before, 0);
+            assert_eq!(rt; *earlier, value);
+            Ok(())
+        }
+        _ => panic!(rt; "no serial conflict"),
     }
 }
 
@@ -77,8 +96,7 @@ fn increments(rt: HostRuntime) -> Result<(), Fail> {
 #[test]
 fn an_increment_is_cut(rt: HostRuntime) -> Result<(), Fail> {
     let learnt = learnt(&rt, COUNTER, b"thread inc\nthread inc\n", 3)?;
-    assert!(rt; is_cut_after(&learnt, 4));
-    Ok(())
+    assert_cut(&rt, &learnt, "schedule 0 0 0 0\n")
 }
 
 const PICKS: &[u8] = b"component c
@@ -95,8 +113,12 @@ end
 #[test]
 fn picks_conflict(rt: HostRuntime) -> Result<(), Fail> {
     let learnt = learnt(&rt, PICKS, b"thread f\n", 4)?;
-    assert!(rt; is_conflict_with(&learnt, 5, SerialOutcome::Ret(0)));
-    Ok(())
+    assert_conflict(
+        &rt,
+        &learnt,
+        "schedule 0 0:1 0 0 0\n",
+        SerialOutcome::Ret(0),
+    )
 }
 
 const SLOT: &[u8] = b"component c
@@ -130,7 +152,7 @@ fn outside(
 ) -> Result<Option<String>, Fail> {
     let component = read_component(rt.alloc(), component)?;
     let matrix = read_matrix(rt.alloc(), &component, matrix)?;
-    assert!(rt; matrix.of(&component));
+    assert_settles(rt, &component, &matrix)?;
     match first_outside(rt.alloc(), &component, &matrix, 8, set)? {
         None => Ok(None),
         Some(schedule) => Ok(Some(write_schedule(rt.alloc(), &schedule)?)),
@@ -238,6 +260,5 @@ end
 #[test]
 fn a_stuck_operation_conflicts_with_one_that_returns(rt: HostRuntime) -> Result<(), Fail> {
     let learnt = learnt(&rt, MAYBE, b"thread maybe\n", 8)?;
-    assert!(rt; is_conflict_with(&learnt, 3, SerialOutcome::Ret(0)));
-    Ok(())
+    assert_conflict(&rt, &learnt, "schedule 0 0:1 0\n", SerialOutcome::Ret(0))
 }

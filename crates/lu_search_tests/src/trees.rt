@@ -1,16 +1,16 @@
 //! What is found below schedules of one component, over sets of serial histories that are written by hand, and its frontiers.
 
-ghost use Rattle.std.specs.Prelude.{◌≡◌, IfOk};
+ghost use Rattle.std.specs.Prelude.{◌≡◌, IfOk, OnOk};
 ghost use Rattle.lu_test.specs.Matrix.{IsOf};
 ghost use Rattle.lu_machine.specs.States.{State};
 ghost use Rattle.lu_machine.specs.Schedules.{IsSchedule};
-ghost use Rattle.lu_machine.specs.Starts.{IsStart};
+ghost use Rattle.lu_machine.specs.Starts.{CanRun, IsStart};
 ghost use Rattle.lu_history.specs.declared.serial.SerialOutcome.TheVariants.{Ret};
 
 use lu_examples::ROWS;
 use lu_history::{SerialOp, SerialOutcome};
 use lu_lang::{Component, read_component};
-use lu_machine::{Counts, Machine};
+use lu_machine::{Counts, Machine, settles};
 use lu_test::{Matrix, Schedule, read_matrix, read_schedule, write_schedule};
 use lu_tree::{Found, frontier, search};
 use lu_trie::Trie;
@@ -19,6 +19,21 @@ use std::alloc::{AllocError, Global};
 use std::process::Abort;
 use std::test::Fail;
 
+/// The setup of the matrix settles.
+pub(crate) fn assert_settles(
+    rt: &(impl AllocGlobal + Abort),
+    component: &Component,
+    matrix: &Matrix,
+) -> Result<(), Fail>
+    requires { IsOf matrix.now component.now }
+    ensures { OnOk result (CanRun component.now matrix.now) }
+{
+    match settles(rt.alloc(), component, matrix)? {
+        None => Ok(()),
+        Some(call) => panic!(rt; "call {call} of the setup does not end"),
+    }
+}
+
 /// The schedule of this text, each move of which is feasible.
 pub(crate) fn beginning(
     rt: &(impl AllocGlobal + Abort),
@@ -26,7 +41,7 @@ pub(crate) fn beginning(
     matrix: &Matrix,
     text: &[u8],
 ) -> Result<Schedule, Fail>
-    requires { IsOf matrix.now component.now }
+    requires { CanRun component.now matrix.now }
     ensures { (s : State) → IsStart component.now matrix.now s → IfOk result (IsSchedule s) }
 {
     let schedule = read_schedule(rt.alloc(), text)?;
@@ -96,7 +111,7 @@ fn found_over(
     from: &[u8],
     bound: u16,
 ) -> Result<Found, Fail>
-    requires { IsOf matrix.now component.now }
+    requires { CanRun component.now matrix.now }
 {
     let from = beginning(rt, component, matrix, from)?;
     assert!(rt; bound <= 256);
@@ -114,11 +129,12 @@ fn found(
 ) -> Result<Found, Fail> {
     let component = read_component(rt.alloc(), ROWS.as_bytes())?;
     let matrix = read_matrix(rt.alloc(), &component, matrix)?;
+    assert_settles(rt, &component, &matrix)?;
     found_over(rt, &component, &matrix, set, from, bound)
 }
 
 /// All schedules of the matrix that begin so are good, and there are so many.
-fn assert_counts(
+pub(crate) fn assert_counts(
     rt: &(impl AllocGlobal + Abort),
     matrix: &[u8],
     set: &Trie<Global>,
@@ -167,14 +183,14 @@ fn stuck(stuck: u64) -> Counts {
     }
 }
 
-fn cut(cut: u64) -> Counts {
+pub(crate) fn cut(cut: u64) -> Counts {
     Counts {
         cut,
         ..Counts::NONE
     }
 }
 
-const EMPTY: &[u8] = b"schedule\n";
+pub(crate) const EMPTY: &[u8] = b"schedule\n";
 
 const GETS: &[u8] = b"thread get\nthread get\n";
 
@@ -315,6 +331,7 @@ fn pieces(
     assert!(rt; depth <= 8);
     let component = read_component(rt.alloc(), ROWS.as_bytes())?;
     let matrix = read_matrix(rt.alloc(), &component, matrix)?;
+    assert_settles(rt, &component, &matrix)?;
     Ok(frontier(rt.alloc(), &component, &matrix, bound, depth)?)
 }
 

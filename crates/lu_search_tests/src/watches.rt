@@ -1,9 +1,9 @@
 //! Searches that a watch may call off.
 
 ghost use Rattle.std.specs.Prelude.{◌≡◌, false};
-ghost use Rattle.lu_test.specs.Matrix.{IsOf};
+ghost use Rattle.lu_machine.specs.Starts.{CanRun};
 
-use crate::trees::beginning;
+use crate::trees::{assert_settles, beginning};
 use lu_component::Component;
 use lu_examples::ROWS;
 use lu_lang::read_component;
@@ -11,7 +11,7 @@ use lu_machine::Counts;
 use lu_serial::{Learnt, learn};
 use lu_test::{Matrix, read_matrix, write_schedule};
 use lu_tree::{Found, Unwatched, Watch, search_watched};
-use lu_trie::{PackedTrie, SerialTree};
+use lu_trie::{PackedTrie, SerialTree, Trie};
 use lu_witness::{Cache, Why};
 use std::process::Abort;
 use std::test::Fail;
@@ -54,21 +54,31 @@ fn stops_at(last: u32) -> Patience
     }
 }
 
-/// What is found among all schedules of up to 40 moves, over the tree, with a cache of one verdict.
+/// What is found among all schedules within the bound, over the tree, with a cache of one verdict.
 fn found_watched<T: SerialTree, W: Watch>(
     rt: &(impl AllocGlobal + Abort),
     component: &Component,
     matrix: &Matrix,
     tree: &T,
+    bound: u16,
     watch: &mut W,
 ) -> Result<Found, Fail>
-    requires of { IsOf matrix.now component.now }
+    requires of { CanRun component.now matrix.now }
     requires running { W.is_stopped watch.old ≡ false }
 {
     let from = beginning(rt, component, matrix, b"schedule\n")?;
-    assert!(rt; from.moves().len() <= 40);
+    assert!(rt; bound <= 256);
+    assert!(rt; from.moves().len() <= usize::from(bound));
     let mut cache = Cache::new(rt.alloc(), tree, 1)?;
-    Ok(search_watched(rt.alloc(), component, matrix, &mut cache, &from, 40, watch)?)
+    Ok(search_watched(
+        rt.alloc(),
+        component,
+        matrix,
+        &mut cache,
+        &from,
+        bound,
+        watch,
+    )?)
 }
 
 /// The same over the packed set of all serial histories of the matrix.
@@ -81,11 +91,11 @@ fn found_serially<W: Watch>(
 {
     let component = read_component(rt.alloc(), ROWS.as_bytes())?;
     let matrix = read_matrix(rt.alloc(), &component, matrix)?;
-    assert!(rt; matrix.of(&component));
+    assert_settles(rt, &component, &matrix)?;
     match learn(rt.alloc(), rt.alloc(), &component, &matrix, 40)? {
         Learnt::Set(set) => {
             let packed = PackedTrie::pack(rt.alloc(), &set)?;
-            found_watched(rt, &component, &matrix, &&packed, watch)
+            found_watched(rt, &component, &matrix, &&packed, 40, watch)
         }
         Learnt::Cut(_) | Learnt::Conflict { .. } => panic!(rt; "a serial offence"),
     }
@@ -96,6 +106,17 @@ const EXCHANGES: &[u8] = b"thread cinc\nthread cinc\n";
 fn is_clean(found: &Found, complete: u64) -> bool {
     let counts = Counts {
         complete,
+        ..Counts::NONE
+    };
+    match found {
+        Found::Clean(got) => *got == counts,
+        Found::Bad { .. } | Found::Abandoned => false,
+    }
+}
+
+fn is_cut(found: &Found, cut: u64) -> bool {
+    let counts = Counts {
+        cut,
         ..Counts::NONE
     };
     match found {
@@ -120,6 +141,29 @@ fn a_watch_stops_at_its_third_question(rt: HostRuntime) -> Result<(), Fail> {
     let found = found_serially(&rt, EXCHANGES, &mut watch)?;
     assert!(rt; matches!(found, Found::Abandoned));
     assert_eq!(rt; watch.asked, 3);
+    Ok(())
+}
+
+/// Each of two threads can always move, so 12 moves are cut in 4,096 ways, which are counted together: 64 times 64.
+fn words_found(rt: &(impl AllocGlobal + Abort), watch: &mut Patience) -> Result<Found, Fail>
+    requires { watch.old.stopped ≡ false }
+{
+    let component = read_component(rt.alloc(), ROWS.as_bytes())?;
+    let matrix = read_matrix(rt.alloc(), &component, b"thread spin\nthread spin\n")?;
+    assert_settles(rt, &component, &matrix)?;
+    let set = Trie::new(rt.alloc());
+    found_watched(rt, &component, &matrix, &&set, 12, watch)
+}
+
+#[test]
+fn a_watch_is_asked_of_what_is_counted(rt: HostRuntime) -> Result<(), Fail> {
+    let mut watch = stops_at(0);
+    let found = words_found(&rt, &mut watch)?;
+    assert!(rt; is_cut(&found, 4096));
+    assert_eq!(rt; watch.asked, 64);
+    let mut watch = stops_at(64);
+    let found = words_found(&rt, &mut watch)?;
+    assert!(rt; matches!(found, Found::Abandoned));
     Ok(())
 }
 

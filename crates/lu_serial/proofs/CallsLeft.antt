@@ -9,11 +9,11 @@ use Rattle.std.proofs.lemmas.List.Sums.{sum_by-cons}
 use Rattle.lu_component.specs.Component.{Declarations, IsComponent}
 use Rattle.lu_test.specs.declared.matrix.Call.{Call as ACall}
 use Rattle.lu_test.specs.declared.schedule.Move.{Move}
-use Rattle.lu_test.specs.Matrix.{IsMatrix, calls_of}
+use Rattle.lu_test.specs.Matrix.{Matrix, IsMatrix, calls_of, row_of}
 use Rattle.lu_test.specs.Schedule.{IsMove, AreMoves}
 use Rattle.lu_machine.specs.States.{State, call_count}
 use Rattle.lu_machine.specs.Steps.{Step, IsFeasible}
-use Rattle.lu_machine.specs.Starts.{start_of}
+use Rattle.lu_machine.specs.Starts.{IsStart, at_rest}
 use Rattle.lu_machine.specs.declared.event.Event.{Event}
 use Rattle.lu_machine.specs.declared.thread.Thread.{Thread}
 use Rattle.lu_machine.specs.declared.thread.Activity.TheVariants.{Idle}
@@ -23,7 +23,7 @@ use Rattle.lu_serial.specs.Serial.{HasOpen, IsByOpen}
 use Rattle.lu_serial.specs.Walks.{AreCalls, IsOpenIn, IsFull, IsWithin, open_after, left_of, moves_left}
 use Rattle.lu_serial.proofs.Opening.{Turned, step_turned, open_before, none_open, same_or_not, slice_get_set_other, slice_get_set_same}
 
-left_set : (rows : List (List ACall)) (threads : List Thread) (t : ℕ) (x y : Thread) → slice_get threads t ≡ Some x → x.done < length (calls_of rows t) → y.done ≡ x.done + 1 → left_of rows (slice_set threads t y) + 1 ≡ left_of rows threads
+left_set : (rows : List (List ACall)) (threads : List Thread) (t : ℕ) (x y : Thread) → slice_get threads t ≡ Some x → x.done < length (row_of rows t) → y.done ≡ x.done + 1 → left_of rows (slice_set threads t y) + 1 ≡ left_of rows threads
 left_set [] threads t x y stands calls more = absurd (omega arith)
 left_set (row ∷ rows) [] t x y stands calls more = absurd (cc)
 left_set (row ∷ rows) (z ∷ threads) zero x y stands calls more =
@@ -46,7 +46,7 @@ left_kept (row ∷ rows) (z ∷ threads) (suc t) x y stands same =
     omega arith
 
 -- a thread that has a call left
-left_some : (rows : List (List ACall)) (threads : List Thread) (t : ℕ) (x : Thread) → slice_get threads t ≡ Some x → x.done < length (calls_of rows t) → 0 < left_of rows threads
+left_some : (rows : List (List ACall)) (threads : List Thread) (t : ℕ) (x : Thread) → slice_get threads t ≡ Some x → x.done < length (row_of rows t) → 0 < left_of rows threads
 left_some rows threads t x stands calls =
     let e = left_set rows threads t x (record { done = x.done + 1; activity = x.activity }) stands calls refl in
     omega arith
@@ -65,24 +65,24 @@ call_falls bound b h =
     let e : b * (bound + 1) ≡ (b - 1) * (bound + 1) + (bound + 1) = one_row (b - 1) b (bound + 1) (omega arith) in
     omega (arith, e)
 
-left_same : (s : State) (m : Move) (new : State) (event : Option Event) (t : Turned s m new event) → left_of new.matrix new.threads ≡ left_of s.matrix (slice_set s.threads m.thread t.after)
-left_same s m new event t = ap (λ x. left_of x new.threads) t.matrix ∙ ap (left_of s.matrix) t.threads
+left_same : (s : State) (m : Move) (new : State) (event : Option Event) (t : Turned s m new event) → left_of new.matrix.threads new.threads ≡ left_of s.matrix.threads (slice_set s.threads m.thread t.after)
+left_same s m new event t = ap (λ (x : Matrix). left_of x.threads new.threads) t.matrix ∙ ap (left_of s.matrix.threads) t.threads
 
 not_full : (bound : ℕ) (o : OpenCall) → (IsFull (Some o) bound → ⊥) → o.taken ≤ bound → o.taken < bound
 not_full bound o room le = elim (cases_lt o.taken bound) [ inl lt ↦ lt | inr ge ↦ absurd (room (omega arith)) ]
 
-more_falls : (bound : ℕ) (s new : State) (current : Option OpenCall) → (IsFull current bound → ⊥) → (t : ℕ) → HasOpen s t → IsOpenIn s current → ((o : OpenCall) → current ≡ Some o → o.taken ≤ bound) → left_of new.matrix new.threads ≡ left_of s.matrix s.threads → moves_left bound new (open_after current t None) < moves_left bound s current
+more_falls : (bound : ℕ) (s new : State) (current : Option OpenCall) → (IsFull current bound → ⊥) → (t : ℕ) → HasOpen s t → IsOpenIn s current → ((o : OpenCall) → current ≡ Some o → o.taken ≤ bound) → left_of new.matrix.threads new.threads ≡ left_of s.matrix.threads s.threads → moves_left bound new (open_after current t None) < moves_left bound s current
 more_falls bound s new None room t h opens few same = absurd (opens t h)
 more_falls bound s new (Some o) room t h opens few same =
     let lt = not_full bound o room (few o refl) in
-    subst (λ x. (x - 1) * (bound + 1) + (bound - (o.taken + 1)) < (left_of s.matrix s.threads - 1) * (bound + 1) + (bound - o.taken)) (sym same) (omega arith)
+    subst (λ x. (x - 1) * (bound + 1) + (bound - (o.taken + 1)) < (left_of s.matrix.threads s.threads - 1) * (bound + 1) + (bound - o.taken)) (sym same) (omega arith)
 
-return_of : (bound : ℕ) (s new : State) (current : Option OpenCall) → (IsFull current bound → ⊥) → (t : ℕ) → HasOpen s t → IsOpenIn s current → ((o : OpenCall) → current ≡ Some o → o.taken ≤ bound) → left_of new.matrix new.threads + 1 ≡ left_of s.matrix s.threads → moves_left bound new None < moves_left bound s current
+return_of : (bound : ℕ) (s new : State) (current : Option OpenCall) → (IsFull current bound → ⊥) → (t : ℕ) → HasOpen s t → IsOpenIn s current → ((o : OpenCall) → current ≡ Some o → o.taken ≤ bound) → left_of new.matrix.threads new.threads + 1 ≡ left_of s.matrix.threads s.threads → moves_left bound new None < moves_left bound s current
 return_of bound s new None room t h opens few e = absurd (opens t h)
-return_of bound s new (Some o) room t h opens few e = return_falls bound (left_of new.matrix new.threads) (left_of s.matrix s.threads) o.taken e (not_full bound o room (few o refl))
+return_of bound s new (Some o) room t h opens few e = return_falls bound (left_of new.matrix.threads new.threads) (left_of s.matrix.threads s.threads) o.taken e (not_full bound o room (few o refl))
 
-call_of : (bound : ℕ) (s new : State) (current : Option OpenCall) (m : Move) → ((t : ℕ) → HasOpen s t → ⊥) → IsOpenIn s current → left_of new.matrix new.threads ≡ left_of s.matrix s.threads → 0 < left_of s.matrix s.threads → moves_left bound new (Some (record { thread = m.thread; taken = 0 })) < moves_left bound s current
-call_of bound s new None m none opens same some = subst (λ x. (x - 1) * (bound + 1) + (bound - 0) < left_of s.matrix s.threads * (bound + 1)) (sym same) (call_falls bound (left_of s.matrix s.threads) some)
+call_of : (bound : ℕ) (s new : State) (current : Option OpenCall) (m : Move) → ((t : ℕ) → HasOpen s t → ⊥) → IsOpenIn s current → left_of new.matrix.threads new.threads ≡ left_of s.matrix.threads s.threads → 0 < left_of s.matrix.threads s.threads → moves_left bound new (Some (record { thread = m.thread; taken = 0 })) < moves_left bound s current
+call_of bound s new None m none opens same some = subst (λ x. (x - 1) * (bound + 1) + (bound - 0) < left_of s.matrix.threads s.threads * (bound + 1)) (sym same) (call_falls bound (left_of s.matrix.threads s.threads) some)
 call_of bound s new (Some o) m none opens same some = absurd (none o.thread opens.0)
 
 -- each serial move takes one
@@ -91,12 +91,12 @@ falls bound s m new event current step calls by opens room few =
     let t = step_turned s m new event step in
     elim t.how [
       | inl h ↦ subst (λ e. moves_left bound new (open_after current m.thread e) < moves_left bound s current) (sym h.3)
-          (call_of bound s new current m (none_open s m new event t h.0 by) opens (left_same s m new event t ∙ left_kept s.matrix s.threads m.thread t.before t.after t.stands h.2) (left_some s.matrix s.threads m.thread t.before t.stands h.4))
+          (call_of bound s new current m (none_open s m new event t h.0 by) opens (left_same s m new event t ∙ left_kept s.matrix.threads s.threads m.thread t.before t.after t.stands h.2) (left_some s.matrix.threads s.threads m.thread t.before t.stands h.4))
       | inr h ↦ elim h [
         | inl h ↦ subst (λ e. moves_left bound new (open_after current m.thread e) < moves_left bound s current) (sym h.3)
-            (more_falls bound s new current room m.thread (open_before s m new event t h.0) opens few (left_same s m new event t ∙ left_kept s.matrix s.threads m.thread t.before t.after t.stands h.2))
+            (more_falls bound s new current room m.thread (open_before s m new event t h.0) opens few (left_same s m new event t ∙ left_kept s.matrix.threads s.threads m.thread t.before t.after t.stands h.2))
         | inr h ↦ subst (λ e. moves_left bound new (open_after current m.thread e) < moves_left bound s current) (sym h.3.1)
-            (return_of bound s new current room m.thread (open_before s m new event t h.0) opens few (ap (λ x. x + 1) (left_same s m new event t) ∙ left_set s.matrix s.threads m.thread t.before t.after t.stands (calls m.thread t.before t.stands h.0) h.2))
+            (return_of bound s new current room m.thread (open_before s m new event t h.0) opens few (ap (λ x. x + 1) (left_same s m new event t) ∙ left_set s.matrix.threads s.threads m.thread t.before t.after t.stands (calls m.thread t.before t.stands h.0) h.2))
       ]
     ]
 
@@ -145,7 +145,7 @@ within_kid bound u s current w m new event step f by opens room few =
 pub within_moves : (bound : ℕ) (u : List Move) (s : State) (current : Option OpenCall) → IsWithin bound u s current → AreMoves u
 within_moves bound u s current w = (let short = w.short in omega arith, w.moves)
 
-left_at_start : (matrix : List (List ACall)) → left_of matrix (replicate (length matrix) (record { done = 0; activity = Idle })) ≡ sum_by length matrix
+left_at_start : (rows : List (List ACall)) → left_of rows (replicate (length rows) (record { done = 0; activity = Idle })) ≡ sum_by length rows
 left_at_start [] = refl
 left_at_start (row ∷ rows) =
     let rest = left_at_start rows in
@@ -162,20 +162,28 @@ none_idle zero t x h = cc
 none_idle (suc n) zero x h = sym (ap (λ (y : Thread). y.activity) (same_Some (record { done = 0; activity = Idle }) x h))
 none_idle (suc n) (suc t) x h = none_idle n t x h
 
--- at the start no operation is open
-pub none_at_start : (c : Declarations) (matrix : List (List ACall)) (t : ℕ) → HasOpen (start_of c matrix) t → ⊥
-none_at_start c matrix t o = o.2 (none_idle (length matrix) t o.0 o.1)
+-- at rest no operation is open
+pub none_at_rest : (c : Declarations) (matrix : Matrix) (cells : List ℕ) (locks : List (Option ℕ)) (t : ℕ) → HasOpen (at_rest c matrix cells locks) t → ⊥
+none_at_rest c matrix cells locks t o = o.2 (none_idle (length matrix.threads) t o.0 o.1)
 
--- the empty path is within the limits
-pub within_start : (c : Declarations) (matrix : List (List ACall)) (bound : ℕ) → IsComponent c → IsMatrix matrix → bound ≤ 256 → IsWithin bound [] (start_of c matrix) None
-within_start c matrix bound is are few =
+-- nor at the start
+pub none_at_start : (c : Declarations) (matrix : Matrix) (s : State) → IsStart c matrix s → (t : ℕ) → HasOpen s t → ⊥
+none_at_start c matrix s is t o = none_at_rest c matrix is.end.cells is.end.locks t (subst (λ x. HasOpen x t) is.is o)
+
+within_rest : (c : Declarations) (matrix : Matrix) (cells : List ℕ) (locks : List (Option ℕ)) (bound : ℕ) → IsComponent c → IsMatrix matrix → bound ≤ 256 → IsWithin bound [] (at_rest c matrix cells locks) None
+within_rest c matrix cells locks bound is are few =
     let idle : Thread = record { done = 0; activity = Idle } in
-    let threads : length (replicate (length matrix) idle) ≡ length matrix = length-replicate (length matrix) idle in
-    let most = are.limits.threads in
+    let threads : length (replicate (length matrix.threads) idle) ≡ length matrix.threads = length-replicate (length matrix.threads) idle in
+    let most = are.limits.few in
     record {
       component = is;
       threads = omega arith;
-      calls = λ t x at busy. absurd (busy (none_idle (length matrix) t x at));
+      calls = λ t x at busy. absurd (busy (none_idle (length matrix.threads) t x at));
       moves = All-nil IsMove;
-      short = rw (left_at_start matrix) (omega (arith, few_moves (sum_by length matrix) bound are.limits.calls few));
+      short = rw (left_at_start matrix.threads) (omega (arith, few_moves (sum_by length matrix.threads) bound are.limits.calls few));
     }
+
+-- the empty path is within the limits
+pub within_start : (c : Declarations) (matrix : Matrix) (s : State) (bound : ℕ) → IsStart c matrix s → IsComponent c → IsMatrix matrix → bound ≤ 256 → IsWithin bound [] s None
+within_start c matrix s bound start is are few =
+    subst (λ x. IsWithin bound [] x None) (sym start.is) (within_rest c matrix start.end.cells start.end.locks bound is are few)

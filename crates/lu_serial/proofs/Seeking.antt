@@ -1,8 +1,8 @@
 -- What the walk of `first_outside` finds.
 use Rattle.std.proofs.Common.{arith, ◌≡◌, ◌<◌, Bool, true, false, ℕ, List, [], ◌∷◌, ◌++◌, refl, sym, ◌∙◌, ap, subst, inl, inr}
 use Rattle.lu_component.specs.Component.{Declarations}
-use Rattle.lu_test.specs.declared.matrix.Call.{Call}
 use Rattle.lu_test.specs.declared.schedule.Move.{Move}
+use Rattle.lu_test.specs.Matrix.{Matrix}
 use Rattle.lu_machine.specs.States.{State}
 use Rattle.lu_machine.specs.Steps.{IsEnabled, picks_of}
 use Rattle.lu_machine.specs.Starts.{IsStart}
@@ -24,8 +24,8 @@ use Rattle.lu_serial.proofs.Single.{AtMostOne, one_along}
 differ : (b : Bool) → b ≡ true → b ≡ false → ⊥
 differ b e f = (let g = sym e ∙ f in cc)
 
-one_at_start : (c : Declarations) (matrix : List (List Call)) (s : State) → IsStart c matrix s → AtMostOne s
-one_at_start c matrix s is = rw is (λ t i a b. absurd (none_at_start c matrix t a))
+one_at_start : (c : Declarations) (matrix : Matrix) (s : State) → IsStart c matrix s → AtMostOne s
+one_at_start c matrix s is = λ t i a b. absurd (none_at_start c matrix s is t a)
 
 -- a schedule that is cut is not ended
 cut_not_ended : (s : State) (bound : ℕ) (u : List Move) (q : List SerialOp) → AtMostOne s → IsSeriallyCut s bound u → IsSeriallyEnded s u q → ⊥
@@ -56,7 +56,7 @@ module _ (s : State) (bound : ℕ) (u : List Move) (members now : List (List Ser
     least = λ v lt out. differ (contains members out.0) (seeks.1 out.0 (x.each v out.0 lt out.1)) out.2;
   }
 
-  pub none_past_cut : (c : Declarations) (matrix : List (List Call)) → IsStart c matrix s → Shows s bound (λ v. IsSmaller v u) (Seeks members now) → IsSeriallyCut s bound u → (v : List Move) → IsOutside s bound members v → ⊥
+  pub none_past_cut : (c : Declarations) (matrix : Matrix) → IsStart c matrix s → Shows s bound (λ v. IsSmaller v u) (Seeks members now) → IsSeriallyCut s bound u → (v : List Move) → IsOutside s bound members v → ⊥
   none_past_cut c matrix is (shown, x, seeks) cut v out =
       elim (smaller_cases v u) [
         | inl y ↦ elim y [

@@ -5,8 +5,7 @@ use Rattle.std.proofs.lemmas.Bool.{cases_lt}
 use Rattle.std.proofs.lemmas.List.{append-nil}
 use Rattle.std.proofs.lemmas.Option.{same_Some}
 use Rattle.lu_component.specs.Component.{Declarations, IsComponent}
-use Rattle.lu_test.specs.declared.matrix.Call.{Call as ACall}
-use Rattle.lu_test.specs.Matrix.{IsMatrix}
+use Rattle.lu_test.specs.Matrix.{Matrix, IsMatrix}
 use Rattle.lu_test.specs.declared.schedule.Move.{Move}
 use Rattle.lu_machine.specs.declared.event.Event.{Event}
 use Rattle.lu_machine.specs.declared.event.Event.TheVariants.{Call, Return}
@@ -325,21 +324,21 @@ kid_ready start bound u s entries current at m f room now e es g next event step
     rw (p, h, g, b) (kid_at start bound u s entries current at m f room next event step', x)
 
 -- at the start
-pub start_at : (c : Declarations) (matrix : List (List ACall)) (bound : ℕ) → IsComponent c → IsMatrix matrix → bound ≤ 256 → (u : List Move) → u ≡ [] → (s : State) → IsStart c matrix s → (entries : List SerialOp) → entries ≡ [] → IsAt s bound u s entries None
+pub start_at : (c : Declarations) (matrix : Matrix) (bound : ℕ) → IsComponent c → IsMatrix matrix → bound ≤ 256 → (u : List Move) → u ≡ [] → (s : State) → IsStart c matrix s → (entries : List SerialOp) → entries ≡ [] → IsAt s bound u s entries None
 start_at c matrix bound is are few u e s f entries g =
-    rw (e, f, g) (
+    rw (e, g) (
     record {
       serial = tt;
       history = [];
       leads = (refl, refl);
       are = refl;
-      opens = none_at_start c matrix;
+      opens = none_at_start c matrix s f;
       taken = tt;
-      within = within_start c matrix bound is are few;
+      within = within_start c matrix s bound f is are few;
     }
     )
 
-pub start_ready : (c : Declarations) (matrix : List (List ACall)) (bound : ℕ) → IsComponent c → IsMatrix matrix → bound ≤ 256 → (u : List Move) → u ≡ [] → (s : State) → IsStart c matrix s → (entries : List SerialOp) → entries ≡ [] → (Known : List (List SerialOp) → Type 0) → Known [] → IsAt s bound u s entries None × Shows s bound (λ v. IsSmaller v u) Known
+pub start_ready : (c : Declarations) (matrix : Matrix) (bound : ℕ) → IsComponent c → IsMatrix matrix → bound ≤ 256 → (u : List Move) → u ≡ [] → (s : State) → IsStart c matrix s → (entries : List SerialOp) → entries ≡ [] → (Known : List (List SerialOp) → Type 0) → Known [] → IsAt s bound u s entries None × Shows s bound (λ v. IsSmaller v u) Known
 start_ready c matrix bound is are few u e s f entries g Known known = (
   start_at c matrix bound is are few u e s f entries g,
   ([], rw e (record { uncut = λ v lt cut. lt; each = λ v q lt x. absurd lt; only = λ q x. cc }), known),

@@ -1,8 +1,8 @@
 -- Serial offences, and what is learnt of a component and a matrix.
 use Rattle.std.specs.Prelude.{◌≡◌, ℕ, ◌≤◌, List, ◌⊎◌, ◌↔◌, true, false, Option, Some, None}
 use Rattle.lu_component.specs.Component.{Declarations}
-use Rattle.lu_test.specs.declared.matrix.Call.{Call}
 use Rattle.lu_test.specs.declared.schedule.Move.{Move}
+use Rattle.lu_test.specs.Matrix.{Matrix}
 use Rattle.lu_machine.specs.States.{State}
 use Rattle.lu_machine.specs.Starts.{IsStart}
 use Rattle.lu_machine.specs.Order.{IsSmaller}
@@ -73,5 +73,5 @@ SerialShort =
 -- Where the least offence conflicts, the place and the outcome are determined.
 abbrev pub OneConflict : Type 0
 OneConflict =
-    (component : Declarations) (matrix : List (List Call)) (s : State) (bound : ℕ) (u : List Move) (i j : ℕ) (o p : SerialOutcome) →
+    (component : Declarations) (matrix : Matrix) (s : State) (bound : ℕ) (u : List Move) (i j : ℕ) (o p : SerialOutcome) →
     IsStart component matrix s → IsFirstConflict s bound u i o → IsFirstConflict s bound u j p → (i ≡ j) × (o ≡ p)

@@ -71,13 +71,13 @@ HasTakenOf start u s bound (Some current) = HasTaken start u s current.thread cu
 -- how many calls have not returned
 abbrev pub left_of : List (List ACall) → List Thread → ℕ
 left_of [] threads = 0
-left_of (calls ∷ matrix) [] = 0
-left_of (calls ∷ matrix) (thread ∷ threads) = (length calls - thread.done) + left_of matrix threads
+left_of (calls ∷ rows) [] = 0
+left_of (calls ∷ rows) (thread ∷ threads) = (length calls - thread.done) + left_of rows threads
 
 -- the most moves that can go on serially: a call and `bound` moves for each operation that is to come, and for the open one what it may still take
 abbrev pub moves_left : ℕ → State → Option OpenCall → ℕ
-moves_left bound s None = left_of s.matrix s.threads * (bound + 1)
-moves_left bound s (Some current) = (left_of s.matrix s.threads - 1) * (bound + 1) + (bound - current.taken)
+moves_left bound s None = left_of s.matrix.threads s.threads * (bound + 1)
+moves_left bound s (Some current) = (left_of s.matrix.threads s.threads - 1) * (bound + 1) + (bound - current.taken)
 
 -- each open operation is a call of the matrix
 abbrev pub AreCalls : State → Type 0

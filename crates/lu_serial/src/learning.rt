@@ -1,9 +1,8 @@
 //! The serial histories of a matrix, or its least serial offence.
 
 ghost use Rattle.std.specs.Prelude.{◌≤◌, IfOk};
-ghost use Rattle.lu_test.specs.Matrix.{IsOf};
 ghost use Rattle.lu_machine.specs.States.{State};
-ghost use Rattle.lu_machine.specs.Starts.{IsStart};
+ghost use Rattle.lu_machine.specs.Starts.{CanRun, IsStart};
 ghost use Rattle.lu_trie.specs.Conflicts.{HasConflict};
 ghost use Rattle.lu_serial.specs.Offences.{IsLearnt};
 ghost use Rattle.lu_serial.specs.Walks.{Learns};
@@ -72,7 +71,7 @@ pub fn learn<A: Allocator + Clone>(
     matrix: &Matrix,
     bound: u16,
 ) -> Result<Learnt<A>, AllocError>
-    requires of { IsOf matrix.now component.now }
+    requires of { CanRun component.now matrix.now }
     requires some { 1 ≤ bound }
     requires few { bound ≤ 256 }
     ensures { (s : State) → IsStart component.now matrix.now s → IfOk result (IsLearnt s bound) }

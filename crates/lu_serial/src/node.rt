@@ -2,9 +2,9 @@
 
 ghost use Rattle.std.specs.Prelude.{◌≡◌, ◌↔◌, ◌++◌, [], IsTrue, IfOk, List};
 ghost use Rattle.lu_component.specs.Component.{IsComponent};
-ghost use Rattle.lu_test.specs.Matrix.{IsMatrix, IsOf};
+ghost use Rattle.lu_test.specs.Matrix.{IsMatrix};
 ghost use Rattle.lu_machine.specs.Ends.{HasMove};
-ghost use Rattle.lu_machine.specs.Starts.{IsStart};
+ghost use Rattle.lu_machine.specs.Starts.{CanRun, IsStart};
 ghost use Rattle.lu_machine.specs.Steps.{IsFeasible, Step};
 ghost use Rattle.lu_machine.specs.Undoes.{CanTake, restored};
 ghost use Rattle.lu_history.specs.declared.serial.SerialOp.{SerialOp};
@@ -37,7 +37,7 @@ impl<'a> Node<'a> {
         component: &'a Component,
         matrix: &'a Matrix,
     ) -> Result<Node<'a>, AllocError>
-        requires { IsOf matrix.now component.now }
+        requires { CanRun component.now matrix.now }
         ensures machine { IfOk result (λ node. IsStart component.now matrix.now node.machine) }
         ensures entries { IfOk result (λ node. node.entries.items ≡ []) }
     {

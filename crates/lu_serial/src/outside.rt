@@ -1,9 +1,8 @@
 //! Serial histories that are not in a set.
 
 ghost use Rattle.std.specs.Prelude.{◌≡◌, ◌≤◌, false, IfOk};
-ghost use Rattle.lu_test.specs.Matrix.{IsOf};
 ghost use Rattle.lu_machine.specs.States.{State};
-ghost use Rattle.lu_machine.specs.Starts.{IsStart};
+ghost use Rattle.lu_machine.specs.Starts.{CanRun, IsStart};
 ghost use Rattle.lu_trie.specs.Members.{contains};
 ghost use Rattle.lu_serial.specs.Offences.{IsFirstOutside};
 ghost use Rattle.lu_serial.specs.Walks.{Seeks};
@@ -51,7 +50,7 @@ pub fn first_outside<A: Allocator>(
     bound: u16,
     set: &Trie<A>,
 ) -> Result<Option<Schedule>, AllocError>
-    requires of { IsOf matrix.now component.now }
+    requires of { CanRun component.now matrix.now }
     requires some { 1 ≤ bound }
     requires few { bound ≤ 256 }
     ensures { (s : State) → IsStart component.now matrix.now s → IfOk result (IsFirstOutside s bound set.now) }

@@ -7,7 +7,7 @@ use Rattle.std.proofs.Math.Seq.{take-append_seam}
 use Rattle.std.proofs.lemmas.Option.{slice_get_within}
 use Rattle.lu_history.specs.declared.serial.SerialOp.{SerialOp}
 use Rattle.lu_history.specs.declared.serial.SerialOutcome.{SerialOutcome}
-use Rattle.lu_test.specs.declared.matrix.Call.{Call}
+use Rattle.lu_test.specs.Matrix.{Matrix}
 use Rattle.lu_trie.specs.Members.{AllSerial}
 use Rattle.lu_trie.specs.Conflicts.{ConflictAt, IsDeterministic}
 use Rattle.lu_witness.specs.Witnesses.{entries}
@@ -92,7 +92,7 @@ module _ (set closed : List (List SerialOp)) (closure : IsClosureOf set closed) 
     outcomes = all_outcomes outcomes;
   }
 
-  pub closure_of : (matrix : List (List Call)) → AreOf matrix set → AreOf matrix closed
+  pub closure_of : (matrix : Matrix) → AreOf matrix set → AreOf matrix closed
   closure_of matrix of q has t = elim ((closure q).0 has) [
     | inl empty ↦ subst (λ (x : List SerialOp). Fits matrix x) (sym empty) (λ u. omega arith) t
     | inr (h, begins, member) ↦

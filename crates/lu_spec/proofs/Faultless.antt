@@ -7,7 +7,7 @@ use Rattle.lu_text.specs.declared.fault.Fault.TheVariants.{At}
 use Rattle.lu_text.specs.Lines.{kept_lines, onto_line}
 use Rattle.lu_text.proofs.Written.{each_joined}
 use Rattle.lu_history.specs.declared.serial.SerialOp.{SerialOp}
-use Rattle.lu_test.specs.declared.matrix.Call.{Call}
+use Rattle.lu_test.specs.Matrix.{Matrix}
 use Rattle.lu_trie.specs.Conflicts.{ConflictAt}
 use Rattle.lu_spec.specs.declared.fault.SpecFaultKind.{SpecFaultKind}
 use Rattle.lu_spec.specs.declared.fault.SpecFaultKind.TheVariants.{Form, Foreign, Nondeterministic}
@@ -63,7 +63,7 @@ among (q ∷ listed) (p ∷ before) line rest x y e =
 
 -- ---- no fault
 
-module _ (matrix : List (List Call)) (listed : List (List SerialOp)) (are : AreListed matrix listed) where
+module _ (matrix : Matrix) (listed : List (List SerialOp)) (are : AreListed matrix listed) where
   sound_line : (before : List (List SerialOp)) (line : List ℕ) (kind : SpecFaultKind) → IsAmong listed before line → IsFaultOfLine matrix before line kind → ⊥
   sound_line before line kind found fault = by_kind kind fault
     where
@@ -83,7 +83,7 @@ module _ (matrix : List (List Call)) (listed : List (List SerialOp)) (are : AreL
           let member = subst (λ (x : List (List SerialOp)). Has x h) (sym found.parts) (has_left before (found.history ∷ found.after) h has) in
           are.deterministic found.history h i o here member (subst (λ (x : List SerialOp). ConflictAt x h i o) (same p other) conflict)
 
-pub no_fault : (matrix : List (List Call)) (text : List ℕ) (members : List (List SerialOp)) (kind : SpecFaultKind) (n : ℕ) → IsReadAs matrix text members → IsSpecFault matrix text (At kind n) → ⊥
+pub no_fault : (matrix : Matrix) (text : List ℕ) (members : List (List SerialOp)) (kind : SpecFaultKind) (n : ℕ) → IsReadAs matrix text members → IsSpecFault matrix text (At kind n) → ⊥
 no_fault matrix text members kind n (listed, are, text_is, closure) fault = by_fault fault
   where
     lines : kept_lines text ≡ first_line ∷ map history_line listed

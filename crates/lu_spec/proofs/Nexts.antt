@@ -3,8 +3,7 @@ use Rattle.std.proofs.Common.{◌≡◌, ◌≢◌, ℕ, true, false, ◌⊎◌,
 use Rattle.std.specs.Prelude.{is_some}
 use Rattle.lu_history.specs.declared.serial.SerialOp.{SerialOp}
 use Rattle.lu_history.specs.declared.serial.SerialOutcome.{SerialOutcome}
-use Rattle.lu_test.specs.declared.matrix.Call.{Call}
-use Rattle.lu_test.specs.Matrix.{calls_of}
+use Rattle.lu_test.specs.Matrix.{Matrix, calls_of}
 use Rattle.lu_trie.specs.Conflicts.{ConflictAt, HasConflict, IsDeterministic}
 use Rattle.lu_trie.proofs.Determinism.{conflict_back, no_self_conflict}
 use Rattle.lu_spec.specs.Beginnings.{Has, Begins, IsClosureOf, AddsBeginnings}
@@ -27,7 +26,7 @@ last_same [] (b ∷ ys) x y e = absurd (no_push ys y (let f : [] ≡ ys ++ y ∷
 last_same (a ∷ xs) [] x y e = absurd (no_push xs x (let f : [] ≡ xs ++ x ∷ [] = cc in f))
 last_same (a ∷ xs) (b ∷ ys) x y e = last_same xs ys x y (let f : xs ++ x ∷ [] ≡ ys ++ y ∷ [] = cc in f)
 
-pub follows : (matrix : List (List Call)) (listed set : List (List SerialOp)) (last q : List SerialOp) → IsDraft matrix listed set last → (last ≢ [] → ComesAfter last q) → GoesOn listed q
+pub follows : (matrix : Matrix) (listed set : List (List SerialOp)) (last q : List SerialOp) → IsDraft matrix listed set last → (last ≢ [] → ComesAfter last q) → GoesOn listed q
 follows matrix listed set last q draft after before p is = by_end draft.ends
   where
     by_end : ((listed ≡ []) × (last ≡ [])) ⊎ ((front : List (List SerialOp)) × (listed ≡ front ++ last ∷ [])) → ComesAfter p q
@@ -38,7 +37,7 @@ follows matrix listed set last q draft after before p is = by_end draft.ends
         let some = (draft.are.each last member).0.some in
         subst (λ (x : List SerialOp). ComesAfter x q) same (after (λ empty. absurd (omega (arith, some, ap length empty))))
 
-pub must_follow : (matrix : List (List Call)) (listed set : List (List SerialOp)) (last q : List SerialOp) → IsDraft matrix listed set last → GoesOn listed q → last ≢ [] → ComesAfter last q
+pub must_follow : (matrix : Matrix) (listed set : List (List SerialOp)) (last q : List SerialOp) → IsDraft matrix listed set last → GoesOn listed q → last ≢ [] → ComesAfter last q
 must_follow matrix listed set last q draft goes some = by_end draft.ends
   where
     by_end : ((listed ≡ []) × (last ≡ [])) ⊎ ((front : List (List SerialOp)) × (listed ≡ front ++ last ∷ [])) → ComesAfter last q
@@ -46,22 +45,22 @@ must_follow matrix listed set last q draft goes some = by_end draft.ends
     by_end (inr (front, e)) = goes front last e
 
 -- a line whose history does not follow is that of none that does
-pub none_follows : (matrix : List (List Call)) (listed set : List (List SerialOp)) (last q : List SerialOp) (line : List ℕ) → IsDraft matrix listed set last → IsListable q → line ≡ history_line q → ((last ≢ [] → ComesAfter last q) → ⊥) → (p : List SerialOp) → IsLineOf listed line p → ⊥
+pub none_follows : (matrix : Matrix) (listed set : List (List SerialOp)) (last q : List SerialOp) (line : List ℕ) → IsDraft matrix listed set last → IsListable q → line ≡ history_line q → ((last ≢ [] → ComesAfter last q) → ⊥) → (p : List SerialOp) → IsLineOf listed line p → ⊥
 none_follows matrix listed set last q line draft listable is fails p other =
     let same : p ≡ q = line_same p q other.1 listable (sym other.0 ∙ is) in
     fails (λ some. must_follow matrix listed set last q draft (subst (GoesOn listed) same other.2) some)
 
 -- ---- the calls that are left
 
-pub fits_from : (matrix : List (List Call)) (left : List ℕ) (q : List SerialOp) → ((t : ℕ) → get_or left t 0 ≡ length (calls_of matrix t)) → FitsIn left q → Fits matrix q
+pub fits_from : (matrix : Matrix) (left : List ℕ) (q : List SerialOp) → ((t : ℕ) → get_or left t 0 ≡ length (calls_of matrix t)) → FitsIn left q → Fits matrix q
 fits_from matrix left q are fits t = omega (arith, are t, fits t)
 
-pub fits_to : (matrix : List (List Call)) (left : List ℕ) (q : List SerialOp) → ((t : ℕ) → get_or left t 0 ≡ length (calls_of matrix t)) → Fits matrix q → FitsIn left q
+pub fits_to : (matrix : Matrix) (left : List ℕ) (q : List SerialOp) → ((t : ℕ) → get_or left t 0 ≡ length (calls_of matrix t)) → Fits matrix q → FitsIn left q
 fits_to matrix left q are fits t = omega (arith, are t, fits t)
 
 -- ---- conflicts
 
-pub draft_spec : (matrix : List (List Call)) (listed set : List (List SerialOp)) (last : List SerialOp) → IsDraft matrix listed set last → IsSpec set
+pub draft_spec : (matrix : Matrix) (listed set : List (List SerialOp)) (last : List SerialOp) → IsDraft matrix listed set last → IsSpec set
 draft_spec matrix listed set last draft =
     is_spec listed set draft.closure draft.are.deterministic (λ q has. (draft.are.each q has).0.serial) (λ q has k d within. ((draft.are.each q has).0.entries k d within).1)
 
@@ -92,7 +91,7 @@ split_push (y ∷ xs) (b ∷ before) after q x e =
       | inr (rest, is) ↦ inr (rest, rw (head, is) refl)
     ]
 
-module _ (matrix : List (List Call)) (listed set : List (List SerialOp)) (last : List SerialOp) (draft : IsDraft matrix listed set last) (line : List ℕ) (q : List SerialOp) (next : IsNextOf matrix listed line q) where
+module _ (matrix : Matrix) (listed set : List (List SerialOp)) (last : List SerialOp) (draft : IsDraft matrix listed set last) (line : List ℕ) (q : List SerialOp) (next : IsNextOf matrix listed line q) where
   either : (x : List SerialOp) → Has (listed ++ q ∷ []) x → Has listed x ⊎ (x ≡ q)
   either x has = elim (has_either listed (q ∷ []) x has) [
     | inl was ↦ inl was
@@ -158,7 +157,7 @@ is_not_there (Some y) b e f x is = cc
 
 -- ---- no history
 
-pub none_listed : (matrix : List (List Call)) (old set : List (List SerialOp)) (h last : List SerialOp) → old ≡ [] → h ≡ [] → last ≡ [] → AddsBeginnings old set h → IsDraft matrix [] set last
+pub none_listed : (matrix : Matrix) (old set : List (List SerialOp)) (h last : List SerialOp) → old ≡ [] → h ≡ [] → last ≡ [] → AddsBeginnings old set h → IsDraft matrix [] set last
 none_listed matrix old set h last none empty at_start adds = record {
   are = record {
     each = λ q has. absurd cc;

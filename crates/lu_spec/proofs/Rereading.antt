@@ -1,12 +1,12 @@
 -- What is written of a specification of a matrix is read as that specification.
 use Rattle.std.proofs.Common.{◌≡◌, ◌≢◌, ℕ, suc, zero, ◌+◌, ◌-◌, ◌<◌, ◌≤◌, Bool, true, ◌⊎◌, List, [], ◌∷◌, ◌++◌, length, get_or, refl, sym, ap, subst, ◌∙◌, inl, inr, arith, append_assoc}
-use Rattle.std.specs.Prelude.{All, nat_lt, cond}
+use Rattle.std.specs.Prelude.{All, nat_lt, cond, sum_by}
 use Rattle.std.proofs.lemmas.Bool.{cases_Bool, cases_lt, lt-ltb, le-ltb}
 use Rattle.std.proofs.lemmas.Bool.Decides.{eqb_tells}
 use Rattle.std.proofs.lemmas.List.{length-append}
 use Rattle.std.proofs.lemmas.List.Sums.{sum_by-cons}
 use Rattle.lu_test.specs.declared.matrix.Call.{Call}
-use Rattle.lu_test.specs.Matrix.{IsMatrix, calls_of, total_calls}
+use Rattle.lu_test.specs.Matrix.{Matrix, IsMatrix, calls_of, row_of}
 use Rattle.lu_history.specs.declared.serial.SerialOp.{SerialOp}
 use Rattle.lu_trie.specs.Members.{same_op}
 use Rattle.lu_trie.proofs.Ops.{same_ops_are, ops_equiv}
@@ -82,20 +82,20 @@ none_from k (op ∷ q) none = elim (cases_lt op.thread k) [
   | inr from ↦ absurd (omega (arith, none op.thread from, ap length (entries_own op q)))
 ]
 
-few_from : (rows : List (List Call)) (k : ℕ) (q : List SerialOp) → ((t : ℕ) → length (entries (k + t) q) ≤ length (calls_of rows t)) → count_from k q ≤ total_calls rows
+few_from : (rows : List (List Call)) (k : ℕ) (q : List SerialOp) → ((t : ℕ) → length (entries (k + t) q) ≤ length (row_of rows t)) → count_from k q ≤ sum_by length rows
 few_from [] k q fits =
     let none = none_from k q (λ t le. let same : k + (t - k) ≡ t = omega arith in subst (λ (u : ℕ). length (entries u q) ≡ 0) same (omega (arith, fits (t - k)))) in
     omega (arith, none)
 few_from (calls ∷ rows) k q fits =
     let here : length (entries k q) ≤ length calls = subst (λ (u : ℕ). length (entries u q) ≤ length calls) (let e : k + 0 ≡ k = omega arith in e) (fits 0) in
-    let later = few_from rows (k + 1) q (λ t. subst (λ (u : ℕ). length (entries u q) ≤ length (calls_of rows t)) (let e : k + suc t ≡ (k + 1) + t = omega arith in e) (fits (suc t))) in
+    let later = few_from rows (k + 1) q (λ t. subst (λ (u : ℕ). length (entries u q) ≤ length (row_of rows t)) (let e : k + suc t ≡ (k + 1) + t = omega arith in e) (fits (suc t))) in
     omega (arith, one_thread k q, here, later, sum_by-cons length calls rows)
 
 -- ---- the limits of a history that fits a matrix
 
-few_entries : (matrix : List (List Call)) (q : List SerialOp) → IsMatrix matrix → Fits matrix q → length q ≤ 16
+few_entries : (matrix : Matrix) (q : List SerialOp) → IsMatrix matrix → Fits matrix q → length q ≤ 16
 few_entries matrix q is fits =
-    let few = few_from matrix 0 q (λ t. subst (λ (u : ℕ). length (entries u q) ≤ length (calls_of matrix t)) (let e : t ≡ 0 + t = omega arith in e) (fits t)) in
+    let few = few_from matrix.threads 0 q (λ t. subst (λ (u : ℕ). length (entries u q) ≤ length (calls_of matrix t)) (let e : t ≡ 0 + t = omega arith in e) (fits t)) in
     omega (arith, few, all_from q, is.limits.calls)
 
 own_some : (q : List SerialOp) (k : ℕ) (d : SerialOp) → k < length q → 1 ≤ length (entries (get_or q k d).thread q)
@@ -103,13 +103,13 @@ own_some [] k d within = absurd (omega arith)
 own_some (op ∷ q) zero d within = omega (arith, ap length (entries_own op q))
 own_some (op ∷ q) (suc k) d within = omega (arith, own_some q k d (omega arith), entries_grow (get_or q k d).thread op q)
 
-few_threads : (matrix : List (List Call)) (t : ℕ) → IsMatrix matrix → 1 ≤ length (calls_of matrix t) → t ≤ 7
-few_threads matrix t is some = elim (cases_lt t (length matrix)) [
-  | inl within ↦ omega (arith, is.limits.threads)
+few_threads : (matrix : Matrix) (t : ℕ) → IsMatrix matrix → 1 ≤ length (calls_of matrix t) → t ≤ 7
+few_threads matrix t is some = elim (cases_lt t (length matrix.threads)) [
+  | inl within ↦ omega (arith, is.limits.few)
   | inr past ↦ absurd (omega (arith, calls_past matrix t past))
 ]
 
-each_entry : (matrix : List (List Call)) (q : List SerialOp) → IsMatrix matrix → Fits matrix q → All HasOutcome q → All IsEntry q
+each_entry : (matrix : Matrix) (q : List SerialOp) → IsMatrix matrix → Fits matrix q → All HasOutcome q → All IsEntry q
 each_entry matrix q is fits outcomes k d within =
     let t = (get_or q k d).thread in
     (few_threads matrix t is (omega (arith, own_some q k d within, fits t)), outcomes k d within)
@@ -160,7 +160,7 @@ rises_behind : (xs : List (List SerialOp)) (p : List SerialOp) (ys : List (List 
 rises_behind [] p ys rises = rises
 rises_behind (x ∷ xs) p ys rises = rises_behind xs p ys rises.1
 
-module _ (matrix : List (List Call)) (members listed : List (List SerialOp)) (is_matrix : IsMatrix matrix) (spec : IsSpec members) (of : AreOf matrix members) (is : IsListing members listed) where
+module _ (matrix : Matrix) (members listed : List (List SerialOp)) (is_matrix : IsMatrix matrix) (spec : IsSpec members) (of : AreOf matrix members) (is : IsListing members listed) where
   member : (q : List SerialOp) → Has listed q → Has members q
   member q has = ((is.are q).0 has).member
 
@@ -214,6 +214,6 @@ module _ (matrix : List (List Call)) (members listed : List (List SerialOp)) (is
       back q (inl empty) = subst (Has members) (sym empty) spec.empty
       back q (inr (h, begins, has)) = spec.closed q h begins (member h has)
 
-pub reads_again : (matrix : List (List Call)) (members listed : List (List SerialOp)) → IsMatrix matrix → IsSpec members → AreOf matrix members → IsListing members listed → IsReadAs matrix (spec_text listed) members
+pub reads_again : (matrix : Matrix) (members listed : List (List SerialOp)) → IsMatrix matrix → IsSpec members → AreOf matrix members → IsListing members listed → IsReadAs matrix (spec_text listed) members
 reads_again matrix members listed is_matrix spec of is =
     (listed, are_listed matrix members listed is_matrix spec of is, refl, closure matrix members listed is_matrix spec of is)

@@ -6,7 +6,7 @@ use Rattle.std.proofs.lemmas.List.{take_all, get_or-set_same, get_or-set_other}
 use Rattle.std.specs.Option.{unwrap_or}
 use Rattle.std.proofs.lemmas.Option.{slice_get_past}
 use Rattle.lu_test.specs.declared.matrix.Call.{Call}
-use Rattle.lu_test.specs.Matrix.{calls_of}
+use Rattle.lu_test.specs.Matrix.{Matrix, calls_of}
 use Rattle.lu_history.specs.declared.serial.SerialOp.{SerialOp}
 use Rattle.lu_trie.specs.Members.{behind}
 use Rattle.lu_trie.specs.Branches.{Branch, joined, branches_of, IsBranching}
@@ -79,8 +79,8 @@ all_zero zero t = refl
 all_zero (suc n) zero = refl
 all_zero (suc n) (suc t) = all_zero n t
 
-pub calls_past : (matrix : List (List Call)) (t : ℕ) → length matrix ≤ t → length (calls_of matrix t) ≡ 0
-calls_past matrix t past = ap (λ (o : Option (List Call)). length (unwrap_or o [])) (slice_get_past matrix t past)
+pub calls_past : (matrix : Matrix) (t : ℕ) → length matrix.threads ≤ t → length (calls_of matrix t) ≡ 0
+calls_past matrix t past = ap (λ (o : Option (List Call)). length (unwrap_or o [])) (slice_get_past matrix.threads t past)
 
 -- ---- a history by its first operation
 

@@ -5,7 +5,7 @@ use Rattle.std.specs.declared.cmp.Ordering.TheVariants.{Less}
 use Rattle.std.proofs.lemmas.List.{length-append, append-nil}
 use Rattle.lu_history.specs.declared.serial.SerialOp.{SerialOp}
 use Rattle.lu_history.specs.Order.{op_cmp}
-use Rattle.lu_test.specs.declared.matrix.Call.{Call}
+use Rattle.lu_test.specs.Matrix.{Matrix}
 use Rattle.lu_trie.proofs.Ops.{ops_total}
 use Rattle.lu_spec.specs.Beginnings.{Has, Begins, IsClosureOf}
 use Rattle.lu_spec.specs.SpecText.{AreListed, ComesAfter, GoesOn, IsReadAs, spec_text}
@@ -58,7 +58,7 @@ rises_from listed before p (r ∷ rest) order is =
     let others = rises_from listed (before ++ p ∷ []) r rest order longer in
     ((next, each_after p r rest next others.0), others)
 
-rises_all : (matrix : List (List Call)) (listed : List (List SerialOp)) → AreListed matrix listed → Rises listed
+rises_all : (matrix : Matrix) (listed : List (List SerialOp)) → AreListed matrix listed → Rises listed
 rises_all matrix [] are = tt
 rises_all matrix (p ∷ listed) are = rises_from (p ∷ listed) [] p listed are.order refl
 
@@ -117,7 +117,7 @@ begins_both p q x y = by_rest y.0 y.1
     by_rest [] e = e ∙ append-nil q
     by_rest (op ∷ rest) e = absurd (omega (arith, ap length e, length-append q (op ∷ rest), ap length x.1, length-append p x.0))
 
-module _ (matrix : List (List Call)) (members listed : List (List SerialOp)) (are : AreListed matrix listed) (closure : IsClosureOf listed members) where
+module _ (matrix : Matrix) (members listed : List (List SerialOp)) (are : AreListed matrix listed) (closure : IsClosureOf listed members) where
   -- no listed history begins another
   alone : (q g : List SerialOp) → Has listed q → Has listed g → Begins q g → q ≡ g
   alone q g has also begins = elim (in_order listed q g (rises_all matrix listed are) has also) [
@@ -159,6 +159,6 @@ module _ (matrix : List (List Call)) (members listed : List (List SerialOp)) (ar
   one_listing other is = one_list listed other (rises_all matrix listed are) is.rises
       (λ q has. (is.are q).1 (listed_maximal q has)) (λ q has. maximal_listed q ((is.are q).0 has))
 
-pub one_spelling : (matrix : List (List Call)) (text : List ℕ) (members listed : List (List SerialOp)) → IsReadAs matrix text members → IsListing members listed → text ≡ spec_text listed
+pub one_spelling : (matrix : Matrix) (text : List ℕ) (members listed : List (List SerialOp)) → IsReadAs matrix text members → IsListing members listed → text ≡ spec_text listed
 one_spelling matrix text members listed read is =
     read.2 ∙ ap spec_text (one_listing matrix members read.0 read.1 read.3 listed is)

@@ -2,8 +2,7 @@
 use Rattle.std.specs.Prelude.{◌≡◌, ℕ, List}
 use Rattle.lu_text.specs.declared.fault.Fault.TheVariants.{At}
 use Rattle.lu_history.specs.declared.serial.SerialOp.{SerialOp}
-use Rattle.lu_test.specs.declared.matrix.Call.{Call}
-use Rattle.lu_test.specs.Matrix.{IsMatrix}
+use Rattle.lu_test.specs.Matrix.{Matrix, IsMatrix}
 use Rattle.lu_spec.specs.declared.fault.SpecFaultKind.{SpecFaultKind}
 use Rattle.lu_spec.specs.Listed.{IsListing}
 use Rattle.lu_spec.specs.Specs.{AreOf, IsSpec}
@@ -12,18 +11,18 @@ use Rattle.lu_spec.specs.SpecText.{IsReadAs, IsSpecFault, spec_text}
 -- What is read is written as it was: a set has one spelling.
 abbrev pub OneSpelling : Type 0
 OneSpelling =
-    (matrix : List (List Call)) (text : List ℕ) (members listed : List (List SerialOp)) →
+    (matrix : Matrix) (text : List ℕ) (members listed : List (List SerialOp)) →
     IsReadAs matrix text members → IsListing members listed → text ≡ spec_text listed
 
 -- A text that lists histories has no fault: so such a text is read, unless memory is refused.
 abbrev pub NoFault : Type 0
 NoFault =
-    (matrix : List (List Call)) (text : List ℕ) (members : List (List SerialOp)) (kind : SpecFaultKind) (n : ℕ) →
+    (matrix : Matrix) (text : List ℕ) (members : List (List SerialOp)) (kind : SpecFaultKind) (n : ℕ) →
     IsReadAs matrix text members → IsSpecFault matrix text (At kind n) → ⊥
 
 -- The text that is written of a specification of a matrix is read as that specification.
 abbrev pub ReadAgain : Type 0
 ReadAgain =
-    (matrix : List (List Call)) (members listed : List (List SerialOp)) →
+    (matrix : Matrix) (members listed : List (List SerialOp)) →
     IsMatrix matrix → IsSpec members → AreOf matrix members → IsListing members listed →
     IsReadAs matrix (spec_text listed) members

@@ -11,7 +11,7 @@ use Rattle.lu_history.specs.declared.serial.SerialOutcome.TheVariants.{Ret, Trap
 use Rattle.lu_history.specs.declared.serial.SerialOp.{SerialOp}
 use Rattle.lu_history.specs.Order.{op_cmp}
 use Rattle.lu_history.specs.Serial.{IsSerial}
-use Rattle.lu_test.specs.declared.matrix.Call.{Call}
+use Rattle.lu_test.specs.Matrix.{Matrix}
 use Rattle.lu_trie.specs.Conflicts.{IsDeterministic, ConflictAt}
 use Rattle.lu_spec.specs.declared.fault.SpecFaultKind.{SpecFaultKind}
 use Rattle.lu_spec.specs.declared.fault.SpecFaultKind.TheVariants.{Form, Foreign, Nondeterministic}
@@ -67,7 +67,7 @@ abbrev pub GoesOn : List (List SerialOp) → List SerialOp → Type 0
 GoesOn listed q = (before : List (List SerialOp)) (p : List SerialOp) → listed ≡ before ++ p ∷ [] → ComesAfter p q
 
 -- a list of histories of the matrix, in order and none a beginning of the next, without conflict
-pub record AreListed (matrix : List (List Call)) (listed : List (List SerialOp)) : Type 0 where
+pub record AreListed (matrix : Matrix) (listed : List (List SerialOp)) : Type 0 where
   pub each : (q : List SerialOp) → Has listed q → IsListable q × Fits matrix q
   pub order : (before : List (List SerialOp)) (q : List SerialOp) (after : List (List SerialOp)) → listed ≡ before ++ q ∷ after → GoesOn before q
   pub deterministic : IsDeterministic listed
@@ -83,14 +83,14 @@ abbrev pub HasConflictIn : List (List SerialOp) → List SerialOp → Type 0
 HasConflictIn listed q = (p : List SerialOp) × Has listed p × (i : ℕ) × (o : SerialOutcome) × ConflictAt q p i o
 
 -- no history's line; that of a history that does not fit the matrix; or that of one that conflicts with a listed one
-abbrev pub IsFaultOfLine : List (List Call) → List (List SerialOp) → List ℕ → SpecFaultKind → Type 0
+abbrev pub IsFaultOfLine : Matrix → List (List SerialOp) → List ℕ → SpecFaultKind → Type 0
 IsFaultOfLine matrix listed line Form = (q : List SerialOp) → IsLineOf listed line q → ⊥
 IsFaultOfLine matrix listed line Foreign = (q : List SerialOp) × IsLineOf listed line q × (Fits matrix q → ⊥)
 IsFaultOfLine matrix listed line Nondeterministic =
     (q : List SerialOp) × IsLineOf listed line q × Fits matrix q × HasConflictIn listed q
 
 -- among the lines behind the first line, those before line n are of listed histories, and line n has this fault
-pub record IsFaultAmong (matrix : List (List Call)) (lines : List (List ℕ)) (kind : SpecFaultKind) (n : ℕ) : Type 0 where
+pub record IsFaultAmong (matrix : Matrix) (lines : List (List ℕ)) (kind : SpecFaultKind) (n : ℕ) : Type 0 where
   pub listed : List (List SerialOp)
   pub are : AreListed matrix listed
   pub line : List ℕ
@@ -100,7 +100,7 @@ pub record IsFaultAmong (matrix : List (List Call)) (lines : List (List ℕ)) (k
   pub fault : IsFaultOfLine matrix listed line kind
 
 -- the first line is there, and one behind it has this fault
-abbrev pub IsFaultBehind : List (List Call) → List ℕ → SpecFaultKind → ℕ → Type 0
+abbrev pub IsFaultBehind : Matrix → List ℕ → SpecFaultKind → ℕ → Type 0
 IsFaultBehind matrix text kind n =
     (lines : List (List ℕ)) × (kept_lines text ≡ first_line ∷ lines) × IsFaultAmong matrix lines kind n
 
@@ -109,11 +109,11 @@ abbrev pub HasNoFirstLine : List ℕ → SpecFaultKind → ℕ → Type 0
 HasNoFirstLine text kind n = (kind ≡ Form) × (n ≡ 1) × ((rest : List (List ℕ)) → kept_lines text ≡ first_line ∷ rest → ⊥)
 
 -- the first fault of a text that is no specification of the matrix, or want of memory
-abbrev pub IsSpecFault : List (List Call) → List ℕ → Fault SpecFaultKind → Type 0
+abbrev pub IsSpecFault : Matrix → List ℕ → Fault SpecFaultKind → Type 0
 IsSpecFault matrix text (At kind n) = HasNoFirstLine text kind n ⊎ IsFaultBehind matrix text kind n
 IsSpecFault matrix text Memory = Unit {0}
 
 -- the text lists these histories, of which the set is the closure
-abbrev pub IsReadAs : List (List Call) → List ℕ → List (List SerialOp) → Type 0
+abbrev pub IsReadAs : Matrix → List ℕ → List (List SerialOp) → Type 0
 IsReadAs matrix text closed =
     (listed : List (List SerialOp)) × AreListed matrix listed × (text ≡ spec_text listed) × IsClosureOf listed closed

@@ -3,8 +3,7 @@ use Rattle.std.specs.Prelude.{ℕ, ◌≤◌, ◌<◌, ◌^◌, List, [], All, l
 use Rattle.lu_history.specs.declared.serial.SerialOutcome.{SerialOutcome}
 use Rattle.lu_history.specs.declared.serial.SerialOutcome.TheVariants.{Ret, Trap, Stuck}
 use Rattle.lu_history.specs.declared.serial.SerialOp.{SerialOp}
-use Rattle.lu_test.specs.declared.matrix.Call.{Call}
-use Rattle.lu_test.specs.Matrix.{calls_of}
+use Rattle.lu_test.specs.Matrix.{Matrix, calls_of}
 use Rattle.lu_trie.specs.Members.{AllSerial}
 use Rattle.lu_trie.specs.Conflicts.{IsDeterministic}
 use Rattle.lu_witness.specs.Witnesses.{entries}
@@ -34,11 +33,11 @@ pub record IsSpec (members : List (List SerialOp)) : Type 0 where
   pub outcomes : AllHaveOutcomes members
 
 -- no more entries of a thread than it has calls: none of a thread that the matrix does not have
-abbrev pub Fits : List (List Call) → List SerialOp → Type 0
+abbrev pub Fits : Matrix → List SerialOp → Type 0
 Fits matrix q = (t : ℕ) → length (entries t q) ≤ length (calls_of matrix t)
 
 -- each member fits the matrix
-abbrev pub AreOf : List (List Call) → List (List SerialOp) → Type 0
+abbrev pub AreOf : Matrix → List (List SerialOp) → Type 0
 AreOf matrix members = (q : List SerialOp) → Has members q → Fits matrix q
 
 -- no more entries of a thread than are left to it

@@ -2,7 +2,7 @@
 
 ghost use Rattle.std.specs.Prelude.{◌≡◌, ◌≢◌, ◌↔◌, List, [], map, OnOk, IfOk, IfErr, IsTrue};
 ghost use Rattle.lu_text.specs.Lines.{kept_lines};
-ghost use Rattle.lu_test.specs.declared.matrix.Call.{Call};
+ghost use Rattle.lu_test.specs.Matrix.{Matrix as AMatrix};
 ghost use Rattle.lu_history.specs.declared.serial.SerialOp.{SerialOp};
 ghost use Rattle.lu_history.specs.Serial.{IsSerial};
 ghost use Rattle.lu_spec.specs.Beginnings.{AddsBeginnings};
@@ -98,7 +98,7 @@ fn read_line(
 
 /// The draft before the first history.
 fn nothing_listed(alloc: Global) -> Result<Draft, AllocError>
-    ensures { (matrix : List (List Call)) → IfOk result (λ draft. IsDraft matrix [] draft.set draft.last.items) }
+    ensures { (matrix : AMatrix) → IfOk result (λ draft. IsDraft matrix [] draft.set draft.last.items) }
 {
     let mut set = Trie::new(alloc);
     add_beginnings(&mut set, &[])?;

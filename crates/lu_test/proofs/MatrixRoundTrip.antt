@@ -1,7 +1,7 @@
 -- What is written of a component's matrix is read as it was.
-use Rattle.std.proofs.Common.{◌≡◌, ℕ, ◌+◌, ◌^◌, ◌<◌, ◌≤◌, true, false, List, [], ◌∷◌, ◌++◌, length, Some, Ok, refl, sym, ap, subst, ◌∙◌, append_assoc, inl, inr, arith}
-use Rattle.std.specs.Prelude.{codes, map, ◌==◌, is_some, slice_get, All}
-use Rattle.std.specs.List.{join_with_byte, list_all, position, slice_split, AllByRecursion}
+use Rattle.std.proofs.Common.{◌≡◌, ℕ, ◌+◌, ◌^◌, ◌<◌, ◌≤◌, Bool, true, false, Option, None, List, [], ◌∷◌, ◌++◌, length, Some, Ok, refl, sym, ap, subst, ◌∙◌, append_assoc, inl, inr, arith}
+use Rattle.std.specs.Prelude.{codes, map, ◌==◌, is_some, slice_get, sum_by, nat_lt, All}
+use Rattle.std.specs.List.{flat_map, join_with_byte, list_all, position, slice_split, AllByRecursion}
 use Rattle.std.specs.Str.{bytes_eq}
 use Rattle.std.specs.Fmt.{decimal}
 use Rattle.std.specs.Option.{unwrap_or}
@@ -21,8 +21,8 @@ use Rattle.lu_component.specs.declared.component.Op.{Op}
 use Rattle.lu_component.specs.Component.{Declarations, IsComponent, IsOp}
 use Rattle.lu_component.proofs.Named.{name_has, place_at}
 use Rattle.lu_test.specs.declared.matrix.Call.{Call}
-use Rattle.lu_test.specs.Matrix.{AreArguments, IsMatrix, IsOf, IsCallOf, total_calls}
-use Rattle.lu_test.specs.MatrixText.{has_name, has_operation, has_arguments, has_values, call_of, calls_after, with_calls, by_parts, parts_in, line_of, matrix_grammar, operation_name, arguments_text, call_text, others_text, calls_text, thread_text, matrix_text}
+use Rattle.lu_test.specs.Matrix.{AreArguments, IsMatrix, IsOf, IsCallOf, Matrix}
+use Rattle.lu_test.specs.MatrixText.{Drafted, nothing, matrix_of, has_name, has_operation, has_arguments, has_values, call_of, calls_after, calls_fault, is_full, with_thread, with_setup, by_keyword, by_parts, parts_in, line_of, matrix_grammar, operation_name, arguments_text, call_text, others_text, calls_text, line_text, thread_text, setup_text, matrix_text}
 
 -- ---- bytes that part no calls
 
@@ -113,9 +113,9 @@ each_said c is (call ∷ calls) fits arguments = (is_said c is call fits.0 argum
 -- ---- a line
 
 -- the words of a line's parts
-abbrev line_parts : Declarations → List Call → List (List Word)
-line_parts c [] = (codes "thread" ∷ []) ∷ []
-line_parts c (call ∷ calls) = (codes "thread" ∷ call_words c call) ∷ map (call_words c) calls
+abbrev line_parts : Declarations → Word → List Call → List (List Word)
+line_parts c word [] = (word ∷ []) ∷ []
+line_parts c word (call ∷ calls) = (word ∷ call_words c call) ∷ map (call_words c) calls
 
 abbrev part_text : List Word → List ℕ
 part_text words = join_with_byte 32 words
@@ -126,22 +126,26 @@ others_joined c first (call ∷ calls) h =
     ap (λ (t : List ℕ). first ++ (59 ∷ join_with_byte 59 (t ∷ map part_text (map (call_words c) calls)))) h.0.joins
     ∙ ap (λ (t : List ℕ). first ++ (59 ∷ t)) (others_joined c (call_text c call) calls h.1)
 
-line_joined : (c : Declarations) (calls : List Call) → AllByRecursion (IsSaid c) calls → join_with_byte 59 (map part_text (line_parts c calls)) ≡ codes "thread" ++ calls_text c calls
-line_joined c [] h = refl
-line_joined c (call ∷ calls) h =
-    ap (λ (t : List ℕ). join_with_byte 59 ((codes "thread" ++ 32 ∷ t) ∷ map part_text (map (call_words c) calls))) h.0.joins
-    ∙ others_joined c (codes "thread" ++ 32 ∷ call_text c call) calls h.1
+line_joined : (c : Declarations) (word : Word) (calls : List Call) → AllByRecursion (IsSaid c) calls → join_with_byte 59 (map part_text (line_parts c word calls)) ≡ word ++ calls_text c calls
+line_joined c word [] h = sym (append-nil word)
+line_joined c word (call ∷ calls) h =
+    ap (λ (t : List ℕ). join_with_byte 59 ((word ++ 32 ∷ t) ∷ map part_text (map (call_words c) calls))) h.0.joins
+    ∙ others_joined c (word ++ 32 ∷ call_text c call) calls h.1
+    ∙ append_assoc word (32 ∷ call_text c call) (others_text c calls)
 
 thread_part : IsPart (codes "thread")
 thread_part = record { text = literal_text (codes "thread") (omega arith) refl; whole = (refl, (refl, (refl, (refl, (refl, (refl, tt)))))) }
+
+setup_part : IsPart (codes "setup")
+setup_part = record { text = literal_text (codes "setup") (omega arith) refl; whole = (refl, (refl, (refl, (refl, (refl, tt))))) }
 
 others_are : (c : Declarations) (calls : List Call) → AllByRecursion (IsSaid c) calls → AllByRecursion (AllByRecursion IsPart) (map (call_words c) calls)
 others_are c [] h = tt
 others_are c (call ∷ calls) h = (h.0.parts, others_are c calls h.1)
 
-parts_are : (c : Declarations) (calls : List Call) → AllByRecursion (IsSaid c) calls → AllByRecursion (AllByRecursion IsPart) (line_parts c calls)
-parts_are c [] h = ((thread_part, tt), tt)
-parts_are c (call ∷ calls) h = ((thread_part, h.0.parts), others_are c calls h.1)
+parts_are : (c : Declarations) (word : Word) → IsPart word → (calls : List Call) → AllByRecursion (IsSaid c) calls → AllByRecursion (AllByRecursion IsPart) (line_parts c word calls)
+parts_are c word part [] h = ((part, tt), tt)
+parts_are c word part (call ∷ calls) h = ((part, h.0.parts), others_are c calls h.1)
 
 abbrev line_of_parts : List (List Word) → List ℕ
 line_of_parts parts = join_with_byte 59 (map part_text parts)
@@ -178,16 +182,16 @@ parts_again first parts h =
     ap (λ (l : List ℕ). map words_of (slice_split (λ b. b == 59) l)) uncut
     ∙ (ap (λ (ps : List (List ℕ)). map words_of ps) split ∙ words_of_parts (first ∷ parts) h)
 
-line_parts_again : (c : Declarations) (calls : List Call) → AllByRecursion (IsSaid c) calls → parts_in (line_of_parts (line_parts c calls)) ≡ line_parts c calls
-line_parts_again c [] h = parts_again (codes "thread" ∷ []) [] (parts_are c [] h)
-line_parts_again c (call ∷ calls) h = parts_again (codes "thread" ∷ call_words c call) (map (call_words c) calls) (parts_are c (call ∷ calls) h)
+line_parts_again : (c : Declarations) (word : Word) → IsPart word → (calls : List Call) → AllByRecursion (IsSaid c) calls → parts_in (line_of_parts (line_parts c word calls)) ≡ line_parts c word calls
+line_parts_again c word part [] h = parts_again (word ∷ []) [] (parts_are c word part [] h)
+line_parts_again c word part (call ∷ calls) h = parts_again (word ∷ call_words c call) (map (call_words c) calls) (parts_are c word part (call ∷ calls) h)
 
 after_some : (words : List Word) (parts : List (List Word)) → 0 < length words → calls_after words parts ≡ words ∷ parts
 after_some words parts some = rw (ne_eqb (length words) 0 (λ e. omega arith)) refl
 
-by_line : (c : Declarations) (matrix : List (List Call)) (calls : List Call) → by_parts c matrix (line_parts c calls) ≡ with_calls c matrix (map (call_words c) calls)
-by_line c matrix [] = refl
-by_line c matrix (call ∷ calls) = ap (with_calls c matrix) (after_some (call_words c call) (map (call_words c) calls) (omega arith))
+by_line : (c : Declarations) (draft : Drafted) (word : Word) (calls : List Call) → by_parts c draft (line_parts c word calls) ≡ by_keyword c draft word (map (call_words c) calls)
+by_line c draft word [] = refl
+by_line c draft word (call ∷ calls) = ap (by_keyword c draft word) (after_some (call_words c call) (map (call_words c) calls) (omega arith))
 
 -- ---- a thread
 
@@ -211,52 +215,89 @@ calls_again : (c : Declarations) (calls : List Call) → AllByRecursion (IsSaid 
 calls_again c [] h = refl
 calls_again c (call ∷ calls) h = let first = h.0.again in let rest = calls_again c calls h.1 in cc
 
-calls_say : (c : Declarations) (matrix : List (List Call)) (calls : List Call) → AllByRecursion (IsSaid c) calls → length matrix < 8 → length calls ≤ 8 → total_calls matrix + length calls ≤ 16
-    → with_calls c matrix (map (call_words c) calls) ≡ Ok (matrix ++ calls ∷ [])
-calls_say c matrix calls h room few all =
-    let n : length (map (call_words c) calls) ≡ length calls = simp length-map in
-    rw (all_named c calls, all_there c calls h, all_counted c calls h, all_values c calls h, n, lt-leb 8 (length matrix) room, le-ltb 8 (length calls) few, le-ltb 16 (total_calls matrix + length calls) all, calls_again c calls h) refl
+-- nothing is wrong with calls for which there is room
+none_wrong : (c : Declarations) (calls : List Call) (full : Bool) → AllByRecursion (IsSaid c) calls → full ≡ false → calls_fault c (map (call_words c) calls) full ≡ None
+none_wrong c calls full h room =
+    rw (all_named c calls, all_there c calls h, all_counted c calls h, all_values c calls h, room) refl
 
-thread_reads : (c : Declarations) (matrix : List (List Call)) (calls : List Call) → AllByRecursion (IsSaid c) calls → length matrix < 8 → length calls ≤ 8 → total_calls matrix + length calls ≤ 16
-    → Reads (matrix_grammar c) matrix (thread_text c calls) (matrix ++ calls ∷ [])
+-- a line that says this of a draft is read so
+line_reads : (c : Declarations) (draft next : Drafted) (word : Word) → IsPart word → (calls : List Call) → AllByRecursion (IsSaid c) calls → by_keyword c draft word (map (call_words c) calls) ≡ Ok next
+    → Reads (matrix_grammar c) draft (line_text c word calls) next
 unfolding line_of
-thread_reads c matrix calls h room few all =
-    let bytes = parts_bytes (line_parts c calls) (parts_are c calls h) in
-    let says : line_of c matrix (line_of_parts (line_parts c calls)) ≡ Ok (matrix ++ calls ∷ []) =
-    rw (allowed_line _ bytes, line_parts_again c calls h) (by_line c matrix calls ∙ calls_say c matrix calls h room few all) in
-    subst (λ (line : List ℕ). Reads (matrix_grammar c) matrix (line ++ 10 ∷ []) (matrix ++ calls ∷ [])) (line_joined c calls h)
-    (reads_line (matrix_grammar c) matrix (matrix ++ calls ∷ []) (line_of_parts (line_parts c calls)) (one_line _ bytes) says)
+line_reads c draft next word part calls h is =
+    let bytes = parts_bytes (line_parts c word calls) (parts_are c word part calls h) in
+    let says : line_of c draft (line_of_parts (line_parts c word calls)) ≡ Ok next =
+    rw (allowed_line _ bytes, line_parts_again c word part calls h) (by_line c draft word calls ∙ is) in
+    let whole : line_of_parts (line_parts c word calls) ++ 10 ∷ [] ≡ line_text c word calls =
+    ap (λ (line : List ℕ). line ++ 10 ∷ []) (line_joined c word calls h) in
+    subst (λ (line : List ℕ). Reads (matrix_grammar c) draft line next) whole
+    (reads_line (matrix_grammar c) draft next (line_of_parts (line_parts c word calls)) (one_line _ bytes) says)
+
+thread_reads : (c : Declarations) (draft : Drafted) (calls : List Call) → AllByRecursion (IsSaid c) calls → length draft.threads < 8 → length calls ≤ 8 → sum_by length draft.threads + length calls ≤ 16
+    → Reads (matrix_grammar c) draft (thread_text c calls) (record draft { threads = draft.threads ++ calls ∷ [] })
+thread_reads c draft calls h room few all =
+    let n : length (map (call_words c) calls) ≡ length calls = simp length-map in
+    let free : is_full draft.threads (length (map (call_words c) calls)) ≡ false =
+    rw (n, lt-leb 8 (length draft.threads) room, le-ltb 8 (length calls) few, le-ltb 16 (sum_by length draft.threads + length calls) all) refl in
+    let says : with_thread c draft (map (call_words c) calls) ≡ Ok (record draft { threads = draft.threads ++ calls ∷ [] }) =
+    rw (none_wrong c calls _ h free, calls_again c calls h) refl in
+    line_reads c draft (record draft { threads = draft.threads ++ calls ∷ [] }) (codes "thread") thread_part calls h says
 
 -- ---- a matrix
 
-threads_read : (c : Declarations) → IsComponent c → (all done rest : List (List Call)) → all ≡ done ++ rest → length all ≤ 8 → total_calls all ≤ 16
+-- what is read by the setup's line
+abbrev setup_of : List Call → Option (List Call)
+setup_of [] = None
+setup_of (call ∷ calls) = Some (call ∷ calls)
+
+setup_again : (calls : List Call) → unwrap_or (setup_of calls) [] ≡ calls
+setup_again [] = refl
+setup_again (call ∷ calls) = refl
+
+setup_reads : (c : Declarations) (calls : List Call) → AllByRecursion (IsSaid c) calls → length calls ≤ 8
+    → Reads (matrix_grammar c) nothing (setup_text c calls) (record { setup = setup_of calls; threads = [] })
+setup_reads c [] h few = reads_nothing (matrix_grammar c) nothing
+setup_reads c (call ∷ calls) h few =
+    let all : List Call = call ∷ calls in
+    let n : length (map (call_words c) all) ≡ length all = simp length-map in
+    let free : nat_lt 8 (length (map (call_words c) all)) ≡ false = rw (n, le-ltb 8 (length all) few) refl in
+    let says : with_setup c nothing (map (call_words c) all) ≡ Ok (record { setup = Some all; threads = [] }) =
+    rw (none_wrong c all _ h free, calls_again c all h) refl in
+    line_reads c nothing (record { setup = Some all; threads = [] }) (codes "setup") setup_part all h says
+
+threads_read : (c : Declarations) → IsComponent c → (setup : Option (List Call)) (all done rest : List (List Call)) → all ≡ done ++ rest → length all ≤ 8 → sum_by length all ≤ 16
     → AllByRecursion (λ calls. length calls ≤ 8) rest → AllByRecursion (λ calls. All (IsCallOf c) calls) rest → AllByRecursion (λ calls. All (λ call. AreArguments call.args) calls) rest
-    → Reads (matrix_grammar c) done (matrix_text c rest) all
-threads_read c is all done [] cut few count each fits arguments =
+    → Reads (matrix_grammar c) (record { setup = setup; threads = done }) (flat_map (thread_text c) rest) (record { setup = setup; threads = all })
+threads_read c is setup all done [] cut few count each fits arguments =
     let same : all ≡ done = cut ∙ append-nil done in
-    rw same (reads_nothing (matrix_grammar c) done)
-threads_read c is all done (calls ∷ rest) cut few count each fits arguments =
+    rw same (reads_nothing (matrix_grammar c) (record { setup = setup; threads = done }))
+threads_read c is setup all done (calls ∷ rest) cut few count each fits arguments =
     let n : length (done ++ calls ∷ rest) ≡ length done + length (calls ∷ rest) = simp length-append in
     let whole : length all ≡ length (done ++ calls ∷ rest) = ap length cut in
     let room : length done < 8 = omega arith in
-    let sum : total_calls all ≡ total_calls (done ++ calls ∷ rest) = ap total_calls cut in
+    let sum : sum_by length all ≡ sum_by length (done ++ calls ∷ rest) = ap (sum_by length) cut in
     let split = sum_by-append length done (calls ∷ rest) in
     let first = sum_by-cons length calls rest in
-    let fewer : total_calls done + length calls ≤ 16 = omega arith in
+    let fewer : sum_by length done + length calls ≤ 16 = omega arith in
     let said = each_said c is calls (recursion_from_All (IsCallOf c) calls fits.0) (recursion_from_All (λ call. AreArguments call.args) calls arguments.0) in
-    reads_on (matrix_grammar c) done (done ++ calls ∷ []) all (thread_text c calls) (matrix_text c rest)
-    (thread_reads c done calls said room each.0 fewer)
-    (threads_read c is all (done ++ calls ∷ []) rest (cut ∙ sym (append_assoc done (calls ∷ []) rest)) few count each.1 fits.1 arguments.1)
+    reads_on (matrix_grammar c) (record { setup = setup; threads = done }) (record { setup = setup; threads = done ++ calls ∷ [] }) (record { setup = setup; threads = all }) (thread_text c calls) (flat_map (thread_text c) rest)
+    (thread_reads c (record { setup = setup; threads = done }) calls said room each.0 fewer)
+    (threads_read c is setup all (done ++ calls ∷ []) rest (cut ∙ sym (append_assoc done (calls ∷ []) rest)) few count each.1 fits.1 arguments.1)
 
-pub matrix_again : (c : Declarations) (matrix : List (List Call)) → IsComponent c → IsMatrix matrix → IsOf matrix c → value_of (matrix_grammar c) (matrix_text c matrix) ≡ Ok matrix
+pub matrix_again : (c : Declarations) (matrix : Matrix) → IsComponent c → IsMatrix matrix → IsOf matrix c → value_of (matrix_grammar c) (matrix_text c matrix) ≡ Ok matrix
 matrix_again c matrix is m fits =
-    let read = threads_read c is matrix [] matrix refl m.limits.threads m.limits.calls
-    (recursion_from_All (λ calls. length calls ≤ 8) matrix m.limits.each)
-    (recursion_from_All (λ calls. All (IsCallOf c) calls) matrix fits)
-    (recursion_from_All (λ calls. All (λ call. AreArguments call.args) calls) matrix m.limits.arguments) in
+    let setup = setup_of matrix.setup in
+    let all : Drafted = record { setup = setup; threads = matrix.threads } in
+    let said = each_said c is matrix.setup (recursion_from_All (IsCallOf c) matrix.setup fits.0) (recursion_from_All (λ call. AreArguments call.args) matrix.setup m.before.arguments) in
+    let read = threads_read c is setup matrix.threads [] matrix.threads refl m.limits.few m.limits.calls
+    (recursion_from_All (λ calls. length calls ≤ 8) matrix.threads m.limits.each)
+    (recursion_from_All (λ calls. All (IsCallOf c) calls) matrix.threads fits.1)
+    (recursion_from_All (λ calls. All (λ call. AreArguments call.args) calls) matrix.threads m.limits.arguments) in
+    let both = reads_on (matrix_grammar c) nothing (record { setup = setup; threads = [] }) all (setup_text c matrix.setup) (flat_map (thread_text c) matrix.threads) (setup_reads c matrix.setup said m.before.few) read in
     let some = m.some in
-    reads_value (matrix_grammar c) (matrix_text c matrix) matrix matrix read (rw (ne_eqb (length matrix) 0 (λ e. omega arith)) refl)
+    let whole : matrix_of all ≡ matrix = ap (λ (calls : List Call). let made : Matrix = record { setup = calls; threads = matrix.threads } in made) (setup_again matrix.setup) in
+    reads_value (matrix_grammar c) (matrix_text c matrix) all matrix both (rw (ne_eqb (length matrix.threads) 0 (λ e. omega arith), whole) refl)
 
 -- the same of a text that is the matrix's
-pub written_again : (c : Declarations) (matrix : List (List Call)) → IsComponent c → IsMatrix matrix → IsOf matrix c → (text : List ℕ) → text ≡ matrix_text c matrix → value_of (matrix_grammar c) text ≡ Ok matrix
+pub written_again : (c : Declarations) (matrix : Matrix) → IsComponent c → IsMatrix matrix → IsOf matrix c → (text : List ℕ) → text ≡ matrix_text c matrix → value_of (matrix_grammar c) text ≡ Ok matrix
 written_again c matrix is m fits text e = rw e (matrix_again c matrix is m fits)

@@ -1,13 +1,12 @@
 -- What holds of the texts of matrices.
-use Rattle.std.specs.Prelude.{◌≡◌, List, Ok}
+use Rattle.std.specs.Prelude.{◌≡◌, Ok}
 use Rattle.lu_text.specs.Faults.{value_of}
 use Rattle.lu_component.specs.Component.{Declarations, IsComponent}
-use Rattle.lu_test.specs.declared.matrix.Call.{Call}
-use Rattle.lu_test.specs.Matrix.{IsMatrix, IsOf}
+use Rattle.lu_test.specs.Matrix.{Matrix, IsMatrix, IsOf}
 use Rattle.lu_test.specs.MatrixText.{matrix_grammar, matrix_text}
 
 -- what is written of a component's matrix is read as it was
 abbrev pub RoundTrip : Type 0
 RoundTrip =
-    (c : Declarations) (matrix : List (List Call)) → IsComponent c → IsMatrix matrix → IsOf matrix c
+    (c : Declarations) (matrix : Matrix) → IsComponent c → IsMatrix matrix → IsOf matrix c
     → value_of (matrix_grammar c) (matrix_text c matrix) ≡ Ok matrix

@@ -1,5 +1,5 @@
 -- The text of a matrix: what each line says, or what is wrong with it.
-use Rattle.std.specs.Prelude.{ℕ, ◌+◌, Bool, List, [], ◌∷◌, ◌++◌, length, map, drop, Option, is_some, Result, Ok, Err, codes, ◌==◌, ◌&&◌, ◌||◌, not, nat_le, nat_lt, if◌then◌else◌}
+use Rattle.std.specs.Prelude.{ℕ, ◌+◌, Bool, List, [], ◌∷◌, ◌++◌, length, map, drop, Option, Some, None, is_some, is_none, Result, Ok, Err, codes, ◌==◌, ◌&&◌, ◌||◌, not, nat_le, nat_lt, sum_by, if◌then◌else◌}
 use Rattle.std.specs.List.{list_all, slice_split, flat_map}
 use Rattle.std.specs.Str.{bytes_eq}
 use Rattle.std.specs.Fmt.{decimal}
@@ -8,12 +8,12 @@ use Rattle.std.specs.Prelude.{slice_get}
 use Rattle.lu_text.specs.Numbers.{value_in}
 use Rattle.lu_text.specs.Lines.{words_of, before_comment, is_allowed}
 use Rattle.lu_text.specs.Words.{Word}
-use Rattle.lu_text.specs.Faults.{Grammar, says}
+use Rattle.lu_text.specs.Faults.{Grammar, first_fault, or_else, says}
 use Rattle.lu_component.specs.Component.{Declarations, operation_place}
 use Rattle.lu_test.specs.declared.matrix.Call.{Call}
 use Rattle.lu_test.specs.declared.matrix_fault.MatrixFaultKind.{MatrixFaultKind}
 use Rattle.lu_test.specs.declared.matrix_fault.MatrixFaultKind.TheVariants.{Byte, Form, UnknownOp, Arguments, Number, Limit}
-use Rattle.lu_test.specs.Matrix.{total_calls}
+use Rattle.lu_test.specs.Matrix.{Matrix, AreThreads, IsSetup}
 
 -- ---- the words of a call: a name and arguments
 
@@ -47,53 +47,83 @@ call_of c words = record {
 
 -- ---- lines
 
--- what is wrong with the calls of one more thread; or the matrix with it
-abbrev pub with_calls : Declarations → List (List Call) → List (List Word)
-    → Result (List (List Call)) MatrixFaultKind
-with_calls c matrix calls =
-    says ((not (list_all has_name calls), Form)
+-- what is read so far: the calls of the setup line, where there was one, and those of each thread
+pub record Drafted : Type 0 where
+  pub setup : Option (List Call)
+  pub threads : List (List Call)
+
+-- nothing is read
+abbrev pub nothing : Drafted
+nothing = record { setup = None; threads = [] }
+
+-- no line with words is read
+abbrev pub is_nothing : Drafted → Bool
+is_nothing draft = is_none draft.setup && length draft.threads == 0
+
+-- the matrix of what is read
+abbrev pub matrix_of : Drafted → Matrix
+matrix_of draft = record { setup = unwrap_or draft.setup []; threads = draft.threads }
+
+-- the limits hold of what is read
+abbrev pub IsDraft : Drafted → Type 0
+IsDraft draft = AreThreads draft.threads × IsSetup (matrix_of draft).setup
+
+-- what is wrong with the calls of a line, for which there is room or not
+abbrev pub calls_fault : Declarations → List (List Word) → Bool → Option MatrixFaultKind
+calls_fault c calls full =
+    first_fault ((not (list_all has_name calls), Form)
     ∷ (not (list_all (has_operation c) calls), UnknownOp)
     ∷ (not (list_all (has_arguments c) calls), Arguments)
     ∷ (not (list_all has_values calls), Number)
-    ∷ (
-      nat_le 8 (length matrix)
-          || (nat_lt 8 (length calls) || nat_lt 16 (total_calls matrix + length calls)),
-      Limit,
-    ) ∷ [])
-    (matrix ++ map (call_of c) calls ∷ [])
+    ∷ (full, Limit) ∷ [])
 
--- behind `thread` stands nothing, or calls
+-- there is no room for one more thread of n calls
+abbrev pub is_full : List (List Call) → ℕ → Bool
+is_full threads n = nat_le 8 (length threads) || (nat_lt 8 n || nat_lt 16 (sum_by length threads + n))
+
+-- what is wrong with the calls of one more thread; or the draft with it
+abbrev pub with_thread : Declarations → Drafted → List (List Word) → Result Drafted MatrixFaultKind
+with_thread c draft calls =
+    or_else (calls_fault c calls (is_full draft.threads (length calls)))
+    (record draft { threads = draft.threads ++ map (call_of c) calls ∷ [] })
+
+-- what is wrong with the calls of the setup; or the draft with them
+abbrev pub with_setup : Declarations → Drafted → List (List Word) → Result Drafted MatrixFaultKind
+with_setup c draft calls =
+    or_else (calls_fault c calls (nat_lt 8 (length calls)))
+    (record draft { setup = Some (map (call_of c) calls) })
+
+-- behind the first word stands nothing, or calls
 abbrev pub calls_after : List Word → List (List Word) → List (List Word)
 calls_after words parts = if length words == 0 && length parts == 0 then [] else words ∷ parts
 
--- the first word is `thread`
-abbrev pub thread_line : Declarations → List (List Call) → Word → List Word → List (List Word)
-    → Result (List (List Call)) MatrixFaultKind
-thread_line c matrix word words parts =
-    if bytes_eq word (codes "thread") then with_calls c matrix (calls_after words parts) else Err Form
+-- the first word is `thread`, or, on the first line with words, `setup`
+abbrev pub by_keyword : Declarations → Drafted → Word → List (List Word) → Result Drafted MatrixFaultKind
+by_keyword c draft word calls =
+    if bytes_eq word (codes "thread") then with_thread c draft calls
+    else (if bytes_eq word (codes "setup") && is_nothing draft then with_setup c draft calls else Err Form)
 
 -- a line by the words of its parts, between which stands `;`
-abbrev pub by_parts : Declarations → List (List Call) → List (List Word)
-    → Result (List (List Call)) MatrixFaultKind
-by_parts c matrix [] = Ok matrix
-by_parts c matrix ([] ∷ []) = Ok matrix
-by_parts c matrix ([] ∷ part ∷ parts) = Err Form
-by_parts c matrix ((word ∷ words) ∷ parts) = thread_line c matrix word words parts
+abbrev pub by_parts : Declarations → Drafted → List (List Word) → Result Drafted MatrixFaultKind
+by_parts c draft [] = Ok draft
+by_parts c draft ([] ∷ []) = Ok draft
+by_parts c draft ([] ∷ part ∷ parts) = Err Form
+by_parts c draft ((word ∷ words) ∷ parts) = by_keyword c draft word (calls_after words parts)
 
 -- the words of each part of a line
 abbrev pub parts_in : List ℕ → List (List Word)
 parts_in line = map words_of (slice_split (λ b. b == 59) (before_comment line))
 
-unfoldable pub line_of : Declarations → List (List Call) → List ℕ → Result (List (List Call)) MatrixFaultKind
-line_of c matrix line = if list_all is_allowed line then by_parts c matrix (parts_in line) else Err Byte
+unfoldable pub line_of : Declarations → Drafted → List ℕ → Result Drafted MatrixFaultKind
+line_of c draft line = if list_all is_allowed line then by_parts c draft (parts_in line) else Err Byte
 
 -- at the end there is a thread
-abbrev pub finished : List (List Call) → Result (List (List Call)) MatrixFaultKind
-finished matrix = says ((length matrix == 0, Limit) ∷ []) matrix
+abbrev pub finished : Drafted → Result Matrix MatrixFaultKind
+finished draft = says ((length draft.threads == 0, Limit) ∷ []) (matrix_of draft)
 
 -- the text of a matrix of a component
-abbrev pub matrix_grammar : Declarations → Grammar MatrixFaultKind (List (List Call)) (List (List Call))
-matrix_grammar c = record { nothing = []; line = line_of c; finish = finished }
+abbrev pub matrix_grammar : Declarations → Grammar MatrixFaultKind Drafted Matrix
+matrix_grammar c = record { nothing = nothing; line = line_of c; finish = finished }
 
 -- ---- the canonical text
 
@@ -119,13 +149,22 @@ other_text c call = 59 ∷ call_text c call
 abbrev pub others_text : Declarations → List Call → List ℕ
 others_text c calls = flat_map (other_text c) calls
 
--- behind `thread` nothing, or a space and the calls with `;` between them
+-- behind the first word nothing, or a space and the calls with `;` between them
 abbrev pub calls_text : Declarations → List Call → List ℕ
 calls_text c [] = []
 calls_text c (call ∷ calls) = 32 ∷ call_text c call ++ others_text c calls
 
-abbrev pub thread_text : Declarations → List Call → List ℕ
-thread_text c calls = codes "thread" ++ calls_text c calls ++ 10 ∷ []
+-- a line of these calls
+abbrev pub line_text : Declarations → Word → List Call → List ℕ
+line_text c word calls = word ++ calls_text c calls ++ 10 ∷ []
 
-abbrev pub matrix_text : Declarations → List (List Call) → List ℕ
-matrix_text c matrix = flat_map (thread_text c) matrix
+abbrev pub thread_text : Declarations → List Call → List ℕ
+thread_text c calls = line_text c (codes "thread") calls
+
+-- nothing where there is no setup
+abbrev pub setup_text : Declarations → List Call → List ℕ
+setup_text c [] = []
+setup_text c (call ∷ calls) = line_text c (codes "setup") (call ∷ calls)
+
+abbrev pub matrix_text : Declarations → Matrix → List ℕ
+matrix_text c matrix = setup_text c matrix.setup ++ flat_map (thread_text c) matrix.threads

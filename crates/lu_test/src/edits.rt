@@ -2,7 +2,7 @@
 
 ghost use Rattle.std.specs.Prelude.{◌≡◌, ◌<◌, ◌≤◌, IfOk, length, remove, take};
 ghost use Rattle.std.specs.List.{AllZip};
-ghost use Rattle.lu_test.specs.Matrix.{calls_of, without, cut, IsMatrix};
+ghost use Rattle.lu_test.specs.Matrix.{alone, calls_of, without, cut, IsMatrix};
 
 use crate::matrix::{Arguments, Call, Calls, Matrix};
 use std::alloc::{AllocError, Global};
@@ -17,7 +17,12 @@ fn copy_of_call(alloc: Global, call: &Call) -> Result<Call, AllocError>
     })
 }
 
-fn copy_of(alloc: Global, calls: &[Call]) -> Result<Calls, AllocError>
+/// A copy of the calls.
+///
+/// # Errors
+///
+/// There is no memory for the copy.
+pub fn copy_calls(alloc: Global, calls: &[Call]) -> Result<Calls, AllocError>
     ensures { IfOk result (λ copy. copy ≡ calls.now) }
 {
     let mut copies = Vec::with_capacity(alloc, calls.len())?;
@@ -32,12 +37,13 @@ fn copies_of(alloc: Global, threads: &[Calls]) -> Result<Vec<Calls>, AllocError>
 {
     let mut copies = Vec::with_capacity(alloc, threads.len())?;
     for calls in threads {
-        copies.push(copy_of(alloc, calls.as_slice())?)?;
+        copies.push(copy_calls(alloc, calls.as_slice())?)?;
     }
     Ok(copies)
 }
 
-/// The matrix without call number `k` of thread `t`, both from 0. The thread stays, also with no calls.
+/// The matrix without call number `k` of thread `t`, both from 0. The thread stays, also with no calls,
+/// and so does the setup.
 /// Asks for a call that is there.
 ///
 /// # Errors
@@ -47,24 +53,39 @@ pub fn remove(alloc: Global, matrix: &Matrix, t: u8, k: u8) -> Result<Matrix, Al
     requires { k < length (calls_of matrix.now t) }
     ensures { IfOk result (λ smaller. smaller ≡ without matrix.now t k) }
 {
+    let setup = copy_calls(alloc, matrix.setup().as_slice())?;
     let mut threads = copies_of(alloc, matrix.as_slice())?;
     threads[usize::from(t)].remove(usize::from(k));
-    Ok(Matrix::new(threads))
+    Ok(Matrix::new(setup, threads))
 }
 
-/// The matrix of each thread's first calls: of thread `t` as many as `lengths[t]` says.
+/// The matrix of each thread's first calls: of thread `t` as many as `lengths[t]` says. The setup stays.
 /// Asks for a length of each thread, at most its number of calls.
 ///
 /// # Errors
 ///
 /// There is no memory for the smaller matrix.
 pub fn cut_to(alloc: Global, matrix: &Matrix, lengths: &[u8]) -> Result<Matrix, AllocError>
-    requires { AllZip (λ calls n. n ≤ length calls) matrix.now lengths.now }
+    requires { AllZip (λ calls n. n ≤ length calls) matrix.now.threads lengths.now }
     ensures { IfOk result (λ smaller. smaller ≡ cut matrix.now lengths.now) }
 {
+    let setup = copy_calls(alloc, matrix.setup().as_slice())?;
     let mut threads = Vec::with_capacity(alloc, lengths.len())?;
     for (t, calls) in matrix.as_slice().iter().enumerate() {
-        threads.push(copy_of(alloc, &calls.as_slice()[..usize::from(lengths[t])])?)?;
+        threads.push(copy_calls(alloc, &calls.as_slice()[..usize::from(lengths[t])])?)?;
     }
-    Ok(Matrix::new(threads))
+    Ok(Matrix::new(setup, threads))
+}
+
+/// The matrix of one thread that makes the calls of the setup, before which no calls are made.
+///
+/// # Errors
+///
+/// There is no memory for the matrix.
+pub fn setup_alone(alloc: Global, matrix: &Matrix) -> Result<Matrix, AllocError>
+    ensures { IfOk result (λ first. first ≡ alone matrix.now.setup) }
+{
+    let mut threads = Vec::with_capacity(alloc, 1)?;
+    threads.push(copy_calls(alloc, matrix.setup().as_slice())?)?;
+    Ok(Matrix::new(Calls::new(Vec::new(alloc)), threads))
 }

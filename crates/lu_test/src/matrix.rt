@@ -1,7 +1,7 @@
 //! Matrices.
 
 ghost use Rattle.std.specs.Prelude.{◌≡◌, ◌<◌, ◌≤◌, ◌↔◌, IsTrue, length, slice_get, remove, All, Some};
-ghost use Rattle.lu_test.specs.Matrix.{IsMatrix, IsCallOf, IsOf, calls_of};
+ghost use Rattle.lu_test.specs.Matrix.{IsMatrix, IsCallOf, IsOf, calls_of, thread_count};
 
 use lu_component::Component;
 use std::marker::Model;
@@ -9,7 +9,7 @@ use std::marker::Model;
 /// The most threads that a matrix has.
 pub const MOST_THREADS: usize = 8;
 
-/// The most calls that one thread makes.
+/// The most calls that one thread makes, and the most of a setup.
 pub const MOST_CALLS_OF_THREAD: usize = 8;
 
 /// The most calls that a matrix has in all.
@@ -108,38 +108,52 @@ impl Calls {
     }
 }
 
-/// A matrix: for each thread the calls that it makes. 1 to 8 threads of at most 8 calls, 16 calls in
-/// all, and at most 4 arguments of a call.
+fn all_are_of(threads: &[Calls], component: &Component) -> bool
+    ensures { IsTrue result ↔ All (λ calls. All (IsCallOf component.now) calls) threads.now }
+{
+    threads.iter().all(|calls| calls.are_of(component))
+}
+
+/// A matrix: the calls of a setup, which are made before the start, and for each thread the calls that it
+/// makes. 1 to 8 threads of at most 8 calls, 16 calls in all, at most 8 more of the setup, and at most 4
+/// arguments of a call.
 #[derive(Debug, Drop)]
 pub struct Matrix {
+    setup: Calls,
     threads: Vec<Calls>,
 }
 
 impl Model for Matrix {
-    ghost use Rattle.std.specs.Prelude.{List};
-    ghost use Rattle.lu_test.specs.Matrix.{IsMatrix};
-    ghost use Rattle.lu_test.specs.declared.matrix.Call.{Call as ACall};
+    ghost use Rattle.lu_test.specs.Matrix.{IsMatrix, Matrix as AMatrix};
 
-    ghost Value = { List (List ACall) };
+    ghost Value = { AMatrix };
 
-    ghost view = { λ m. m.threads.items };
+    ghost view = { λ m. record { setup = m.setup; threads = m.threads.items } };
 
-    ghost invariant = { λ m. IsMatrix m.threads.items };
+    ghost invariant = { λ m. IsMatrix (record { setup = m.setup; threads = m.threads.items }) };
 }
 
 impl Matrix {
-    /// The matrix of these threads' calls. Asks for what each matrix keeps: 1 to 8 threads of at most 8
-    /// calls, 16 calls in all, and at most 4 arguments of a call.
-    pub fn new(threads: Vec<Calls>) -> Matrix
-        requires { IsMatrix threads.items }
-        ensures { result ≡ threads.items }
+    /// The matrix of this setup and of these threads' calls. Asks for what each matrix keeps: 1 to 8 threads
+    /// of at most 8 calls, 16 calls in all, at most 8 of the setup, and at most 4 arguments of a call.
+    pub fn new(setup: Calls, threads: Vec<Calls>) -> Matrix
+        requires { IsMatrix (record { setup = setup; threads = threads.items }) }
+        ensures { result ≡ record { setup = setup; threads = threads.items } }
     {
-        Matrix { threads }
+        Matrix { setup, threads }
+    }
+
+    /// The calls that are made before the start.
+    pub fn setup(&self) -> &Calls
+        ensures calls { result.now ≡ self.now.setup }
+        ensures sound { IsMatrix self.now }
+    {
+        &self.setup
     }
 
     /// The number of threads, 1 to 8.
     pub fn threads(&self) -> u8
-        ensures threads { result ≡ length self.now }
+        ensures threads { result ≡ thread_count self.now }
         ensures sound { IsMatrix self.now }
     {
         self.threads.len() as u8
@@ -147,7 +161,7 @@ impl Matrix {
 
     /// The calls of each thread.
     pub fn as_slice(&self) -> &[Calls]
-        ensures calls { result.now ≡ self.now }
+        ensures calls { result.now ≡ self.now.threads }
         ensures sound { IsMatrix self.now }
     {
         self.threads.as_slice()
@@ -176,6 +190,6 @@ impl Matrix {
     pub fn of(&self, component: &Component) -> bool
         ensures { IsTrue result ↔ IsOf self.now component.now }
     {
-        self.threads.iter().all(|calls| calls.are_of(component))
+        self.setup().are_of(component) && all_are_of(self.as_slice(), component)
     }
 }

@@ -1,6 +1,6 @@
 //! Reading of matrices.
 
-ghost use Rattle.std.specs.Prelude.{◌≡◌, ◌==◌, ◌||◌, ◌+◌, ◌∷◌, ◌^◌, ◌<◌, ◌≤◌, ℕ, [], IfOk, Ok, Some, IsErrOf, length, map, drop, nat_le, nat_lt, is_some};
+ghost use Rattle.std.specs.Prelude.{◌≡◌, ◌==◌, ◌||◌, ◌+◌, ◌∷◌, ◌^◌, ◌<◌, ◌≤◌, ℕ, [], IfOk, Ok, Some, IsErrOf, length, map, drop, nat_le, nat_lt, sum_by, is_some};
 ghost use Rattle.std.specs.Option.{option_map, unwrap_or};
 ghost use Rattle.std.specs.List.{position, list_all, slice_split};
 ghost use Rattle.std.specs.Str.{bytes_eq};
@@ -10,9 +10,9 @@ ghost use Rattle.lu_text.specs.Faults.{Gives, IsFirstFault, on_line, value_of, l
 ghost use Rattle.lu_text.specs.declared.fault.Fault.TheVariants.{At};
 ghost use Rattle.lu_component.specs.Component.{operation_place};
 ghost use Rattle.lu_test.specs.declared.matrix_fault.MatrixFaultKind.{MatrixFaultKind as Kind};
-ghost use Rattle.lu_test.specs.Matrix.{IsMatrix, IsOf, IsDraft, total_calls};
+ghost use Rattle.lu_test.specs.Matrix.{AreThreads, IsMatrix, IsOf};
 ghost use Rattle.lu_test.specs.MatrixText as spec;
-ghost use Rattle.lu_test.specs.MatrixText.{matrix_grammar};
+ghost use Rattle.lu_test.specs.MatrixText.{IsDraft, matrix_grammar};
 
 use crate::matrix::{
     Arguments, Call, Calls, MOST_CALLS, MOST_CALLS_OF_THREAD, MOST_THREADS, Matrix,
@@ -176,40 +176,69 @@ fn calls_of(
     Ok(calls)
 }
 
-/// The threads of a matrix of which not all lines are read.
+/// The lines of a matrix of which not all are read.
 #[derive(Debug, Drop)]
 struct Draft {
+    /// Of the setup line, where there was one.
+    setup: Option<Calls>,
     threads: Vec<Calls>,
 }
 
 impl Model for Draft {
-    ghost use Rattle.std.specs.Prelude.{List};
-    ghost use Rattle.lu_test.specs.declared.matrix.Call.{Call as ACall};
+    ghost use Rattle.lu_test.specs.MatrixText.{Drafted};
 
-    ghost Value = { List (List ACall) };
+    ghost Value = { Drafted };
 
-    ghost view = { λ d. d.threads.items };
+    ghost view = { λ d. record { setup = d.setup; threads = d.threads.items } };
+}
+
+impl Draft {
+    /// Whether no line with words is read.
+    fn is_nothing(&self) -> bool
+        ensures { result ≡ spec.is_nothing self.now }
+    {
+        self.setup.is_none() && self.threads.is_empty()
+    }
 }
 
 fn total_calls(threads: &[Calls]) -> usize
-    requires { total_calls threads.now < 2 ^ 64 }
-    ensures { result ≡ total_calls threads.now }
+    requires { sum_by length threads.now < 2 ^ 64 }
+    ensures { result ≡ sum_by length threads.now }
 {
     threads.iter().map(|calls| calls.as_slice().len()).sum()
 }
 
-/// Whether there is no room for a thread of so many calls.
-fn is_full(draft: &Draft, calls: usize) -> bool
-    requires { IsDraft draft.now }
-    ensures { result ≡ (nat_le 8 (length draft.now) || (nat_lt 8 calls || nat_lt 16 (total_calls draft.now + calls))) }
+/// Whether there is no room for one more thread of so many calls.
+fn is_full(threads: &[Calls], calls: usize) -> bool
+    requires { AreThreads threads.now }
+    ensures { result ≡ spec.is_full threads.now calls }
 {
-    draft.threads.len() >= MOST_THREADS
+    threads.len() >= MOST_THREADS
         || calls > MOST_CALLS_OF_THREAD
-        || total_calls(&draft.threads) + calls > MOST_CALLS
+        || total_calls(threads) + calls > MOST_CALLS
+}
+
+/// What is wrong with the calls of a line, if anything is. `full`: there is no room for them.
+fn calls_fault(component: &Component, calls: &[Part<'_>], full: bool) -> Option<MatrixFaultKind>
+    ensures { result ≡ spec.calls_fault component.now calls.now full }
+{
+    if !all_have_names(calls) {
+        Some(MatrixFaultKind::Form)
+    } else if !all_have_operations(component, calls) {
+        Some(MatrixFaultKind::UnknownOp)
+    } else if !all_have_arguments(component, calls) {
+        Some(MatrixFaultKind::Arguments)
+    } else if !all_have_values(calls) {
+        Some(MatrixFaultKind::Number)
+    } else if full {
+        Some(MatrixFaultKind::Limit)
+    } else {
+        None
+    }
 }
 
 /// One more thread with these calls, or what is wrong with them.
-fn with_calls(
+fn with_thread(
     alloc: Global,
     line: usize,
     component: &Component,
@@ -217,29 +246,41 @@ fn with_calls(
     calls: &[Part<'_>],
 ) -> Result<Draft, MatrixFault>
     requires { IsDraft draft }
-    ensures { Gives result (on_line line (spec.with_calls component.now draft calls.now)) }
+    ensures { Gives result (on_line line (spec.with_thread component.now draft calls.now)) }
 {
-    if !all_have_names(calls) {
-        return Err(Fault::At(MatrixFaultKind::Form, line));
+    let full = is_full(&draft.threads, calls.len());
+    match calls_fault(component, calls, full) {
+        Some(kind) => Err(Fault::At(kind, line)),
+        None => {
+            let calls = calls_of(alloc, component, calls)?;
+            draft.threads.push(Calls::new(calls))?;
+            Ok(draft)
+        }
     }
-    if !all_have_operations(component, calls) {
-        return Err(Fault::At(MatrixFaultKind::UnknownOp, line));
-    }
-    if !all_have_arguments(component, calls) {
-        return Err(Fault::At(MatrixFaultKind::Arguments, line));
-    }
-    if !all_have_values(calls) {
-        return Err(Fault::At(MatrixFaultKind::Number, line));
-    }
-    if is_full(&draft, calls.len()) {
-        return Err(Fault::At(MatrixFaultKind::Limit, line));
-    }
-    let calls = calls_of(alloc, component, calls)?;
-    draft.threads.push(Calls::new(calls))?;
-    Ok(draft)
 }
 
-/// The parts behind `thread`: none, or the words of the first and the other parts of the line.
+/// The setup with these calls, or what is wrong with them.
+fn with_setup(
+    alloc: Global,
+    line: usize,
+    component: &Component,
+    mut draft: Draft,
+    calls: &[Part<'_>],
+) -> Result<Draft, MatrixFault>
+    ensures { Gives result (on_line line (spec.with_setup component.now draft calls.now)) }
+{
+    let full = calls.len() > MOST_CALLS_OF_THREAD;
+    match calls_fault(component, calls, full) {
+        Some(kind) => Err(Fault::At(kind, line)),
+        None => {
+            let calls = calls_of(alloc, component, calls)?;
+            draft.setup = Some(Calls::new(calls));
+            Ok(draft)
+        }
+    }
+}
+
+/// The parts behind the first word: none, or the words of the first and the other parts of the line.
 fn call_parts<'a>(
     alloc: Global,
     words: &[&'a [u8]],
@@ -281,11 +322,15 @@ fn by_words(
             }
         }
         [word, rest @ ..] => {
-            if *word != b"thread".as_slice() {
-                return Err(Fault::At(MatrixFaultKind::Form, line));
+            if *word == b"thread".as_slice() {
+                let calls = call_parts(alloc, rest, others)?;
+                with_thread(alloc, line, component, draft, &calls)
+            } else if *word == b"setup".as_slice() && draft.is_nothing() {
+                let calls = call_parts(alloc, rest, others)?;
+                with_setup(alloc, line, component, draft, &calls)
+            } else {
+                Err(Fault::At(MatrixFaultKind::Form, line))
             }
-            let calls = call_parts(alloc, rest, others)?;
-            with_calls(alloc, line, component, draft, &calls)
         }
     }
 }
@@ -328,30 +373,41 @@ fn read_line(
     by_parts(alloc, line, component, draft, &parts)
 }
 
+/// The calls of the setup: none where there is no line of it.
+fn setup_of(alloc: Global, setup: Option<Calls>) -> Calls
+    ensures { result ≡ unwrap_or setup [] }
+{
+    match setup {
+        None => Calls::new(Vec::new(alloc)),
+        Some(setup) => setup,
+    }
+}
+
 /// The matrix at the end of the text.
-fn finished(line: usize, draft: Draft) -> Result<Matrix, MatrixFault>
+fn finished(alloc: Global, line: usize, draft: Draft) -> Result<Matrix, MatrixFault>
     requires { IsDraft draft }
     ensures { Gives result (on_line line (spec.finished draft)) }
 {
     if draft.threads.is_empty() {
         return Err(Fault::At(MatrixFaultKind::Limit, line));
     }
-    Ok(Matrix::new(draft.threads))
+    Ok(Matrix::new(setup_of(alloc, draft.setup), draft.threads))
 }
 
 fn read_lines(alloc: Global, component: &Component, lines: &[&[u8]]) -> Result<Matrix, MatrixFault>
-    ensures exact { Gives result (lines_after (matrix_grammar component.now) 1 [] (texts lines.now)) }
+    ensures exact { Gives result (lines_after (matrix_grammar component.now) 1 spec.nothing (texts lines.now)) }
     ensures of { IfOk result (λ matrix. IsOf matrix component.now) }
 {
     // The proof needs that the component obeys its rules.
     let _operations = component.operations();
     let mut draft = Draft {
+        setup: None,
         threads: Vec::new(alloc),
     };
     for (before, text) in lines.iter().enumerate() {
         draft = read_line(alloc, before + 1, component, draft, text)?;
     }
-    finished(lines.len() + 1, draft)
+    finished(alloc, lines.len() + 1, draft)
 }
 
 fn matrix_in(alloc: Global, component: &Component, text: &[u8]) -> Result<Matrix, MatrixFault>

@@ -1,11 +1,12 @@
 //! Writing of matrices.
 
 ghost use Rattle.std.specs.Prelude.{◌≡◌, ◌++◌, Ok, IfOk, OnOk, string_bytes};
+ghost use Rattle.std.specs.List.{flat_map};
 ghost use Rattle.lu_text.specs.Faults.{value_of};
 ghost use Rattle.lu_test.specs.Matrix.{IsOf};
 ghost use Rattle.lu_test.specs.MatrixText as spec;
 
-use crate::matrix::{Call, Matrix};
+use crate::matrix::{Call, Calls, Matrix};
 use lu_component::Component;
 use std::alloc::{AllocError, Global};
 
@@ -72,18 +73,47 @@ fn put_calls(text: &mut String, component: &Component, calls: &[Call]) -> Result
     }
 }
 
-fn put_thread(text: &mut String, component: &Component, calls: &[Call]) -> Result<(), AllocError>
-    ensures { OnOk result (string_bytes text.new ≡ string_bytes text.old ++ spec.thread_text component.now calls.now) }
+/// Adds a line of these calls.
+fn put_line(
+    text: &mut String,
+    component: &Component,
+    word: &str,
+    calls: &[Call],
+) -> Result<(), AllocError>
+    ensures { OnOk result (string_bytes text.new ≡ string_bytes text.old ++ spec.line_text component.now word.now calls.now) }
 {
-    text.push_str("thread")?;
+    text.push_str(word)?;
     put_calls(text, component, calls)?;
     text.push('\n')?;
     Ok(())
 }
 
-/// The canonical text of a matrix: `thread`, and where there are calls a space and the calls, parted by
-/// `;` without blanks; one space before each argument; each line ends with LF. Read again it is the
-/// same matrix. Asks for a matrix of the component.
+/// Adds the line of a setup, which is not written where it has no calls.
+fn put_setup(text: &mut String, component: &Component, calls: &[Call]) -> Result<(), AllocError>
+    ensures { OnOk result (string_bytes text.new ≡ string_bytes text.old ++ spec.setup_text component.now calls.now) }
+{
+    match calls {
+        [] => Ok(()),
+        _ => put_line(text, component, "setup", calls),
+    }
+}
+
+fn put_threads(
+    text: &mut String,
+    component: &Component,
+    threads: &[Calls],
+) -> Result<(), AllocError>
+    ensures { OnOk result (string_bytes text.new ≡ string_bytes text.old ++ flat_map (spec.thread_text component.now) threads.now) }
+{
+    for calls in threads {
+        put_line(text, component, "thread", calls.as_slice())?;
+    }
+    Ok(())
+}
+
+/// The canonical text of a matrix: `setup`, where it has calls, and `thread` for each thread, and where
+/// there are calls a space and the calls, parted by `;` without blanks; one space before each argument;
+/// each line ends with LF. Read again it is the same matrix. Asks for a matrix of the component.
 ///
 /// # Errors
 ///
@@ -100,8 +130,7 @@ pub fn write_matrix(
     // The proof needs that the component obeys its rules.
     let _operations = component.operations();
     let mut text = String::new(alloc);
-    for calls in matrix.as_slice() {
-        put_thread(&mut text, component, calls.as_slice())?;
-    }
+    put_setup(&mut text, component, matrix.setup().as_slice())?;
+    put_threads(&mut text, component, matrix.as_slice())?;
     Ok(text)
 }

@@ -3,8 +3,8 @@ use Rattle.std.proofs.Common.{◌≡◌, ℕ, zero, suc, ◌+◌, ◌-◌, ◌<�
 use Rattle.std.proofs.lemmas.List.{append_assoc, append-nil, length-take, take_all, take_more}
 use Rattle.std.proofs.lemmas.Option.{get_or_from_slice_get, slice_get-get_or, slice_get_within}
 use Rattle.lu_component.specs.Component.{Declarations}
-use Rattle.lu_test.specs.declared.matrix.Call.{Call}
 use Rattle.lu_test.specs.declared.schedule.Move.{Move}
+use Rattle.lu_test.specs.Matrix.{Matrix}
 use Rattle.lu_machine.specs.declared.event.Event.{Event}
 use Rattle.lu_machine.specs.declared.event.Status.{Status}
 use Rattle.lu_machine.specs.declared.thread.Activity.TheVariants.{Open}
@@ -12,6 +12,7 @@ use Rattle.lu_machine.specs.States.{State, with_thread}
 use Rattle.lu_machine.specs.Steps.{OneStep, RunsOn, Step, IsFeasible, is_at_local, more_local}
 use Rattle.lu_machine.specs.Runs.{Leads, with_event}
 use Rattle.lu_machine.specs.Starts.{IsStart}
+use Rattle.lu_machine.proofs.Starting.{start_same}
 use Rattle.lu_machine.specs.Ends.{HasStatus}
 use Rattle.lu_machine.proofs.Ended.{status_same}
 use Rattle.lu_machine.proofs.OneStepLaws.{one_same}
@@ -104,13 +105,13 @@ traced_more start u many now old m new text traced below read adds =
     record { lines_are = rw (more, adds.2) on }
 
 -- what is traced to the end
-pub traced_all : (c : Declarations) (matrix : List (List Call)) (start : State) (u v : List Move) (many : ℕ) (end : State) (lines : List ℕ) (status : Status) (text : List ℕ) → IsStart c matrix start → u ≡ v → length u ≤ many → IsTraced start u many end lines → HasStatus end status → text ≡ status_line status ++ lines ++ waits end (length end.threads) → IsTrace c matrix v text
+pub traced_all : (c : Declarations) (matrix : Matrix) (start : State) (u v : List Move) (many : ℕ) (end : State) (lines : List ℕ) (status : Status) (text : List ℕ) → IsStart c matrix start → u ≡ v → length u ≤ many → IsTraced start u many end lines → HasStatus end status → text ≡ status_line status ++ lines ++ waits end (length end.threads) → IsTrace c matrix v text
 traced_all c matrix start u v many end lines status text is same all traced stands whole =
     let moves : take many u ≡ v = take_all many u all ∙ same in
     (start, end, status, lines, is, rw (← moves) traced.lines_are, stands, whole)
 
 -- what is traced to a move that is not feasible
-pub traced_to : (c : Declarations) (matrix : List (List Call)) (start : State) (u v : List Move) (many : ℕ) (now : State) (lines : List ℕ) (m d : Move) → IsStart c matrix start → u ≡ v → many < length u → m ≡ get_or u many d → IsTraced start u many now lines → (IsFeasible now m → ⊥) → IsInfeasibleAt c matrix v many
+pub traced_to : (c : Declarations) (matrix : Matrix) (start : State) (u v : List Move) (many : ℕ) (now : State) (lines : List ℕ) (m d : Move) → IsStart c matrix start → u ≡ v → many < length u → m ≡ get_or u many d → IsTraced start u many now lines → (IsFeasible now m → ⊥) → IsInfeasibleAt c matrix v many
 traced_to c matrix start u v many now lines m d is same below read traced infeasible =
     let at : slice_get v many ≡ Some m = rw (← same) (slice_get-get_or u many d below ∙ ap (λ (n : Move). Some n) (sym read)) in
     let lead = lines_lead 0 start (take many u) now lines traced.lines_are in
@@ -144,24 +145,24 @@ lines_same number s (m ∷ u) a b k l p q =
 
 -- ---- laws
 
-pub trace_leads : (c : Declarations) (matrix : List (List Call)) (u : List Move) (text : List ℕ) → IsTrace c matrix u text → (end : State) × (history : List Event) × Plays c matrix u end history
+pub trace_leads : (c : Declarations) (matrix : Matrix) (u : List Move) (text : List ℕ) → IsTrace c matrix u text → (end : State) × (history : List Event) × Plays c matrix u end history
 trace_leads c matrix u text p =
     let lead = lines_lead 0 p.0 u p.1 p.3 p.5 in
     (p.1, lead.0, (p.0, p.4, lead.1))
 
-pub one_trace : (c : Declarations) (matrix : List (List Call)) (u : List Move) (text other : List ℕ) → IsTrace c matrix u text → IsTrace c matrix u other → text ≡ other
+pub one_trace : (c : Declarations) (matrix : Matrix) (u : List Move) (text other : List ℕ) → IsTrace c matrix u text → IsTrace c matrix u other → text ≡ other
 one_trace c matrix u text other p q =
-    let start : q.0 ≡ p.0 = q.4 ∙ sym p.4 in
+    let start : q.0 ≡ p.0 = start_same c matrix q.0 p.0 q.4 p.4 in
     let lines = lines_same 0 p.0 u p.1 q.1 p.3 q.3 p.5 (subst (λ (s : State). TraceLines 0 s u q.1 q.3) start q.5) in
     let status : p.2 ≡ q.2 = status_same p.1 p.2 q.2 p.6 (subst (λ (s : State). HasStatus s q.2) (sym lines.0) q.6) in
     p.7 ∙ (ap (λ x. status_line x ++ p.3 ++ waits p.1 (length p.1.threads)) status
     ∙ (ap (λ x. status_line q.2 ++ x ++ waits p.1 (length p.1.threads)) lines.1
     ∙ (ap (λ (x : State). status_line q.2 ++ q.3 ++ waits x (length x.threads)) lines.0 ∙ sym q.7)))
 
-pub trace_or_fault : (c : Declarations) (matrix : List (List Call)) (u : List Move) (text : List ℕ) (i : ℕ) → IsTrace c matrix u text → IsInfeasibleAt c matrix u i → ⊥
+pub trace_or_fault : (c : Declarations) (matrix : Matrix) (u : List Move) (text : List ℕ) (i : ℕ) → IsTrace c matrix u text → IsInfeasibleAt c matrix u i → ⊥
 trace_or_fault c matrix u text i p q =
     let lead = lines_lead 0 p.0 u p.1 p.3 p.5 in
-    let start : q.3.0 ≡ p.0 = q.3.1 ∙ sym p.4 in
+    let start : q.3.0 ≡ p.0 = start_same c matrix q.3.0 p.0 q.3.1 p.4 in
     let first : Leads p.0 (take i u) q.0 q.1 = subst (λ (s : State). Leads s (take i u) q.0 q.1) start q.3.2 in
     let f = goes_on_feasible p.0 u p.1 lead.0 lead.1 i q.2 (slice_get_within u i q.2 q.4) q.0 q.1 first in
     q.5 (subst (IsFeasible q.0) (get_or_from_slice_get u i q.2 q.2 q.4) f)

@@ -1,8 +1,8 @@
 -- Traces: what a schedule does, line by line.
 use Rattle.std.specs.Prelude.{◌≡◌, ℕ, zero, suc, ◌+◌, ◌++◌, List, [], ◌∷◌, length, Option, Some, None, MatchBool}
 use Rattle.lu_component.specs.Component.{Declarations}
-use Rattle.lu_test.specs.declared.matrix.Call.{Call}
 use Rattle.lu_test.specs.declared.schedule.Move.{Move}
+use Rattle.lu_test.specs.Matrix.{Matrix}
 use Rattle.lu_machine.specs.declared.event.Event.{Event}
 use Rattle.lu_machine.specs.declared.event.Status.{Status}
 use Rattle.lu_machine.specs.States.{State}
@@ -43,14 +43,14 @@ TraceLines number s (m ∷ u) end lines =
 
 -- The trace of the schedule: how the state stands that it leads to, the lines of its moves from 0 on, and
 -- what each blocked thread waits for in the end.
-abbrev pub IsTrace : Declarations → List (List Call) → List Move → List ℕ → Type 0
+abbrev pub IsTrace : Declarations → Matrix → List Move → List ℕ → Type 0
 IsTrace c matrix u text =
     (start : State) × (end : State) × (status : Status) × (lines : List ℕ)
     × IsStart c matrix start × TraceLines 0 start u end lines × HasStatus end status
     × (text ≡ status_line status ++ lines ++ waits end (length end.threads))
 
 -- the fault of the schedule; want of memory can come with any
-abbrev pub IsFaultOf : Declarations → List (List Call) → List Move → TraceFault → Type 0
+abbrev pub IsFaultOf : Declarations → Matrix → List Move → TraceFault → Type 0
 IsFaultOf c matrix u (Infeasible i) = IsInfeasibleAt c matrix u i
 IsFaultOf c matrix u Memory = Unit {0}
 

@@ -1,7 +1,7 @@
 //! The writer of traces.
 
 ghost use Rattle.std.specs.Prelude.{◌≡◌, IfErr, IfOk, OnOk, string_bytes};
-ghost use Rattle.lu_test.specs.Matrix.{IsOf};
+ghost use Rattle.lu_machine.specs.Starts.{CanRun};
 ghost use Rattle.lu_machine.specs.Steps.{IsFeasible};
 ghost use Rattle.lu_trace.specs.Traces.{Adds, IsFaultOf, IsTrace, LocalLines, MoveLines};
 
@@ -71,7 +71,7 @@ pub fn write_trace(
     matrix: &Matrix,
     schedule: &Schedule,
 ) -> Result<String, TraceFault>
-    requires { IsOf matrix.now component.now }
+    requires { CanRun component.now matrix.now }
     ensures trace { IfOk result (λ text. IsTrace component.now matrix.now schedule.now (string_bytes text)) }
     ensures fault { IfErr result (IsFaultOf component.now matrix.now schedule.now) }
 {

@@ -12,8 +12,9 @@
 //! ```
 #![tactic(auto)]
 
-mod lookups;
+mod events;
 mod path;
 mod trail;
+mod uses;
 
 pub use trail::Trail;

@@ -1,20 +1,17 @@
 //! The beginnings of histories, and a place among them.
 
-ghost use Rattle.std.specs.Prelude.{◌≡◌, ◌≢◌, ◌<◌, ◌≤◌, ◌+◌, ◌∷◌, [], ◌++◌, List, length, take, IfOk, OnOk, IsTrue};
+ghost use Rattle.std.specs.Prelude.{◌≡◌, ◌≢◌, ◌<◌, ◌≤◌, ◌+◌, ◌∷◌, [], ◌++◌, List, length, IfOk, IsTrue, IsFalse};
 ghost use Rattle.lu_history.specs.declared.serial.SerialOp.{SerialOp};
 ghost use Rattle.lu_history.specs.Histories.{Fits};
 ghost use Rattle.lu_witness.specs.Witnesses.{IsMember, IsGood};
 ghost use Rattle.lu_trail.specs.Paths.{IsPath, AreGood, IsLonger, history_of, history_at};
 
-use lu_history::History;
+use crate::events::Events;
 use lu_machine::Event;
 use std::alloc::{AllocError, Global};
 
 /// The number of beginnings for which there is room.
 const ROOM: usize = 262144;
-
-/// The number of events that a history can have: a call and a return of each operation.
-const MOST_EVENTS: usize = 128;
 
 /// A beginning of histories.
 #[derive(Clone, Copy)]
@@ -55,18 +52,6 @@ fn empty() -> Beginning
     }
 }
 
-/// With how many events both begin.
-fn common_count(events: &[Event], others: &[Event]) -> usize
-    ensures within { (result ≤ length events.now) × (result ≤ length others.now) }
-    ensures alike { take result events.now ≡ take result others.now }
-{
-    let mut count = 0;
-    while count < events.len() && count < others.len() && events[count] == others[count] {
-        count += 1;
-    }
-    count
-}
-
 impl Path {
     /// The empty history, with room for all beginnings.
     pub(crate) fn new(alloc: Global) -> Result<Path, AllocError>
@@ -100,8 +85,7 @@ impl Path {
     }
 
     /// Goes on to a new beginning, with the event after this one.
-    #[inline(never)]
-    fn add(&mut self, event: Event)
+    pub(crate) fn add(&mut self, event: Event)
         requires path { IsPath self.old }
         requires fits { Fits (history_of self.old) event }
         requires room { length self.old.beginnings.items < 262144 }
@@ -124,81 +108,73 @@ impl Path {
         self.place = added;
     }
 
-    /// Writes out the events of the beginning at the place, and answers their number.
-    fn write(&self, place: u32, events: &mut [Event; 128]) -> usize
+    /// Writes out the events of the beginning at the place.
+    fn write_at(&self, place: u32, events: &mut Events)
         requires path { IsPath self.now }
         requires place { place < length self.now.beginnings.items }
         requires few { length (history_at self.now.beginnings.items place) < 129 }
-        ensures number { result ≡ length (history_at self.now.beginnings.items place) }
-        ensures events { take result events.new ≡ history_at self.now.beginnings.items place }
+        ensures { events.new ≡ history_at self.now.beginnings.items place }
     {
         if place == 0 {
-            return 0;
+            events.clear();
+            return;
         }
-        let beginning = self.beginnings[place as usize];
-        let count = self.write(beginning.shorter, events);
-        events[count] = beginning.event;
-        count + 1
+        let beginning = &self.beginnings[place as usize];
+        self.write_at(beginning.shorter, events);
+        events.push(beginning.event);
     }
 
-    /// Makes the history this one, in the room that it has: what both begin with stays. It may have some of the events where
-    /// memory is refused.
-    pub(crate) fn fill(&self, history: &mut History) -> Result<(), AllocError>
+    /// Writes out the events of the history.
+    pub(crate) fn write(&self, events: &mut Events)
         requires { IsPath self.now }
-        ensures { OnOk result (history.new ≡ history_of self.now) }
+        ensures { events.new ≡ history_of self.now }
     {
-        let mut events = [Event::Call { t: 0, k: 0 }; MOST_EVENTS];
-        let count = self.write(self.place, &mut events);
-        let events = &events[..count];
-        let kept = common_count(history.events(), events);
-        while history.events().len() > kept {
-            history.pop();
-        }
-        for event in &events[kept..] {
-            if history.push(*event).is_err() {
-                return Err(AllocError);
-            }
-        }
-        Ok(())
+        self.write_at(self.place, events);
+    }
+
+    /// Whether there is no room for another beginning.
+    pub(crate) fn is_full(&self) -> bool
+        requires { IsPath self.now }
+        ensures { IsFalse result → length self.now.beginnings.items < 262144 }
+    {
+        self.beginnings.len() == ROOM
     }
 
     /// Forgets all but the beginnings of this history.
     #[inline(never)]
-    fn renew(&mut self)
+    pub(crate) fn renew(&mut self)
         requires { IsPath self.old }
         ensures path { IsPath self.new }
         ensures history { history_of self.new ≡ history_of self.old }
         ensures room { length self.new.beginnings.items < 262144 }
         ensures good { (members : List (List SerialOp)) → AreGood members self.new }
     {
-        let mut events = [Event::Call { t: 0, k: 0 }; MOST_EVENTS];
-        let count = self.write(self.place, &mut events);
+        let mut events = Events::new();
+        self.write(&mut events);
         self.beginnings.clear();
         self.beginnings.push_reserved(empty());
         self.place = 0;
-        for event in &events[..count] {
+        for event in events.as_slice() {
             self.add(*event);
         }
     }
 
-    /// Adds an event at the end.
+    /// Adds an event at the end, if a beginning with it was met.
     #[inline(always)]
-    pub(crate) fn push(&mut self, event: Event)
+    pub(crate) fn follow(&mut self, event: Event) -> bool
         requires path { IsPath self.old }
         requires fits { Fits (history_of self.old) event }
         ensures path { IsPath self.new }
-        ensures history { history_of self.new ≡ history_of self.old ++ event ∷ [] }
+        ensures history { IsTrue result → history_of self.new ≡ history_of self.old ++ event ∷ [] }
+        ensures same { IsFalse result → self.new ≡ self.old }
         ensures good { (members : List (List SerialOp)) → AreGood members self.old → AreGood members self.new }
     {
         let found = self.find(event);
-        if found != 0 {
-            self.place = found;
-            return;
+        if found == 0 {
+            return false;
         }
-        if self.beginnings.len() == ROOM {
-            self.renew();
-        }
-        self.add(event);
+        self.place = found;
+        true
     }
 
     /// Takes the last event away.

@@ -5,8 +5,9 @@ ghost use Rattle.lu_history.specs.Histories.{Fits, IsWellFormed};
 ghost use Rattle.lu_witness.specs.Caches.{SameButEntries};
 ghost use Rattle.lu_witness.specs.Witnesses.{IsMember, IsVerdict};
 
-use crate::lookups::Lookups;
+use crate::events::{Events, refill};
 use crate::path::Path;
+use crate::uses::Uses;
 use lu_history::History;
 use lu_machine::Event;
 use lu_trie::SerialTree;
@@ -16,28 +17,52 @@ use std::marker::Model;
 
 /// The history of a walk, and the tree of serial histories over which it is judged. In clauses it is the two.
 ///
-/// It remembers which histories were judged good, as long as it has room for their beginnings.
+/// It remembers which histories were judged good, as long as it has room for their beginnings. Where that is used up and most
+/// of what was judged was not known, it remembers none any more: nearly every schedule then has a history of its own.
 #[derive(Drop)]
 pub struct Trail<'t, T: SerialTree> {
     tree: &'t T,
     path: Path,
 
+    /// The events of the history where no beginnings are remembered, and else those that were written out last.
+    events: Events,
+
+    /// Whether no beginnings are remembered any more, since that was of little use.
+    is_plain: bool,
+
     /// The history that was judged last, whose room is used again.
     judged: History,
 
-    /// Whether it is of use to ask a cache.
-    lookups: Lookups,
+    /// How what is remembered was of use.
+    uses: Uses,
 }
 
 impl<'t, T: SerialTree> Model for Trail<'t, T> {
-    ghost use Rattle.lu_trail.specs.Trails.{Trailed};
-    ghost use Rattle.lu_trail.specs.Paths.{IsPath, AreGood, history_of};
+    ghost use Rattle.lu_trail.specs.Trails.{Trailed, IsTrail, history_in};
 
     ghost Value = { Trailed T };
 
-    ghost view = { λ a. record { tree = a.tree.now; history = history_of a.path } };
+    ghost view = { λ a. record { tree = a.tree.now; history = history_in a.is_plain a.events a.path } };
 
-    ghost invariant = { λ a. IsPath a.path × AreGood (T.members a.tree.now) a.path };
+    ghost invariant = { λ a. IsTrail (T.members a.tree.now) a.is_plain a.events a.path };
+}
+
+/// The verdict of a history that is not known to be good, which is written into the room of the one that was judged last.
+#[inline(never)]
+fn verdict_of<'t, T: SerialTree>(
+    tree: &'t T,
+    cache: &mut Cache<'t, T>,
+    events: &[Event],
+    judged: &mut History,
+    uses: &mut Uses,
+) -> Result<Verdict, AllocError>
+    requires tree { cache.old.tree ≡ tree.now }
+    requires well_formed { IsWellFormed events.now }
+    ensures cache { SameButEntries cache.old cache.new }
+    ensures verdict { IfOk result (IsVerdict (IsMember (T.members tree.now)) events.now) }
+{
+    refill(judged, events)?;
+    Ok(uses.verdict(tree, cache, judged))
 }
 
 impl<'t, T: SerialTree> Trail<'t, T> {
@@ -53,8 +78,10 @@ impl<'t, T: SerialTree> Trail<'t, T> {
         Ok(Trail {
             tree,
             path: Path::new(alloc)?,
+            events: Events::new(),
+            is_plain: false,
             judged: History::new(alloc),
-            lookups: Lookups::new(),
+            uses: Uses::new(),
         })
     }
 
@@ -65,7 +92,23 @@ impl<'t, T: SerialTree> Trail<'t, T> {
         ensures tree { self.new.tree ≡ self.old.tree }
         ensures history { self.new.history ≡ self.old.history ++ event ∷ [] }
     {
-        self.path.push(event);
+        if self.is_plain {
+            self.events.push(event);
+            return;
+        }
+        if self.path.follow(event) {
+            return;
+        }
+        if self.path.is_full() {
+            if !self.uses.most_are_known() {
+                self.path.write(&mut self.events);
+                self.events.push(event);
+                self.is_plain = true;
+                return;
+            }
+            self.path.renew();
+        }
+        self.path.add(event);
     }
 
     /// Takes the last event away. The history is asked not to be empty.
@@ -75,7 +118,11 @@ impl<'t, T: SerialTree> Trail<'t, T> {
         ensures tree { self.new.tree ≡ self.old.tree }
         ensures history { self.old.history ≡ self.new.history ++ result ∷ [] }
     {
-        self.path.pop()
+        if self.is_plain {
+            self.events.pop()
+        } else {
+            self.path.pop()
+        }
     }
 
     /// Forgets the history, and remembers what was judged good.
@@ -84,6 +131,7 @@ impl<'t, T: SerialTree> Trail<'t, T> {
         ensures history { self.new.history ≡ [] }
     {
         self.path.clear();
+        self.events.clear();
     }
 
     /// The verdict of the history over the tree. A cache over that tree is asked for it where the history is not known to be
@@ -101,22 +149,17 @@ impl<'t, T: SerialTree> Trail<'t, T> {
         ensures well_formed { IsWellFormed self.old.history }
         ensures verdict { IfOk result (IsVerdict (IsMember (T.members self.old.tree)) self.old.history) }
     {
+        self.uses.count();
+        if self.is_plain {
+            let events = self.events.as_slice();
+            return verdict_of(self.tree, cache, events, &mut self.judged, &mut self.uses);
+        }
         if self.path.is_good() {
             return Ok(Verdict::Good);
         }
-        self.ask(cache)
-    }
-
-    /// The verdict of a history that is not known to be good.
-    #[inline(never)]
-    fn ask(&mut self, cache: &mut Cache<'t, T>) -> Result<Verdict, AllocError>
-        requires { cache.old.tree ≡ self.old.tree }
-        ensures same { self.new ≡ self.old }
-        ensures cache { SameButEntries cache.old cache.new }
-        ensures verdict { IfOk result (IsVerdict (IsMember (T.members self.old.tree)) self.old.history) }
-    {
-        self.path.fill(&mut self.judged)?;
-        let verdict = self.lookups.verdict(self.tree, cache, &self.judged);
+        self.path.write(&mut self.events);
+        let events = self.events.as_slice();
+        let verdict = verdict_of(self.tree, cache, events, &mut self.judged, &mut self.uses)?;
         if verdict == Verdict::Good {
             self.path.note_good();
         }

@@ -5,3 +5,8 @@ mod Making
 mod PieceLists
 mod Walking
 mod Added
+mod CutBelow
+mod TailBelow
+mod TailVerdicts
+mod Finishing
+mod NeverStopped

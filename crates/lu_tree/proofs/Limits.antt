@@ -3,9 +3,8 @@ use Rattle.std.proofs.Common.{◌≡◌, ◌≤◌, List, [], ◌∷◌, All, le
 use Rattle.std.proofs.lemmas.List.{length-replicate}
 use Rattle.std.proofs.lemmas.List.Elements.{All-nil, All-cons}
 use Rattle.lu_component.specs.Component.{Declarations, IsComponent}
-use Rattle.lu_test.specs.declared.matrix.Call.{Call}
 use Rattle.lu_test.specs.declared.schedule.Move.{Move}
-use Rattle.lu_test.specs.Matrix.{IsMatrix}
+use Rattle.lu_test.specs.Matrix.{Matrix, IsMatrix}
 use Rattle.lu_test.specs.Schedule.{IsMove, AreMoves}
 use Rattle.lu_machine.specs.declared.event.Event.{Event}
 use Rattle.lu_machine.specs.declared.thread.Activity.TheVariants.{Idle}
@@ -28,15 +27,15 @@ all_moves (m ∷ u) s end h is few leads =
     All-cons IsMove m u (feasible_is_move s is few m (step_feasible s m leads.0 leads.1 step)) rest
 
 -- the limits of the state at the start
-pub start_limits : (c : Declarations) (matrix : List (List Call)) (s : State) → IsComponent c → IsMatrix matrix → IsStart c matrix s → IsComponent s.component × (length s.threads ≤ 8)
+pub start_limits : (c : Declarations) (matrix : Matrix) (s : State) → IsComponent c → IsMatrix matrix → IsStart c matrix s → IsComponent s.component × (length s.threads ≤ 8)
 start_limits c matrix s is are start =
     let idle : Thread = record { done = 0; activity = Idle } in
-    let threads : length (replicate (length matrix) idle) ≡ length matrix = length-replicate (length matrix) idle in
-    let most = are.limits.threads in
-    rw start (is, omega arith)
+    let threads : length (replicate (length matrix.threads) idle) ≡ length matrix.threads = length-replicate (length matrix.threads) idle in
+    let most = are.limits.few in
+    rw start.is (is, omega arith)
 
 -- a schedule of a component and a matrix within the bound is one that has a text
-pub schedule_moves : (c : Declarations) (matrix : List (List Call)) (s : State) → IsComponent c → IsMatrix matrix → IsStart c matrix s → (u : List Move) (end : State) (h : List Event) → Leads s u end h → length u ≤ 256 → AreMoves u
+pub schedule_moves : (c : Declarations) (matrix : Matrix) (s : State) → IsComponent c → IsMatrix matrix → IsStart c matrix s → (u : List Move) (end : State) (h : List Event) → Leads s u end h → length u ≤ 256 → AreMoves u
 schedule_moves c matrix s is are start u end h leads short =
     let limits = start_limits c matrix s is are start in
     (omega arith, all_moves u s end h limits.0 limits.1 leads)

@@ -116,7 +116,7 @@ module _ (start : State) (u : List Move) (s : State) (h : List Event) (at : Lead
           let e = ended_here v b ended in
           subst (λ x. Reaches start x (IsGoodAt Set)) (sym e.0) (reaches_here start u s h at (IsGoodAt Set) (good e.1))
 
-      cut_counted : HasMove s → AreAllGood Set start bound (Below u) one_cut
+      pub cut_counted : HasMove s → AreAllGood Set start bound (Below u) one_cut
       cut_counted some = record {
         good = all_good (λ ended. absurd (not_both s some (ended_no_move s ended)));
         numbers = record {
@@ -126,7 +126,7 @@ module _ (start : State) (u : List Move) (s : State) (h : List Event) (at : Lead
         };
       }
 
-      complete_counted : IsComplete s → IsGoodAt Set s h → AreAllGood Set start bound (Below u) one_complete
+      pub complete_counted : IsComplete s → IsGoodAt Set s h → AreAllGood Set start bound (Below u) one_complete
       complete_counted complete good = record {
         good = all_good (λ _. good);
         numbers = record {

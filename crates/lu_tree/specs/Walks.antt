@@ -27,6 +27,14 @@ one_stuck = record { complete = 0; stuck = 1; cut = 0 }
 abbrev pub one_cut : Counts
 one_cut = record { complete = 0; stuck = 0; cut = 1 }
 
+-- so many that are complete
+abbrev pub completes : ℕ → Counts
+completes n = record { complete = n; stuck = 0; cut = 0 }
+
+-- so many that are cut
+abbrev pub cuts : ℕ → Counts
+cuts n = record { complete = 0; stuck = 0; cut = n }
+
 -- each number is at most 2^64 - 1
 abbrev pub AreCapped : Counts → Type 0
 AreCapped counts = plus counts no_schedule ≡ counts
@@ -43,6 +51,12 @@ Counted Set s h old new =
     (HasMove s × (new ≡ plus old one_cut))
     ⊎ ((IsComplete s × IsGoodAt Set s h × (new ≡ plus old one_complete))
     ⊎ (IsStuck s × IsGoodAt Set s h × (new ≡ plus old one_stuck)))
+
+-- The schedules that go on from a path to s and h, with no more than `left` moves behind it, are good if they end, and these
+-- are their numbers.
+abbrev pub AreBelow : (List SerialOp → Type 0) → State → List Event → ℕ → Counts → Type 0
+AreBelow Set s h left below =
+    (start : State) (u : List Move) → Leads start u s h → AreAllGood Set start (length u + left) (Below u) below
 
 -- The walk passed: each schedule that goes on from a path to s and h, with no more than `left` moves behind it, is good if it
 -- ends; their numbers were added.

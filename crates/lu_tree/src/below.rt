@@ -2,16 +2,17 @@
 
 ghost use Rattle.std.specs.Prelude.{◌≡◌, ◌≤◌, ◌+◌, ◌++◌, false, length, reverse, vec_capacity, IfOk};
 ghost use Rattle.lu_component.specs.Component.{IsComponent};
-ghost use Rattle.lu_test.specs.Matrix.{IsMatrix, IsOf};
+ghost use Rattle.lu_test.specs.Matrix.{IsMatrix};
 ghost use Rattle.lu_machine.specs.States.{State, progress};
 ghost use Rattle.lu_machine.specs.Runs.{Leads};
 ghost use Rattle.lu_machine.specs.Schedules.{IsSchedule};
-ghost use Rattle.lu_machine.specs.Starts.{IsStart};
+ghost use Rattle.lu_machine.specs.Starts.{CanRun, IsStart};
 ghost use Rattle.lu_history.specs.Standing.{Agree};
 ghost use Rattle.lu_witness.specs.Caches.{SameButEntries};
 ghost use Rattle.lu_witness.specs.Witnesses.{IsMember};
 ghost use Rattle.lu_tree.specs.Trees.{Below, IsFound, IsFoundWatched, is_abandoned};
 
+use crate::ahead::Ahead;
 use crate::found::Found;
 use crate::node::Node;
 use crate::tally::Tally;
@@ -43,7 +44,7 @@ fn node_after<'a, 't, T: SerialTree>(
     tree: &'t T,
     schedule: &[Move],
 ) -> Result<Node<'a, 't, T>, AllocError>
-    requires of { IsOf matrix.now component.now }
+    requires of { CanRun component.now matrix.now }
     requires leads { (s : State) → IsStart component.now matrix.now s → IsSchedule s schedule.now }
     ensures leads { (s : State) → IsStart component.now matrix.now s → IfOk result (λ node. Leads s schedule.now node.machine node.trail.history) }
     ensures agree { IfOk result (λ node. Agree (progress node.machine) node.trail.history) }
@@ -84,7 +85,7 @@ pub fn search_watched<'a, 't, T: SerialTree, W: Watch>(
     bound: u16,
     watch: &mut W,
 ) -> Result<Found, AllocError>
-    requires of { IsOf matrix.now component.now }
+    requires of { CanRun component.now matrix.now }
     requires few { bound ≤ 256 }
     requires short { length from.now ≤ bound }
     requires leads { (s : State) → IsStart component.now matrix.now s → IsSchedule s from.now }
@@ -98,8 +99,9 @@ pub fn search_watched<'a, 't, T: SerialTree, W: Watch>(
     let moves = from.moves();
     let mut node = node_after(alloc, component, matrix, cache.tree(), moves)?;
     let mut tally = Tally::new(alloc)?;
+    let ahead = Ahead::new(alloc, component, matrix, bound)?;
     let left = bound - moves.len() as u16;
-    if walk(cache, watch, left, &mut node, &mut tally) {
+    if walk(cache, watch, &ahead, left, &mut node, &mut tally) {
         return Ok(Found::Clean(tally.counts));
     }
     if watch.stopped() {
@@ -127,7 +129,7 @@ pub fn search<T: SerialTree>(
     from: &Schedule,
     bound: u16,
 ) -> Result<Found, AllocError>
-    requires of { IsOf matrix.now component.now }
+    requires of { CanRun component.now matrix.now }
     requires few { bound ≤ 256 }
     requires short { length from.now ≤ bound }
     requires leads { (s : State) → IsStart component.now matrix.now s → IsSchedule s from.now }

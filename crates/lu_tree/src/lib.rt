@@ -17,10 +17,12 @@
 //! ```
 #![tactic(auto)]
 
+mod ahead;
 mod below;
 mod found;
 mod node;
 mod pieces;
+mod tail;
 mod tally;
 mod walk;
 mod watch;

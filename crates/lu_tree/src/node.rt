@@ -1,22 +1,21 @@
 //! A node of the tree of schedules.
 
 ghost use Rattle.std.specs.Prelude.{◌≡◌, ◌++◌, false, [], IfOk, IsTrue, List};
-ghost use Rattle.lu_test.specs.Matrix.{IsOf};
 ghost use Rattle.lu_machine.specs.declared.event.Event.{Event};
-ghost use Rattle.lu_machine.specs.Ends.{IsEnded};
+ghost use Rattle.lu_machine.specs.Ends.{IsComplete, IsEnded};
 ghost use Rattle.lu_machine.specs.Runs.{with_event};
-ghost use Rattle.lu_machine.specs.Starts.{IsStart};
+ghost use Rattle.lu_machine.specs.Starts.{CanRun, IsStart};
 ghost use Rattle.lu_machine.specs.States.{progress};
 ghost use Rattle.lu_machine.specs.Steps.{IsFeasible, Step};
 ghost use Rattle.lu_machine.specs.Undoes.{CanTake, restored};
 ghost use Rattle.lu_history.specs.Standing.{Agree};
 ghost use Rattle.lu_witness.specs.Caches.{SameButEntries};
 ghost use Rattle.lu_witness.specs.Goodness.{IsGoodAt};
-ghost use Rattle.lu_witness.specs.Witnesses.{IsMember};
+ghost use Rattle.lu_witness.specs.Witnesses.{HasWitness, IsMember};
 ghost use Rattle.lu_tree.specs.Walks.{IsBadAt};
 
 use lu_component::Component;
-use lu_machine::{Machine, Undo};
+use lu_machine::{Machine, Status, Undo};
 use lu_test::{Matrix, Move};
 use lu_trail::Trail;
 use lu_trie::SerialTree;
@@ -38,7 +37,7 @@ impl<'a, 't, T: SerialTree> Node<'a, 't, T> {
         matrix: &'a Matrix,
         tree: &'t T,
     ) -> Result<Node<'a, 't, T>, AllocError>
-        requires { IsOf matrix.now component.now }
+        requires { CanRun component.now matrix.now }
         ensures machine { IfOk result (λ node. IsStart component.now matrix.now node.machine) }
         ensures history { IfOk result (λ node. node.trail.history ≡ []) }
         ensures tree { IfOk result (λ node. node.trail.tree ≡ tree.entry.now) }
@@ -101,6 +100,20 @@ impl<'a, 't, T: SerialTree> Node<'a, 't, T> {
         match self.trail.judge(cache) {
             Ok(Verdict::Good) => true,
             Ok(_) | Err(_) => false,
+        }
+    }
+
+    /// Whether a schedule that ends here is complete and found good.
+    pub(crate) fn ends_well(&mut self, cache: &mut Cache<'t, T>) -> bool
+        requires agree { Agree (progress self.old.machine) self.old.trail.history }
+        requires tree { cache.old.tree ≡ self.old.trail.tree }
+        ensures same { self.new ≡ self.old }
+        ensures cache { SameButEntries cache.old cache.new }
+        ensures well { IsTrue result → IsComplete self.old.machine × HasWitness (IsMember (T.members self.old.trail.tree)) self.old.trail.history }
+    {
+        match self.machine.status() {
+            Status::Complete => self.is_good(cache),
+            Status::Running | Status::Stuck => false,
         }
     }
 

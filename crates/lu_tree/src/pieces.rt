@@ -3,11 +3,10 @@
 ghost use Rattle.std.specs.Prelude.{◌≡◌, ◌+◌, ◌≤◌, ◌++◌, [], ◌∷◌, List, ℕ, min, length, drop, IfOk, IfNone, IfSome, OnOk};
 ghost use Rattle.lu_component.specs.Component.{IsComponent};
 ghost use Rattle.lu_test.specs.declared.schedule.Move.{Move as AMove};
-ghost use Rattle.lu_test.specs.Matrix.{IsOf};
 ghost use Rattle.lu_test.specs.Schedule.{IsMove};
 ghost use Rattle.lu_machine.specs.States.{State};
 ghost use Rattle.lu_machine.specs.Schedules.{AreAll, IsCover, IsSchedule, Lists};
-ghost use Rattle.lu_machine.specs.Starts.{IsStart};
+ghost use Rattle.lu_machine.specs.Starts.{CanRun, IsStart};
 ghost use Rattle.lu_tree.specs.Trees.{IsFrontier, IsPieceAt};
 ghost use Rattle.lu_tree.specs.Pieces.{AreKids, HasKids, TooMany};
 
@@ -118,7 +117,7 @@ pub fn frontier(
     bound: u16,
     depth: u8,
 ) -> Result<Vec<Schedule>, AllocError>
-    requires of { IsOf matrix.now component.now }
+    requires of { CanRun component.now matrix.now }
     requires few { bound ≤ 256 }
     requires shallow { depth ≤ 8 }
     ensures frontier { (s : State) → IsStart component.now matrix.now s → IfOk result (λ pieces. IsFrontier s (min bound depth) pieces.items) }

@@ -59,4 +59,30 @@ impl Tally {
         self.unasked = 0;
         !watch.stop()
     }
+
+    /// Counts so many schedules that are passed together. Answers whether the walk goes on: the watch is asked as often as if
+    /// they had been walked one after another.
+    pub(crate) fn pass_many<W: Watch>(&mut self, passed: Counts, watch: &mut W) -> bool
+        requires { W.is_stopped watch.old ≡ false }
+        ensures base { W.base watch.new ≡ W.base watch.old }
+        ensures running { result ≡ true → W.is_stopped watch.new ≡ false }
+        ensures stopped { result ≡ false → W.is_stopped watch.new ≡ true }
+        ensures counts { result ≡ true → self.new.counts ≡ plus self.old.counts passed }
+        ensures path { self.new.path ≡ self.old.path }
+    {
+        let number = passed
+            .complete
+            .saturating_add(passed.stuck)
+            .saturating_add(passed.cut);
+        let mut unasked = number.saturating_add(u64::from(self.unasked));
+        while unasked >= u64::from(UNASKED) {
+            if watch.stop() {
+                return false;
+            }
+            unasked -= u64::from(UNASKED);
+        }
+        self.unasked = unasked as u8;
+        self.counts = self.counts.plus(passed);
+        true
+    }
 }

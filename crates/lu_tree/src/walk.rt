@@ -3,12 +3,15 @@
 ghost use Rattle.std.specs.Prelude.{◌≡◌, ◌≤◌, true, false, length, vec_capacity};
 ghost use Rattle.lu_machine.specs.States.{progress};
 ghost use Rattle.lu_machine.specs.Ends.{IsEnded};
+ghost use Rattle.lu_horizon.specs.Tables.{Serves};
 ghost use Rattle.lu_history.specs.Standing.{Agree};
 ghost use Rattle.lu_witness.specs.Caches.{SameButEntries};
 ghost use Rattle.lu_witness.specs.Witnesses.{IsMember};
 ghost use Rattle.lu_tree.specs.Walks.{Counted, IsReady, Passes, StopsAt};
 
+use crate::ahead::Ahead;
 use crate::node::Node;
+use crate::tail::counted_below;
 use crate::tally::Tally;
 use crate::watch::Watch;
 use lu_machine::{Counts, Status};
@@ -66,11 +69,13 @@ fn end<'t, T: SerialTree, W: Watch>(
 pub(crate) fn walk<'t, T: SerialTree, W: Watch>(
     cache: &mut Cache<'t, T>,
     watch: &mut W,
+    ahead: &Ahead,
     left: u16,
     node: &mut Node<'_, 't, T>,
     tally: &mut Tally,
 ) -> bool
     requires few { left ≤ 256 }
+    requires serves { node.old.machine.component.local ≡ 0 → Serves ahead.now.horizon node.old.machine }
     requires agree { Agree (progress node.old.machine) node.old.trail.history }
     requires tree { cache.old.tree ≡ node.old.trail.tree }
     requires running { W.is_stopped watch.old ≡ false }
@@ -89,9 +94,9 @@ pub(crate) fn walk<'t, T: SerialTree, W: Watch>(
     ensures stops { result ≡ false → W.is_stopped watch.new ≡ false → StopsAt (IsMember (T.members node.old.trail.tree)) node.old.machine node.old.trail.history left tally.new.path.items node.new.machine node.new.trail.history }
 {
     if node.machine.local() == 0 {
-        walk_as::<false, T, W>(cache, watch, left, node, tally)
+        walk_as::<false, T, W>(cache, watch, ahead, left, node, tally)
     } else {
-        walk_as::<true, T, W>(cache, watch, left, node, tally)
+        walk_as::<true, T, W>(cache, watch, ahead, left, node, tally)
     }
 }
 
@@ -99,12 +104,14 @@ pub(crate) fn walk<'t, T: SerialTree, W: Watch>(
 fn walk_as<'t, const LONG: bool, T: SerialTree, W: Watch>(
     cache: &mut Cache<'t, T>,
     watch: &mut W,
+    ahead: &Ahead,
     left: u16,
     node: &mut Node<'_, 't, T>,
     tally: &mut Tally,
 ) -> bool
     requires few { left ≤ 256 }
     requires one { LONG ≡ false → node.old.machine.component.local ≡ 0 }
+    requires serves { LONG ≡ false → Serves ahead.now.horizon node.old.machine }
     requires agree { Agree (progress node.old.machine) node.old.trail.history }
     requires tree { cache.old.tree ≡ node.old.trail.tree }
     requires running { W.is_stopped watch.old ≡ false }
@@ -125,13 +132,18 @@ fn walk_as<'t, const LONG: bool, T: SerialTree, W: Watch>(
     if left == 0 {
         return end(cache, watch, node, tally);
     }
+    if !LONG {
+        if let Some(below) = counted_below(cache, ahead, left, node) {
+            return tally.pass_many(below, watch);
+        }
+    }
     let mut is_ended = true;
     for thread in 0..node.machine.threads() {
         for pick in 0..node.machine.picks(thread) {
             is_ended = false;
             let next = Move { thread, pick };
             let undo = node.enter::<LONG>(next);
-            if !walk_as::<LONG, T, W>(cache, watch, left - 1, node, tally) {
+            if !walk_as::<LONG, T, W>(cache, watch, ahead, left - 1, node, tally) {
                 tally.path.push_reserved(next);
                 return false;
             }

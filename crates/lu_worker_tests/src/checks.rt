@@ -1,20 +1,24 @@
 //! Checks of one component by one worker and by many, some of which are held at a gate.
 
-ghost use Rattle.std.specs.Prelude.{◌≡◌, ◌≤◌, IfOk, IfSome, All, length, vec_len};
+ghost use Rattle.std.specs.Prelude.{◌≡◌, ◌≤◌, IfOk, IfSome, OnOk, All, length, vec_len};
 ghost use Rattle.lu_test.specs.Matrix.{IsOf};
 ghost use Rattle.lu_machine.specs.States.{State};
-ghost use Rattle.lu_machine.specs.Starts.{IsStart};
+ghost use Rattle.lu_machine.specs.Starts.{CanRun, IsStart};
 ghost use Rattle.lu_parallel.specs.Works.{IsFresh, IsOver, IsPiece};
 
 use lu_board::board::{Board, Seat};
 use lu_board::view::Kind;
 use lu_examples::ROWS;
 use lu_lang::{Component, read_component};
-use lu_machine::Counts;
+use lu_machine::{Counts, settles};
 use lu_parallel::laws::{cover_sums, found_is_reported, works_conclude};
-use lu_parallel::{CheckFault, Gate, OpenGate, Options, Work, check, check_one, conclude, work};
-use lu_replay::{Finding, Report};
+use lu_parallel::{
+    CheckFault, Gate, OpenGate, Options, Work, check, check_against, check_one, check_one_against,
+    conclude, work,
+};
+use lu_report::{Finding, Report};
 use lu_serial::{Learnt, learn};
+use lu_spec::read_spec;
 use lu_test::{Matrix, Schedule, read_matrix, write_schedule};
 use lu_tree::{Found, frontier};
 use lu_trie::{SerialTree, Trie};
@@ -35,6 +39,21 @@ fn options(rt: &impl Abort, workers: u8, depth: u8) -> Options {
     }
 }
 
+/// The setup of the matrix settles.
+fn assert_settles(
+    rt: &(impl AllocGlobal + Abort),
+    component: &Component,
+    matrix: &Matrix,
+) -> Result<(), Fail>
+    requires { IsOf matrix.now component.now }
+    ensures { OnOk result (CanRun component.now matrix.now) }
+{
+    match settles(rt.alloc(), component, matrix)? {
+        None => Ok(()),
+        Some(call) => panic!(rt; "call {call} of the setup does not end"),
+    }
+}
+
 /// The report of a matrix, by so many workers over pieces of this depth.
 fn report<R: AllocGlobal + Abort + Threads + Wait, G: Gate>(
     rt: &R,
@@ -45,7 +64,7 @@ fn report<R: AllocGlobal + Abort + Threads + Wait, G: Gate>(
 ) -> Result<Report, Fail> {
     let component = read_component(rt.alloc(), ROWS.as_bytes())?;
     let matrix = read_matrix(rt.alloc(), &component, matrix)?;
-    assert!(rt; matrix.of(&component));
+    assert_settles(rt, &component, &matrix)?;
     let options = options(rt, workers, depth);
     Ok(check(rt, rt.alloc(), gate, &component, &matrix, options)?)
 }
@@ -62,7 +81,7 @@ fn report_of_one(
 {
     let component = read_component(rt.alloc(), ROWS.as_bytes())?;
     let matrix = read_matrix(rt.alloc(), &component, matrix)?;
-    assert!(rt; matrix.of(&component));
+    assert_settles(rt, &component, &matrix)?;
     Ok(check_one(rt.alloc(), rt.alloc(), &component, &matrix, bound, serial)?)
 }
 
@@ -141,7 +160,7 @@ fn one_worker_checks(rt: HostRuntime) -> Result<(), Fail> {
     let lost = report_of_one(&rt, TWO_INCREMENTS, 40, 40)?;
     assert!(rt; is_failure(&rt, &lost, LOST_INCREMENT)?);
     let reads = report_of_one(&rt, TWO_READS, 6, 3)?;
-    assert!(rt; is_pass(&reads, 20) && reads.bound() == 6 && reads.serial() == 3);
+    assert!(rt; is_pass(&reads, 20) && reads.bound() == 6 && reads.serial() == Some(3));
     let spins = report_of_one(&rt, b"thread spin\n", 40, 3)?;
     assert!(rt; is_cut_at(&rt, &spins, "schedule 0 0 0 0\n")?);
     Ok(())
@@ -169,6 +188,31 @@ fn many_workers_check(rt: HostRuntime) -> Result<(), Fail> {
     assert!(rt; is_pass(&reads, 20));
     let flips = report(&rt, b"thread flip\n", &OpenGate, 2, 4)?;
     assert!(rt; matches!(flips.finding(), Finding::Nondeterministic { before: 0, .. }));
+    Ok(())
+}
+
+/// Two increments, one after the other.
+const RIGHT: &[u8] = b"lineup spec 1\nhistory 0=1 1=2\nhistory 1=1 0=2\n";
+
+/// A check against a specification finds the same with any number of workers, and so does the check on the calling thread.
+#[test]
+fn a_specification_is_checked(rt: HostRuntime) -> Result<(), Fail> {
+    let alloc = rt.alloc();
+    let component = read_component(alloc, ROWS.as_bytes())?;
+    let matrix = read_matrix(alloc, &component, TWO_INCREMENTS)?;
+    assert_settles(&rt, &component, &matrix)?;
+    let specification = read_spec(alloc, &matrix, RIGHT)?;
+    let tree = specification.tree();
+    let alone = check_one_against(alloc, &component, &matrix, &tree, 40)?;
+    assert!(rt; is_failure(&rt, &alone, LOST_INCREMENT)? && alone.serial().is_none());
+    for workers in [1u8, 2, 16] {
+        let options = options(&rt, workers, 4);
+        let report = check_against(&rt, alloc, &OpenGate, &component, &matrix, &tree, options)?;
+        assert!(rt;
+            is_failure(&rt, &report, LOST_INCREMENT)? && report.serial().is_none(),
+            "{workers}"
+        );
+    }
     Ok(())
 }
 
@@ -361,7 +405,7 @@ fn four_moves(
     component: &Component,
     matrix: &Matrix,
 ) -> Result<Vec<Schedule>, Fail>
-    requires { IsOf matrix.now component.now }
+    requires { CanRun component.now matrix.now }
     ensures few { IfOk result (λ pieces. vec_len pieces ≤ 65536) }
     ensures pieces { (s : State) → IsStart component.now matrix.now s → IfOk result (λ pieces. All (IsPiece s 40) pieces.items) }
 {
@@ -378,7 +422,7 @@ fn work_in_turn<R: AllocGlobal, T: SerialTree>(
     board: &Board,
     seats: Vec<Seat>,
 ) -> Result<Vec<Work>, Fail>
-    requires of { IsOf matrix.now component.now }
+    requires of { CanRun component.now matrix.now }
     requires pieces { (s : State) → IsStart component.now matrix.now s → All (IsPiece s 40) pieces.now }
     requires board { board.now.pieces ≡ length pieces.now }
     requires fresh { All (IsFresh board.now.board) seats.items }
@@ -434,7 +478,7 @@ fn works_above<R: AllocGlobal + Abort, T: SerialTree>(
     tree: &T,
     pieces: &[Schedule],
 ) -> Result<Vec<Work>, Fail>
-    requires of { IsOf matrix.now component.now }
+    requires of { CanRun component.now matrix.now }
     requires few { length pieces.now ≤ 65536 }
     requires pieces { (s : State) → IsStart component.now matrix.now s → All (IsPiece s 40) pieces.now }
 {
@@ -454,7 +498,7 @@ fn concluded_in_turn<R: AllocGlobal, T: SerialTree>(
     tree: &T,
     pieces: &[Schedule],
 ) -> Result<Option<Found>, Fail>
-    requires of { IsOf matrix.now component.now }
+    requires of { CanRun component.now matrix.now }
     requires few { length pieces.now ≤ 65536 }
     requires pieces { (s : State) → IsStart component.now matrix.now s → All (IsPiece s 40) pieces.now }
 {
@@ -484,7 +528,7 @@ fn serial_histories(
     component: &Component,
     matrix: &Matrix,
 ) -> Result<Trie<Global>, Fail>
-    requires { IsOf matrix.now component.now }
+    requires { CanRun component.now matrix.now }
 {
     match learn(rt.alloc(), rt.alloc(), component, matrix, 40)? {
         Learnt::Set(set) => Ok(set),
@@ -501,7 +545,7 @@ fn assert_worked_in_turn<R: AllocGlobal + Abort>(
     set: &Trie<Global>,
     pieces: &[Schedule],
 ) -> Result<(), Fail>
-    requires of { IsOf matrix.now component.now }
+    requires of { CanRun component.now matrix.now }
     requires few { length pieces.now ≤ 65536 }
     requires pieces { (s : State) → IsStart component.now matrix.now s → All (IsPiece s 40) pieces.now }
 {
@@ -519,7 +563,7 @@ fn assert_turns<R: AllocGlobal + Abort>(
     component: &Component,
     matrix: &Matrix,
 ) -> Result<(), Fail>
-    requires { IsOf matrix.now component.now }
+    requires { CanRun component.now matrix.now }
 {
     let set = serial_histories(rt, component, matrix)?;
     let pieces = four_moves(rt, component, matrix)?;
@@ -534,7 +578,7 @@ fn concluded_over<R: AllocGlobal>(
     set: &Trie<Global>,
     pieces: &[Schedule],
 ) -> Result<Option<Found>, Fail>
-    requires of { IsOf matrix.now component.now }
+    requires of { CanRun component.now matrix.now }
     requires few { length pieces.now ≤ 65536 }
     requires pieces { (s : State) → IsStart component.now matrix.now s → All (IsPiece s 40) pieces.now }
 {
@@ -547,7 +591,7 @@ fn concluded_of<R: AllocGlobal + Abort>(
     component: &Component,
     matrix: &Matrix,
 ) -> Result<Option<Found>, Fail>
-    requires { IsOf matrix.now component.now }
+    requires { CanRun component.now matrix.now }
 {
     let set = serial_histories(rt, component, matrix)?;
     let pieces = four_moves(rt, component, matrix)?;
@@ -559,7 +603,7 @@ fn concluded_of<R: AllocGlobal + Abort>(
 fn clean_works_are_added(rt: HostRuntime) -> Result<(), Fail> {
     let component = read_component(rt.alloc(), ROWS.as_bytes())?;
     let matrix = read_matrix(rt.alloc(), &component, TWO_READS)?;
-    assert!(rt; matrix.of(&component));
+    assert_settles(&rt, &component, &matrix)?;
     match concluded_of(&rt, &component, &matrix)? {
         Some(Found::Clean(counts)) => assert_eq!(rt; (counts.complete, counts.stuck), (20, 0)),
         _ => panic!(rt; "not clean"),
@@ -571,7 +615,7 @@ fn clean_works_are_added(rt: HostRuntime) -> Result<(), Fail> {
 fn workers_take_turns(rt: HostRuntime) -> Result<(), Fail> {
     let component = read_component(rt.alloc(), ROWS.as_bytes())?;
     let matrix = read_matrix(rt.alloc(), &component, TWO_INCREMENTS)?;
-    assert!(rt; matrix.of(&component));
+    assert_settles(&rt, &component, &matrix)?;
     assert_turns(&rt, &component, &matrix)
 }
 

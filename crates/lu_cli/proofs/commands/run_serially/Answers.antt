@@ -1,7 +1,6 @@
-use Rattle.std.proofs.Common.{refl}
-use Rattle.lu_machine.specs.Starts.{start_of}
 use Rattle.lu_refute.proofs.Fitting.{learnt_closes}
 use Rattle.lu_cli.proofs.Reported.{set_serial}
+use Rattle.lu_machine.proofs.Starting.{start_there}
 use Rattle.lu_cli.proofs.commands.run_serially.Goals as goal
 
 pub show_offence-requires-clause-found : goal.show_offence-requires-clause-found
@@ -11,21 +10,24 @@ show_offence-requires-clause-found c s start =
 
 pub closure-requires-clause-deterministic : goal.closure-requires-clause-deterministic
 closure-requires-clause-deterministic c =
-    let s = start_of c.args.component.now c.args.matrix.now in
-    (c.in-Ok.ensures.set s c.serial.result (c.in_ok-learnt.ensures s refl)).deterministic
+    let there = start_there c.args.component.now c.args.matrix.now c.requires.settles in
+    let s = there.0 in
+    (c.in-Ok.ensures.set s c.serial.result (c.in_ok-learnt.ensures s there.1)).deterministic
 
 pub closure-requires-clause-serial : goal.closure-requires-clause-serial
 closure-requires-clause-serial c =
-    let s = start_of c.args.component.now c.args.matrix.now in
-    (learnt_closes c.args.component.now c.args.matrix.now s c.serial.result c.in-Ok.set refl (c.in-Ok.ensures.set s c.serial.result (c.in_ok-learnt.ensures s refl))).1
+    let there = start_there c.args.component.now c.args.matrix.now c.requires.settles in
+    let s = there.0 in
+    (learnt_closes c.args.component.now c.args.matrix.now s c.serial.result c.in-Ok.set there.1 (c.in-Ok.ensures.set s c.serial.result (c.in_ok-learnt.ensures s there.1))).1
 
 pub closure-requires-clause-of : goal.closure-requires-clause-of
 closure-requires-clause-of c =
-    let s = start_of c.args.component.now c.args.matrix.now in
-    (learnt_closes c.args.component.now c.args.matrix.now s c.serial.result c.in-Ok.set refl (c.in-Ok.ensures.set s c.serial.result (c.in_ok-learnt.ensures s refl))).2
+    let there = start_there c.args.component.now c.args.matrix.now c.requires.settles in
+    let s = there.0 in
+    (learnt_closes c.args.component.now c.args.matrix.now s c.serial.result c.in-Ok.set there.1 (c.in-Ok.ensures.set s c.serial.result (c.in_ok-learnt.ensures s there.1))).2
 
 pub returns-in_ok-closure-in-Ok : goal.returns-in_ok-closure-in-Ok
 returns-in_ok-closure-in-Ok c =
-    set_serial c.args.component.now c.args.matrix.now c.args.bounds c.in-Ok.set c.in_ok-closure-in-Ok.field-0
+    set_serial c.args.component.now c.args.matrix.now c.args.bounds c.in-Ok.set c.in_ok-closure-in-Ok.field-0 c.requires.settles
     (λ s start. (let set = c.in-Ok.ensures.set s c.serial.result (c.in_ok-learnt.ensures s start) in rw (← c.serial.ensures.serial) set))
     c.in_ok-closure-in-Ok.ensures.closure c.show_spec-in-Ok.result c.show_spec-in-Ok.ensures

@@ -1,20 +1,21 @@
-use Rattle.std.proofs.Common.{◌∙◌, ap, refl, sym, subst}
-use Rattle.lu_replay.specs.declared.report.Finding.{Finding}
-use Rattle.lu_replay.specs.Parts.{Parts}
+use Rattle.std.proofs.Common.{◌∙◌, ℕ, Some, ap, refl, sym, subst}
+use Rattle.lu_report.specs.declared.report.Finding.{Finding}
+use Rattle.lu_report.specs.Parts.{Parts}
 use Rattle.lu_replay.specs.Reports.{IsFinding}
-use Rattle.lu_machine.specs.Starts.{start_of}
 use Rattle.lu_replay.proofs.Limits.{finding_within}
+use Rattle.lu_machine.proofs.Starting.{start_there}
 use Rattle.lu_parallel.proofs.checks.check.Goals as goal
 
 pub new-requires-clause-within : goal.new-requires-clause-within
 new-requires-clause-within g c =
-    let start = start_of c.args.component.now c.args.matrix.now in
-    finding_within c.args.component.now c.args.matrix.now start c.threads-threads.ensures.sound refl c.args.options.bound c.args.options.serial c.in_ok-finding.finding (c.in_ok-finding.ensures.found start refl)
+    let there = start_there c.args.component.now c.args.matrix.now c.requires.of.settles in
+    let start = there.0 in
+    finding_within c.args.component.now c.args.matrix.now start c.threads-threads.ensures.sound there.1 c.args.options.bound c.args.options.serial c.in_ok-finding.finding (c.in_ok-finding.ensures.found start there.1)
 
 pub returns-clause-report : goal.returns-clause-report
 returns-clause-report g c = (
   ap (λ (r : Parts). r.bound) c.new.ensures ∙ c.bound.ensures.bound,
-  ap (λ (r : Parts). r.serial) c.new.ensures ∙ c.serial.ensures.serial,
+  ap (λ (r : Parts). r.serial) c.new.ensures ∙ ap (λ (n : ℕ). Some n) c.serial.ensures.serial,
   ap (λ (r : Parts). r.local) c.new.ensures ∙ c.local.ensures.local,
   λ s is. subst (λ (f : Finding). IsFinding s c.args.options.bound c.args.options.serial f) (sym (ap (λ (r : Parts). r.finding) c.new.ensures)) (c.in_ok-finding.ensures.found s is),
 )

@@ -1,21 +1,22 @@
 use Rattle.std.proofs.Common.{arith, ◌≡◌, ◌∙◌, List, All, Some, length, refl, sym, subst}
 use Rattle.lu_test.specs.declared.schedule.Move.{Move}
-use Rattle.lu_machine.specs.Starts.{start_of}
+use Rattle.lu_machine.proofs.Starting.{start_there}
 use Rattle.lu_machine.specs.Schedules.{IsCover}
-use Rattle.lu_trie.specs.Packed.{members_of}
+use Rattle.lu_witness.specs.Witnesses.{IsMember}
 use Rattle.lu_board.specs.Close.{SharesOut}
-use Rattle.lu_replay.specs.Reports.{IsFinding}
+use Rattle.lu_replay.specs.Reports.{IsFindingAgainst}
 use Rattle.lu_parallel.specs.Findings.{finding_of}
 use Rattle.lu_parallel.specs.Works.{IsPiece}
 use Rattle.lu_parallel.specs.Conclusions.{seats_of, IsConclusion}
-use Rattle.lu_parallel.proofs.Answers.{concluded_finding, found_finding, same_finding}
+use Rattle.lu_parallel.proofs.Answers.{concluded_finding, found_against, same_finding}
 use Rattle.lu_parallel.proofs.Concluding.{concluded}
 use Rattle.lu_parallel.proofs.Frontiers.{frontier_pieces}
 use Rattle.lu_parallel.proofs.checks.search_by_workers.Goals as goal
 
 pub new-requires-clause-pieces : goal.new-requires-clause-pieces
 new-requires-clause-pieces g c =
-    let few = (c.in_ok-pieces.ensures.frontier (start_of c.args.component.now c.args.matrix.now) refl).few in
+    let start = start_there c.args.component.now c.args.matrix.now c.requires.of.settles in
+    let few = (c.in_ok-pieces.ensures.frontier start.0 start.1).few in
     let long = c.in_ok-pieces.pieces.ok.0 in
     let is = c.len.ensures in
     omega (arith, few, long, is)
@@ -36,8 +37,8 @@ finding_of-requires g c =
     concluded_finding c.in_ok-works.works.items c.in-Some.found conclusion.1
 
 pub returns-in-Some : goal.returns-in-Some
-returns-in-Some g c = λ s is serial set.
-    let members = members_of c.args.tree.now in
+returns-in-Some g c = λ s is.
+    let members = g.T.SerialTree.members c.args.tree.now in
     let bound = c.bound-bound.result in
     let pieces = c.deref.result.now in
     let works = c.in_ok-works.works.items in
@@ -47,4 +48,5 @@ returns-in-Some g c = λ s is serial set.
     let shares = subst (λ n. SharesOut n (seats_of works)) long c.in_ok-found.ensures.pieces in
     let conclusion : IsConclusion works (Some found) = rw c.in-Some.is at c.in_ok-found.ensures.conclusion in
     let all = concluded c.args.component.now c.args.matrix.now members s bound pieces c.in_ok-board.board.board works found is cover c.in_ok-works.ensures.each shares c.in_ok-found.ensures.skipped conclusion in
-    subst (λ n. IsFinding s n serial c.finding_of.result) c.bound-bound.ensures.bound (same_finding s bound serial (finding_of found) c.finding_of.result c.finding_of.ensures (found_finding members s bound serial found set all))
+    subst (λ n. IsFindingAgainst (IsMember members) s n c.finding_of.result) c.bound-bound.ensures.bound
+    (same_finding (IsFindingAgainst (IsMember members) s bound) (finding_of found) c.finding_of.result c.finding_of.ensures (found_against (IsMember members) s bound found all))

@@ -1,11 +1,12 @@
 use Rattle.std.proofs.Common.{◌≡◌, List, [], refl, sym, subst, ◌∙◌}
 use Rattle.lu_test.specs.declared.schedule.Move.{Move}
-use Rattle.lu_machine.specs.Starts.{start_of}
 use Rattle.lu_machine.specs.Schedules.{IsSchedule}
 use Rattle.lu_witness.specs.Witnesses.{IsMember}
 use Rattle.lu_tree.specs.Trees.{Below, IsFound}
+use Rattle.lu_replay.specs.Reports.{IsFindingAgainst}
 use Rattle.lu_parallel.specs.Findings.{finding_of}
-use Rattle.lu_parallel.proofs.Answers.{empty_leads, same_finding, some_finding, whole_finding}
+use Rattle.lu_parallel.proofs.Answers.{all_below, empty_leads, found_against, same_finding, some_finding}
+use Rattle.lu_machine.proofs.Starting.{start_there}
 use Rattle.lu_parallel.proofs.one.search_all.Goals as goal
 
 pub search-requires-clause-leads : goal.search-requires-clause-leads
@@ -15,11 +16,13 @@ search-requires-clause-leads g c = λ s is.
 
 pub finding_of-requires : goal.finding_of-requires
 finding_of-requires g c =
-    let start = start_of c.args.component.now c.args.matrix.now in
-    some_finding (IsMember (g.T.SerialTree.members c.args.tree.now)) start c.args.bound (Below c.new-whole.result) c.in_ok-found.found (c.in_ok-found.ensures start refl)
+    let there = start_there c.args.component.now c.args.matrix.now c.requires.of.settles in
+    let start = there.0 in
+    some_finding (IsMember (g.T.SerialTree.members c.args.tree.now)) start c.args.bound (Below c.new-whole.result) c.in_ok-found.found (c.in_ok-found.ensures start there.1)
 
 pub returns : goal.returns
-returns g c = λ s is serial set.
+returns g c = λ s is.
     let empty : c.new-whole.result ≡ [] = c.new-whole.ensures ∙ c.new.ensures.items in
-    let found = subst (λ (u : List Move). IsFound (IsMember (g.T.SerialTree.members c.args.tree.now)) s c.args.bound (Below u) c.in_ok-found.found) empty (c.in_ok-found.ensures s is) in
-    same_finding s c.args.bound serial (finding_of c.in_ok-found.found) c.finding_of.result c.finding_of.ensures (whole_finding (g.T.SerialTree.members c.args.tree.now) s c.args.bound serial c.in_ok-found.found set found)
+    let members = IsMember (g.T.SerialTree.members c.args.tree.now) in
+    let found = subst (λ (u : List Move). IsFound members s c.args.bound (Below u) c.in_ok-found.found) empty (c.in_ok-found.ensures s is) in
+    same_finding (IsFindingAgainst members s c.args.bound) (finding_of c.in_ok-found.found) c.finding_of.result c.finding_of.ensures (found_against members s c.args.bound c.in_ok-found.found (all_below members s c.args.bound c.in_ok-found.found found))

@@ -2,10 +2,10 @@ use Rattle.std.proofs.Common.{◌≡◌, ◌∙◌, refl, sym, ap, subst}
 use Rattle.lu_board.specs.declared.view.View.{View}
 use Rattle.lu_board.specs.Events.{with_held, with_spent}
 use Rattle.lu_board.specs.Pieces.{without}
-use Rattle.lu_machine.specs.Starts.{start_of}
 use Rattle.lu_witness.specs.Witnesses.{IsMember}
 use Rattle.lu_parallel.specs.Works.{Holds}
 use Rattle.lu_parallel.proofs.Tallies.{holds_nothing, holds_same, no_pieces, without_one}
+use Rattle.lu_machine.proofs.Starting.{start_there}
 use Rattle.lu_parallel.proofs.worker.serve_all.Goals as goal
 
 pub loop-piece-init : goal.loop-piece-init
@@ -41,13 +41,14 @@ pub returns : goal.returns
 returns g c =
     let i = c.loop-piece.invariant in
     let was = c.loop-piece.seat.view in
-    let start = start_of c.args.job.now.component.now c.args.job.now.matrix.now in
+    let there = start_there c.args.job.now.component.now c.args.job.now.matrix.now c.requires.job.of.settles in
+    let start = there.0 in
     let spent : c.claim.new.seat.view ≡ with_spent was = c.in_default.ensures.none in
     record {
       over = record {
         board_is = c.claim.ensures.board ∙ i.board;
         done = (ap (λ (v : View). v.spent) spent, ap (λ (v : View). v.held) spent ∙ i.held);
-        listed = (i.holds start refl).listed ∙ sym (ap (λ (v : View). v.found) spent);
+        listed = (i.holds start there.1).listed ∙ sym (ap (λ (v : View). v.found) spent);
       };
       holds = λ s is. holds_same (IsMember (g.T.SerialTree.members c.args.cache.tree)) s c.args.job.now.bound c.args.job.now.pieces.now was c.claim.new.seat.view c.loop-piece.tally.counts c.loop-piece.tally.found.items
           (ap (λ (v : View). v.clean) spent) (ap (λ (v : View). v.found) spent) (i.holds s is);

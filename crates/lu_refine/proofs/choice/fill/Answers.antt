@@ -2,7 +2,7 @@ use Rattle.std.proofs.Common.{arith, ◌≡◌, ◌<◌, ℕ, length, take, drop
 use Rattle.std.proofs.lemmas.List.Elements.{All-take}
 use Rattle.lu_test.specs.Matrix.{IsMatrix}
 use Rattle.lu_refine.proofs.Places.{AreBelow}
-use Rattle.lu_refine.proofs.Filling.{filled_matrix, filled_none, filled_more, filled_whole, room}
+use Rattle.lu_refine.proofs.Filling.{filled_made, filled_matrix, filled_none, filled_more, filled_whole, room}
 use Rattle.lu_refine.proofs.choice.fill.Goals as goal
 
 pub loop-thread-init : goal.loop-thread-init
@@ -28,9 +28,11 @@ loop-thread-preserved c =
 pub new-requires : goal.new-requires
 new-requires c =
     let whole = filled_whole c.args.candidates.now c.args.threads c.args.calls c.loop-thread._thread c.loop-thread.rest.now c.loop-thread.rows.items _ (omega arith) c.loop-thread.invariant in
-    subst IsMatrix (sym whole) (filled_matrix c.args.candidates.now c.args.threads c.args.calls c.args.choice.now c.requires.grid c.requires.choice c.requires.arguments)
+    let before = c.in_ok-copy_calls.ensures ∙ c.as_slice.ensures in
+    subst IsMatrix (sym (filled_made c.args.setup.now _ _ _ before whole)) (filled_matrix c.args.setup.now c.args.candidates.now c.args.threads c.args.calls c.args.choice.now c.requires.setup c.requires.grid c.requires.choice c.requires.arguments)
 
 pub returns : goal.returns
 returns c =
     let whole = filled_whole c.args.candidates.now c.args.threads c.args.calls c.loop-thread._thread c.loop-thread.rest.now c.loop-thread.rows.items _ (omega arith) c.loop-thread.invariant in
-    c.new.ensures ∙ whole
+    let before = c.in_ok-copy_calls.ensures ∙ c.as_slice.ensures in
+    c.new.ensures ∙ filled_made c.args.setup.now _ _ _ before whole

@@ -1,6 +1,6 @@
 use Rattle.std.proofs.Common.{rules, List, sym, subst}
-use Rattle.lu_test.specs.declared.matrix.Call.{Call}
-use Rattle.lu_test.specs.Matrix.{IsOf}
+use Rattle.lu_test.specs.Matrix.{Matrix}
+use Rattle.lu_machine.specs.Starts.{CanRun}
 use Rattle.lu_replay.specs.Reports.{IsReport}
 use Rattle.lu_refine.specs.Removals.{IsFailure, IsFailing, ShrinksTo}
 use Rattle.lu_refine.proofs.Chained.{shrinks_more, shrinks_here, removal_of, removal_fewer}
@@ -10,12 +10,12 @@ pub loop-shrunk-init : goal.loop-shrunk-init
 loop-shrunk-init c =
     let failure : IsFailure c.in_ok-report.report.finding = search rules in
     let same = sym c.in_ok-copy_of.ensures in
-    let report = subst (λ (m : List (List Call)). IsReport c.args.component.now m c.args.bound c.args.serial c.in_ok-report.report) same c.in_ok-report.ensures in
+    let report = subst (λ (m : Matrix). IsReport c.args.component.now m c.args.bound c.args.serial c.in_ok-report.report) same c.in_ok-report.ensures in
     record {
-      of = subst (λ (m : List (List Call)). IsOf m c.args.component.now) same c.requires.of;
+      of = subst (CanRun c.args.component.now) same c.requires.of;
       report = report;
       fails = (c.in_ok-report.report, report, failure);
-      chain = λ last. subst (λ (m : List (List Call)). ShrinksTo (IsFailing c.args.component.now c.args.bound c.args.serial) m last) c.in_ok-copy_of.ensures;
+      chain = λ last. subst (λ (m : Matrix). ShrinksTo (IsFailing c.args.component.now c.args.bound c.args.serial) m last) c.in_ok-copy_of.ensures;
     }
 
 pub take_least-requires-clause-of : goal.take_least-requires-clause-of
@@ -45,4 +45,4 @@ returns-clause-shrunk c =
     (chain, c.loop-shrunk.invariant.report)
 
 pub returns-clause-of : goal.returns-clause-of
-returns-clause-of c = c.loop-shrunk.invariant.of
+returns-clause-of c = c.loop-shrunk.invariant.of.of

@@ -6,12 +6,12 @@ use Rattle.lu_refute.proofs.refuting.copy_of.Goals as goal
 
 pub cut_to-requires : goal.cut_to-requires
 cut_to-requires c =
-    let all : length c.args.matrix.now ≤ c.loop-t.t = omega arith in
-    rw (c.deref.ensures.value, c.loop-t.invariant, lengths_whole c.args.matrix.now c.loop-t.t all) (all_fit c.args.matrix.now)
+    let all : length c.args.matrix.now.threads ≤ c.loop-t.t = omega arith in
+    rw (c.deref.ensures.value, c.loop-t.invariant, lengths_whole c.args.matrix.now c.loop-t.t all) (all_fit c.args.matrix.now.threads)
 
 pub returns : goal.returns
 returns c =
-    let all : length c.args.matrix.now ≤ c.loop-t.t = omega arith in
-    let lengths : c.deref.result.now ≡ lengths_of c.args.matrix.now = c.deref.ensures.value ∙ (c.loop-t.invariant ∙ lengths_whole c.args.matrix.now c.loop-t.t all) in
+    let all : length c.args.matrix.now.threads ≤ c.loop-t.t = omega arith in
+    let lengths : c.deref.result.now ≡ lengths_of c.args.matrix.now.threads = c.deref.ensures.value ∙ (c.loop-t.invariant ∙ lengths_whole c.args.matrix.now c.loop-t.t all) in
     let whole : cut c.args.matrix.now c.deref.result.now ≡ c.args.matrix.now = ap (cut c.args.matrix.now) lengths ∙ cut_all c.args.matrix.now in
     IfOk-weaker c.cut_to.result (λ copy. copy ≡ cut c.args.matrix.now c.deref.result.now) (λ copy. copy ≡ c.args.matrix.now) (λ copy is. is ∙ whole) c.cut_to.ensures

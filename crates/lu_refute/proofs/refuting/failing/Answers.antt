@@ -1,5 +1,5 @@
 use Rattle.std.proofs.Common.{◌≡◌, subst}
-use Rattle.lu_replay.specs.declared.report.Finding.TheVariants.{Fail}
+use Rattle.lu_report.specs.declared.report.Finding.TheVariants.{Fail}
 use Rattle.lu_refute.specs.Walks.{IsOfFailure}
 use Rattle.lu_refute.proofs.refuting.failing.Goals as goal
 

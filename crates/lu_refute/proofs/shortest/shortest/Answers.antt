@@ -7,6 +7,8 @@ use Rattle.lu_machine.specs.Runs.{Leads}
 use Rattle.lu_refute.specs.Linearizable.{AreLengths}
 use Rattle.lu_refute.specs.Walks.{EndsOutside}
 use Rattle.lu_refute.specs.Whole.{made_calls}
+use Rattle.lu_machine.proofs.Starting.{start_matrix, start_same}
+use Rattle.lu_refute.proofs.Grounds.{ground_of, grounded}
 use Rattle.lu_refute.proofs.Cuts.{made_lengths}
 use Rattle.lu_refute.proofs.Shortening.{cut_over, front_moves}
 use Rattle.lu_refute.proofs.shortest.shortest.Goals as goal
@@ -20,9 +22,10 @@ cut_to-requires c =
     let stop = c.in_ok-count.ensures in
     let run = stop.short.whole in
     let front = take c.in_ok-count.count c.moves-moves.result.now in
-    let leads = subst (λ (x : State). Leads x front run.end run.history) c.in_ok-walk.ensures.start run.leads in
+    let g = ground_of c.args.component.now c.in_ok-walk.walk.machine in
+    let leads = subst (λ (x : State). Leads x front run.end run.history) (grounded c.args.component.now c.args.matrix.now c.in_ok-walk.walk.machine c.in_ok-walk.ensures.start) run.leads in
     let is : c.deref.result.now ≡ made_calls run.end = c.deref.ensures.value ∙ (stop.calls ∙ ap made_calls (sym stop.ends)) in
-    subst (AreLengths c.args.matrix.now) (sym is) (made_lengths c.args.component.now c.args.matrix.now front run.end run.history leads)
+    subst (AreLengths c.args.matrix.now) (sym is) (made_lengths g c.args.matrix.now front run.end run.history leads)
 
 pub slice_bounds-from_slice-end : goal.slice_bounds-from_slice-end
 slice_bounds-from_slice-end c =
@@ -38,7 +41,7 @@ returns c =
     λ (s : State) (is : IsStart c.args.component.now c.args.matrix.now s).
     let stop = c.in_ok-count.ensures in
     let start = c.in_ok-walk.walk.machine in
-    cut_over start s (c.in_ok-walk.ensures.start ∙ sym is) c.args.set.now c.moves-moves.result.now c.args.outside.now c.moves-moves.ensures.moves
+    cut_over start s (start_same c.args.component.now c.args.matrix.now start s c.in_ok-walk.ensures.start is) c.args.set.now c.moves-moves.result.now c.args.outside.now c.moves-moves.ensures.moves
     c.new.result c.in_ok-count.count (c.new.ensures ∙ c.in_ok-from_slice.ensures.items) stop.short
     c.deref.result.now (c.deref.ensures.value ∙ (stop.calls ∙ ap made_calls (sym stop.ends)))
-    c.args.matrix.now c.in_ok-smaller.smaller (ap (λ (x : State). x.matrix) c.in_ok-walk.ensures.start) c.in_ok-smaller.ensures
+    c.args.matrix.now c.in_ok-smaller.smaller (start_matrix c.args.component.now c.args.matrix.now start c.in_ok-walk.ensures.start) c.in_ok-smaller.ensures

@@ -1,19 +1,21 @@
-use Rattle.std.proofs.Common.{◌≡◌, refl}
+use Rattle.std.proofs.Common.{◌≡◌, ◌∙◌, None, Some, sym}
 use Rattle.std.specs.Prelude.{IsTrue, ◌↔◌}
 use Rattle.std.proofs.lemmas.Result.{IfOk-weaker}
-use Rattle.lu_machine.specs.States.{State}
-use Rattle.lu_machine.specs.Starts.{start_of}
-use Rattle.lu_replay.specs.Confirmed.{IsShown, IsConfirmed}
-use Rattle.lu_replay.proofs.RunsAnew.{confirmed_from}
+use Rattle.lu_replay.specs.Confirmed.{IsShownWith, IsConfirmed}
+use Rattle.lu_replay.proofs.RunsAnew.{confirmed_with, none_confirmed}
 use Rattle.lu_replay.proofs.confirming.confirm.Goals as goal
 
-pub returns : goal.returns
-returns c =
-    let same : c.args.report.now.local ≡ c.args.component.now.local = cc in
-    let start : State = start_of c.args.component.now c.args.matrix.now in
-    let h = c.is_shown.ensures start c.serial.result refl (c.in_ok-learnt.ensures start refl) in
-    IfOk-weaker c.is_shown.result
-    (λ answer. IsTrue answer ↔ IsShown start c.bound-bound.result c.serial.result c.finding-2.result.now)
+pub returns-in-None : goal.returns-in-None
+returns-in-None c =
+    let none : c.args.report.now.serial ≡ None = sym c.serial.ensures.serial ∙ c.in-None.is in
+    (λ e. absurd cc, λ x. absurd (none_confirmed c.args.component.now c.args.matrix.now c.args.report.now none x))
+
+pub returns-in-Some : goal.returns-in-Some
+returns-in-Some c =
+    let same = c.says_local.ensures.0 c.if-not-says_local.false in
+    let some : c.args.report.now.serial ≡ Some c.in-Some.serial = sym c.serial.ensures.serial ∙ c.in-Some.is in
+    IfOk-weaker c.shows.result
+    (λ answer. IsTrue answer ↔ IsShownWith c.args.component.now c.args.matrix.now c.args.report.now c.in-Some.serial)
     (λ answer. IsTrue answer ↔ IsConfirmed c.args.component.now c.args.matrix.now c.args.report.now)
-    (λ answer x. confirmed_from c.args.component.now c.args.matrix.now c.args.report.now c.bound-bound.result c.serial.result c.finding-2.result.now answer same c.bound-bound.ensures.bound c.serial.ensures.serial c.finding-2.ensures.finding x)
-    h
+    (λ answer h. confirmed_with c.args.component.now c.args.matrix.now c.args.report.now c.in-Some.serial answer same some h)
+    c.shows.ensures

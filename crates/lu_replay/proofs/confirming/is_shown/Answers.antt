@@ -5,7 +5,7 @@ use Rattle.lu_machine.specs.States.{State}
 use Rattle.lu_machine.specs.Starts.{IsStart}
 use Rattle.lu_serial.specs.Offences.{IsLearnt}
 use Rattle.lu_witness.specs.Witnesses.{IsMember}
-use Rattle.lu_replay.specs.declared.report.Finding.TheVariants.{Fail}
+use Rattle.lu_report.specs.declared.report.Finding.TheVariants.{Fail}
 use Rattle.lu_replay.specs.Confirmed.{IsBadFor, IsShown}
 use Rattle.lu_replay.proofs.RunsAnew.{learnt_cut, learnt_conflict, set_shown, offence_shows_none}
 use Rattle.lu_replay.proofs.confirming.is_shown.Goals as goal

@@ -1,11 +1,16 @@
-use Rattle.std.proofs.Common.{arith, ◌<◌, ◌≤◌, length, take, slice_index_or, refl, sym, subst}
+use Rattle.std.proofs.Common.{arith, [], ◌<◌, ◌≤◌, length, take, slice_index_or, refl, sym, subst}
 use Rattle.std.proofs.lemmas.List.{take_more, take_all}
 use Rattle.lu_test.specs.declared.schedule.Move.{Move}
 use Rattle.lu_machine.specs.Runs.{Leads}
 use Rattle.lu_machine.specs.Schedules.{IsSchedule}
 use Rattle.lu_machine.specs.Steps.{Step}
 use Rattle.lu_machine.proofs.Paths.{child_leads}
+use Rattle.lu_machine.proofs.Starting.{start_same}
 use Rattle.lu_search_tests.proofs.trees.beginning.Goals as goal
+
+pub loop-next-init : goal.loop-next-init
+loop-next-init g c = λ s is.
+    record { end = s; history = []; leads = (refl, refl); holds = start_same c.args.component.now c.args.matrix.now s c.in_ok-machine.machine is c.in_ok-machine.ensures.starts }
 
 pub loop-next-preserved : goal.loop-next-preserved
 loop-next-preserved g c = λ s is.

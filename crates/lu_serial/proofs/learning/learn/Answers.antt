@@ -1,5 +1,6 @@
 use Rattle.std.proofs.Common.{◌≡◌, refl, sym, inl, ◌∙◌, subst}
 use Rattle.lu_test.specs.Schedule.{AreMoves}
+use Rattle.lu_machine.proofs.Starting.{start_same}
 use Rattle.lu_serial.specs.Offences.{IsFirstCut, IsFirstConflict, IsSetOf}
 use Rattle.lu_serial.specs.Walks.{Learns}
 use Rattle.lu_serial.proofs.Shown.{start_ready}
@@ -15,7 +16,7 @@ same-set g c = refl
 
 pub returns-in-None : goal.returns-in-None
 returns-in-None g c = λ s is.
-    (let same : c.in_ok-node.node.machine ≡ s = c.in_ok-node.ensures.machine ∙ sym is in
+    (let same : c.in_ok-node.node.machine ≡ s = start_same c.args.component.now c.args.matrix.now c.in_ok-node.node.machine s c.in_ok-node.ensures.machine is in
     let walks = c.in_ok-walk.ensures.walks c.in_ok-node.node.machine c.new-set.result (start_ready c.args.component.now c.args.matrix.now c.args.bound c.limits.ensures.component c.limits.ensures.matrix c.requires.few _ c.new-path.ensures.items _ c.in_ok-node.ensures.machine _ c.in_ok-node.ensures.entries (Learns c.new-set.result) (learns_none c.new-set.result c.new-set.ensures)) in
     let shows = rw c.in-None.is at walks in
     subst (λ x. IsSetOf x c.args.bound c.walk.new.harvest) same (passed_all c.in_ok-node.node.machine c.args.bound c.new-path.result.items c.new-path.ensures.items c.walk.new.harvest shows))
@@ -27,7 +28,7 @@ new-requires g c =
 
 pub returns-in-Some-Cut : goal.returns-in-Some-Cut
 returns-in-Some-Cut g c = λ s is.
-    (let same : c.in_ok-node.node.machine ≡ s = c.in_ok-node.ensures.machine ∙ sym is in
+    (let same : c.in_ok-node.node.machine ≡ s = start_same c.args.component.now c.args.matrix.now c.in_ok-node.node.machine s c.in_ok-node.ensures.machine is in
     let walks = c.in_ok-walk.ensures.walks c.in_ok-node.node.machine c.new-set.result (start_ready c.args.component.now c.args.matrix.now c.args.bound c.limits.ensures.component c.limits.ensures.matrix c.requires.few _ c.new-path.ensures.items _ c.in_ok-node.ensures.machine _ c.in_ok-node.ensures.entries (Learns c.new-set.result) (learns_none c.new-set.result c.new-set.ensures)) in
     let halts = rw (c.in-Some-Cut.is, c.in-Some-Cut.field-0-is) at walks in
     let cut : IsFirstCut c.in_ok-node.node.machine c.args.bound c.walk.new.path.items = (least_of c.in_ok-node.node.machine c.args.bound c.walk.new.path.items c.walk.new.harvest halts.0 (inl halts.1), halts.1) in
@@ -40,7 +41,7 @@ new-requires-in-Some-Stopped g c =
 
 pub returns : goal.returns
 returns g c = λ s is.
-    (let same : c.in_ok-node.node.machine ≡ s = c.in_ok-node.ensures.machine ∙ sym is in
+    (let same : c.in_ok-node.node.machine ≡ s = start_same c.args.component.now c.args.matrix.now c.in_ok-node.node.machine s c.in_ok-node.ensures.machine is in
     let walks = c.in_ok-walk.ensures.walks c.in_ok-node.node.machine c.new-set.result (start_ready c.args.component.now c.args.matrix.now c.args.bound c.limits.ensures.component c.limits.ensures.matrix c.requires.few _ c.new-path.ensures.items _ c.in_ok-node.ensures.machine _ c.in_ok-node.ensures.entries (Learns c.new-set.result) (learns_none c.new-set.result c.new-set.ensures)) in
     let halts = rw (c.in-Some-Stopped.is, c.in-Some-Stopped.field-0-is) at walks in
     let before = c.in-Some-Stopped.before in

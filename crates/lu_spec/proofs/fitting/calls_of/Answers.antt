@@ -14,7 +14,7 @@ loop-t-init c = record {
 
 pub loop-t-preserved : goal.loop-t-preserved
 loop-t-preserved c =
-    let within : c.from.result < length c.loop-t.calls = omega (arith, c.loop-t.invariant.size, c.from.ensures, c.threads-t-end.ensures.threads, c.threads-t-end.ensures.sound.limits.threads) in
+    let within : c.from.result < length c.loop-t.calls = omega (arith, c.loop-t.invariant.size, c.from.ensures, c.threads-t-end.ensures.threads, c.threads-t-end.ensures.sound.limits.few) in
     record {
       size = length-set c.loop-t.calls c.from.result c.calls.result ∙ c.loop-t.invariant.size;
       made = λ t below. elim (cases_lt t c.loop-t.t) [

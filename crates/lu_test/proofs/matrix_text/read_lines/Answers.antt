@@ -2,11 +2,11 @@ use Rattle.std.proofs.Common.{refl, arith}
 use Rattle.std.proofs.lemmas.Result.{err_from_is_err_and}
 use Rattle.lu_text.proofs.Reading.{goes_on, ends, is_done, line_ok, text_more, texts_end}
 use Rattle.lu_test.specs.MatrixText.{matrix_grammar}
-use Rattle.lu_test.proofs.Threads.{line_limits, line_fits, no_threads, no_calls, of_finished}
+use Rattle.lu_test.proofs.Threads.{line_limits, line_fits, nothing_limits, nothing_fits, of_finished}
 use Rattle.lu_test.proofs.matrix_text.read_lines.Goals as goal
 
 pub loop-before-init : goal.loop-before-init
-loop-before-init c = rw c.new.ensures.items (record { limits = no_threads; fits = no_calls c.args.component.now; read = refl })
+loop-before-init c = rw c.new.ensures.items (record { limits = nothing_limits; fits = nothing_fits c.args.component.now; read = refl })
 
 pub returns-in_err-draft-clause-exact : goal.returns-in_err-draft-clause-exact
 returns-in_err-draft-clause-exact c =

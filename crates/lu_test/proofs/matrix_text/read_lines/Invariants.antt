@@ -1,13 +1,13 @@
-use Rattle.std.proofs.Common.{◌≡◌, ◌+◌, [], drop}
+use Rattle.std.proofs.Common.{◌≡◌, ◌+◌, drop}
 use Rattle.lu_text.specs.Lines.{texts}
 use Rattle.lu_text.specs.Faults.{lines_after}
-use Rattle.lu_test.specs.Matrix.{IsDraft, IsOf}
-use Rattle.lu_test.specs.MatrixText.{matrix_grammar}
+use Rattle.lu_test.specs.Matrix.{IsOf}
+use Rattle.lu_test.specs.MatrixText.{IsDraft, matrix_grammar, matrix_of, nothing}
 use Rattle.lu_test.proofs.matrix_text.read_lines.Given as goal
 
 abbrev pub invariant-loop-before : goal.invariant-loop-before
 invariant-loop-before l = record {
   limits : IsDraft l.draft;
-  fits : IsOf l.draft l.component;
-  read : lines_after (matrix_grammar l.component) (l.before + 1) l.draft (drop l.before (texts l.lines)) ≡ lines_after (matrix_grammar l.component) 1 [] (texts l.lines);
+  fits : IsOf (matrix_of l.draft) l.component;
+  read : lines_after (matrix_grammar l.component) (l.before + 1) l.draft (drop l.before (texts l.lines)) ≡ lines_after (matrix_grammar l.component) 1 nothing (texts l.lines);
 }

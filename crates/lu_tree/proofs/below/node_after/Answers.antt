@@ -1,24 +1,25 @@
 use Rattle.std.proofs.Common.{arith, ◌<◌, ◌≤◌, length, take, slice_index_or, refl, sym, subst, ◌∙◌}
 use Rattle.std.proofs.lemmas.List.{take_more, take_all}
 use Rattle.lu_test.specs.declared.schedule.Move.{Move}
-use Rattle.lu_machine.specs.Starts.{start_of}
 use Rattle.lu_machine.specs.States.{State}
 use Rattle.lu_machine.specs.Runs.{Leads}
 use Rattle.lu_machine.proofs.Paths.{goes_on_feasible, child_leads}
 use Rattle.lu_history.proofs.Following.{start_agrees}
+use Rattle.lu_machine.proofs.Starting.{start_same, start_there}
 use Rattle.lu_tree.proofs.below.node_after.Goals as goal
 
 pub enter-requires-clause-feasible : goal.enter-requires-clause-feasible
 enter-requires-clause-feasible g c =
-    let start : State = start_of c.args.component.now c.args.matrix.now in
+    let there = start_there c.args.component.now c.args.matrix.now c.requires.of.settles in
+    let start : State = there.0 in
     let within : c.loop-next.next-index < length c.args.schedule.now = omega arith in
     let zero_move : Move = record { thread = 0; pick = 0 } in
-    let all = c.requires.leads start refl in
-    goes_on_feasible start c.args.schedule.now all.end all.history all.leads c.loop-next.next-index zero_move within c.loop-next.node.machine c.loop-next.node.trail.history (c.loop-next.invariant.leads start refl)
+    let all = c.requires.leads start there.1 in
+    goes_on_feasible start c.args.schedule.now all.end all.history all.leads c.loop-next.next-index zero_move within c.loop-next.node.machine c.loop-next.node.trail.history (c.loop-next.invariant.leads start there.1)
 
 pub loop-next-init : goal.loop-next-init
 loop-next-init g c = record {
-  leads = λ s is. (c.in_ok-node.ensures.machine ∙ sym is, c.in_ok-node.ensures.history);
+  leads = λ s is. (start_same c.args.component.now c.args.matrix.now c.in_ok-node.node.machine s c.in_ok-node.ensures.machine is, c.in_ok-node.ensures.history);
   agree = rw c.in_ok-node.ensures.history (start_agrees c.args.component.now c.args.matrix.now c.in_ok-node.node.machine c.in_ok-node.ensures.machine);
   tree = c.in_ok-node.ensures.tree;
 }

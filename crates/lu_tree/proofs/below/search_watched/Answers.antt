@@ -1,13 +1,15 @@
 use Rattle.std.proofs.Common.{arith, ◌≡◌, ◌≤◌, ◌+◌, ◌-◌, ◌++◌, length, reverse, refl, sym, ◌∙◌, ap, subst}
+use Rattle.lu_component.specs.Component.{Declarations}
 use Rattle.lu_test.specs.Schedule.{AreMoves}
-use Rattle.lu_machine.specs.Starts.{start_of}
 use Rattle.lu_machine.specs.States.{State}
 use Rattle.lu_witness.specs.Goodness.{IsFirstBad, AreAllGood}
 use Rattle.lu_witness.specs.Witnesses.{IsMember}
 use Rattle.lu_tree.specs.Trees.{Below}
 use Rattle.lu_tree.specs.Walks.{IsBadAt, IsFirstAt}
+use Rattle.lu_horizon.proofs.OwnLaws.{leads_component, serves_end}
 use Rattle.lu_tree.proofs.Added.{first_bad, walk_passed, walk_stopped}
 use Rattle.lu_tree.proofs.Limits.{schedule_moves}
+use Rattle.lu_machine.proofs.Starting.{start_there}
 use Rattle.lu_tree.proofs.below.search_watched.Goals as goal
 
 pub returns-then-walk-clause-found : goal.returns-then-walk-clause-found
@@ -22,9 +24,22 @@ returns-then-walk-clause-found g c = λ s is.
     let good = walk_passed Set s c.args.bound left c.args.from.now moves node.machine node.trail.history c.moves-moves.ensures.moves all (c.in_ok-node.ensures.leads s is) c.in_ok-tally.tally.counts c.walk.new.tally.counts c.in_ok-tally.ensures.counts (c.walk.ensures.passes c.if-walk.true) in
     subst (λ x. AreAllGood (IsMember x) s c.args.bound (Below c.args.from.now) c.walk.new.tally.counts) set good)
 
+pub walk-requires-clause-serves : goal.walk-requires-clause-serves
+walk-requires-clause-serves g c = λ short.
+    (let there = start_there c.args.component.now c.args.matrix.now c.requires.of.settles in
+    let start : State = there.0 in
+    let moves = c.moves-moves.result.now in
+    let node = c.in_ok-node.node in
+    let leads = c.in_ok-node.ensures.leads start there.1 in
+    let begins : start.component ≡ c.args.component.now = ap (λ (x : State). x.component) there.1.is in
+    let same = leads_component start moves node.machine node.trail.history leads ∙ begins in
+    let serves = c.in_ok-ahead.ensures start (sym (ap (λ (x : Declarations). x.local) same) ∙ short) there.1 in
+    serves_end c.in_ok-ahead.ahead.horizon start moves node.machine node.trail.history leads serves)
+
 pub why_bad-requires-clause-ended : goal.why_bad-requires-clause-ended
 why_bad-requires-clause-ended g c =
-    let start : State = start_of c.args.component.now c.args.matrix.now in
+    let there = start_there c.args.component.now c.args.matrix.now c.requires.of.settles in
+    let start : State = there.0 in
     let moves = c.moves-moves.result.now in
     let node = c.in_ok-node.node in
     let tree : node.trail.tree ≡ c.args.cache.now.tree = c.in_ok-node.ensures.tree ∙ c.tree.ensures in
@@ -36,12 +51,13 @@ why_bad-requires-clause-ended g c =
     let end = c.walk.new.node.machine in
     let last = c.walk.new.node.trail.history in
     let running = sym c.stopped.ensures ∙ c.if-stopped.false in
-    let first : IsFirstAt Set start c.args.bound (Below c.args.from.now) (c.args.from.now ++ reverse path) end last = walk_stopped Set start c.args.bound left c.args.from.now moves node.machine node.trail.history c.moves-moves.ensures.moves all (c.in_ok-node.ensures.leads start refl) path end last (c.walk.ensures.stops c.if-walk.false running) in
+    let first : IsFirstAt Set start c.args.bound (Below c.args.from.now) (c.args.from.now ++ reverse path) end last = walk_stopped Set start c.args.bound left c.args.from.now moves node.machine node.trail.history c.moves-moves.ensures.moves all (c.in_ok-node.ensures.leads start there.1) path end last (c.walk.ensures.stops c.if-walk.false running) in
     first.ended
 
-pub new-requires-2 : goal.new-requires-2
-new-requires-2 g c =
-    let start : State = start_of c.args.component.now c.args.matrix.now in
+pub new-requires-3 : goal.new-requires-3
+new-requires-3 g c =
+    let there = start_there c.args.component.now c.args.matrix.now c.requires.of.settles in
+    let start : State = there.0 in
     let moves = c.moves-moves.result.now in
     let node = c.in_ok-node.node in
     let tree : node.trail.tree ≡ c.args.cache.now.tree = c.in_ok-node.ensures.tree ∙ c.tree.ensures in
@@ -53,10 +69,10 @@ new-requires-2 g c =
     let end = c.walk.new.node.machine in
     let last = c.walk.new.node.trail.history in
     let running = sym c.stopped.ensures ∙ c.if-stopped.false in
-    let first : IsFirstAt Set start c.args.bound (Below c.args.from.now) (c.args.from.now ++ reverse path) end last = walk_stopped Set start c.args.bound left c.args.from.now moves node.machine node.trail.history c.moves-moves.ensures.moves all (c.in_ok-node.ensures.leads start refl) path end last (c.walk.ensures.stops c.if-walk.false running) in
+    let first : IsFirstAt Set start c.args.bound (Below c.args.from.now) (c.args.from.now ++ reverse path) end last = walk_stopped Set start c.args.bound left c.args.from.now moves node.machine node.trail.history c.moves-moves.ensures.moves all (c.in_ok-node.ensures.leads start there.1) path end last (c.walk.ensures.stops c.if-walk.false running) in
     let few = c.requires.few in
     let short : length (c.args.from.now ++ reverse path) ≤ c.args.bound = first.short in
-    let are : AreMoves (c.args.from.now ++ reverse path) = schedule_moves c.args.component.now c.args.matrix.now start c.limits.ensures.component c.limits.ensures.matrix refl (c.args.from.now ++ reverse path) end last first.leads (omega arith) in
+    let are : AreMoves (c.args.from.now ++ reverse path) = schedule_moves c.args.component.now c.args.matrix.now start c.limits.ensures.component c.limits.ensures.matrix there.1 (c.args.from.now ++ reverse path) end last first.leads (omega arith) in
     let joined = c.joined.ensures ∙ ap (λ u. u ++ reverse path) c.moves-moves.ensures.moves in
     subst AreMoves (sym joined) are
 
@@ -78,5 +94,5 @@ returns-clause-found g c = λ s is.
     let bad : IsBadAt Set end last c.in_ok-why.why = subst (λ x. IsBadAt (IsMember x) end last c.in_ok-why.why) walked c.in_ok-why.ensures.bad in
     let found : IsFirstBad Set s c.args.bound (Below c.args.from.now) (c.args.from.now ++ reverse path) c.in_ok-why.why = first_bad Set s c.args.bound (Below c.args.from.now) (c.args.from.now ++ reverse path) end last c.in_ok-why.why first bad in
     let joined = c.joined.ensures ∙ ap (λ u. u ++ reverse path) c.moves-moves.ensures.moves in
-    let there = subst (λ u. IsFirstBad Set s c.args.bound (Below c.args.from.now) u c.in_ok-why.why) (sym (c.new-2.ensures ∙ joined)) found in
-    subst (λ x. IsFirstBad (IsMember x) s c.args.bound (Below c.args.from.now) c.new-2.result c.in_ok-why.why) set there)
+    let there = subst (λ u. IsFirstBad Set s c.args.bound (Below c.args.from.now) u c.in_ok-why.why) (sym (c.new-3.ensures ∙ joined)) found in
+    subst (λ x. IsFirstBad (IsMember x) s c.args.bound (Below c.args.from.now) c.new-3.result c.in_ok-why.why) set there)

@@ -1,11 +1,12 @@
-use Rattle.std.proofs.Common.{arith, refl}
-use Rattle.lu_machine.specs.Starts.{start_of}
+use Rattle.std.proofs.Common.{arith}
+use Rattle.lu_machine.proofs.Starting.{start_there}
 use Rattle.lu_parallel.proofs.Frontiers.{frontier_pieces}
 use Rattle.lu_worker_tests.proofs.checks.four_moves.Goals as goal
 
 pub returns-clause-few : goal.returns-clause-few
 returns-clause-few g c =
-    let few = (c.in_ok-frontier.ensures.frontier (start_of c.args.component.now c.args.matrix.now) refl).few in
+    let start = start_there c.args.component.now c.args.matrix.now c.requires.settles in
+    let few = (c.in_ok-frontier.ensures.frontier start.0 start.1).few in
     let long = c.in_ok-frontier.field-0.ok.0 in
     omega (arith, few, long)
 

@@ -1,5 +1,4 @@
-use Rattle.std.proofs.Common.{rules, ◌≡◌, ℕ, length, replicate, subst, sym, ◌∙◌}
-use Rattle.lu_serial.specs.Serial.{HasOpen}
+use Rattle.std.proofs.Common.{rules, ◌≡◌, ℕ, length, replicate, sym, ◌∙◌}
 use Rattle.lu_serial.proofs.CallsLeft.{none_at_start}
 use Rattle.lu_refute.proofs.Made.{start_made}
 use Rattle.lu_refute.proofs.shortest.Walk.start.Goals as goal
@@ -8,10 +7,10 @@ pub returns-clause-before : goal.returns-clause-before
 returns-clause-before c =
     let is = c.in_ok-start.ensures.starts in
     record {
-      quiet = λ t busy. none_at_start c.args.component.now c.args.matrix.now t (subst (λ s. HasOpen s t) is busy);
+      quiet = none_at_start c.args.component.now c.args.matrix.now c.in_ok-start.field-0 is;
       entries = c.new.ensures.items;
       calls =
           let none : ℕ = 0 in
-          let all : c.in_ok-vec.field-0.items ≡ replicate (length c.args.matrix.now) none = search rules in
+          let all : c.in_ok-vec.field-0.items ≡ replicate (length c.args.matrix.now.threads) none = search rules in
           all ∙ sym (start_made c.args.component.now c.args.matrix.now c.in_ok-start.field-0 is);
     }

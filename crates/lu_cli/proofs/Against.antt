@@ -1,0 +1,27 @@
+-- Answers to checks against a specification.
+use Rattle.std.proofs.Common.{◌≡◌, ℕ, List, refl, inl, inr}
+use Rattle.std.specs.Prelude.{IfSome}
+use Rattle.lu_text.specs.declared.fault.Fault.TheVariants.{At, Memory}
+use Rattle.lu_component.specs.Component.{Declarations}
+use Rattle.lu_test.specs.Matrix.{Matrix as AMatrix}
+use Rattle.lu_report.specs.Parts.{Parts}
+use Rattle.lu_parallel.specs.Ranges.{Choice}
+use Rattle.lu_parallel.specs.declared.fault.CheckFault.TheVariants as check
+use Rattle.lu_cli.specs.declared.texts.Fault.{Fault as TextsFault}
+use Rattle.lu_cli.specs.declared.texts.Fault.TheVariants.{Component, Matrix, Setup, Spec, Check}
+use Rattle.lu_cli.specs.Refusals.{texts_answer}
+use Rattle.lu_cli.specs.Replies.{Answer, IsCheckAgainstFrom, reported}
+use Rattle.lu_cli.specs.Texts.{IsFaultAgainst, IsReportRead}
+
+module _ (c : Declarations) (m : AMatrix) (spec : List ℕ) (choice : Choice) where
+  pub against_refused : (fault : TextsFault) → IsFaultAgainst c m spec choice fault → IfSome (texts_answer fault) (IsCheckAgainstFrom c m choice spec)
+  against_refused (Component fault) is = absurd is
+  against_refused (Matrix fault) is = absurd is
+  against_refused (Setup k) is = absurd is
+  against_refused (Spec (At kind n)) is = inr (kind, n, is, refl)
+  against_refused (Spec Memory) is = tt
+  against_refused (Check check.Memory) is = tt
+  against_refused (Check check.Worker) is = inl (is.0, is.1, inr (λ e. (let blamed = is.2 e in absurd cc), refl))
+
+  pub against_reported : (r : Parts) (answer : Answer) → IsReportRead c m spec choice r → answer ≡ reported r → IsCheckAgainstFrom c m choice spec answer
+  against_reported r answer is e = inl (is.0, is.1, inl (r, is.2, e))

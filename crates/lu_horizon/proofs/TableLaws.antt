@@ -1,0 +1,130 @@
+-- Tables, entry by entry.
+use Rattle.std.proofs.Common.{◌≡◌, ℕ, zero, suc, ◌+◌, ◌<◌, ◌≤◌, ◌⊎◌, List, [], ◌∷◌, ◌++◌, Option, Some, None, IfSome, IfNone, slice_get, slice_set, get_or, length, replicate, refl, ◌∙◌, ap, subst, inl, inr, arith}
+use Rattle.std.proofs.lemmas.Bool.{cases_eq}
+use Rattle.std.specs.Option.{option_map}
+use Rattle.std.proofs.lemmas.List.{get_or-set_same, get_or-set_other}
+use Rattle.std.proofs.lemmas.Option.{same_Some}
+use Rattle.lu_component.specs.Component.{Declarations}
+use Rattle.lu_test.specs.Matrix.{Matrix}
+use Rattle.lu_machine.specs.declared.thread.Activity.{Activity}
+use Rattle.lu_machine.specs.declared.thread.Activity.TheVariants.{Idle, Open}
+use Rattle.lu_machine.specs.declared.thread.Frame.{Frame}
+use Rattle.lu_horizon.specs.declared.stand.Stand.{Stand}
+use Rattle.lu_machine.specs.declared.thread.Thread.{Thread}
+use Rattle.lu_horizon.specs.Stands.{place_of, stand_of}
+use Rattle.lu_machine.specs.States.{State}
+use Rattle.lu_horizon.specs.Own.{IsAt, IsIdle, IsOwn}
+use Rattle.lu_horizon.specs.Sure.{IsSure}
+use Rattle.lu_horizon.specs.Tables.{AreCalls, ArePlaces, IsAhead, IsTable, IsThread}
+use Rattle.lu_horizon.proofs.CodeLaws.{idle_over, idle_sure}
+use Rattle.lu_horizon.proofs.SureLaws.{sure_less, sure_none}
+
+abbrev zeros : ℕ → List ℕ
+zeros n = replicate n 0
+
+get_or_zeros : (n place : ℕ) → get_or (zeros n) place 0 ≡ 0
+get_or_zeros zero place = refl
+get_or_zeros (suc n) zero = refl
+get_or_zeros (suc n) (suc place) = get_or_zeros n place
+
+-- nothing is known
+pub places_none : (c : Declarations) (matrix : Matrix) (t k n : ℕ) → ArePlaces c matrix t k (replicate n 0)
+places_none c matrix t k n place s a = rw (get_or_zeros n place) (sure_none s t)
+
+-- one place more
+pub places_set : (c : Declarations) (matrix : Matrix) (t k : ℕ) (places : List ℕ) (place d : ℕ) → place < length places → ((s : State) → IsAt c matrix t k place s → IsSure s t d) → ArePlaces c matrix t k places → ArePlaces c matrix t k (slice_set places place d)
+places_set c matrix t k places place d within sure old q s a =
+    elim (cases_eq q place) [
+      | inl same ↦ (let e : get_or (slice_set places place d) q 0 ≡ d = rw same (get_or-set_same places place d 0 within) in rw e (sure s (rw same at a)))
+      | inr other ↦ rw (get_or-set_other places place q d 0 other) (old q s a)
+    ]
+
+-- call number i of those from k on
+pub calls_at : (c : Declarations) (matrix : Matrix) (t k i : ℕ) (calls : List (List ℕ)) → AreCalls c matrix t k calls → ArePlaces c matrix t (k + i) (get_or calls i [])
+calls_at c matrix t k i [] are place s a = sure_none s t
+calls_at c matrix t k zero (first ∷ calls) are place s a =
+    let e : k + 0 ≡ k = omega arith in
+    are.0 place s (rw e at a)
+calls_at c matrix t k (suc i) (first ∷ calls) are place s a =
+    let e : k + suc i ≡ (k + 1) + i = omega arith in
+    calls_at c matrix t (k + 1) i calls are.1 place s (rw e at a)
+
+-- where a thread stands
+pub stands_idle : (o : Option Thread) (stand : Stand) → option_map stand_of o ≡ Some stand → stand.place ≡ None → o ≡ Some (record { done = stand.done; activity = Idle })
+stands_idle None stand is place = absurd (cc)
+stands_idle (Some thread) stand is place = by_activity thread.activity refl
+  where
+    same : stand_of thread ≡ stand
+    same = same_Some (stand_of thread) stand is
+
+    by_activity : (activity : Activity) → thread.activity ≡ activity → Some thread ≡ Some (record { done = stand.done; activity = Idle })
+    by_activity Idle at =
+        (let d : thread.done ≡ stand.done = ap (λ (x : Stand). x.done) same in
+        let first : thread ≡ record { done = thread.done; activity = Idle } = ap (λ (x : Activity). let y : Thread = record { done = thread.done; activity = x } in y) at in
+        let second : record { done = thread.done; activity = Idle } ≡ record { done = stand.done; activity = Idle } = ap (λ (x : ℕ). let y : Thread = record { done = x; activity = Idle } in y) d in
+        ap Some (first ∙ second))
+    by_activity (Open f) at =
+        (let p : place_of thread.activity ≡ None = ap (λ (x : Stand). x.place) same ∙ place in
+        let q : place_of (Open f) ≡ None = rw at at p in
+        absurd (cc))
+
+pub stands_open : (o : Option Thread) (stand : Stand) (place : ℕ) → option_map stand_of o ≡ Some stand → stand.place ≡ Some place → (f : Frame) × (o ≡ Some (record { done = stand.done; activity = Open f })) × (f.place ≡ place)
+stands_open None stand place is at = absurd (cc)
+stands_open (Some thread) stand place is at = by_activity thread.activity refl
+  where
+    same : stand_of thread ≡ stand
+    same = same_Some (stand_of thread) stand is
+
+    by_activity : (activity : Activity) → thread.activity ≡ activity → (f : Frame) × (Some thread ≡ Some (record { done = stand.done; activity = Open f })) × (f.place ≡ place)
+    by_activity Idle idle =
+        (let p : place_of thread.activity ≡ Some place = ap (λ (x : Stand). x.place) same ∙ at in
+        let q : place_of Idle ≡ Some place = rw idle at p in
+        absurd (cc))
+    by_activity (Open f) busy =
+        (let d : thread.done ≡ stand.done = ap (λ (x : Stand). x.done) same in
+        let p : place_of thread.activity ≡ Some place = ap (λ (x : Stand). x.place) same ∙ at in
+        let q : Some f.place ≡ Some place = rw busy at p in
+        let first : thread ≡ record { done = thread.done; activity = Open f } = ap (λ (x : Activity). let y : Thread = record { done = thread.done; activity = x } in y) busy in
+        let second : record { done = thread.done; activity = Open f } ≡ record { done = stand.done; activity = Open f } = ap (λ (x : ℕ). let y : Thread = record { done = x; activity = Open f } in y) d in
+        (f, ap Some (first ∙ second), same_Some f.place place q))
+
+module _ (c : Declarations) (matrix : Matrix) (s : State) (t : ℕ) (calls : List (List ℕ)) (thread : IsThread c matrix t calls) (own : IsOwn c matrix s) (stand : Stand) (stands : option_map stand_of (slice_get s.threads t) ≡ Some stand) where
+  numbers : (k : ℕ) → ArePlaces c matrix t k (get_or calls k [])
+  numbers k place s a =
+      let e : 0 + k ≡ k = omega arith in
+      calls_at c matrix t 0 k calls thread.each place s (rw (← e) at a)
+
+  -- the number of an open operation's place is certain
+  pub open_ahead : (place : ℕ) → stand.place ≡ Some place → IsSure s t (get_or (get_or calls stand.done []) place 0)
+  open_ahead place at =
+      let o = stands_open (slice_get s.threads t) stand place stands at in
+      numbers stand.done place s (record { own = own; frame = o.0; stands = o.1; place_is = o.2 })
+
+  -- and that before a call
+  pub idle_ahead : stand.place ≡ None → (number : Option ℕ) → IfSome number (λ n. (stand.done < length calls) × (n ≤ get_or (get_or calls stand.done []) 0 0 + 1)) → IfNone number (length calls ≤ stand.done) → IsAhead s t number
+  idle_ahead at None some none =
+      let i : IsIdle c matrix t stand.done s = record { own = own; stands = stands_idle (slice_get s.threads t) stand stands at } in
+      let many = thread.many in
+      idle_over c matrix t stand.done (omega arith) s i
+  idle_ahead at (Some n) some none =
+      let i : IsIdle c matrix t stand.done s = record { own = own; stands = stands_idle (slice_get s.threads t) stand stands at } in
+      let many = thread.many in
+      let d = get_or (get_or calls stand.done []) 0 0 in
+      sure_less s t n (d + 1) some.1 (idle_sure c matrix t stand.done d (omega arith) (λ x a. numbers stand.done 0 x a) s i)
+
+slice_get_push : {A : Type 0} (xs : List A) (y : A) (k : ℕ) (m : A) → slice_get (xs ++ y ∷ []) k ≡ Some m → (slice_get xs k ≡ Some m) ⊎ ((k ≡ length xs) × (y ≡ m))
+slice_get_push [] y zero m h = inr (refl, same_Some y m h)
+slice_get_push [] y (suc k) m h = inl h
+slice_get_push (x ∷ xs) y zero m h = inl h
+slice_get_push (x ∷ xs) y (suc k) m h =
+    elim (slice_get_push xs y k m h) [ inl a ↦ inl a | inr a ↦ inr (ap suc a.0, a.1) ]
+
+pub table_none : (c : Declarations) (matrix : Matrix) → IsTable c matrix []
+table_none c matrix t calls at = absurd (cc)
+
+pub table_push : (c : Declarations) (matrix : Matrix) (table : List (List (List ℕ))) (t : ℕ) (calls : List (List ℕ)) → t ≡ length table → IsThread c matrix t calls → IsTable c matrix table → IsTable c matrix (table ++ calls ∷ [])
+table_push c matrix table t calls is thread old j other at =
+    elim (slice_get_push table calls j other at) [
+      | inl a ↦ old j other a
+      | inr a ↦ (let e : t ≡ j = omega arith in subst (IsThread c matrix j) a.1 (rw e at thread))
+    ]

@@ -1,0 +1,36 @@
+-- Where a thread stands among its calls.
+use Rattle.std.specs.Prelude.{ℕ, Bool, true, false, Option, Some, None, slice_get}
+use Rattle.std.specs.Option.{option_map_or}
+use Rattle.lu_component.specs.Component.{Declarations}
+use Rattle.lu_component.specs.declared.instr.Instr.{Instr}
+use Rattle.lu_component.specs.declared.instr.Instr.TheVariants.{Set, Compute, Load, Store, Cas, Lock, Unlock, Await, AwaitNot, Pick, Jump, JumpIfZero, Return}
+use Rattle.lu_machine.specs.States.{State, instr_at}
+use Rattle.lu_machine.specs.declared.thread.Activity.{Activity}
+use Rattle.lu_machine.specs.declared.thread.Activity.TheVariants.{Idle, Open}
+use Rattle.lu_horizon.specs.declared.stand.Stand.{Stand}
+use Rattle.lu_machine.specs.declared.thread.Thread.{Thread}
+
+-- the place of an open operation
+abbrev pub place_of : Activity → Option ℕ
+place_of Idle = None
+place_of (Open f) = Some f.place
+
+abbrev pub stand_of : Thread → Stand
+stand_of thread = record { done = thread.done; place = place_of thread.activity }
+
+-- an instruction that reads and writes its own registers alone, and always goes on or returns
+abbrev pub is_unseen : Instr → Bool
+is_unseen (Set to v) = true
+is_unseen (Compute by to a b) = true
+is_unseen (Jump target) = true
+is_unseen (JumpIfZero v target) = true
+is_unseen (Return v) = true
+is_unseen _ = false
+
+abbrev pub activity_unseen : Declarations → Activity → Bool
+activity_unseen c Idle = false
+activity_unseen c (Open f) = option_map_or is_unseen (instr_at c f.op f.place) false
+
+-- thread t is at such an instruction
+abbrev pub is_unseen_at : State → ℕ → Bool
+is_unseen_at s t = option_map_or (λ thread. activity_unseen s.component thread.activity) (slice_get s.threads t) false

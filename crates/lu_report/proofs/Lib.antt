@@ -1,0 +1,6 @@
+pub mod Texts
+pub mod Numbers
+pub mod Outcomes
+pub mod Faulty
+pub mod Exits
+pub mod OneText

@@ -1,0 +1,21 @@
+//! Reports of checks, and their text.
+//!
+//! A [`Report`] says what a check found, and has one text.
+//!
+//! ```text
+//! let report = read_report(alloc, text)?;
+//! let text = write_report(alloc, &report)?;
+//! ```
+#![tactic(auto)]
+
+mod fault;
+mod line;
+mod reader;
+mod report;
+mod version;
+mod writer;
+
+pub use fault::{ReportFault, ReportFaultKind};
+pub use reader::read_report;
+pub use report::{Finding, Report};
+pub use writer::write_report;

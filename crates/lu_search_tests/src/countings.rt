@@ -1,0 +1,81 @@
+//! Schedules that are counted and not walked.
+
+ghost use Rattle.lu_machine.specs.Starts.{CanRun};
+
+use crate::trees::{EMPTY, assert_counts, assert_settles, cut};
+use lu_component::Component;
+use lu_examples::ROWS;
+use lu_horizon::{Horizon, is_unseen_at, stand_at};
+use lu_lang::read_component;
+use lu_machine::Machine;
+use lu_tail::Orders;
+use lu_test::{Matrix, Move, read_matrix};
+use lu_trie::Trie;
+use std::process::Abort;
+use std::test::Fail;
+
+const SPINS: &[u8] = b"thread spin\nthread spin\n";
+
+/// Each of two threads can always move: the cut schedules are all words over two letters.
+#[test]
+fn words_are_counted(rt: HostRuntime) -> Result<(), Fail> {
+    let set = Trie::new(rt.alloc());
+    assert_counts(&rt, SPINS, &set, EMPTY, 20, cut(1_048_576))?;
+    assert_counts(&rt, SPINS, &set, b"schedule 0 1 1\n", 20, cut(131_072))
+}
+
+/// One thread alone is a chain of moves.
+#[test]
+fn one_thread_is_walked(rt: HostRuntime) -> Result<(), Fail> {
+    let set = Trie::new(rt.alloc());
+    assert_counts(&rt, b"thread spin\n", &set, EMPTY, 40, cut(1))
+}
+
+/// Three moves of each of two threads, two of each of three, and none.
+#[test]
+fn orders_are_counted(rt: HostRuntime) -> Result<(), Fail> {
+    let orders = Orders::new(rt.alloc(), 6)?;
+    assert_eq!(rt; orders.interleavings(&[3, 3]), Some(20));
+    assert_eq!(rt; orders.interleavings(&[2, 2, 2]), Some(90));
+    assert_eq!(rt; orders.interleavings(&[0, 0]), Some(1));
+    assert_eq!(rt; orders.interleavings(&[300, 1]), None);
+    Ok(())
+}
+
+/// Where the threads stand at the start, and after the first call.
+fn stands(
+    rt: &(impl AllocGlobal + Abort),
+    component: &Component,
+    matrix: &Matrix,
+) -> Result<(), Fail>
+    requires { CanRun component.now matrix.now }
+{
+    let horizon = Horizon::new(rt.alloc(), component, matrix, 70)?;
+    let mut machine = Machine::start(rt.alloc(), component, matrix)?;
+    assert_eq!(rt; horizon.cut(&machine, 9), Some(512));
+
+    // A number that is too great stands at the greatest.
+    assert_eq!(rt; horizon.cut(&machine, 63), Some(9_223_372_036_854_775_808));
+    assert_eq!(rt; horizon.cut(&machine, 64), Some(u64::MAX));
+    assert_eq!(rt; horizon.cut(&machine, 70), Some(u64::MAX));
+    assert!(rt; stand_at(&machine, 2).is_none());
+    assert!(rt;
+        stand_at(&machine, 0).is_some_and(|stand| stand.done == 0 && stand.place.is_none())
+    );
+    assert!(rt; !is_unseen_at(&machine, 0));
+    let call = Move { thread: 0, pick: 0 };
+    assert!(rt; machine.feasible(call));
+    machine.step(call);
+    assert!(rt; stand_at(&machine, 0).is_some_and(|stand| stand.place == Some(0)));
+    assert!(rt; is_unseen_at(&machine, 0));
+    Ok(())
+}
+
+/// An open operation has a place; the first instruction of `spin` is a jump.
+#[test]
+fn threads_stand_at_places(rt: HostRuntime) -> Result<(), Fail> {
+    let component = read_component(rt.alloc(), ROWS.as_bytes())?;
+    let matrix = read_matrix(rt.alloc(), &component, SPINS)?;
+    assert_settles(&rt, &component, &matrix)?;
+    stands(&rt, &component, &matrix)
+}

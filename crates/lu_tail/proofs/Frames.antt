@@ -1,0 +1,217 @@
+-- What a thread's move needs of the state: where other threads stand does not matter, and for an unseen one cells and locks do not either.
+use Rattle.std.proofs.Common.{◌≡◌, ℕ, zero, suc, ◌==◌, Bool, true, false, List, Option, Some, None, MatchOption, MatchBool, slice_get, slice_set, refl, sym, ◌∙◌, ap, subst}
+use Rattle.std.proofs.lemmas.Option.{slice_get_within}
+use Rattle.lu_component.specs.declared.instr.Instr.{Instr}
+use Rattle.lu_component.specs.declared.instr.Instr.TheVariants.{Set, Compute, Load, Store, Cas, Lock, Unlock, Await, AwaitNot, Pick, Jump, JumpIfZero, Return}
+use Rattle.lu_component.specs.Component.{Declarations}
+use Rattle.lu_test.specs.Matrix.{Matrix}
+use Rattle.lu_test.specs.declared.schedule.Move.{Move}
+use Rattle.lu_machine.specs.declared.event.Event.{Event}
+use Rattle.lu_machine.specs.declared.event.Outcome.{Outcome}
+use Rattle.lu_machine.specs.declared.event.Outcome.TheVariants.{Trap}
+use Rattle.lu_machine.specs.declared.thread.Activity.TheVariants.{Open}
+use Rattle.lu_machine.specs.declared.thread.Frame.{Frame}
+use Rattle.lu_machine.specs.declared.thread.Thread.{Thread}
+use Rattle.lu_machine.specs.Changes.{at_work}
+use Rattle.lu_machine.specs.Effects.{Effect, onward, onward_with, value_of}
+use Rattle.lu_machine.specs.Effects.Effect.{Ends}
+use Rattle.lu_horizon.specs.Stands.{is_unseen}
+use Rattle.lu_machine.specs.States.{State, cell_at, instr_at, value_at, with_cell, with_owner, with_thread}
+use Rattle.lu_machine.specs.Steps.{Carries, ByActivity, Step, instr_picks, owns, picks_of, thread_after}
+use Rattle.lu_machine.proofs.Keeping.{carries_alike}
+use Rattle.lu_horizon.proofs.OwnLaws.{get_set_same, step_by, whole_step}
+use Rattle.lu_tail.specs.Solo.{IsSame, IsShared, Solo, event_with, move_of}
+
+-- s with these threads
+abbrev pub with_threads : State → List Thread → State
+with_threads s threads = record s { threads = threads }
+
+load_threads : (s : State) (o : Option ℕ) (f : Frame) (to : ℕ) (ths : List Thread) (e : Effect) → MatchOption o (e ≡ Ends Trap) (λ p. e ≡ onward_with f to (value_at s p)) → MatchOption o (e ≡ Ends Trap) (λ p. e ≡ onward_with f to (value_at (with_threads s ths) p))
+load_threads s None f to ths e h = h
+load_threads s (Some p) f to ths e h = h
+
+store_threads : (s new : State) (o : Option ℕ) (f : Frame) (n : ℕ) (ths : List Thread) (e : Effect) → MatchOption o ((new ≡ s) × (e ≡ Ends Trap)) (λ p. (new ≡ with_cell s p n) × (e ≡ onward f)) → MatchOption o ((with_threads new ths ≡ with_threads s ths) × (e ≡ Ends Trap)) (λ p. (with_threads new ths ≡ with_cell (with_threads s ths) p n) × (e ≡ onward f))
+store_threads s new None f n ths e h = (ap (λ (x : State). with_threads x ths) h.0, h.1)
+store_threads s new (Some p) f n ths e h = (ap (λ (x : State). with_threads x ths) h.0, h.1)
+
+swap_threads : (s new one : State) (b : Bool) (ths : List Thread) (x y e : Effect) → MatchBool b ((new ≡ one) × (e ≡ x)) ((new ≡ s) × (e ≡ y)) → MatchBool b ((with_threads new ths ≡ with_threads one ths) × (e ≡ x)) ((with_threads new ths ≡ with_threads s ths) × (e ≡ y))
+swap_threads s new one true ths x y e h = (ap (λ (z : State). with_threads z ths) h.0, h.1)
+swap_threads s new one false ths x y e h = (ap (λ (z : State). with_threads z ths) h.0, h.1)
+
+cas_threads : (s new : State) (o : Option ℕ) (f : Frame) (to v n : ℕ) (ths : List Thread) (e : Effect) → MatchOption o ((new ≡ s) × (e ≡ Ends Trap)) (λ p. MatchBool (value_at s p == v) ((new ≡ with_cell s p n) × (e ≡ onward_with f to 1)) ((new ≡ s) × (e ≡ onward_with f to 0))) → MatchOption o ((with_threads new ths ≡ with_threads s ths) × (e ≡ Ends Trap)) (λ p. MatchBool (value_at (with_threads s ths) p == v) ((with_threads new ths ≡ with_cell (with_threads s ths) p n) × (e ≡ onward_with f to 1)) ((with_threads new ths ≡ with_threads s ths) × (e ≡ onward_with f to 0)))
+cas_threads s new None f to v n ths e h = (ap (λ (x : State). with_threads x ths) h.0, h.1)
+cas_threads s new (Some p) f to v n ths e h = swap_threads s new (with_cell s p n) (value_at s p == v) ths (onward_with f to 1) (onward_with f to 0) e h
+
+-- with other threads
+carries_threads : (s : State) (m : Move) (f : Frame) (instr : Instr) (new : State) (ths : List Thread) (e : Effect) → Carries s m f instr new e → Carries (with_threads s ths) m f instr (with_threads new ths) e
+carries_threads s m f (Set to v) new ths e h = (ap (λ (x : State). with_threads x ths) h.0, h.1)
+carries_threads s m f (Compute by to x y) new ths e h = (ap (λ (x : State). with_threads x ths) h.0, h.1)
+carries_threads s m f (Load to w i) new ths e h = (ap (λ (x : State). with_threads x ths) h.0, load_threads s (cell_at s f w i) f to ths e h.1)
+carries_threads s m f (Store w i v) new ths e h = store_threads s new (cell_at s f w i) f (value_of f v) ths e h
+carries_threads s m f (Cas to w i x y) new ths e h = cas_threads s new (cell_at s f w i) f to (value_of f x) (value_of f y) ths e h
+carries_threads s m f (Lock l) new ths e h = (h.0, ap (λ (x : State). with_threads x ths) h.1, h.2)
+carries_threads s m f (Unlock l) new ths e h = swap_threads s new (with_owner s l None) (owns s m.thread l) ths (onward f) (Ends Trap) e h
+carries_threads s m f (Await w i v) new ths e h = (ap (λ (x : State). with_threads x ths) h.0, h.1)
+carries_threads s m f (AwaitNot w i v) new ths e h = (ap (λ (x : State). with_threads x ths) h.0, h.1)
+carries_threads s m f (Pick to count) new ths e h = (ap (λ (x : State). with_threads x ths) h.0, h.1)
+carries_threads s m f (Jump target) new ths e h = (ap (λ (x : State). with_threads x ths) h.0, h.1)
+carries_threads s m f (JumpIfZero v target) new ths e h = (ap (λ (x : State). with_threads x ths) h.0, h.1)
+carries_threads s m f (Return v) new ths e h = (ap (λ (x : State). with_threads x ths) h.0, h.1)
+
+-- an unseen one leaves the state, in any state
+carries_unseen : (s r : State) (m : Move) (f : Frame) (instr : Instr) (new : State) (e : Effect) → is_unseen instr ≡ true → Carries s m f instr new e → (new ≡ s) × Carries r m f instr r e
+carries_unseen s r m f (Set to v) new e is h = (h.0, (refl, h.1))
+carries_unseen s r m f (Compute by to x y) new e is h = (h.0, (refl, h.1))
+carries_unseen s r m f (Load to w i) new e is h = absurd (cc)
+carries_unseen s r m f (Store w i v) new e is h = absurd (cc)
+carries_unseen s r m f (Cas to w i x y) new e is h = absurd (cc)
+carries_unseen s r m f (Lock l) new e is h = absurd (cc)
+carries_unseen s r m f (Unlock l) new e is h = absurd (cc)
+carries_unseen s r m f (Await w i v) new e is h = absurd (cc)
+carries_unseen s r m f (AwaitNot w i v) new e is h = absurd (cc)
+carries_unseen s r m f (Pick to count) new e is h = absurd (cc)
+carries_unseen s r m f (Jump target) new e is h = (h.0, (refl, h.1))
+carries_unseen s r m f (JumpIfZero v target) new e is h = (h.0, (refl, h.1))
+carries_unseen s r m f (Return v) new e is h = (h.0, (refl, h.1))
+
+-- a state by its parts
+state_is : (s r : State) → r.component ≡ s.component → r.matrix ≡ s.matrix → r.cells ≡ s.cells → r.locks ≡ s.locks → with_threads s r.threads ≡ r
+state_is s r c m a l =
+    ap (λ (x : Declarations). let y : State = record { component = x; matrix = s.matrix; cells = s.cells; locks = s.locks; threads = r.threads } in y) (sym c)
+    ∙ (ap (λ (x : Matrix). let y : State = record { component = r.component; matrix = x; cells = s.cells; locks = s.locks; threads = r.threads } in y) (sym m)
+    ∙ (ap (λ (x : List ℕ). let y : State = record { component = r.component; matrix = r.matrix; cells = x; locks = s.locks; threads = r.threads } in y) (sym a)
+    ∙ ap (λ (x : List (Option ℕ)). let y : State = record { component = r.component; matrix = r.matrix; cells = r.cells; locks = x; threads = r.threads } in y) (sym l)))
+
+-- what a step gives in a state that is the same for its thread
+pub record Framed (unseen : Bool) (t : ℕ) (r next : State) (event : Option Event) : Type 0 where
+  pub there : State
+  pub step : Step r (move_of t) there event
+  pub one : picks_of r t ≡ 1
+  pub quiet : unseen ≡ true → IsShared r there
+  pub same : IsSame unseen t next there
+
+-- the step of an open operation, without a choice; its instruction is unseen, where the thread is to be
+pub record Works (unseen : Bool) (t k : ℕ) (f : Frame) (s next : State) (event : Option Event) : Type 0 where
+  pub short : s.component.local ≡ 0
+  pub stands : slice_get s.threads t ≡ Some (at_work k f)
+  pub unseen_is : (instr : Instr) → unseen ≡ true → instr_at s.component f.op f.place ≡ Some instr → is_unseen instr ≡ true
+  pub one : picks_of s t ≡ 1
+  pub step : Step s (move_of t) next event
+
+unseen_picks : (r : State) (f : Frame) (instr : Instr) → is_unseen instr ≡ true → instr_picks r f instr ≡ 1
+unseen_picks r f (Set to v) is = refl
+unseen_picks r f (Compute by to x y) is = refl
+unseen_picks r f (Load to w i) is = absurd (cc)
+unseen_picks r f (Store w i v) is = absurd (cc)
+unseen_picks r f (Cas to w i x y) is = absurd (cc)
+unseen_picks r f (Lock l) is = absurd (cc)
+unseen_picks r f (Unlock l) is = absurd (cc)
+unseen_picks r f (Await w i v) is = absurd (cc)
+unseen_picks r f (AwaitNot w i v) is = absurd (cc)
+unseen_picks r f (Pick to count) is = absurd (cc)
+unseen_picks r f (Jump target) is = refl
+unseen_picks r f (JumpIfZero v target) is = refl
+unseen_picks r f (Return v) is = refl
+
+same_picks : (s : State) (ths : List Thread) (f : Frame) (instr : Instr) → instr_picks (with_threads s ths) f instr ≡ instr_picks s f instr
+same_picks s ths f (Set to v) = refl
+same_picks s ths f (Compute by to x y) = refl
+same_picks s ths f (Load to w i) = refl
+same_picks s ths f (Store w i v) = refl
+same_picks s ths f (Cas to w i x y) = refl
+same_picks s ths f (Lock l) = refl
+same_picks s ths f (Unlock l) = refl
+same_picks s ths f (Await w i v) = refl
+same_picks s ths f (AwaitNot w i v) = refl
+same_picks s ths f (Pick to count) = refl
+same_picks s ths f (Jump target) = refl
+same_picks s ths f (JumpIfZero v target) = refl
+same_picks s ths f (Return v) = refl
+
+pub now_stands : (new : State) (ths : List Thread) (t : ℕ) (was now : Thread) → slice_get ths t ≡ Some was → new.threads ≡ slice_set ths t now → slice_get new.threads t ≡ Some now
+now_stands new ths t was now stands is = ap (λ (x : List Thread). slice_get x t) is ∙ get_set_same ths t now (slice_get_within ths t was stands)
+
+picks_at : (s : State) (t k : ℕ) (f : Frame) (instr : Instr) → slice_get s.threads t ≡ Some (at_work k f) → instr_at s.component f.op f.place ≡ Some instr → picks_of s t ≡ instr_picks s f instr
+picks_at s t k f instr stands at = rw (stands, at) refl
+
+module _ (t k : ℕ) (f : Frame) (s next : State) (event : Option Event) where
+  frame_unseen : Works true t k f s next event → (r : State) → IsSame true t s r → Framed true t r next event
+  frame_unseen w r same =
+      let h : ByActivity s (move_of t) k (Open f) next event = step_by s (move_of t) next event (at_work k f) w.short w.stands w.step in
+      let is = w.unseen_is h.0 refl h.3 in
+      let by = carries_unseen s r (move_of t) f h.0 h.1 h.2 is h.5 in
+      let now = thread_after k h.2 in
+      let stands : slice_get r.threads t ≡ Some (at_work k f) = same.stands ∙ w.stands in
+      let at : instr_at r.component f.op f.place ≡ Some h.0 = rw same.component h.3 in
+      let mid = carries_alike s (move_of t) f h.0 h.1 h.2 h.5 in
+      let there = with_thread r t now in
+      let short : r.component.local ≡ 0 = ap (λ (x : Declarations). x.local) same.component ∙ w.short in
+      record {
+        there = there;
+        step = whole_step r (move_of t) there event short (at_work k f, stands, (h.0, r, h.2, at, h.4, by.1, refl, h.7));
+        one = picks_at r t k f h.0 stands at ∙ unseen_picks r f h.0 is;
+        quiet = λ e. (refl, refl);
+        same = record {
+          component = same.component ∙ sym (ap (λ (x : State). x.component) h.6 ∙ mid.component);
+          matrix_is = same.matrix_is ∙ sym (ap (λ (x : State). x.matrix) h.6 ∙ mid.matrix);
+          stands =
+              now_stands there r.threads t (at_work k f) now stands refl
+              ∙ sym (now_stands next s.threads t (at_work k f) now w.stands (ap (λ (x : State). x.threads) h.6 ∙ ap (λ (x : List Thread). slice_set x t now) mid.threads));
+          shared = λ e. absurd (cc);
+        };
+      }
+
+  frame_alone : Works false t k f s next event → (r : State) → IsSame false t s r → Framed false t r next event
+  frame_alone w r same =
+      let h : ByActivity s (move_of t) k (Open f) next event = step_by s (move_of t) next event (at_work k f) w.short w.stands w.step in
+      let shared = same.shared refl in
+      let is : with_threads s r.threads ≡ r = state_is s r same.component same.matrix_is shared.0 shared.1 in
+      let now = thread_after k h.2 in
+      let stands : slice_get r.threads t ≡ Some (at_work k f) = same.stands ∙ w.stands in
+      let at : instr_at r.component f.op f.place ≡ Some h.0 = rw same.component h.3 in
+      let mid = carries_alike s (move_of t) f h.0 h.1 h.2 h.5 in
+      let carries : Carries r (move_of t) f h.0 (with_threads h.1 r.threads) h.2 = subst (λ x. Carries x (move_of t) f h.0 (with_threads h.1 r.threads) h.2) is (carries_threads s (move_of t) f h.0 h.1 r.threads h.2 h.5) in
+      let there = with_thread (with_threads h.1 r.threads) t now in
+      let short : r.component.local ≡ 0 = ap (λ (x : Declarations). x.local) same.component ∙ w.short in
+      let picks : instr_picks r f h.0 ≡ instr_picks s f h.0 = subst (λ x. instr_picks x f h.0 ≡ instr_picks s f h.0) is (same_picks s r.threads f h.0) in
+      record {
+        there = there;
+        step = whole_step r (move_of t) there event short (at_work k f, stands, (h.0, with_threads h.1 r.threads, h.2, at, h.4, carries, refl, h.7));
+        one = picks_at r t k f h.0 stands at ∙ (picks ∙ (sym (picks_at s t k f h.0 w.stands h.3) ∙ w.one));
+        quiet = λ e. absurd (cc);
+        same = record {
+          component = sym (ap (λ (x : State). x.component) h.6);
+          matrix_is = sym (ap (λ (x : State). x.matrix) h.6);
+          stands =
+              now_stands there r.threads t (at_work k f) now stands refl
+              ∙ sym (now_stands next s.threads t (at_work k f) now w.stands (ap (λ (x : State). x.threads) h.6 ∙ ap (λ (x : List Thread). slice_set x t now) mid.threads));
+          shared = λ e. (sym (ap (λ (x : State). x.cells) h.6), sym (ap (λ (x : State). x.locks) h.6));
+        };
+      }
+
+-- a step of a thread is one in each state that is the same for it
+pub frame : (unseen : Bool) (t k : ℕ) (f : Frame) (s next : State) (event : Option Event) → Works unseen t k f s next event → (r : State) → IsSame unseen t s r → Framed unseen t r next event
+frame true t k f s next event = frame_unseen t k f s next event
+frame false t k f s next event = frame_alone t k f s next event
+
+pub same_itself : (unseen : Bool) (t : ℕ) (s : State) → IsSame unseen t s s
+same_itself unseen t s = record { component = refl; matrix_is = refl; stands = refl; shared = λ e. (refl, refl) }
+
+same_trans : (unseen : Bool) (t : ℕ) (s r x : State) → IsSame unseen t s r → IsSame unseen t r x → IsSame unseen t s x
+same_trans unseen t s r x a b = record {
+  component = b.component ∙ a.component;
+  matrix_is = b.matrix_is ∙ a.matrix_is;
+  stands = b.stands ∙ a.stands;
+  shared = λ e. ((b.shared e).0 ∙ (a.shared e).0, (b.shared e).1 ∙ (a.shared e).1);
+}
+
+-- what a thread still does by itself, it does in each state that is the same for it
+pub solo_same : (unseen : Bool) (t k : ℕ) (outcome : Outcome) (n : ℕ) (s r : State) → IsSame unseen t s r → Solo unseen t k outcome n s → Solo unseen t k outcome n r
+solo_same unseen t k outcome zero s r same solo = (solo.0, same.stands ∙ solo.1, rw same.matrix_is solo.2)
+solo_same unseen t k outcome (suc n) s r same solo = λ x after. solo x (same_trans unseen t s r x same after)
+
+-- one move more
+pub solo_more : (unseen : Bool) (t j k : ℕ) (outcome : Outcome) (n : ℕ) (f : Frame) (s next : State) (event : Option Event) → Works unseen t j f s next event → event ≡ event_with t k outcome n → Solo unseen t k outcome n next → Solo unseen t k outcome (suc n) s
+solo_more unseen t j k outcome n f s next event works is solo = λ r same.
+    (let fr = frame unseen t j f s next event works r same in
+    (fr.there, subst (Step r (move_of t) fr.there) is fr.step, fr.one, fr.quiet, solo_same unseen t k outcome n next fr.there fr.same solo))

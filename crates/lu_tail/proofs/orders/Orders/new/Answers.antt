@@ -1,0 +1,23 @@
+use Rattle.std.proofs.Common.{arith, add-one, [], ◌∷◌, length-append}
+use Rattle.lu_tail.specs.Orders.{AreRows, IsRow}
+use Rattle.lu_tail.proofs.OrderLaws.{rows_push}
+use Rattle.lu_tail.proofs.orders.Orders.new.Goals as goal
+
+pub loop-moves-preserved : goal.loop-moves-preserved
+loop-moves-preserved c =
+    let rows = c.loop-moves.rows.items in
+    let row = c.loop-moves.row.items in
+    let pushed = rows_push 0 c.loop-moves._moves rows row c.loop-moves.invariant.rows (omega (arith, c.loop-moves.invariant.many)) c.loop-moves.invariant.row in
+    let before : IsRow c.loop-moves._moves c.deref.result.now = rw c.deref.ensures.value c.loop-moves.invariant.row in
+    record {
+      many = rw c.in_ok-push.ensures.items (omega (arith, c.loop-moves.invariant.many, length-append rows (row ∷ [])));
+      rows = rw c.in_ok-push.ensures.items pushed;
+      row = rw (add-one c.loop-moves._moves) (c.in_ok-next.ensures c.loop-moves._moves before);
+    }
+
+pub invariant_of-result : goal.invariant_of-result
+invariant_of-result c =
+    let rows = c.loop-moves.rows.items in
+    let row = c.loop-moves.row.items in
+    let pushed : AreRows 0 c.push-2.new.self.items = rw c.in_ok-push-2.ensures.items (rows_push 0 c.loop-moves._moves rows row c.loop-moves.invariant.rows (omega (arith, c.loop-moves.invariant.many)) c.loop-moves.invariant.row) in
+    pushed
