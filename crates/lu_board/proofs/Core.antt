@@ -18,7 +18,7 @@ use Rattle.lu_board.specs.declared.board_core.CoreEvent.TheVariants.{Claim, Look
 use Rattle.lu_board.specs.Pieces.{count_of, once_below}
 use Rattle.lu_board.specs.Views.{newcomer, blank, IsOver}
 use Rattle.lu_board.specs.Events.{with_held, with_spent, with_seen, with_skipped, with_found, with_settled, after_claim, after_look}
-use Rattle.lu_board.specs.Fit.{ViewFits, Fits}
+use Rattle.lu_board.specs.Fit.{ViewFits, FitsBoard}
 use Rattle.lu_board.specs.Core.{CoreState, start, view_at, is_bad, may_settle, is_legal, after_event, after_events, all_legal, AgreesWith, CoreInvariant, AllDone, given_in}
 use Rattle.lu_board.proofs.Counts.{having, all-at, all-of, elem-at, is_in-has, has-contains, count_of-empty, count_of-all, count_of-flat_map, once_below-zero, sum_by-has, sum_by-some}
 use Rattle.lu_board.proofs.Keeps.{Moves, spent-few, fits-step, best-counted, claim-moves, look-moves, find-moves, settle-moves}
@@ -67,7 +67,7 @@ true-settle bad i GivenUp v may t = record { weight = t.weight; found = t.found;
 replaced : (m : CoreState) (w next best : ℕ) (v u : View) → CoreInvariant m → get_elem? m.views w ≡ some v → Moves m.pieces m.next m.best next best v u → AgreesWith m.bad u
     → CoreInvariant (record { pieces = m.pieces; bad = m.bad; next = next; best = best; views = slice_set m.views w u })
 replaced m w next best v u k at moves is = record {
-  fits = subst (λ n. Fits m.pieces n next best (set m.views w u)) (sym (length-set m.views w u)) (fits-step m.pieces (length m.views) m.next m.best next best m.views w v u k.fits at moves);
+  fits = subst (λ n. FitsBoard m.pieces n next best (set m.views w u)) (sym (length-set m.views w u)) (fits-step m.pieces (length m.views) m.next m.best next best m.views w v u k.fits at moves);
   each = all-of (AgreesWith m.bad) (set m.views w u) (λ j x e.
       ⊎_elim (λ (t : (j ≡ w) × (u ≡ x)). subst (AgreesWith m.bad) t.1 is) (λ (t : (j ≢ w) × (get_elem? m.views j ≡ some x)). all-at (AgreesWith m.bad) m.views j x k.each t.1) (at_set m.views w j u x e));
   covers = k.covers;
@@ -153,7 +153,7 @@ none_bad m k done none_given above i = at (is_bad m.bad i) refl
 -- a new board
 pub begins : (n workers : ℕ) (bad : List Bool) → n ≤ 65536 → length bad ≡ n → 0 < workers → workers ≤ 16 → CoreInvariant (start n workers bad)
 begins n workers bad few covers some_workers fewer = record {
-  fits = subst (λ k. Fits n k 0 n views) (sym (length-replicate workers (newcomer n 1))) (record {
+  fits = subst (λ k. FitsBoard n k 0 n views) (sym (length-replicate workers (newcomer n 1))) (record {
     once = λ x. let a : min 0 n ≡ 0 = omega arith in
         let b = sum_by-replicate (having x) workers (newcomer n 1) in
         let c : workers * 0 ≡ 0 = omega arith in

@@ -12,7 +12,7 @@ use Rattle.lu_board.specs.declared.view.Kind.{Kind}
 use Rattle.lu_board.specs.declared.view.Kind.TheVariants.{Clean, GivenUp}
 use Rattle.lu_board.specs.Pieces.{count_of, once_below}
 use Rattle.lu_board.specs.Events.{with_held, with_spent, with_seen, with_skipped, with_found, with_settled, after_claim, after_look}
-use Rattle.lu_board.specs.Fit.{ViewFits, Fits, FitsWords}
+use Rattle.lu_board.specs.Fit.{ViewFits, FitsBoard, FitsWords}
 use Rattle.lu_board.specs.Plays.{Claimed, Looked, Lowered, Settled}
 use Rattle.lu_board.proofs.Counts.{Has, having, one_at-same, contains-has, has-contains, all-at, all-of, count_of-append, count_of-without, count_of-all, count_of-flat_map, once_below-suc, once_below-lt, sum_by-set, sum_by-has, sum_by-le-sum_by}
 
@@ -58,7 +58,7 @@ best-listed n best views =
 
 -- one view changes
 pub fits-step : (n workers next best next' best' : ℕ) (views : List View) (id : ℕ) (v w : View)
-    → Fits n workers next best views → get_elem? views id ≡ some v → Moves n next best next' best' v w → Fits n workers next' best' (set views id w)
+    → FitsBoard n workers next best views → get_elem? views id ≡ some v → Moves n next best next' best' v w → FitsBoard n workers next' best' (set views id w)
 fits-step n workers next best next' best' views id v w f at m = record {
   once = λ x. let s = sum_by-set (having x) views id v w at in let o = f.once x in let d = m.once x in let a = count_of-all x views in let b = count_of-all x (set views id w) in omega arith;
   best_found = best-listed n best' (set views id w) (
@@ -222,11 +222,11 @@ settle-moves n next best i GivenUp v one held = record {
 }
 
 -- no more seats are spent than there are workers
-pub spent-few : (n workers next best : ℕ) (views : List View) → Fits n workers next best views → sum_by (λ u. u.spent) views ≤ workers
+pub spent-few : (n workers next best : ℕ) (views : List View) → FitsBoard n workers next best views → sum_by (λ u. u.spent) views ≤ workers
 spent-few n workers next best views f = let le = sum_by-le-sum_by (λ u. u.spent) (λ u. u.weight) views (λ k u e. (all-at (ViewFits n next best) views k u f.each e).spent) in let w = f.weights in omega arith
 
 -- the best is a piece, or n
-pub best-small : (n workers next best : ℕ) (views : List View) → Fits n workers next best views → best ≤ n
+pub best-small : (n workers next best : ℕ) (views : List View) → FitsBoard n workers next best views → best ≤ n
 best-small n workers next best views f =
     ⊎_elim
     (λ (e : best ≡ n). omega arith)

@@ -5,7 +5,7 @@ use Rattle.std.proofs.lemmas.List.{length-replicate}
 use Rattle.lu_board.specs.declared.board_core.CoreEvent.{CoreEvent}
 use Rattle.lu_board.specs.declared.board_core.CoreEvent.TheVariants.{Claim, Look, Lower, Settle}
 use Rattle.lu_board.specs.Views.{newcomer}
-use Rattle.lu_board.specs.Fit.{Fits}
+use Rattle.lu_board.specs.Fit.{FitsBoard}
 use Rattle.lu_board.specs.Core.{CoreState, CoreInvariant, AgreesWith, AllDone, IsLeastBad, after_event, after_events, all_legal, best_piece, given_in, is_legal, start}
 use Rattle.lu_board.specs.Laws.{IsReached}
 use Rattle.lu_board.proofs.Core.{after_event-size, begins, both, bounds, is_one, keeps-one, none_bad}
@@ -37,9 +37,9 @@ module _ (n workers : ℕ) (bad : List Bool) (m : CoreState) (r : IsReached n wo
       let s = stays r.events (start n workers bad) in
       (ap (λ (x : CoreState). x.pieces) r.state ∙ s.0, ap (λ (x : CoreState). length x.views) r.state ∙ (s.1 ∙ length-replicate workers (newcomer n 1)), ap (λ (x : CoreState). x.bad) r.state ∙ s.2)
 
-  pub reached_fits : Fits n workers m.next m.best m.views × All (AgreesWith bad) m.views
+  pub reached_fits : FitsBoard n workers m.next m.best m.views × All (AgreesWith bad) m.views
   reached_fits = (
-    subst (λ x. Fits n x m.next m.best m.views) same.1 (subst (λ x. Fits x (length m.views) m.next m.best m.views) same.0 kept.fits),
+    subst (λ x. FitsBoard n x m.next m.best m.views) same.1 (subst (λ x. FitsBoard x (length m.views) m.next m.best m.views) same.0 kept.fits),
     subst (λ x. All (AgreesWith x) m.views) same.2 kept.each,
   )
 

@@ -11,9 +11,9 @@ use lib.ListN.{get_elem?}
 use Rattle.atomic_table.proofs.Lists.{at_set, at_snoc, set_else}
 use Rattle.atomic_table.specs.Table.{Splits, Joins}
 use Rattle.lu_board.specs.declared.view.View.{View}
-use Rattle.lu_board.specs.Pieces.{count_of, once_below, HasEachOnce, IsLeast, AllAbove}
+use Rattle.lu_board.specs.Pieces.{count_of, once_below, HasEachOnce, IsLeastPiece, AllAbove}
 use Rattle.lu_board.specs.Views.{newcomer, blank, cut, merged}
-use Rattle.lu_board.specs.Fit.{ViewFits, Fits, FitsWords}
+use Rattle.lu_board.specs.Fit.{ViewFits, FitsBoard, FitsWords}
 use Rattle.lu_board.specs.Seats.{SeatModel, TellsGiven, IsDone, gathered}
 use Rattle.lu_board.specs.Close.{found_by, skipped_by, given_by, SharesOut}
 use Rattle.lu_board.proofs.Counts.{Has, having, one_at-same, all-at, all-of, has-contains, count_of-append, count_of-empty, count_of-all, once_below-lt, once_below-zero, sum_by-set, sum_by-two, sum_by-none}
@@ -155,7 +155,7 @@ module _ (n workers : ℕ) where
       }
 
 -- once one seat has all the weight, sums over the views are its own
-pub alone : (f : View → ℕ) (n workers next best : ℕ) (views : List View) (id : ℕ) (v : View) → f blank ≡ 0 → Fits n workers next best views → get_elem? views id ≡ some v → v.weight ≡ workers → 0 < workers
+pub alone : (f : View → ℕ) (n workers next best : ℕ) (views : List View) (id : ℕ) (v : View) → f blank ≡ 0 → FitsBoard n workers next best views → get_elem? views id ≡ some v → v.weight ≡ workers → 0 < workers
     → sum_by f views ≡ f v
 alone f n workers next best views id v none_left k at whole some_workers =
     let e = sum_by-set f views id v blank at in
@@ -249,8 +249,8 @@ tells-more false b v w s t = (
 -- what is known of a board whose seats were all gathered
 pub record Finished (n best : ℕ) (seats : List SeatModel) (w : View) : Type 0 where
   pub once : SharesOut n seats
-  pub least : best < n → IsLeast (found_by seats) (Some best)
-  pub none_found : n ≤ best → IsLeast (found_by seats) None
+  pub least : best < n → IsLeastPiece (found_by seats) (Some best)
+  pub none_found : n ≤ best → IsLeastPiece (found_by seats) None
   pub above : best < n → AllAbove (Some best) (skipped_by seats)
   pub none_skipped : n ≤ best → AllAbove None (skipped_by seats)
   pub given : given_by seats ≡ w.given
@@ -272,8 +272,8 @@ finishes n workers words views id seats left last is whole some_workers done k a
     let given = by (λ v. v.given) (λ u v. refl) in
     record {
       once = subst (HasEachOnce n) (λ j. clean j ++ found j ++ skipped j ++ given j) g.once;
-      least = λ below. subst (λ l. IsLeast l (Some best)) found (⊎_elim (λ (e : best ≡ n). absurd (omega arith)) (λ (h : Contains w.found best × (best < n)). h.0) g.best_found, g.least);
-      none_found = λ top. subst (λ l. IsLeast l None) found (none-past w.found (λ x h. once_below-lt x n (omega (arith, h, g.once x, count_of-four x w))) best g.least top);
+      least = λ below. subst (λ l. IsLeastPiece l (Some best)) found (⊎_elim (λ (e : best ≡ n). absurd (omega arith)) (λ (h : Contains w.found best × (best < n)). h.0) g.best_found, g.least);
+      none_found = λ top. subst (λ l. IsLeastPiece l None) found (none-past w.found (λ x h. once_below-lt x n (omega (arith, h, g.once x, count_of-four x w))) best g.least top);
       above = λ _. subst (AllAbove (Some best)) skipped g.above;
       none_skipped = λ top. subst (AllAbove None) skipped (none-past w.skipped (λ x h. once_below-lt x n (omega (arith, h, g.once x, count_of-four x w))) best (All-weaker (λ x. best < x) (λ x. best ≤ x) (λ x h. omega arith) w.skipped g.above) top);
       given = sym given;

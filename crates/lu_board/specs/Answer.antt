@@ -11,6 +11,6 @@ GoesOn i told best v w = (i ≤ best) × (best ≤ v.seen) × (w ≡ with_seen b
 
 -- The answer to a look for piece i, from the view v before it to the view w after it. The best piece that it tells,
 -- where None stands for n, is what w has seen, and at most what v had seen.
-abbrev pub Answers : ℕ → Look → View → View → Type 0
-Answers i (Skip best) v w = (best < i) × (best ≤ v.seen) × (w ≡ with_skipped i best v)
-Answers i (Go told) v w = GoesOn i told (unwrap_or told v.pieces) v w
+abbrev pub IsLookAnswer : ℕ → Look → View → View → Type 0
+IsLookAnswer i (Skip best) v w = (best < i) × (best ≤ v.seen) × (w ≡ with_skipped i best v)
+IsLookAnswer i (Go told) v w = GoesOn i told (unwrap_or told v.pieces) v w

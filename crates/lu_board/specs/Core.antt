@@ -12,7 +12,7 @@ use Rattle.lu_board.specs.declared.board_core.CoreEvent.TheVariants.{Claim, Look
 use Rattle.lu_board.specs.Pieces.{is_in}
 use Rattle.lu_board.specs.Views.{newcomer, blank, IsOver}
 use Rattle.lu_board.specs.Events.{with_found, with_settled, after_claim, after_look}
-use Rattle.lu_board.specs.Fit.{Fits}
+use Rattle.lu_board.specs.Fit.{FitsBoard}
 
 -- a state: the number of pieces, which of them are bad, the next piece, the best one, and each worker's view
 pub record CoreState : Type 0 where
@@ -74,9 +74,9 @@ pub record IsFirstIllegal (k : ℕ) (events : List CoreEvent) (m : CoreState) : 
   pub here : (e : CoreEvent) → is_legal (after_events (take k events) m) (slice_index_or events k e) ≡ false
 
 -- why a run stopped
-abbrev pub IsFault : CoreFault → List CoreEvent → CoreState → Type 0
-IsFault (BadEvent k) events m = IsFirstIllegal k events m
-IsFault Memory events m = ⊤
+abbrev pub IsCoreFault : CoreFault → List CoreEvent → CoreState → Type 0
+IsCoreFault (BadEvent k) events m = IsFirstIllegal k events m
+IsCoreFault Memory events m = ⊤
 
 -- each worker is over
 abbrev pub AllDone : List View → Type 0
@@ -103,7 +103,7 @@ pub record AgreesWith (bad : List Bool) (v : View) : Type 0 where
 
 -- what legal events keep
 pub record CoreInvariant (m : CoreState) : Type 0 where
-  pub fits : Fits m.pieces (length m.views) m.next m.best m.views
+  pub fits : FitsBoard m.pieces (length m.views) m.next m.best m.views
   pub each : All (AgreesWith m.bad) m.views
   pub covers : length m.bad ≡ m.pieces
   pub small : (m.pieces ≤ MAX_PIECES) × (0 < length m.views) × (length m.views ≤ MAX_WORKERS)
@@ -111,3 +111,7 @@ pub record CoreInvariant (m : CoreState) : Type 0 where
 -- the answer says whether the event is legal in the old state, and where it is, the new state is the one after it
 abbrev pub StepsIfLegal : CoreEvent → CoreState → Bool → CoreState → Type 0
 StepsIfLegal event old answer new = (answer ≡ is_legal old event) × (answer ≡ true → new ≡ after_event old event)
+
+-- once all is done and nothing was given up, it is the least bad piece
+abbrev pub IsLeastBadOnceDone : CoreState → Option ℕ → Type 0
+IsLeastBadOnceDone m best = AllDone m.views → given_in m.views ≡ [] → IsLeastBad m.bad best

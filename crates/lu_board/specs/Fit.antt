@@ -22,7 +22,7 @@ pub record ViewFits (n next best : ℕ) (v : View) : Type 0 where
   pub blank : v.weight ≡ 0 → v ≡ blank
 
 -- the views of all seats fit a board of n pieces and so many workers, with this next piece and this best one
-pub record Fits (n workers next best : ℕ) (views : List View) : Type 0 where
+pub record FitsBoard (n workers next best : ℕ) (views : List View) : Type 0 where
   -- each piece below the lesser of next and n is in exactly one set of one view, and no other piece is in any
   pub once : HasEachOnce (min next n) (flat_map pieces_of views)
   -- the best is a piece that was found, or n, which stands for none
@@ -43,4 +43,4 @@ pub record FitsWords (n workers : ℕ) (words : List ℕ) (views : List View) : 
   pub words_are : words ≡ next ∷ best ∷ n ∷ workers ∷ []
   -- so that next, which is at most n and the workers together, never wraps
   pub small : (n ≤ MAX_PIECES) × (workers ≤ MAX_WORKERS)
-  pub fits : Fits n workers next best views
+  pub fits : FitsBoard n workers next best views

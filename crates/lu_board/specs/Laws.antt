@@ -2,7 +2,7 @@
 use Rattle.std.specs.Prelude.{◌≡◌, ℕ, ◌<◌, ◌≤◌, Bool, true, List, [], length, All}
 use Rattle.lu_board.specs.declared.view.TheConstants.{MAX_PIECES, MAX_WORKERS}
 use Rattle.lu_board.specs.declared.board_core.CoreEvent.{CoreEvent}
-use Rattle.lu_board.specs.Fit.{Fits}
+use Rattle.lu_board.specs.Fit.{FitsBoard}
 use Rattle.lu_board.specs.Core.{CoreState, AgreesWith, AllDone, IsLeastBad, after_events, all_legal, best_piece, given_in, start}
 
 -- the state m is reached by legal events, on a new board of n pieces and so many workers
@@ -17,7 +17,7 @@ pub record IsReached (n workers : ℕ) (bad : List Bool) (m : CoreState) : Type 
 abbrev pub LegalEventsFit : Type 0
 LegalEventsFit =
     (n workers : ℕ) (bad : List Bool) (m : CoreState) →
-    IsReached n workers bad m → Fits n workers m.next m.best m.views × All (AgreesWith bad) m.views
+    IsReached n workers bad m → FitsBoard n workers m.next m.best m.views × All (AgreesWith bad) m.views
 
 -- Where all is done there, and nothing was given up, the best piece is the least bad one.
 abbrev pub DoneIsLeastBad : Type 0

@@ -25,9 +25,9 @@ abbrev pub HasEachOnce : ℕ → List ℕ → Type 0
 HasEachOnce n xs = (x : ℕ) → count_of x xs ≡ once_below x n
 
 -- the least of the list, or None where the list is empty
-abbrev pub IsLeast : List ℕ → Option ℕ → Type 0
-IsLeast xs None = xs ≡ []
-IsLeast xs (Some x) = Contains xs x × All (λ y. x ≤ y) xs
+abbrev pub IsLeastPiece : List ℕ → Option ℕ → Type 0
+IsLeastPiece xs None = xs ≡ []
+IsLeastPiece xs (Some x) = Contains xs x × All (λ y. x ≤ y) xs
 
 -- all of the list is above x, and where there is no x, the list is empty
 abbrev pub AllAbove : Option ℕ → List ℕ → Type 0

@@ -20,8 +20,8 @@ abbrev pub unused_seat : TableId → ℕ → SeatModel
 unused_seat board n = record { board = board; view = newcomer n 1 }
 
 -- a seat of this board
-abbrev pub IsOf : TableId → SeatModel → Type 0
-IsOf board seat = seat.board ≡ board
+abbrev pub IsSeatOf : TableId → SeatModel → Type 0
+IsSeatOf board seat = seat.board ≡ board
 
 -- a spent seat that holds no piece
 abbrev pub IsDone : SeatModel → Type 0

@@ -1,11 +1,11 @@
 //! The board that workers share, and their seats.
 ghost use Rattle.std.specs.Prelude.{◌≡◌, ◌+◌, ◌<◌, ◌≤◌, [], IsTrue, OnSome, IfSome, IfNone, IfOk, All, Contains, replicate, length, ◌↔◌};
 ghost use Rattle.lu_board.specs.declared.view.TheConstants.{MAX_PIECES, MAX_WORKERS};
-ghost use Rattle.lu_board.specs.Pieces.{IsLeast, AllAbove};
+ghost use Rattle.lu_board.specs.Pieces.{IsLeastPiece, AllAbove};
 ghost use Rattle.lu_board.specs.Views.{newcomer};
 ghost use Rattle.lu_board.specs.Events.{with_held, with_spent, with_found, with_settled};
-ghost use Rattle.lu_board.specs.Answer.{Answers};
-ghost use Rattle.lu_board.specs.Seats.{unused_seat, gathered, IsOf, IsDone, TellsGiven};
+ghost use Rattle.lu_board.specs.Answer.{IsLookAnswer};
+ghost use Rattle.lu_board.specs.Seats.{unused_seat, gathered, IsSeatOf, IsDone, TellsGiven};
 ghost use Rattle.lu_board.specs.Close.{SharesOut, found_by, skipped_by, given_by};
 
 use crate::view::{
@@ -97,7 +97,7 @@ fn gather(table: &Words, mut token: Token, mut gave_up: bool, mut seats: Vec<Sea
     requires table { token.table_id ≡ table.now.shared.table_id }
     requires view { (0 < token.me.0.weight) × TellsGiven gave_up token.me.0 }
     requires slots { token.me.1 ≡ [] }
-    requires own { All (IsOf table.now.shared.table_id) seats.items }
+    requires own { All (IsSeatOf table.now.shared.table_id) seats.items }
     ensures table { result.0.table_id ≡ token.table_id }
     ensures view { result.0.me.0 ≡ gathered seats.items token.me.0 }
     ensures weight { result.0.me.0.weight ≡ length seats.items + token.me.0.weight }
@@ -192,7 +192,7 @@ impl Board {
         requires board { seat.old.board ≡ self.now.board }
         requires held { Contains seat.old.view.held piece }
         ensures board { seat.new.board ≡ seat.old.board }
-        ensures answer { Answers piece result seat.old.view seat.new.view }
+        ensures answer { IsLookAnswer piece result seat.old.view seat.new.view }
     {
         self.look_as::<Brand>(seat, piece)
     }
@@ -202,7 +202,7 @@ impl Board {
         requires held { Contains seat.old.view.held piece }
         requires piece { J.piece ≡ piece }
         ensures board { seat.new.board ≡ seat.old.board }
-        ensures answer { Answers piece result seat.old.view seat.new.view }
+        ensures answer { IsLookAnswer piece result seat.old.view seat.new.view }
     {
         let best = self.table.shared.load::<Looks<J>>(&mut seat.token, 1);
         if best < piece {
@@ -263,10 +263,10 @@ impl Board {
     /// exactly once. The call takes no memory and changes no word.
     pub fn finish(self, mut seats: Vec<Seat>) -> Close
         requires all { length seats.items ≡ self.workers }
-        requires own { All (IsOf self.board) seats.items }
+        requires own { All (IsSeatOf self.board) seats.items }
         requires done { All IsDone seats.items }
         ensures pieces { SharesOut self.pieces seats.items }
-        ensures best { IsLeast (found_by seats.items) result.best }
+        ensures best { IsLeastPiece (found_by seats.items) result.best }
         ensures skipped { AllAbove result.best (skipped_by seats.items) }
         ensures given_up { IsTrue result.given_up ↔ (0 < length (given_by seats.items)) }
     {

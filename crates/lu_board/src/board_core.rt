@@ -5,8 +5,8 @@ ghost use Rattle.lu_board.specs.declared.board_core.CoreEvent.TheVariants.{Claim
 ghost use Rattle.lu_board.specs.Pieces.{is_in, without};
 ghost use Rattle.lu_board.specs.Views.{newcomer, IsOver};
 ghost use Rattle.lu_board.specs.Events.{with_found, with_settled, after_claim, after_look};
-ghost use Rattle.lu_board.specs.Fit.{Fits};
-ghost use Rattle.lu_board.specs.Core.{start, is_bad, after_events, all_legal, best_piece, given_in, AllDone, IsFault, IsLeastBad, StepsIfLegal};
+ghost use Rattle.lu_board.specs.Fit.{FitsBoard};
+ghost use Rattle.lu_board.specs.Core.{start, is_bad, after_events, all_legal, best_piece, given_in, AllDone, IsCoreFault, IsLeastBadOnceDone, StepsIfLegal};
 
 use crate::view::Kind;
 use std::alloc::{AllocError, Global};
@@ -231,8 +231,8 @@ pub fn run(
     requires workers { (0 < workers) × (workers ≤ MAX_WORKERS) }
     ensures legal { OnOk result (all_legal events.now (start pieces workers bad.now) ≡ true) }
     ensures state { IfOk result (λ c. c ≡ after_events events.now (start pieces workers bad.now)) }
-    ensures fits { IfOk result (λ c. Fits pieces workers c.next c.best c.views) }
-    ensures fault { IfErr result (λ e. IsFault e events.now (start pieces workers bad.now)) }
+    ensures fits { IfOk result (λ c. FitsBoard pieces workers c.next c.best c.views) }
+    ensures fault { IfErr result (λ e. IsCoreFault e events.now (start pieces workers bad.now)) }
 {
     let mut state = State::new(alloc, pieces, workers, bad)?;
     for (index, event) in events.iter().enumerate() {
@@ -354,8 +354,7 @@ impl Core {
     /// given up, it is the least bad piece.
     pub fn best(&self) -> Option<u64>
         ensures answer { result ≡ best_piece self.now }
-        ensures least { AllDone self.now.views → given_in self.now.views ≡ []
-            → IsLeastBad self.now.bad result }
+        ensures least { IsLeastBadOnceDone self.now result }
     {
         let state = &self.state;
         if state.best < state.pieces {

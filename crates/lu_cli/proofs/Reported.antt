@@ -15,7 +15,7 @@ use Rattle.lu_spec.specs.Beginnings.{IsClosureOf}
 use Rattle.lu_refine.specs.declared.shrink_fault.ShrinkFault.{ShrinkFault}
 use Rattle.lu_refine.specs.declared.shrink_fault.ShrinkFault.TheVariants.{NotFailing}
 use Rattle.lu_refine.specs.Removals.{IsShrinkFault, IsShrunk}
-use Rattle.lu_cli.specs.Orders.{Limits}
+use Rattle.lu_report.specs.Limits.{Limits}
 use Rattle.lu_cli.specs.Replies.{Answer, IsListed, IsRunSerially, IsShrinkAnswer, reported, with_matrix}
 
 module _ {E : Type 0} (c : Declarations) (matrix : Matrix) (limits : Limits) where

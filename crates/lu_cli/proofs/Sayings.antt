@@ -7,7 +7,7 @@ use Rattle.std.proofs.lemmas.Bool.{lt-ltb}
 use Rattle.std.proofs.lemmas.List.{length-replicate}
 use Rattle.lu_text.specs.declared.fault.Fault.{Fault}
 use Rattle.lu_text.specs.declared.fault.Fault.TheVariants.{At, Memory}
-use Rattle.lu_text.specs.Faults.{value_of}
+use Rattle.lu_text.specs.Faults.{meaning_of}
 use Rattle.lu_text.specs.Words.{two, three, four}
 use Rattle.lu_component.specs.Component.{Declarations}
 use Rattle.lu_lang.specs.Kinds.{code_of}
@@ -31,9 +31,9 @@ use Rattle.lu_refine.specs.declared.campaigns.Campaign.TheVariants.{AllPass, Fir
 use Rattle.lu_cli.specs.declared.order.CampaignOptions.{CampaignOptions}
 use Rattle.lu_cli.specs.declared.order.Order.{Order}
 use Rattle.lu_cli.specs.declared.order.Order.TheVariants.{Replay, Trace, Serial, Check, CheckAgainst, Refute, Shrink, Campaign as Campaigning}
-use Rattle.lu_cli.specs.Bundle.{parts_of}
-use Rattle.lu_cli.specs.Orders.{Limits}
-use Rattle.lu_cli.specs.Replies.{Answer, Answers, IsAnswerFrom, IsAnswerOf, IsAnswerTo, IsCampaignAnswer, IsCampaignFrom, IsCheckAgainstFrom, IsCheckAgainstOf, IsChecked, IsCheckedAgainst, IsRefuteAnswer, IsRefuteFrom, IsRefuteOf, IsReplayed, IsRunSerially, IsShrinkAnswer, IsTraced, Tells, ToMatrix, ToParts, ToReport, ToSchedule, ToSettled, ToSpec, ToTexts, ToValue, found_answer, no_command, no_device, no_memory, refused, reported, status_of, with_matrix}
+use Rattle.lu_cli.specs.Bundle.{bundle_parts}
+use Rattle.lu_report.specs.Limits.{Limits}
+use Rattle.lu_cli.specs.Replies.{Answer, Answers, IsAnswerFrom, IsAnswerOf, IsAnswerTo, IsCampaignAnswer, IsCampaignFrom, IsCheckAgainstFrom, IsCheckAgainstOf, IsChecked, IsCheckedAgainst, IsRefuted, IsRefutedBy, IsRefuteOf, IsReplayed, IsRunSerially, IsShrinkAnswer, IsTraced, Tells, ToMatrix, ToParts, ToReport, ToSchedule, ToSettled, ToSpec, ToTexts, ToValue, found_answer, no_command, no_device, no_memory, refused, reported, status_of, with_matrix}
 
 -- an answer that was made and said
 pub said : (IsAnswer : Answer → Type 0) (answer : Answer) (text : List ℕ) (old new : Option (List ℕ)) (status : ℕ) → IsAnswer answer → text ≡ answer.text → Appends old new text × (status ≡ answer.status) → Answers IsAnswer old new status
@@ -126,8 +126,8 @@ settled_else c m IsAnswer answer h (inr is) = refused_else (codes "U1 call " ++ 
 
 texts_else : (component matrix : List ℕ) (IsAnswer : Declarations → Matrix → Answer → Type 0) (answer : Answer) → ((c : Declarations) (m : Matrix) → IsAnswer c m answer → IsElse answer) → ToTexts component matrix IsAnswer answer → IsElse answer
 texts_else component matrix IsAnswer answer h is =
-    value_else code_of (value_of component_grammar component) (λ c. ToMatrix c matrix (λ m. ToSettled c m (IsAnswer c m))) answer
-    (λ c more. value_else matrix_code_of (value_of (matrix_grammar c) matrix) (λ m. ToSettled c m (IsAnswer c m)) answer
+    value_else code_of (meaning_of component_grammar component) (λ c. ToMatrix c matrix (λ m. ToSettled c m (IsAnswer c m))) answer
+    (λ c more. value_else matrix_code_of (meaning_of (matrix_grammar c) matrix) (λ m. ToSettled c m (IsAnswer c m)) answer
     (λ m last. settled_else c m (IsAnswer c m) answer (h c m) last) more) is
 
 parts_else : {A : Type 0} (parts : Option A) (IsAnswer : A → Answer → Type 0) (answer : Answer) → ((p : A) → IsAnswer p answer → IsElse answer) → ToParts parts IsAnswer answer → IsElse answer
@@ -150,7 +150,7 @@ shrink_else : (c : Declarations) (m : Matrix) (limits : Limits) (answer : Answer
 shrink_else c m limits answer (inl is) = matrix_else c is.0 is.1 answer is.3
 shrink_else c m limits answer (inr is) = reported_else is.0 answer is.3
 
-refuted_else : (c : Declarations) (m : Matrix) (r : Parts) (members : List (List SerialOp)) (answer : Answer) → IsRefuteAnswer c m r members answer → IsElse answer
+refuted_else : (c : Declarations) (m : Matrix) (r : Parts) (members : List (List SerialOp)) (answer : Answer) → IsRefuted c m r members answer → IsElse answer
 refuted_else c m r members answer (inl is) = status_else answer 1 (ap (λ (a : Answer). a.status) is.1.2) (λ e. omega arith)
 refuted_else c m r members answer (inr is) = refused_else (codes "F2") answer is.1
 
@@ -162,10 +162,10 @@ spec_else : (m : Matrix) (text : List ℕ) (IsAnswer : List (List SerialOp) → 
 spec_else m text IsAnswer answer h (inl is) = h is.0 is.2
 spec_else m text IsAnswer answer h (inr is) = refused_else (spec_code_of is.0 ++ codes " line " ++ decimal is.1) answer is.3
 
-refute_else : (c : Declarations) (m : Matrix) (report spec : List ℕ) (answer : Answer) → IsRefuteFrom c m report spec answer → IsElse answer
+refute_else : (c : Declarations) (m : Matrix) (report spec : List ℕ) (answer : Answer) → IsRefutedBy c m report spec answer → IsElse answer
 refute_else c m report spec answer is =
-    report_else report (λ r. ToSpec m spec (IsRefuteAnswer c m r)) answer
-    (λ r more. spec_else m spec (IsRefuteAnswer c m r) answer (λ members last. refuted_else c m r members answer last) more) is
+    report_else report (λ r. ToSpec m spec (IsRefuted c m r)) answer
+    (λ r more. spec_else m spec (IsRefuted c m r) answer (λ members last. refuted_else c m r members answer last) more) is
 
 spec_parts_else : (choice : Choice) (parts : List (List ℕ)) (answer : Answer) → IsCheckAgainstOf choice parts answer → IsElse answer
 spec_parts_else choice parts answer is =
@@ -175,8 +175,8 @@ spec_parts_else choice parts answer is =
 
 four_else : (parts : List (List ℕ)) (answer : Answer) → IsRefuteOf parts answer → IsElse answer
 four_else parts answer is =
-    parts_else (four parts) (λ p. ToTexts p.0 p.1 (λ c m. IsRefuteFrom c m p.2 p.3)) answer
-    (λ p more. texts_else p.0 p.1 (λ c m. IsRefuteFrom c m p.2 p.3) answer (λ c m from. refute_else c m p.2 p.3 answer from) more) is
+    parts_else (four parts) (λ p. ToTexts p.0 p.1 (λ c m. IsRefutedBy c m p.2 p.3)) answer
+    (λ p more. texts_else p.0 p.1 (λ c m. IsRefutedBy c m p.2 p.3) answer (λ c m from. refute_else c m p.2 p.3 answer from) more) is
 
 found_else : (c : Declarations) (found : Campaign) (answer : Answer) → answer ≡ found_answer c found → IsElse answer
 found_else c (AllPass count) answer is = status_else answer 0 (ap (λ (a : Answer). a.status) is) (λ e. omega arith)
@@ -206,7 +206,7 @@ either_else true order parts answer is = refused_else (codes "B2") answer is
 either_else false order parts answer is = order_else order parts answer is
 
 pub answer_else : (order : Order) (known : Option (List ℕ)) (answer : Answer) → IsAnswerFrom order known answer → answer ≢ no_device
-answer_else order known answer is = either_else (nat_lt 1048576 (length is.0)) order (parts_of is.0) answer is.2
+answer_else order known answer is = either_else (nat_lt 1048576 (length is.0)) order (bundle_parts is.0) answer is.2
 
 pub command_else : (answer : Answer) → answer ≡ no_command → answer ≢ no_device
 command_else answer is = status_else answer 2 (ap (λ (a : Answer). a.status) is) (λ e. omega arith)

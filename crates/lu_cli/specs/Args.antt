@@ -13,7 +13,8 @@ use Rattle.clap.specs.declared.error.kind.ErrorKind.{ErrorKind}
 use Rattle.lu_cli.specs.declared.order.CampaignOptions.{CampaignOptions}
 use Rattle.lu_cli.specs.declared.order.Order.{Order}
 use Rattle.lu_cli.specs.declared.order.Order.TheVariants.{Replay, Trace, Serial, Check, CheckAgainst, Refute, Shrink, Campaign}
-use Rattle.lu_cli.specs.Orders.{Limits, limits_of, choice_of}
+use Rattle.lu_cli.specs.Orders.{choice_of}
+use Rattle.lu_report.specs.Limits.{Limits, limits_of, most_moves}
 use Rattle.lu_parallel.specs.Ranges.{Choice}
 
 -- ---- the commands
@@ -29,8 +30,8 @@ number_option name least most default = record (new_rule name) {
 -- a command with the options `--bound` and `--serial`
 abbrev pub bounded : Text → App
 bounded name =
-    with_rule (with_rule (new_app name) (number_option (codes "bound") 0 256 (codes "40")))
-    (number_option (codes "serial") 1 256 (codes "40"))
+    with_rule (with_rule (new_app name) (number_option (codes "bound") 0 most_moves (codes "40")))
+    (number_option (codes "serial") 1 most_moves (codes "40"))
 
 abbrev pub replay_command : App
 replay_command = new_app (codes "replay")

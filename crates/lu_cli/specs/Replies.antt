@@ -4,7 +4,7 @@ use Rattle.std.specs.Fmt.{decimal}
 use Rattle.std.specs.Io.KnownBytes.{Appends}
 use Rattle.lu_text.specs.declared.fault.Fault.{Fault}
 use Rattle.lu_text.specs.declared.fault.Fault.TheVariants.{At, Memory}
-use Rattle.lu_text.specs.Faults.{value_of}
+use Rattle.lu_text.specs.Faults.{meaning_of}
 use Rattle.lu_text.specs.Words.{two, three, four}
 use Rattle.lu_component.specs.Component.{Declarations}
 use Rattle.lu_lang.specs.Kinds.{code_of}
@@ -19,7 +19,7 @@ use Rattle.lu_test.specs.Matrix.{Matrix}
 use Rattle.lu_machine.specs.declared.event.Event.{Event}
 use Rattle.lu_machine.specs.declared.event.Status.{Status}
 use Rattle.lu_machine.specs.States.{State}
-use Rattle.lu_machine.specs.Starts.{IsStart, IsUnsettledAt, Settles}
+use Rattle.lu_machine.specs.Starts.{FromEachStart, IsStart, IsUnsettledAt, Settles}
 use Rattle.lu_history.specs.declared.serial.SerialOp.{SerialOp}
 use Rattle.lu_serial.specs.Serial.{IsSerialHistory}
 use Rattle.lu_serial.specs.Offences.{NoOffence}
@@ -28,7 +28,7 @@ use Rattle.lu_report.specs.declared.report.Finding.TheVariants.{SerialCut, Nonde
 use Rattle.lu_report.specs.Parts.{Parts}
 use Rattle.lu_report.specs.Parts.{IsOfOffence}
 use Rattle.lu_witness.specs.Witnesses.{IsMember}
-use Rattle.lu_replay.specs.Reports.{IsReport, IsReportAgainst}
+use Rattle.lu_replay.specs.Reports.{IsFinding, IsReport, IsReportAgainst}
 use Rattle.lu_report.specs.Text.{report_text}
 use Rattle.lu_report.specs.declared.fault.ReportFaultKind.{ReportFaultKind}
 use Rattle.lu_report.specs.Codes.{report_code_of}
@@ -42,7 +42,7 @@ use Rattle.lu_refine.specs.declared.campaigns.Campaign.{Campaign}
 use Rattle.lu_refine.specs.declared.campaigns.Campaign.TheVariants.{AllPass, First}
 use Rattle.lu_refine.specs.declared.campaigns.CampaignFault.{CampaignFault}
 use Rattle.lu_refine.specs.declared.campaigns.CampaignFault.TheVariants.{Memory as NoMemory}
-use Rattle.lu_refine.specs.Campaigns.{Campaigned, IsAnswer as IsFound, IsLimitFault, campaigned}
+use Rattle.lu_refine.specs.Campaigns.{Campaigned, IsCampaignAnswer as IsFound, IsLimitFault, campaigned}
 use Rattle.lu_refine.specs.Codes.{campaign_code_of}
 use Rattle.lu_refine.specs.Removals.{IsShrunk}
 use Rattle.lu_spec.specs.declared.fault.SpecFaultKind.{SpecFaultKind}
@@ -54,8 +54,10 @@ use Rattle.lu_refute.specs.Answers.{IsAnswer as IsRefutation, IsConfirmedFailure
 use Rattle.lu_cli.specs.declared.order.CampaignOptions.{CampaignOptions}
 use Rattle.lu_cli.specs.declared.order.Order.{Order}
 use Rattle.lu_cli.specs.declared.order.Order.TheVariants.{Replay, Trace, Serial, Check, CheckAgainst, Refute, Shrink, Campaign as Campaigning}
-use Rattle.lu_cli.specs.Bundle.{parts_of}
-use Rattle.lu_cli.specs.Orders.{Limits}
+use Rattle.lu_cli.specs.Bundle.{bundle_parts}
+use Rattle.lu_cli.specs.Args.{order_of}
+use Rattle.lu_cli.specs.Inputs.{most_bytes}
+use Rattle.lu_report.specs.Limits.{Limits}
 pub use Rattle.lu_cli.specs.Outcomes.{Answer, refused, refused_on_line, infeasible, no_memory, no_command, no_device, no_worker, unsettled}
 
 -- the answer to a text: its refusal, by a code and a line, or what is answered to its value
@@ -118,6 +120,10 @@ ListsSerial s answer =
     (histories : List (List SerialOp)) × (members : List (List SerialOp))
     × AreSerial s histories × IsClosureOf histories members × IsListed members answer
 
+-- the finding of a check with these bounds
+abbrev pub IsFoundWithin : Declarations → Matrix → Limits → Finding → Type 0
+IsFoundWithin c matrix limits f = FromEachStart c matrix (λ s. IsFinding s limits.bound limits.serial f)
+
 -- where there is no serial offence, the specification of the serial histories; else the report of the least offence
 abbrev pub IsRunSerially : Declarations → Matrix → Limits → Answer → Type 0
 IsRunSerially c matrix limits answer =
@@ -164,8 +170,8 @@ with_schedule c example = record {
 }
 
 -- a schedule that the specification does not explain; or F2, where no run confirms that the report is a failure or nondeterministic
-abbrev pub IsRefuteAnswer : Declarations → Matrix → Parts → List (List SerialOp) → Answer → Type 0
-IsRefuteAnswer c matrix r members answer =
+abbrev pub IsRefuted : Declarations → Matrix → Parts → List (List SerialOp) → Answer → Type 0
+IsRefuted c matrix r members answer =
     (IsConfirmedFailure c matrix r
     × ((example : Matrix × List Move) × IsRefutation c matrix r members example × (answer ≡ with_schedule c example)))
     ⊎ ((IsConfirmedFailure c matrix r → ⊥) × (answer ≡ refused (codes "F2")))
@@ -187,8 +193,8 @@ abbrev pub IsCheckAgainstFrom : Declarations → Matrix → Choice → List ℕ 
 IsCheckAgainstFrom c matrix choice spec = ToSpec matrix spec (IsCheckedAgainst c matrix choice)
 
 -- the report is read first, and then the specification
-abbrev pub IsRefuteFrom : Declarations → Matrix → List ℕ → List ℕ → Answer → Type 0
-IsRefuteFrom c matrix report spec = ToReport report (λ r. ToSpec matrix spec (IsRefuteAnswer c matrix r))
+abbrev pub IsRefutedBy : Declarations → Matrix → List ℕ → List ℕ → Answer → Type 0
+IsRefutedBy c matrix report spec = ToReport report (λ r. ToSpec matrix spec (IsRefuted c matrix r))
 
 -- ---- `campaign`
 
@@ -224,7 +230,7 @@ IsCampaignFrom c options matrix = ToCandidates matrix.threads (λ candidates. Is
 
 -- the answer to a matrix text of the component
 abbrev pub ToMatrix : Declarations → List ℕ → (Matrix → Answer → Type 0) → Answer → Type 0
-ToMatrix c matrix IsAnswer = ToValue matrix_code_of (value_of (matrix_grammar c) matrix) IsAnswer
+ToMatrix c matrix IsAnswer = ToValue matrix_code_of (meaning_of (matrix_grammar c) matrix) IsAnswer
 
 -- the answer where the setup settles; else the number of its first call that does not end
 abbrev pub ToSettled : Declarations → Matrix → (Answer → Type 0) → Answer → Type 0
@@ -234,7 +240,7 @@ ToSettled c matrix IsAnswer answer =
 -- the component is read first, and then the matrix, whose setup is run
 abbrev pub ToTexts : List ℕ → List ℕ → (Declarations → Matrix → Answer → Type 0) → Answer → Type 0
 ToTexts component matrix IsAnswer =
-    ToValue code_of (value_of component_grammar component) (λ c. ToMatrix c matrix (λ m. ToSettled c m (IsAnswer c m)))
+    ToValue code_of (meaning_of component_grammar component) (λ c. ToMatrix c matrix (λ m. ToSettled c m (IsAnswer c m)))
 
 -- ---- the whole program
 
@@ -262,7 +268,7 @@ abbrev pub IsShrinkOf : Limits → List (List ℕ) → Answer → Type 0
 IsShrinkOf limits parts = ToParts (two parts) (λ p. ToTexts p.0 p.1 (λ c m. IsShrinkAnswer c m limits))
 
 abbrev pub IsRefuteOf : List (List ℕ) → Answer → Type 0
-IsRefuteOf parts = ToParts (four parts) (λ p. ToTexts p.0 p.1 (λ c m. IsRefuteFrom c m p.2 p.3))
+IsRefuteOf parts = ToParts (four parts) (λ p. ToTexts p.0 p.1 (λ c m. IsRefutedBy c m p.2 p.3))
 
 abbrev pub IsCampaignOf : CampaignOptions → List (List ℕ) → Answer → Type 0
 IsCampaignOf options parts =
@@ -282,11 +288,15 @@ IsAnswerTo (Campaigning options) parts = IsCampaignOf options parts
 -- the answer to an order and the whole input
 abbrev pub IsAnswerOf : Order → List ℕ → Answer → Type 0
 IsAnswerOf order input answer =
-    MatchBool (nat_lt 1048576 (length input)) (answer ≡ refused (codes "B2")) (IsAnswerTo order (parts_of input) answer)
+    MatchBool (nat_lt most_bytes (length input)) (answer ≡ refused (codes "B2")) (IsAnswerTo order (bundle_parts input) answer)
 
 -- the answer to an order and what was read: the whole input where it is known, and else some bytes
 abbrev pub IsAnswerFrom : Order → Option (List ℕ) → Answer → Type 0
 IsAnswerFrom order known answer = (input : List ℕ) × IfSome known (λ all. input ≡ all) × IsAnswerOf order input answer
+
+-- the answer to what these words ask for, where they ask for something, and to what was read
+abbrev pub IsAnswerFor : List (List ℕ) → Option (List ℕ) → Answer → Type 0
+IsAnswerFor words known answer = (order : Order) → order_of words ≡ Some order → IsAnswerFrom order known answer
 
 -- the answer went out, and the status is the answer's
 abbrev pub Tells : Answer → Option (List ℕ) → Option (List ℕ) → ℕ → Type 0

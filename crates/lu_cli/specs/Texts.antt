@@ -1,6 +1,6 @@
 -- Checks of the texts of a component and a matrix.
-use Rattle.std.specs.Prelude.{◌≡◌, ℕ, List, Ok}
-use Rattle.lu_text.specs.Faults.{value_of, IsUnlessMemory}
+use Rattle.std.specs.Prelude.{◌≡◌, ℕ, List, Ok, String, string_bytes}
+use Rattle.lu_text.specs.Faults.{meaning_of, IsUnlessMemory}
 use Rattle.lu_component.specs.Component.{Declarations}
 use Rattle.lu_lang.specs.Grammar.{component_grammar}
 use Rattle.lu_test.specs.MatrixText.{matrix_grammar}
@@ -20,7 +20,7 @@ use Rattle.lu_cli.specs.declared.texts.Fault.TheVariants.{Component, Matrix, Set
 -- the texts are those of the component c and the matrix m
 abbrev pub AreTexts : List ℕ → List ℕ → Declarations → AMatrix → Type 0
 AreTexts component matrix c m =
-    (value_of component_grammar component ≡ Ok c) × (value_of (matrix_grammar c) matrix ≡ Ok m)
+    (meaning_of component_grammar component ≡ Ok c) × (meaning_of (matrix_grammar c) matrix ≡ Ok m)
 
 -- they are, and the setup settles
 abbrev pub AreSettled : List ℕ → List ℕ → Declarations → AMatrix → Type 0
@@ -39,21 +39,21 @@ IsReportOf component matrix choice text =
 
 -- the fault of the first text that has one; or the number of the first call of the setup that does not end
 abbrev pub IsFaultOfTexts : List ℕ → List ℕ → TextsFault → Type 0
-IsFaultOfTexts component matrix (Component fault) = IsUnlessMemory fault (value_of component_grammar component)
+IsFaultOfTexts component matrix (Component fault) = IsUnlessMemory fault (meaning_of component_grammar component)
 IsFaultOfTexts component matrix (Matrix fault) =
-    (c : Declarations) × (value_of component_grammar component ≡ Ok c) × IsUnlessMemory fault (value_of (matrix_grammar c) matrix)
+    (c : Declarations) × (meaning_of component_grammar component ≡ Ok c) × IsUnlessMemory fault (meaning_of (matrix_grammar c) matrix)
 IsFaultOfTexts component matrix (Setup k) =
     (c : Declarations) × (m : AMatrix) × AreTexts component matrix c m × IsUnsettledAt c m k
 IsFaultOfTexts component matrix (Spec fault) = ⊥
 IsFaultOfTexts component matrix (Check fault) = ⊥
 
 -- the fault of the texts or of the setup; of the check, want of memory, or a thread that could not start
-abbrev pub IsFaultOf : List ℕ → List ℕ → Choice → TextsFault → Type 0
-IsFaultOf component matrix choice (Component fault) = IsFaultOfTexts component matrix (Component fault)
-IsFaultOf component matrix choice (Matrix fault) = IsFaultOfTexts component matrix (Matrix fault)
-IsFaultOf component matrix choice (Setup k) = IsFaultOfTexts component matrix (Setup k)
-IsFaultOf component matrix choice (Spec fault) = ⊥
-IsFaultOf component matrix choice (Check fault) =
+abbrev pub IsCheckFault : List ℕ → List ℕ → Choice → TextsFault → Type 0
+IsCheckFault component matrix choice (Component fault) = IsFaultOfTexts component matrix (Component fault)
+IsCheckFault component matrix choice (Matrix fault) = IsFaultOfTexts component matrix (Matrix fault)
+IsCheckFault component matrix choice (Setup k) = IsFaultOfTexts component matrix (Setup k)
+IsCheckFault component matrix choice (Spec fault) = ⊥
+IsCheckFault component matrix choice (Check fault) =
     (c : Declarations) × (m : AMatrix) × AreSettled component matrix c m × (choice.workers ≡ 1 → fault ≡ Memory)
 
 -- ---- against a specification
@@ -78,15 +78,18 @@ IsReportReadOf component matrix spec choice text =
     (c : Declarations) × (m : AMatrix) × AreSettled component matrix c m
     × ((r : Parts) × IsReportRead c m spec choice r × (text ≡ report_text r))
 
+abbrev pub IsReportIn : {Z : Type 0} → List ℕ → List ℕ → List ℕ → Choice → String Z → Type 0
+IsReportIn component matrix spec choice text = IsReportReadOf component matrix spec choice (string_bytes text)
+
 -- where the first two texts are those of a component and a matrix whose setup settles, this is the fault
 abbrev pub IsFaultBehind : List ℕ → List ℕ → List ℕ → Choice → TextsFault → Type 0
 IsFaultBehind component matrix spec choice fault =
     (c : Declarations) × (m : AMatrix) × AreSettled component matrix c m × IsFaultAgainst c m spec choice fault
 
 -- the fault of the first text that has one, or of the setup; or that of the check
-abbrev pub IsFaultAgainstTexts : List ℕ → List ℕ → List ℕ → Choice → TextsFault → Type 0
-IsFaultAgainstTexts component matrix spec choice (Component fault) = IsFaultOfTexts component matrix (Component fault)
-IsFaultAgainstTexts component matrix spec choice (Matrix fault) = IsFaultOfTexts component matrix (Matrix fault)
-IsFaultAgainstTexts component matrix spec choice (Setup k) = IsFaultOfTexts component matrix (Setup k)
-IsFaultAgainstTexts component matrix spec choice (Spec fault) = IsFaultBehind component matrix spec choice (Spec fault)
-IsFaultAgainstTexts component matrix spec choice (Check fault) = IsFaultBehind component matrix spec choice (Check fault)
+abbrev pub IsFaultOfThree : List ℕ → List ℕ → List ℕ → Choice → TextsFault → Type 0
+IsFaultOfThree component matrix spec choice (Component fault) = IsFaultOfTexts component matrix (Component fault)
+IsFaultOfThree component matrix spec choice (Matrix fault) = IsFaultOfTexts component matrix (Matrix fault)
+IsFaultOfThree component matrix spec choice (Setup k) = IsFaultOfTexts component matrix (Setup k)
+IsFaultOfThree component matrix spec choice (Spec fault) = IsFaultBehind component matrix spec choice (Spec fault)
+IsFaultOfThree component matrix spec choice (Check fault) = IsFaultBehind component matrix spec choice (Check fault)

@@ -134,7 +134,7 @@ pub fn show_schedule(
     schedule: &Schedule,
 ) -> Result<Answer, AllocError>
     requires { IsOf matrix.now component.now }
-    ensures { IfOk result (λ answer. answer ≡ spec.with_schedule component.now (matrix.now, schedule.now)) }
+    ensures { IfOk result (λ a. a ≡ spec.with_schedule component.now (matrix.now, schedule.now)) }
 {
     let mut text = write_matrix(alloc, component, matrix)?;
     text.push_str("---\n")?;

@@ -6,11 +6,12 @@ ghost use Rattle.clap.specs.declared.builder.command.Command.TheViews.{out-Comma
 ghost use Rattle.lu_cli.specs.Args as spec;
 ghost use Rattle.lu_cli.specs.Args.{lineup, order_of};
 
-use crate::order::{ArgsFault, Bounds, CampaignOptions, Order};
+use crate::order::{ArgsFault, CampaignOptions, Order};
 use clap::builder::ValueParserFactory;
 use clap::error::ErrorKind;
 use clap::{Arg, ArgAction, ArgMatches, Command};
 use lu_parallel::Options;
+use lu_report::{Bounds, MOST_MOVES};
 use std::alloc::{AllocError, Global};
 use std::convert::AsStr;
 
@@ -46,8 +47,8 @@ fn bounded<'a>(alloc: Global, name: &'a str) -> Result<Command<'a>, AllocError>
     ensures local { IfOk result (λ command. (out-Command command).has_globals ≡ false) }
 {
     Command::new(alloc, name)
-        .arg(number_option(alloc, "bound", 0, 256, "40"))?
-        .arg(number_option(alloc, "serial", 1, 256, "40"))
+        .arg(number_option(alloc, "bound", 0, MOST_MOVES, "40"))?
+        .arg(number_option(alloc, "serial", 1, MOST_MOVES, "40"))
 }
 
 fn check_command<'a>(alloc: Global) -> Result<Command<'a>, AllocError>

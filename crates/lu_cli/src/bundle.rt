@@ -2,7 +2,7 @@
 
 ghost use Rattle.std.specs.Prelude.{◌≡◌, IfOk};
 ghost use Rattle.lu_text.specs.Lines.{texts};
-ghost use Rattle.lu_cli.specs.Bundle.{parts_of};
+ghost use Rattle.lu_cli.specs.Bundle.{bundle_parts};
 ghost use Rattle.lu_cli.specs.Bundle as spec;
 
 use lu_text::cut_line;
@@ -16,7 +16,7 @@ fn is_separator(line: &[u8]) -> bool
 
 /// The parts between the lines `---`.
 pub fn parts_in(alloc: Global, text: &[u8]) -> Result<Vec<&[u8]>, AllocError>
-    ensures { IfOk result (λ parts. texts parts.items ≡ parts_of text.now) }
+    ensures { IfOk result (λ parts. texts parts.items ≡ bundle_parts text.now) }
 {
     let mut parts = Vec::new(alloc);
     let mut part = text;

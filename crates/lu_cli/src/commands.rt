@@ -3,10 +3,8 @@
 ghost use Rattle.std.specs.Prelude.{◌≡◌, IfOk};
 ghost use Rattle.lu_text.specs.Lines.{texts};
 ghost use Rattle.lu_test.specs.Matrix.{IsSetup};
-ghost use Rattle.lu_machine.specs.States.{State};
-ghost use Rattle.lu_machine.specs.Starts.{AllEnd, CanRun, IsStart};
+ghost use Rattle.lu_machine.specs.Starts.{AllEnd, CanRun};
 ghost use Rattle.lu_report.specs.Parts.{IsOfOffence};
-ghost use Rattle.lu_replay.specs.Reports.{IsFinding};
 ghost use Rattle.lu_spec.specs.Specs.{AreOf};
 ghost use Rattle.lu_refine.specs.Campaigns.{AreCallsOf, HaveArguments};
 ghost use Rattle.lu_cli.specs.Refusals.{Answered};
@@ -16,7 +14,7 @@ use crate::answer::{
     Answer, infeasible, show_count, show_matrix, show_refusal, show_report, show_schedule,
     show_spec,
 };
-use crate::order::{Bounds, CampaignOptions, Order};
+use crate::order::{CampaignOptions, Order};
 use crate::refusal::Refusal;
 use crate::texts::{read_texts, report_against, report_of};
 use lu_lang::Component;
@@ -24,7 +22,7 @@ use lu_parallel::Options;
 use lu_refine::{Campaign, CampaignFault, ShrinkFault, campaign, shrink};
 use lu_refute::refute;
 use lu_replay::{ReplayFault, replay, set_or_offence, write_replay};
-use lu_report::{Finding, Report, read_report};
+use lu_report::{Bounds, Finding, Report, read_report};
 use lu_serial::learn;
 use lu_spec::{Spec, read_spec};
 use lu_test::{Call, Calls, Matrix, Schedule, read_schedule};
@@ -101,7 +99,7 @@ fn show_offence(
 ) -> Result<Answer, AllocError>
     requires of { CanRun component.now matrix.now }
     requires offence { IsOfOffence finding }
-    requires found { (s : State) → IsStart component.now matrix.now s → IsFinding s bounds.bound bounds.serial finding }
+    requires found { spec.IsFoundWithin component.now matrix.now bounds finding }
     ensures { IfOk result (spec.IsRunSerially component.now matrix.now bounds) }
 {
     // Its clause says that the matrix is within its limits.
@@ -156,13 +154,13 @@ fn check_against_text<X: AllocGlobal + Threads + Wait>(
     rt: &X,
     component: &Component,
     matrix: &Matrix,
-    specification: &[u8],
+    text: &[u8],
     options: Options,
 ) -> Result<Answer, Refusal>
     requires { CanRun component.now matrix.now }
-    ensures { Answered (spec.IsCheckAgainstFrom component.now matrix.now options specification.now) result }
+    ensures { Answered (spec.IsCheckAgainstFrom component.now matrix.now options text.now) result }
 {
-    let report = report_against(rt, rt.alloc(), component, matrix, specification, options)?;
+    let report = report_against(rt, rt.alloc(), component, matrix, text, options)?;
     Ok(show_report(rt.alloc(), &report)?)
 }
 
@@ -189,7 +187,7 @@ fn refute_spec(
 ) -> Result<Answer, Refusal>
     requires component { CanRun component.now matrix.now }
     requires spec { AreOf matrix.now specification.now }
-    ensures { Answered (spec.IsRefuteAnswer component.now matrix.now report.now specification.now) result }
+    ensures { Answered (spec.IsRefuted component.now matrix.now report.now specification.now) result }
 {
     let (smaller, schedule) = refute(alloc, component, matrix, report, specification)?;
     Ok(show_schedule(alloc, component, &smaller, &schedule)?)
@@ -204,7 +202,7 @@ fn refute_texts(
     specification: &[u8],
 ) -> Result<Answer, Refusal>
     requires { CanRun component.now matrix.now }
-    ensures { Answered (spec.IsRefuteFrom component.now matrix.now report.now specification.now) result }
+    ensures { Answered (spec.IsRefutedBy component.now matrix.now report.now specification.now) result }
 {
     let report = read_report(alloc, report)?;
     let specification = read_spec(alloc, matrix, specification)?;

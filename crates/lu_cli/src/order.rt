@@ -1,60 +1,7 @@
 //! What the words of a command line ask for.
 
-ghost use Rattle.std.specs.Prelude.{◌≡◌, ◌≤◌};
-ghost use Rattle.lu_cli.specs.Orders.{limits_of};
-
 use lu_parallel::Options;
-use std::marker::Model;
-
-/// How far schedules go.
-#[derive(Clone, Copy, Debug, PartialEq, Eq)]
-pub struct Bounds {
-    bound: u16,
-    serial: u16,
-}
-
-impl Model for Bounds {
-    ghost use Rattle.lu_cli.specs.Orders.{Limits, AreInRange};
-
-    ghost Value = { Limits };
-
-    ghost view = { λ b. record { bound = b.bound; serial = b.serial } };
-
-    ghost inverse = { λ l. record { bound = l.bound; serial = l.serial } };
-
-    ghost invariant = { λ b. AreInRange (record { bound = b.bound; serial = b.serial }) };
-}
-
-impl Bounds {
-    /// These bounds: the most moves of a schedule, 0 to 256, and the most moves of an operation after its call in a serial
-    /// run, 1 to 256. `None` where one is outside.
-    pub fn new(bound: u16, serial: u16) -> Option<Bounds>
-        ensures { result ≡ limits_of bound serial }
-    {
-        if bound <= 256 && 1 <= serial && serial <= 256 {
-            Some(Bounds { bound, serial })
-        } else {
-            None
-        }
-    }
-
-    /// The most moves of a schedule, 0 to 256.
-    pub fn bound(&self) -> u16
-        ensures bound { result ≡ self.now.bound }
-        ensures most { result ≤ 256 }
-    {
-        self.bound
-    }
-
-    /// The most moves of an operation after its call in a serial run, 1 to 256.
-    pub fn serial(&self) -> u16
-        ensures serial { result ≡ self.now.serial }
-        ensures some { 1 ≤ result }
-        ensures most { result ≤ 256 }
-    {
-        self.serial
-    }
-}
+use lu_report::Bounds;
 
 /// The options of a campaign.
 #[derive(Clone, Copy, Debug, PartialEq, Eq)]

@@ -4,7 +4,7 @@ ghost use Rattle.std.specs.Prelude.{◌≡◌, ◌≢◌, ◌<◌, ◌≤◌, �
 ghost use Rattle.lu_cli.specs.declared.program.Failure.TheVariants.{Memory};
 ghost use Rattle.lu_cli.specs.Args.{order_of};
 ghost use Rattle.lu_cli.specs.Outcomes.{Answer as AnAnswer};
-ghost use Rattle.lu_cli.specs.Replies.{Answers, Tells, IsAnswerFrom, no_device, no_command};
+ghost use Rattle.lu_cli.specs.Replies.{Answers, Tells, IsAnswerFrom, IsAnswerFor, no_device, no_command};
 ghost use Rattle.std.specs.Io.KnownBytes.{Appends};
 ghost use Rattle.lu_cli.specs.declared.order.Order.{Order as Orders};
 
@@ -70,7 +70,7 @@ fn answer_for<X: AllocGlobal + Threads + Wait, S: AsStr, R: Read>(
     input: &mut Counted<R>,
 ) -> Result<Answer, Failure>
     requires { input.old.failures < 2 ^ 64 - 1 }
-    ensures answer { IfOk result (λ r. (order : Orders) → order_of (map S.text words.now) ≡ Some order → IsAnswerFrom order (R.remaining input.old.inner) r) }
+    ensures answer { IfOk result (IsAnswerFor (map S.text words.now) (R.remaining input.old.inner)) }
     ensures refused { IfOk result (λ r. order_of (map S.text words.now) ≡ None → r ≡ no_command) }
     ensures blames_none { IfOk result (λ r. r ≢ no_device) }
     ensures early { order_of (map S.text words.now) ≡ None → input.new ≡ input.old }

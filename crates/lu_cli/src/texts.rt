@@ -1,10 +1,10 @@
 //! Checks of texts.
 
-ghost use Rattle.std.specs.Prelude.{◌≡◌, IfErr, IfOk, MatchOption, string_bytes};
+ghost use Rattle.std.specs.Prelude.{◌≡◌, IfErr, IfOk, string_bytes};
 ghost use Rattle.lu_text.specs.declared.fault.Fault.TheVariants.{Memory};
 ghost use Rattle.lu_test.specs.Matrix.{IsOf};
-ghost use Rattle.lu_machine.specs.Starts.{CanRun, IsUnsettledAt, Settles};
-ghost use Rattle.lu_cli.specs.Texts.{AreSettled, IsFaultAgainst, IsFaultAgainstTexts, IsFaultOf, IsFaultOfTexts, IsReportOf, IsReportOfTexts, IsReportRead, IsReportReadOf};
+ghost use Rattle.lu_machine.specs.Starts.{CanRun, IsFirstUnsettled};
+ghost use Rattle.lu_cli.specs.Texts.{AreSettled, IsFaultAgainst, IsCheckFault, IsFaultOfTexts, IsFaultOfThree, IsReportIn, IsReportOf, IsReportOfTexts, IsReportRead};
 
 use lu_lang::{Component, LangFault, read_component};
 use lu_machine::settles;
@@ -99,7 +99,7 @@ fn unsettled(
     matrix: &Matrix,
 ) -> Result<Option<u8>, MatrixFault>
     requires { IsOf matrix.now component.now }
-    ensures unsettled { IfOk result (λ unsettled. MatchOption unsettled (Settles component.now matrix.now) (IsUnsettledAt component.now matrix.now)) }
+    ensures unsettled { IfOk result (IsFirstUnsettled component.now matrix.now) }
     ensures fault { IfErr result (λ fault. fault ≡ Memory) }
 {
     Ok(settles(alloc, component, matrix)?)
@@ -141,7 +141,7 @@ pub(crate) fn report_of<X: Threads + Wait>(
     options: Options,
 ) -> Result<Report, Fault>
     ensures report { IfOk result (IsReportOfTexts component.now matrix.now options) }
-    ensures fault { IfErr result (IsFaultOf component.now matrix.now options) }
+    ensures fault { IfErr result (IsCheckFault component.now matrix.now options) }
 {
     let (component, matrix) = read_texts(alloc, component, matrix)?;
     let report = check(rt, alloc, &OpenGate, &component, &matrix, options)?;
@@ -162,8 +162,8 @@ pub fn check_texts<X: Threads + Wait>(
     matrix: &[u8],
     options: Options,
 ) -> Result<String, Fault>
-    ensures report { IfOk result (λ text. IsReportOf component.now matrix.now options (string_bytes text)) }
-    ensures fault { IfErr result (IsFaultOf component.now matrix.now options) }
+    ensures report { IfOk result (λ t. IsReportOf component.now matrix.now options (string_bytes t)) }
+    ensures fault { IfErr result (IsCheckFault component.now matrix.now options) }
 {
     let report = report_of(rt, alloc, component, matrix, options)?;
     Ok(write_report(alloc, &report)?)
@@ -208,8 +208,8 @@ pub fn check_texts_against<X: Threads + Wait>(
     specification: &[u8],
     options: Options,
 ) -> Result<String, Fault>
-    ensures report { IfOk result (λ text. IsReportReadOf component.now matrix.now specification.now options (string_bytes text)) }
-    ensures fault { IfErr result (IsFaultAgainstTexts component.now matrix.now specification.now options) }
+    ensures report { IfOk result (IsReportIn component.now matrix.now specification.now options) }
+    ensures fault { IfErr result (IsFaultOfThree component.now matrix.now specification.now options) }
 {
     let (component, matrix) = read_texts(alloc, component, matrix)?;
     let report = report_against(rt, alloc, &component, &matrix, specification, options)?;

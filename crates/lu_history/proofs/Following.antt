@@ -9,7 +9,7 @@ use Rattle.lu_machine.specs.declared.event.Event.{Event}
 use Rattle.lu_machine.specs.declared.event.Event.TheVariants.{Call, Return}
 use Rattle.lu_machine.specs.declared.thread.Activity.TheVariants.{Idle}
 use Rattle.lu_machine.specs.declared.thread.Thread.{Thread}
-use Rattle.lu_machine.specs.Events.{IsInRange}
+use Rattle.lu_machine.specs.Events.{IsEventInRange}
 use Rattle.lu_machine.specs.Runs.{with_event}
 use Rattle.lu_machine.specs.Starts.{IsStart}
 use Rattle.lu_machine.specs.States.{State, progress, progress_of}
@@ -43,7 +43,7 @@ step_agrees s m new event h agree step =
     let goes = step_goes s m new event step in
     rw goes.progress_is (way_agrees (progress s) m.thread goes.now event h agree goes.within goes.way)
 
-way_fits : (threads : List Standing) (t : ℕ) (now : Standing) (event : Option Event) (e : Event) (h : List Event) → event ≡ Some e → Agree threads h → IsInRange e → Way t (get_or threads t (0, false)) now event → Fits h e
+way_fits : (threads : List Standing) (t : ℕ) (now : Standing) (event : Option Event) (e : Event) (h : List Event) → event ≡ Some e → Agree threads h → IsEventInRange e → Way t (get_or threads t (0, false)) now event → Fits h e
 way_fits threads t now event e h is agree small (opens k was now_is then) =
     let same : e ≡ Call t k = same_Some e (Call t k) (sym is ∙ then) in
     let few = rw same at small in
@@ -55,7 +55,7 @@ way_fits threads t now event e h is agree small (ends k outcome was now_is then)
     rw same (return_fits threads h agree t k outcome was few.0 few.1)
 
 -- and the move's event fits
-pub step_fits : (s : State) (m : Move) (new : State) (e : Event) (h : List Event) → Agree (progress s) h → Step s m new (Some e) → IsInRange e → Fits h e
+pub step_fits : (s : State) (m : Move) (new : State) (e : Event) (h : List Event) → Agree (progress s) h → Step s m new (Some e) → IsEventInRange e → Fits h e
 step_fits s m new e h agree step small =
     let goes = step_goes s m new (Some e) step in
     way_fits (progress s) m.thread goes.now (Some e) e h refl agree small goes.way

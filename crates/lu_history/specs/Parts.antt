@@ -1,6 +1,6 @@
 -- The part of a history that belongs to a thread (Herlihy and Wing, 1990), and the history with one
 -- pending call (Burckhardt, Dern, Musuvathi and Tan, 2010).
-use Rattle.std.specs.Prelude.{ℕ, ◌==◌, ◌&&◌, ◌||◌, if◌then◌else◌, Bool, true, false, List, [], ◌∷◌, ◌++◌, map, filter}
+use Rattle.std.specs.Prelude.{◌≡◌, ◌≢◌, ◌↔◌, ℕ, ◌==◌, ◌&&◌, ◌||◌, if◌then◌else◌, Bool, true, false, List, [], ◌∷◌, ◌++◌, map, filter}
 use Rattle.std.specs.List.{list_any}
 use Rattle.lu_machine.specs.declared.event.Event.{Event}
 use Rattle.lu_machine.specs.declared.event.Event.TheVariants.{Call, Return}
@@ -9,7 +9,7 @@ use Rattle.lu_machine.specs.declared.event.Outcome.TheVariants.{Ret, Trap}
 use Rattle.lu_history.specs.declared.operation.OpId.{OpId}
 use Rattle.lu_history.specs.declared.serial.SerialOutcome.{SerialOutcome}
 use Rattle.lu_history.specs.declared.serial.SerialOutcome.TheVariants.{Ret as Returned, Trap as Trapped, Stuck}
-use Rattle.lu_history.specs.Histories.{outcomes, pending}
+use Rattle.lu_history.specs.Histories.{IsCallAt, IsPending, outcomes, pending}
 
 -- an outcome in a serial history
 abbrev pub as_serial : Outcome → SerialOutcome
@@ -37,3 +37,9 @@ is_kept t h (Return u k outcome) = true
 -- the history without the pending calls of threads other than t
 abbrev pub keep_pending : ℕ → List Event → List Event
 keep_pending t h = filter (is_kept t h) h
+
+-- what is left out beside thread t are the pending calls of other threads
+abbrev pub LeavesOutOthers : ℕ → List Event → Type 0
+LeavesOutOthers t h =
+    (i : ℕ) (a : OpId) → IsCallAt h i a
+    → (is_kept t h (Call a.t a.k) ≡ false) ↔ ((a.t ≢ t) × IsPending h a)

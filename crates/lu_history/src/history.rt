@@ -1,10 +1,10 @@
 //! Histories that are cheap to extend, to shorten and to ask.
 
-ghost use Rattle.std.specs.Prelude.{◌≡◌, ◌≢◌, ◌↔◌, ◌<◌, false, ℕ, [], ◌∷◌, ◌++◌, IsTrue, OnOk, OnErr, IfOk, IsSome, slice_get};
+ghost use Rattle.std.specs.Prelude.{◌≡◌, ◌≢◌, ◌↔◌, ◌<◌, ℕ, [], ◌∷◌, ◌++◌, IsTrue, OnOk, OnErr, IfOk, IsSome, slice_get};
 ghost use Rattle.lu_machine.specs.declared.event.Event.{Event};
 ghost use Rattle.lu_history.specs.declared.operation.OpId.{OpId};
-ghost use Rattle.lu_history.specs.Histories.{Fits, IsWellFormed, IsCallAt, IsPending, Precedes, AreBefore, calls, outcomes, pending, thread_of};
-ghost use Rattle.lu_history.specs.Parts.{part, is_kept, keep_pending};
+ghost use Rattle.lu_history.specs.Histories.{Fits, IsWellFormed, IsPending, Precedes, AreBefore, calls, outcomes, pending, thread_of};
+ghost use Rattle.lu_history.specs.Parts.{LeavesOutOthers, part, is_kept, keep_pending};
 
 use crate::fault::HistoryFault;
 use crate::operation::OpId;
@@ -241,7 +241,7 @@ impl History {
         ensures kept { IfOk result (λ kept. kept ≡ keep_pending t self.now) }
 
         // What is left out are the pending calls of other threads.
-        ensures left_out { (i : ℕ) (a : OpId) → IsCallAt self.now i a → (is_kept t self.now (Event.Call a.t a.k) ≡ false) ↔ ((a.t ≢ t) × IsPending self.now a) }
+        ensures left_out { LeavesOutOthers t self.now }
     {
         let mut kept = History::new(*self.events.allocator());
         for event in self.events() {

@@ -1,6 +1,7 @@
 //! Histories as text.
 
-ghost use Rattle.std.specs.Prelude.{◌≡◌, ◌++◌, IfOk, OnOk, string_bytes};
+ghost use Rattle.std.specs.Prelude.{◌≡◌, IfOk, string_bytes};
+ghost use Rattle.lu_text.specs.Writing.{Writes};
 ghost use Rattle.lu_history.specs.Text.{event_text, history_text};
 
 use crate::history::History;
@@ -9,7 +10,7 @@ use std::alloc::{AllocError, Global};
 
 /// Adds an event's line at the end of a text.
 fn write_event(text: &mut String, event: Event) -> Result<(), AllocError>
-    ensures { OnOk result (string_bytes text.new ≡ string_bytes text.old ++ event_text event) }
+    ensures { Writes result text.old text.new (event_text event) }
 {
     match event {
         Event::Call { t, k } => writeln!(text, "call {t} {k}")?,

@@ -27,7 +27,7 @@ use Rattle.lu_machine.proofs.Keeping.{carries_alike, step_moved}
 use Rattle.lu_machine.proofs.Unseen.{one_without_local}
 use Rattle.lu_horizon.specs.Code.{is_there}
 use Rattle.lu_horizon.specs.Own.{IsOwn, IsIdle, IsAt}
-use Rattle.lu_horizon.specs.Tables.{IsTable, Serves}
+use Rattle.lu_horizon.specs.Tables.{IsTable, Outlooks, Serves}
 
 pub get_set_same : {A : Type 0} (xs : List A) (i : ℕ) (y : A) → i < length xs → slice_get (slice_set xs i y) i ≡ Some y
 get_set_same [] i y h = absurd (omega arith)
@@ -154,7 +154,7 @@ other_stands s m new event t other step =
     ap (λ (x : List Thread). slice_get x t) moved.threads ∙ get_set_other s.threads m.thread t moved.now (λ e. other (sym e))
 
 -- the thread itself stands as the move leaves it
-itself_stands : (s new : State) (t : ℕ) (was now : Thread) → slice_get s.threads t ≡ Some was → new.threads ≡ slice_set s.threads t now → slice_get new.threads t ≡ Some now
+pub itself_stands : (s new : State) (t : ℕ) (was now : Thread) → slice_get s.threads t ≡ Some was → new.threads ≡ slice_set s.threads t now → slice_get new.threads t ≡ Some now
 itself_stands s new t was now stands is = ap (λ (x : List Thread). slice_get x t) is ∙ get_set_same s.threads t now (slice_get_within s.threads t was stands)
 
 -- after a thread's own move: an idle one has opened its next call
@@ -273,7 +273,7 @@ leads_keeps_own c matrix s (m ∷ u) end h leads own =
     leads_keeps_own c matrix leads.0 u end leads.2 leads.4 (step_keeps_own c matrix s m leads.0 leads.1 own leads.3)
 
 -- the table of a run serves all its states
-pub serves_next : (table : List (List (List ℕ))) (s : State) (m : Move) (new : State) (event : Option Event) → Serves table s → Step s m new event → Serves table new
+pub serves_next : (table : List Outlooks) (s : State) (m : Move) (new : State) (event : Option Event) → Serves table s → Step s m new event → Serves table new
 serves_next table s m new event serves step =
     let own = step_keeps_own s.component s.matrix s m new event serves.own step in
     record {
@@ -287,7 +287,7 @@ leads_component s [] end h leads = ap (λ (x : State). x.component) leads.0
 leads_component s (m ∷ u) end h leads =
     leads_component leads.0 u end leads.2 leads.4 ∙ (step_moved s m leads.0 leads.1 leads.3).component
 
-pub serves_end : (table : List (List (List ℕ))) (s : State) (u : List Move) (end : State) (h : List Event) → Leads s u end h → Serves table s → Serves table end
+pub serves_end : (table : List Outlooks) (s : State) (u : List Move) (end : State) (h : List Event) → Leads s u end h → Serves table s → Serves table end
 serves_end table s [] end h leads serves = rw leads.0 serves
 serves_end table s (m ∷ u) end h leads serves = serves_end table leads.0 u end leads.2 leads.4 (serves_next table s m leads.0 leads.1 serves leads.3)
 

@@ -1,6 +1,6 @@
 -- Tables, entry by entry.
-use Rattle.std.proofs.Common.{◌≡◌, ℕ, zero, suc, ◌+◌, ◌<◌, ◌≤◌, ◌⊎◌, List, [], ◌∷◌, ◌++◌, Option, Some, None, IfSome, IfNone, slice_get, slice_set, get_or, length, replicate, refl, ◌∙◌, ap, subst, inl, inr, arith}
-use Rattle.std.proofs.lemmas.Bool.{cases_eq}
+use Rattle.std.proofs.Common.{◌≡◌, ℕ, zero, suc, ◌+◌, ◌<◌, ◌≤◌, ◌⊎◌, List, [], ◌∷◌, ◌++◌, Option, Some, None, slice_get, slice_set, get_or, length, replicate, refl, ◌∙◌, ap, subst, inl, inr, arith}
+use Rattle.std.proofs.lemmas.Bool.{cases_eq, cases_lt}
 use Rattle.std.specs.Option.{option_map}
 use Rattle.std.proofs.lemmas.List.{get_or-set_same, get_or-set_other}
 use Rattle.std.proofs.lemmas.Option.{same_Some}
@@ -11,37 +11,39 @@ use Rattle.lu_machine.specs.declared.thread.Activity.TheVariants.{Idle, Open}
 use Rattle.lu_machine.specs.declared.thread.Frame.{Frame}
 use Rattle.lu_horizon.specs.declared.stand.Stand.{Stand}
 use Rattle.lu_machine.specs.declared.thread.Thread.{Thread}
-use Rattle.lu_horizon.specs.Stands.{place_of, stand_of}
-use Rattle.lu_machine.specs.States.{State}
+use Rattle.lu_component.specs.declared.instr.Instr.TheVariants.{JumpIfZero}
+use Rattle.lu_machine.specs.Changes.{at_work}
+use Rattle.lu_horizon.specs.Stands.{JumpsTo, place_of, stand_of}
+use Rattle.lu_machine.specs.States.{State, instr_at}
 use Rattle.lu_horizon.specs.Own.{IsAt, IsIdle, IsOwn}
-use Rattle.lu_horizon.specs.Sure.{IsSure}
-use Rattle.lu_horizon.specs.Tables.{AreCalls, ArePlaces, IsAhead, IsTable, IsThread}
-use Rattle.lu_horizon.proofs.CodeLaws.{idle_over, idle_sure}
-use Rattle.lu_horizon.proofs.SureLaws.{sure_less, sure_none}
+use Rattle.lu_horizon.specs.declared.outlook.Outlook.{Outlook}
+use Rattle.lu_horizon.specs.Outlooks.{TellsNoMore, no_move, nothing, one_before}
+use Rattle.lu_horizon.specs.Sure.{HasOutlook}
+use Rattle.lu_horizon.specs.Tables.{AreCalls, ArePlaces, IsTable, IsThread, Outlooks, outlook_of}
+use Rattle.lu_horizon.proofs.JumpLaws.{jump_before}
+use Rattle.lu_horizon.proofs.CodeLaws.{idle_ahead, idle_over}
+use Rattle.lu_horizon.proofs.SureLaws.{nothing_ahead, outlook_less}
 
-abbrev zeros : ℕ → List ℕ
-zeros n = replicate n 0
-
-get_or_zeros : (n place : ℕ) → get_or (zeros n) place 0 ≡ 0
-get_or_zeros zero place = refl
-get_or_zeros (suc n) zero = refl
-get_or_zeros (suc n) (suc place) = get_or_zeros n place
+get_or_nothings : (n place : ℕ) → get_or (replicate n nothing) place nothing ≡ nothing
+get_or_nothings zero place = refl
+get_or_nothings (suc n) zero = refl
+get_or_nothings (suc n) (suc place) = get_or_nothings n place
 
 -- nothing is known
-pub places_none : (c : Declarations) (matrix : Matrix) (t k n : ℕ) → ArePlaces c matrix t k (replicate n 0)
-places_none c matrix t k n place s a = rw (get_or_zeros n place) (sure_none s t)
+pub places_none : (c : Declarations) (matrix : Matrix) (t k n : ℕ) → ArePlaces c matrix t k (replicate n nothing)
+places_none c matrix t k n place s a = rw (get_or_nothings n place) (nothing_ahead s t)
 
 -- one place more
-pub places_set : (c : Declarations) (matrix : Matrix) (t k : ℕ) (places : List ℕ) (place d : ℕ) → place < length places → ((s : State) → IsAt c matrix t k place s → IsSure s t d) → ArePlaces c matrix t k places → ArePlaces c matrix t k (slice_set places place d)
-places_set c matrix t k places place d within sure old q s a =
+pub places_set : (c : Declarations) (matrix : Matrix) (t k : ℕ) (places : List Outlook) (place : ℕ) (o : Outlook) → place < length places → ((s : State) → IsAt c matrix t k place s → HasOutlook s t o) → ArePlaces c matrix t k places → ArePlaces c matrix t k (slice_set places place o)
+places_set c matrix t k places place o within ahead old q s a =
     elim (cases_eq q place) [
-      | inl same ↦ (let e : get_or (slice_set places place d) q 0 ≡ d = rw same (get_or-set_same places place d 0 within) in rw e (sure s (rw same at a)))
-      | inr other ↦ rw (get_or-set_other places place q d 0 other) (old q s a)
+      | inl same ↦ (let e : get_or (slice_set places place o) q nothing ≡ o = rw same (get_or-set_same places place o nothing within) in rw e (ahead s (rw same at a)))
+      | inr other ↦ rw (get_or-set_other places place q o nothing other) (old q s a)
     ]
 
 -- call number i of those from k on
-pub calls_at : (c : Declarations) (matrix : Matrix) (t k i : ℕ) (calls : List (List ℕ)) → AreCalls c matrix t k calls → ArePlaces c matrix t (k + i) (get_or calls i [])
-calls_at c matrix t k i [] are place s a = sure_none s t
+pub calls_at : (c : Declarations) (matrix : Matrix) (t k i : ℕ) (calls : Outlooks) → AreCalls c matrix t k calls → ArePlaces c matrix t (k + i) (get_or calls i [])
+calls_at c matrix t k i [] are place s a = nothing_ahead s t
 calls_at c matrix t k zero (first ∷ calls) are place s a =
     let e : k + 0 ≡ k = omega arith in
     are.0 place s (rw e at a)
@@ -88,29 +90,41 @@ stands_open (Some thread) stand place is at = by_activity thread.activity refl
         let second : record { done = thread.done; activity = Open f } ≡ record { done = stand.done; activity = Open f } = ap (λ (x : ℕ). let y : Thread = record { done = x; activity = Open f } in y) d in
         (f, ap Some (first ∙ second), same_Some f.place place q))
 
-module _ (c : Declarations) (matrix : Matrix) (s : State) (t : ℕ) (calls : List (List ℕ)) (thread : IsThread c matrix t calls) (own : IsOwn c matrix s) (stand : Stand) (stands : option_map stand_of (slice_get s.threads t) ≡ Some stand) where
-  numbers : (k : ℕ) → ArePlaces c matrix t k (get_or calls k [])
-  numbers k place s a =
+module _ (c : Declarations) (matrix : Matrix) (s : State) (t : ℕ) (calls : Outlooks) (thread : IsThread c matrix t calls) (own : IsOwn c matrix s) (stand : Stand) (stands : option_map stand_of (slice_get s.threads t) ≡ Some stand) where
+  outlooks : (k : ℕ) → ArePlaces c matrix t k (get_or calls k [])
+  outlooks k place s a =
       let e : 0 + k ≡ k = omega arith in
       calls_at c matrix t 0 k calls thread.each place s (rw (← e) at a)
 
-  -- the number of an open operation's place is certain
-  pub open_ahead : (place : ℕ) → stand.place ≡ Some place → IsSure s t (get_or (get_or calls stand.done []) place 0)
-  open_ahead place at =
+  -- the outlook at an open operation's place holds
+  pub at_open : (place : ℕ) → stand.place ≡ Some place → HasOutlook s t (outlook_of (get_or calls stand.done []) place)
+  at_open place at =
       let o = stands_open (slice_get s.threads t) stand place stands at in
-      numbers stand.done place s (record { own = own; frame = o.0; stands = o.1; place_is = o.2 })
+      outlooks stand.done place s (record { own = own; frame = o.0; stands = o.1; place_is = o.2 })
+
+  -- and that of the place to which it goes
+  pub at_jump : (next : ℕ) → JumpsTo s t next → (o : Outlook) → TellsNoMore o (one_before (outlook_of (get_or calls stand.done []) next)) → HasOutlook s t o
+  at_jump next jump o within =
+      let known = outlook_of (get_or calls stand.done []) next in
+      let is : option_map stand_of (Some (at_work jump.done jump.frame)) ≡ Some stand = rw jump.stands at stands in
+      let same : stand_of (at_work jump.done jump.frame) ≡ stand = same_Some (stand_of (at_work jump.done jump.frame)) stand is in
+      let number : jump.done ≡ stand.done = ap (λ (x : Stand). x.done) same in
+      let there : instr_at c jump.frame.op jump.frame.place ≡ Some (JumpIfZero jump.value jump.target) = rw own.component at jump.is in
+      let holds : slice_get s.threads t ≡ Some (at_work stand.done jump.frame) = jump.stands ∙ ap (λ (x : ℕ). Some (at_work x jump.frame)) number in
+      outlook_less s t o (one_before known) within
+      (jump_before c matrix t stand.done jump.frame jump.value jump.target there known (λ x a. outlooks stand.done next x (rw (← jump.goes) at a)) s (own, holds))
 
   -- and that before a call
-  pub idle_ahead : stand.place ≡ None → (number : Option ℕ) → IfSome number (λ n. (stand.done < length calls) × (n ≤ get_or (get_or calls stand.done []) 0 0 + 1)) → IfNone number (length calls ≤ stand.done) → IsAhead s t number
-  idle_ahead at None some none =
+  pub at_idle : stand.place ≡ None → (o : Outlook) → (stand.done < length calls → TellsNoMore o (one_before (outlook_of (get_or calls stand.done []) 0))) → (length calls ≤ stand.done → o ≡ no_move) → HasOutlook s t o
+  at_idle at o call none =
       let i : IsIdle c matrix t stand.done s = record { own = own; stands = stands_idle (slice_get s.threads t) stand stands at } in
       let many = thread.many in
-      idle_over c matrix t stand.done (omega arith) s i
-  idle_ahead at (Some n) some none =
-      let i : IsIdle c matrix t stand.done s = record { own = own; stands = stands_idle (slice_get s.threads t) stand stands at } in
-      let many = thread.many in
-      let d = get_or (get_or calls stand.done []) 0 0 in
-      sure_less s t n (d + 1) some.1 (idle_sure c matrix t stand.done d (omega arith) (λ x a. numbers stand.done 0 x a) s i)
+      elim (cases_lt stand.done (length calls)) [
+        | inl some ↦
+            (let first = outlook_of (get_or calls stand.done []) 0 in
+            outlook_less s t o (one_before first) (call some) (idle_ahead c matrix t stand.done first (omega arith) (λ x a. outlooks stand.done 0 x a) s i))
+        | inr all ↦ rw (none all) (idle_over c matrix t stand.done (omega arith) s i)
+      ]
 
 slice_get_push : {A : Type 0} (xs : List A) (y : A) (k : ℕ) (m : A) → slice_get (xs ++ y ∷ []) k ≡ Some m → (slice_get xs k ≡ Some m) ⊎ ((k ≡ length xs) × (y ≡ m))
 slice_get_push [] y zero m h = inr (refl, same_Some y m h)
@@ -122,7 +136,7 @@ slice_get_push (x ∷ xs) y (suc k) m h =
 pub table_none : (c : Declarations) (matrix : Matrix) → IsTable c matrix []
 table_none c matrix t calls at = absurd (cc)
 
-pub table_push : (c : Declarations) (matrix : Matrix) (table : List (List (List ℕ))) (t : ℕ) (calls : List (List ℕ)) → t ≡ length table → IsThread c matrix t calls → IsTable c matrix table → IsTable c matrix (table ++ calls ∷ [])
+pub table_push : (c : Declarations) (matrix : Matrix) (table : List Outlooks) (t : ℕ) (calls : Outlooks) → t ≡ length table → IsThread c matrix t calls → IsTable c matrix table → IsTable c matrix (table ++ calls ∷ [])
 table_push c matrix table t calls is thread old j other at =
     elim (slice_get_push table calls j other at) [
       | inl a ↦ old j other a

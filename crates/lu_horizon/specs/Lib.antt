@@ -1,4 +1,5 @@
 pub mod Stands
+pub mod Outlooks
 pub mod Sure
 pub mod Own
 pub mod Code

@@ -1,9 +1,12 @@
 -- Where a thread stands among its calls.
-use Rattle.std.specs.Prelude.{ℕ, Bool, true, false, Option, Some, None, slice_get}
+use Rattle.std.specs.Prelude.{◌≡◌, ◌+◌, ◌==◌, if◌then◌else◌, ℕ, Bool, true, false, Option, Some, None, slice_get}
 use Rattle.std.specs.Option.{option_map_or}
 use Rattle.lu_component.specs.Component.{Declarations}
 use Rattle.lu_component.specs.declared.instr.Instr.{Instr}
-use Rattle.lu_component.specs.declared.instr.Instr.TheVariants.{Set, Compute, Load, Store, Cas, Lock, Unlock, Await, AwaitNot, Pick, Jump, JumpIfZero, Return}
+use Rattle.lu_component.specs.declared.instr.Instr.TheVariants.{Set, Compute, Jump, JumpIfZero, Return}
+use Rattle.lu_component.specs.declared.instr.Operand.{Operand}
+use Rattle.lu_machine.specs.Effects.{value_of}
+use Rattle.lu_machine.specs.declared.thread.Frame.{Frame}
 use Rattle.lu_machine.specs.States.{State, instr_at}
 use Rattle.lu_machine.specs.declared.thread.Activity.{Activity}
 use Rattle.lu_machine.specs.declared.thread.Activity.TheVariants.{Idle, Open}
@@ -34,3 +37,13 @@ activity_unseen c (Open f) = option_map_or is_unseen (instr_at c f.op f.place) f
 -- thread t is at such an instruction
 abbrev pub is_unseen_at : State → ℕ → Bool
 is_unseen_at s t = option_map_or (λ thread. activity_unseen s.component thread.activity) (slice_get s.threads t) false
+
+-- thread t is at a `jz` of its call number `done`, and goes to `place` from there
+pub record JumpsTo (s : State) (t place : ℕ) : Type 0 where
+  pub done : ℕ
+  pub frame : Frame
+  pub value : Operand
+  pub target : ℕ
+  pub stands : slice_get s.threads t ≡ Some (record { done = done; activity = Open frame })
+  pub is : instr_at s.component frame.op frame.place ≡ Some (JumpIfZero value target)
+  pub goes : place ≡ (if value_of frame value == 0 then target else frame.place + 1)

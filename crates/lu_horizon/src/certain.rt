@@ -1,8 +1,11 @@
-//! The numbers of one operation's places.
+//! What is ahead at one operation's places.
 
-ghost use Rattle.std.specs.Prelude.{◌≡◌, ◌<◌, ◌≤◌, get_or};
-ghost use Rattle.lu_horizon.specs.Code.{is_there, sure_at, unless_there};
+ghost use Rattle.std.specs.Prelude.{◌≡◌, ◌<◌};
+ghost use Rattle.lu_horizon.specs.Code.{is_there, outlook_at, unless_there};
+ghost use Rattle.lu_horizon.specs.Outlooks.{TellsNoMore};
+ghost use Rattle.lu_horizon.specs.Tables.{outlook_of};
 
+use crate::outlook::Outlook;
 use lu_component::{Component, Instr, Operand};
 
 /// Whether the index is that of a cell of the array, whatever the registers hold.
@@ -16,49 +19,49 @@ fn is_there(component: &Component, array: u8, index: Operand) -> bool
     }
 }
 
-/// The number of a place: 0 where none is known.
-pub(crate) fn number_at(known: &[u16], place: usize) -> u16
-    ensures { result ≡ get_or known.now place 0 }
+/// The outlook at a place.
+pub(crate) fn outlook_of(known: &[Outlook], place: usize) -> Outlook
+    ensures { result ≡ outlook_of known.now place }
 {
-    known.get(place).copied().unwrap_or(0)
+    known.get(place).copied().unwrap_or(Outlook::NOTHING)
 }
 
-/// The number behind an instruction that traps unless its cell is there.
-fn behind(component: &Component, array: u8, index: Operand, next: u16, rest: u16) -> u16
+/// The outlook behind an instruction that traps unless its cell is there.
+fn behind(component: &Component, array: u8, index: Operand, next: Outlook, rest: Outlook) -> Outlook
     ensures { result ≡ unless_there (is_there component.now array index) next rest }
 {
     if is_there(component, array, index) {
         next
     } else {
-        next.min(rest)
+        next.either(rest)
     }
 }
 
-/// How many moves are certain at the instruction at this place, from those that are known at other places, and `rest` more
-/// once the operation ends: at most that many.
+/// What is ahead at the instruction at this place, from what is known at other places, and `rest` once the operation has ended:
+/// no more than that.
 pub(crate) fn certain(
     component: &Component,
     instr: &Instr,
     place: usize,
-    known: &[u16],
-    rest: u16,
-) -> u16
+    known: &[Outlook],
+    rest: Outlook,
+) -> Outlook
     requires { place < 64 }
-    ensures { result ≤ sure_at component.now (λ q. get_or known.now q 0) rest place instr.now }
+    ensures { TellsNoMore result (outlook_at component.now (outlook_of known.now) rest place instr.now) }
 {
-    let next = number_at(known, place + 1);
+    let next = outlook_of(known, place + 1);
     let behind = match *instr {
         Instr::Set { .. } | Instr::Compute { .. } => next,
         Instr::Load { array, index, .. }
         | Instr::Store { array, index, .. }
         | Instr::Cas { array, index, .. } => behind(component, array, index, next, rest),
-        Instr::Unlock(_) => next.min(rest),
-        Instr::Jump(target) => number_at(known, usize::from(target)),
-        Instr::JumpIfZero { target, .. } => number_at(known, usize::from(target)).min(next),
+        Instr::Unlock(_) => next.either(rest),
+        Instr::Jump(target) => outlook_of(known, usize::from(target)),
+        Instr::JumpIfZero { target, .. } => outlook_of(known, usize::from(target)).either(next),
         Instr::Return(_) => rest,
         Instr::Lock(_) | Instr::Await { .. } | Instr::AwaitNot { .. } | Instr::Pick { .. } => {
-            return 0;
+            return Outlook::NOTHING;
         }
     };
-    behind.saturating_add(1)
+    behind.one_before()
 }

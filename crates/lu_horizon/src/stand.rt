@@ -1,8 +1,8 @@
 //! Where a thread stands among its calls.
 
-ghost use Rattle.std.specs.Prelude.{◌≡◌, slice_get};
+ghost use Rattle.std.specs.Prelude.{◌≡◌, slice_get, IfSome};
 ghost use Rattle.std.specs.Option.{option_map};
-ghost use Rattle.lu_horizon.specs.Stands.{is_unseen, is_unseen_at, stand_of};
+ghost use Rattle.lu_horizon.specs.Stands.{JumpsTo, is_unseen, is_unseen_at, stand_of};
 
 use lu_component::Instr;
 use lu_machine::{Activity, Machine};
@@ -31,6 +31,26 @@ pub fn stand_at(machine: &Machine, t: u8) -> Option<Stand>
         done: standing.done,
         place,
     })
+}
+
+/// The place to which thread `t` goes next, where its registers alone tell: none where its next instruction is no `jz`.
+pub(crate) fn jumps_to(machine: &Machine, t: u8) -> Option<u8>
+    ensures { IfSome result (JumpsTo machine.now t) }
+{
+    let standing = machine.standing(t)?;
+    match &standing.activity {
+        Activity::Idle => None,
+        Activity::Open(frame) => match machine.instr(frame)? {
+            Instr::JumpIfZero { value, target } => {
+                if frame.value(*value) == 0 {
+                    Some(*target)
+                } else {
+                    frame.place.checked_add(1)
+                }
+            }
+            _ => None,
+        },
+    }
 }
 
 /// Whether the instruction reads and writes its own operation's registers alone, and always goes on or returns.

@@ -25,7 +25,7 @@ use Rattle.lu_component.specs.Component.{operation_place, AreDistinct, EndsWell,
 use Rattle.lu_lang.specs.Draft.{Begun, Drafted, nothing, named}
 use Rattle.lu_lang.specs.Grammar.{value, is_value, array_place, lock_place, component_line, local_line, array_line, lock_line, op_line, declaration, statement, sooner, place_fault, with_label, with_statement, placed, instr_line, labelled, are_there, is_last, ends_well, target, resolved, op_of, end_line, inside, by_state, closed, by_words, line_of, label_in}
 use Rattle.lu_lang.specs.Words.{keyword_in}
-use Rattle.lu_lang.specs.Sound.{IsStatement, IsBegun, IsDraft}
+use Rattle.lu_lang.specs.Sound.{IsStatement, IsBegun, IsSoundDraft}
 use Rattle.lu_text.proofs.Says.{NoneHold, said}
 use Rattle.lu_text.proofs.NameText.{name_from}
 use Rattle.lu_text.proofs.Written.{All-last}
@@ -114,16 +114,16 @@ op_weaker a l a' l' x y op h = record {
 -- ---- declarations
 
 abbrev Keeps : Result Drafted LangFaultKind → Type 0
-Keeps r = (next : Drafted) → r ≡ Ok next → IsDraft next
+Keeps r = (next : Drafted) → r ≡ Ok next → IsSoundDraft next
 
 -- what holds of the draft that is said holds of the result
-kept : (tests : Tests LangFaultKind) (d : Drafted) → (NoneHold tests → IsDraft d) → Keeps (says tests d)
-kept tests d h next e = let x = said tests d next e in subst IsDraft x.same (h x.none)
+kept : (tests : Tests LangFaultKind) (d : Drafted) → (NoneHold tests → IsSoundDraft d) → Keeps (says tests d)
+kept tests d h next e = let x = said tests d next e in subst IsSoundDraft x.same (h x.none)
 
 refused : (kind : LangFaultKind) → Keeps (Err kind)
 refused kind next e = absurd cc
 
-component_keeps : (d : Drafted) → IsDraft d → (o : Option Word) → Keeps (component_line d o)
+component_keeps : (d : Drafted) → IsSoundDraft d → (o : Option Word) → Keeps (component_line d o)
 component_keeps d h None = refused _
 component_keeps d h (Some name) = kept
     ((not (has_name_form name), Form) ∷ (is_long name, Limit) ∷ [])
@@ -134,7 +134,7 @@ component_keeps d h (Some name) = kept
       begun = h.begun;
     })
 
-local_keeps : (d : Drafted) → IsDraft d → d.begun ≡ None → (o : Option Word) → Keeps (local_line d o)
+local_keeps : (d : Drafted) → IsSoundDraft d → d.begun ≡ None → (o : Option Word) → Keeps (local_line d o)
 local_keeps d h none None = refused _
 local_keeps d h none (Some most) = kept
     ((is_some d.local || nat_le 1 (length d.operations), Form)
@@ -159,7 +159,7 @@ local_keeps d h none (Some most) = kept
       begun = rw none tt;
     })
 
-array_keeps : (d : Drafted) → IsDraft d → d.begun ≡ None → (o : Option (Word × Word × Word)) → Keeps (array_line d o)
+array_keeps : (d : Drafted) → IsSoundDraft d → d.begun ≡ None → (o : Option (Word × Word × Word)) → Keeps (array_line d o)
 array_keeps d h none None = refused _
 array_keeps d h none (Some (name, len, init)) = kept
     ((not (has_name_form name), Form)
@@ -192,7 +192,7 @@ array_keeps d h none (Some (name, len, init)) = kept
       begun = rw none tt;
     })
 
-lock_keeps : (d : Drafted) → IsDraft d → d.begun ≡ None → (o : Option Word) → Keeps (lock_line d o)
+lock_keeps : (d : Drafted) → IsSoundDraft d → d.begun ≡ None → (o : Option Word) → Keeps (lock_line d o)
 lock_keeps d h none None = refused _
 lock_keeps d h none (Some name) = kept
     ((not (has_name_form name), Form)
@@ -221,7 +221,7 @@ lock_keeps d h none (Some name) = kept
       begun = rw none tt;
     })
 
-op_keeps : (d : Drafted) → IsDraft d → (o : Option (Word × Word)) → Keeps (op_line d o)
+op_keeps : (d : Drafted) → IsSoundDraft d → (o : Option (Word × Word)) → Keeps (op_line d o)
 op_keeps d h None = refused _
 op_keeps d h (Some (name, args)) = kept
     ((not (has_name_form name), Form)
@@ -250,7 +250,7 @@ keeps_if : (b : Bool) (x y : Result Drafted LangFaultKind) → Keeps x → Keeps
 keeps_if true x y p q = p
 keeps_if false x y p q = q
 
-declaration_keeps : (d : Drafted) → IsDraft d → d.begun ≡ None → (word : Word) (words : List Word) → Keeps (declaration d word words)
+declaration_keeps : (d : Drafted) → IsSoundDraft d → d.begun ≡ None → (word : Word) (words : List Word) → Keeps (declaration d word words)
 declaration_keeps d h none word words =
     keeps_if (bytes_eq word (codes "word")) (array_line d (three words)) _ (array_keeps d h none (three words))
     (keeps_if (bytes_eq word (codes "lock")) (lock_line d (one words)) _ (lock_keeps d h none (one words))
@@ -292,7 +292,7 @@ or_refused : (o : Option LangFaultKind) (d : Drafted) → is_some o ≡ true →
 or_refused None d e = absurd cc
 or_refused (Some kind) d e = refused kind
 
-instr_keeps : (d : Drafted) → IsDraft d → (b : Begun) → IsBegun (length d.arrays) (length d.locks) d.operations b → (label : Option Word) (word : Word) (words : List Word) → Keeps (instr_line d b label word words)
+instr_keeps : (d : Drafted) → IsSoundDraft d → (b : Begun) → IsBegun (length d.arrays) (length d.locks) d.operations b → (label : Option Word) (word : Word) (words : List Word) → Keeps (instr_line d b label word words)
 instr_keeps d h b begun label word words = go (statement d (keyword_in word) words) (λ s e. statement_sound d (keyword_in word) words s e) (place_fault b label) (λ e. has_room b label e)
   where
     go : (r : Result Statement LangFaultKind) → ((s : Statement) → r ≡ Ok s → IsStatement (length d.arrays) (length d.locks) s) → (fault : Option LangFaultKind) → (fault ≡ None → length b.statements < 64) → Keeps (placed d b label fault r)
@@ -300,7 +300,7 @@ instr_keeps d h b begun label word words = go (statement d (keyword_in word) wor
     go (Ok s) is (Some kind) room = refused kind
     go (Ok s) is None room = λ next e.
         let same : record d { begun = Some (with_statement b label s) } ≡ next = cc in
-        subst IsDraft same (record {
+        subst IsSoundDraft same (record {
           name = h.name;
           declared = h.declared;
           begun = begun_kept (length d.arrays) (length d.locks) d.operations b label s begun (room refl) (is s refl);
@@ -366,7 +366,7 @@ op_sound a l operations b h ends =
       };
     }
 
-end_keeps : (d : Drafted) → IsDraft d → d.begun ≡ None → (b : Begun) → IsBegun (length d.arrays) (length d.locks) d.operations b → (words : List Word) → Keeps (end_line d b words)
+end_keeps : (d : Drafted) → IsSoundDraft d → d.begun ≡ None → (b : Begun) → IsBegun (length d.arrays) (length d.locks) d.operations b → (words : List Word) → Keeps (end_line d b words)
 end_keeps d h none b begun (word ∷ words) = refused Form
 end_keeps d h none b begun [] = kept
     ((not (ends_well b), Flow) ∷ (not (are_there b), Name) ∷ [])
@@ -391,39 +391,39 @@ end_keeps d h none b begun [] = kept
 
 -- ---- lines
 
-labelled_keeps : (d : Drafted) → IsDraft d → (b : Begun) → IsBegun (length d.arrays) (length d.locks) d.operations b → (label : Word) (words : List Word) → Keeps (labelled d b label words)
+labelled_keeps : (d : Drafted) → IsSoundDraft d → (b : Begun) → IsBegun (length d.arrays) (length d.locks) d.operations b → (label : Word) (words : List Word) → Keeps (labelled d b label words)
 labelled_keeps d h b begun label [] = refused Form
 labelled_keeps d h b begun label (word ∷ words) = instr_keeps d h b begun (Some label) word words
 
-inside_keeps : (d : Drafted) → IsDraft d → d.begun ≡ None → (b : Begun) → IsBegun (length d.arrays) (length d.locks) d.operations b → (label : Option Word) (word : Word) (words : List Word) → Keeps (inside d b label word words)
+inside_keeps : (d : Drafted) → IsSoundDraft d → d.begun ≡ None → (b : Begun) → IsBegun (length d.arrays) (length d.locks) d.operations b → (label : Option Word) (word : Word) (words : List Word) → Keeps (inside d b label word words)
 inside_keeps d h none b begun (Some label) word words = labelled_keeps d h b begun label words
 inside_keeps d h none b begun None word words =
     keeps_if (bytes_eq word (codes "end")) (end_line d b words) (instr_line d b None word words) (end_keeps d h none b begun words) (instr_keeps d h b begun None word words)
 
-state_keeps : (d : Drafted) → IsDraft d → d.begun ≡ None → (name : Option Word) (begun : Option Begun) → IfSome begun (IsBegun (length d.arrays) (length d.locks) d.operations) → (word : Word) (words : List Word) → Keeps (by_state d name begun word words)
+state_keeps : (d : Drafted) → IsSoundDraft d → d.begun ≡ None → (name : Option Word) (begun : Option Begun) → IfSome begun (IsBegun (length d.arrays) (length d.locks) d.operations) → (word : Word) (words : List Word) → Keeps (by_state d name begun word words)
 state_keeps d h none None begun is word words =
     keeps_if (bytes_eq word (codes "component")) (component_line d (one words)) (Err Missing) (component_keeps d h (one words)) (refused Missing)
 state_keeps d h none (Some name) None is word words = declaration_keeps d h none word words
 state_keeps d h none (Some name) (Some b) is word words = inside_keeps d h none b is (label_in word) word words
 
-closed_draft : (d : Drafted) → IsDraft d → IsDraft (closed d)
+closed_draft : (d : Drafted) → IsSoundDraft d → IsSoundDraft (closed d)
 closed_draft d h = record {
   name = h.name;
   declared = h.declared;
   begun = tt;
 }
 
-words_keep : (d : Drafted) → IsDraft d → (words : List Word) → Keeps (by_words d words)
-words_keep d h [] = λ next e. let same : d ≡ next = cc in subst IsDraft same h
+words_keep : (d : Drafted) → IsSoundDraft d → (words : List Word) → Keeps (by_words d words)
+words_keep d h [] = λ next e. let same : d ≡ next = cc in subst IsSoundDraft same h
 words_keep d h (word ∷ words) = state_keeps (closed d) (closed_draft d h) refl d.name d.begun h.begun word words
 
 -- a line without a fault keeps what is declared within the rules
-pub line_keeps : (d : Drafted) → IsDraft d → (line : List ℕ) (next : Drafted) → line_of d line ≡ Ok next → IsDraft next
+pub line_keeps : (d : Drafted) → IsSoundDraft d → (line : List ℕ) (next : Drafted) → line_of d line ≡ Ok next → IsSoundDraft next
 unfolding line_of
 line_keeps d h line = keeps_if (list_all is_allowed line) (by_words d (words_of line)) (Err Byte) (words_keep d h (words_of line)) (refused Byte)
 
 -- nothing is declared yet
-pub nothing_draft : IsDraft nothing
+pub nothing_draft : IsSoundDraft nothing
 unfolding IsDistinct
 nothing_draft = record {
   name = tt;
@@ -444,5 +444,5 @@ nothing_draft = record {
 }
 
 -- what is declared at the end is a component
-pub draft_component : (d : Drafted) → IsDraft d → (name : Word) → IsName name → IsComponent (named d name)
+pub draft_component : (d : Drafted) → IsSoundDraft d → (name : Word) → IsName name → IsComponent (named d name)
 draft_component d h name is = h.declared name is

@@ -6,7 +6,7 @@ use Rattle.std.specs.Fmt.{decimal}
 use Rattle.std.proofs.lemmas.List.{append-nil, length-append}
 use Rattle.std.proofs.lemmas.List.Elements.{recursion_from_All}
 use Rattle.lu_text.specs.Names.{IsName}
-use Rattle.lu_text.specs.Faults.{value_of}
+use Rattle.lu_text.specs.Faults.{meaning_of}
 use Rattle.lu_text.proofs.Written.{Reads, reads_nothing, reads_on, reads_value}
 use Rattle.lu_component.specs.declared.component.Op.{Op}
 use Rattle.lu_component.specs.Component.{Declarations, IsComponent, IsArray, IsOp, AreDistinct}
@@ -47,7 +47,7 @@ ops_read c is done (op ∷ rest) cut each =
     (op_read c is done rest op cut each.0)
     (ops_read c is (done ++ op ∷ []) rest (cut ∙ sym (append_assoc done (op ∷ []) rest)) each.1)
 
-pub component_again : (c : Declarations) → IsComponent c → value_of component_grammar (component_text c) ≡ Ok c
+pub component_again : (c : Declarations) → IsComponent c → meaning_of component_grammar (component_text c) ≡ Ok c
 component_again c is =
     let first : List ℕ = line_text (codes "component" ∷ c.name ∷ []) in
     let local : List ℕ = local_text c.local in
@@ -72,5 +72,5 @@ component_again c is =
     (ap (λ (n : ℕ). let x : Declarations = record c { local = n } in Ok x) (local_said c.local))
 
 -- the same of a text that is the component's
-pub written_again : (c : Declarations) → IsComponent c → (text : List ℕ) → text ≡ component_text c → value_of component_grammar text ≡ Ok c
+pub written_again : (c : Declarations) → IsComponent c → (text : List ℕ) → text ≡ component_text c → meaning_of component_grammar text ≡ Ok c
 written_again c is text e = rw e (component_again c is)

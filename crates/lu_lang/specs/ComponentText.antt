@@ -51,6 +51,10 @@ instr_words c (JumpIfZero v target) =
     keyword_word keyword.JumpIfZero ∷ operand_word v ∷ label_word target ∷ []
 instr_words c (Return v) = keyword_word keyword.Return ∷ operand_word v ∷ []
 
+-- one space between its words
+abbrev pub spelled : Declarations → Instr → List ℕ
+spelled c i = join_with_byte 32 (instr_words c i)
+
 abbrev pub leads_to : ℕ → Instr → Bool
 leads_to place (Jump target) = target == place
 leads_to place (JumpIfZero v target) = target == place
@@ -89,10 +93,13 @@ op_text c op =
     ++ code_text c op.code
     ++ line_text (codes "end" ∷ [])
 
+abbrev pub operations_text : Declarations → List ℕ
+operations_text c = flat_map (op_text c) c.operations
+
 abbrev pub component_text : Declarations → List ℕ
 component_text c =
     line_text (codes "component" ∷ c.name ∷ [])
     ++ local_text c.local
     ++ flat_map array_text c.arrays
     ++ flat_map lock_text c.locks
-    ++ flat_map (op_text c) c.operations
+    ++ operations_text c

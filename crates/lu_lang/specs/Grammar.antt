@@ -135,6 +135,11 @@ compute_line arithmetic (Some (dst, a, b)) =
     says ((not (is_register dst), Form) ∷ (not (is_operand a) || not (is_operand b), Number) ∷ [])
     (Plain (instr.Compute arithmetic (register dst) (operand a) (operand b)))
 
+-- the number of a declared array, or what is wrong with its name
+abbrev pub declared_array : Drafted → Word → Result ℕ LangFaultKind
+declared_array d name =
+    says ((is_long name, Limit) ∷ (not (is_some (array_place d name)), Name) ∷ []) (array_number d name)
+
 -- `load rD W i`
 abbrev pub load_line : Drafted → Option (Word × Word × Word) → Result Statement LangFaultKind
 load_line d None = Err Form

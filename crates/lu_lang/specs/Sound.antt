@@ -25,7 +25,7 @@ pub record IsBegun (arrays locks : ℕ) (operations : List Op) (b : Begun) : Typ
   pub labels : All (λ l. l.place < length b.statements) b.labels
 
 -- under each name, what is declared obeys the rules of components
-pub record IsDraft (d : Drafted) : Type 0 where
+pub record IsSoundDraft (d : Drafted) : Type 0 where
   pub name : IfSome d.name IsName
   pub declared : (name : List ℕ) → IsName name → IsComponent (named d name)
   pub begun : IfSome d.begun (IsBegun (length d.arrays) (length d.locks) d.operations)

@@ -1,13 +1,10 @@
 //! Reading of instructions.
 
-ghost use Rattle.std.specs.Prelude.{◌≡◌, ◌==◌, ◌∷◌, [], IfOk, Some, is_some, not};
+ghost use Rattle.std.specs.Prelude.{◌≡◌, IfOk, Some};
 ghost use Rattle.std.specs.List.{position};
 ghost use Rattle.std.specs.Str.{bytes_eq};
 ghost use Rattle.lu_text.specs.Lines.{texts};
 ghost use Rattle.lu_text.specs.Words.{one, two, three, five};
-ghost use Rattle.lu_text.specs.Names.{is_long};
-ghost use Rattle.lu_text.specs.Faults.{says};
-ghost use Rattle.lu_lang.specs.declared.fault.LangFaultKind.TheVariants.{Limit, Name as FaultName};
 ghost use Rattle.lu_lang.specs.Grammar as spec;
 
 use crate::draft::{Draft, Statement};
@@ -45,7 +42,7 @@ pub fn lock_number(draft: &Draft, name: &[u8]) -> Option<u8>
 
 /// The number of the array of this name, which is to be short enough and declared.
 fn declared_array(draft: &Draft, name: &[u8]) -> Result<u8, LangFaultKind>
-    ensures { result ≡ says ((is_long name.now, Limit) ∷ (not (is_some (spec.array_place draft.now name.now)), FaultName) ∷ []) (spec.array_number draft.now name.now) }
+    ensures { result ≡ spec.declared_array draft.now name.now }
 {
     if is_long(name) {
         return Err(LangFaultKind::Limit);

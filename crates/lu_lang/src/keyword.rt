@@ -24,47 +24,57 @@ pub enum Keyword {
     Return,
 }
 
+impl Keyword {
+    /// The keyword, as it stands in a text.
+    fn word(self) -> &'static str
+        ensures { result.now ≡ spec.keyword_word self }
+    {
+        match self {
+            Keyword::Set => "set",
+            Keyword::Compute(arithmetic) => arithmetic.word(),
+            Keyword::Load => "load",
+            Keyword::Store => "store",
+            Keyword::Cas => "cas",
+            Keyword::Lock => "lock",
+            Keyword::Unlock => "unlock",
+            Keyword::Await => "await",
+            Keyword::AwaitNot => "awaitne",
+            Keyword::Pick => "pick",
+            Keyword::Jump => "jump",
+            Keyword::JumpIfZero => "jz",
+            Keyword::Return => "return",
+        }
+    }
+}
+
+const KEYWORDS: [Keyword; 17] = [
+    Keyword::Set,
+    Keyword::Compute(Arithmetic::Add),
+    Keyword::Compute(Arithmetic::Sub),
+    Keyword::Compute(Arithmetic::Mul),
+    Keyword::Compute(Arithmetic::Eq),
+    Keyword::Compute(Arithmetic::Lt),
+    Keyword::Load,
+    Keyword::Store,
+    Keyword::Cas,
+    Keyword::Lock,
+    Keyword::Unlock,
+    Keyword::Await,
+    Keyword::AwaitNot,
+    Keyword::Pick,
+    Keyword::Jump,
+    Keyword::JumpIfZero,
+    Keyword::Return,
+];
+
 /// The keyword that a word is, where it is one.
 pub fn keyword_in(word: &[u8]) -> Option<Keyword>
     ensures { result ≡ spec.keyword_in word.now }
 {
-    if word == b"set".as_slice() {
-        Some(Keyword::Set)
-    } else if word == b"add".as_slice() {
-        Some(Keyword::Compute(Arithmetic::Add))
-    } else if word == b"sub".as_slice() {
-        Some(Keyword::Compute(Arithmetic::Sub))
-    } else if word == b"mul".as_slice() {
-        Some(Keyword::Compute(Arithmetic::Mul))
-    } else if word == b"eq".as_slice() {
-        Some(Keyword::Compute(Arithmetic::Eq))
-    } else if word == b"lt".as_slice() {
-        Some(Keyword::Compute(Arithmetic::Lt))
-    } else if word == b"load".as_slice() {
-        Some(Keyword::Load)
-    } else if word == b"store".as_slice() {
-        Some(Keyword::Store)
-    } else if word == b"cas".as_slice() {
-        Some(Keyword::Cas)
-    } else if word == b"lock".as_slice() {
-        Some(Keyword::Lock)
-    } else if word == b"unlock".as_slice() {
-        Some(Keyword::Unlock)
-    } else if word == b"await".as_slice() {
-        Some(Keyword::Await)
-    } else if word == b"awaitne".as_slice() {
-        Some(Keyword::AwaitNot)
-    } else if word == b"pick".as_slice() {
-        Some(Keyword::Pick)
-    } else if word == b"jump".as_slice() {
-        Some(Keyword::Jump)
-    } else if word == b"jz".as_slice() {
-        Some(Keyword::JumpIfZero)
-    } else if word == b"return".as_slice() {
-        Some(Keyword::Return)
-    } else {
-        None
-    }
+    KEYWORDS
+        .iter()
+        .copied()
+        .find(|keyword| word == keyword.word().as_bytes())
 }
 
 /// The register that a word is: `r0` to `r7`.

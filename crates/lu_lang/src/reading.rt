@@ -1,18 +1,15 @@
 //! Reading of components, line by line.
 
-ghost use Rattle.std.specs.Prelude.{◌≡◌, ◌==◌, ◌<◌, ◌≤◌, ℕ, List, IfOk, Ok, Some, None, IsErrOf, length, map, nat_le, is_some};
+ghost use Rattle.std.specs.Prelude.{◌≡◌, ◌==◌, ◌<◌, ◌≤◌, ◌∷◌, List, IfOk, Ok, Some, None, length, map, nat_le, is_some};
 ghost use Rattle.std.specs.Option.{option_map};
 ghost use Rattle.std.specs.List.{position, list_all};
 ghost use Rattle.std.specs.Str.{bytes_eq};
-ghost use Rattle.lu_text.specs.Lines.{texts};
+ghost use Rattle.lu_text.specs.Lines.{text_if, texts};
 ghost use Rattle.lu_text.specs.Words.{one, two, three};
-ghost use Rattle.lu_text.specs.Faults.{Gives, IsFirstFault, on_line, value_of, lines_after};
-ghost use Rattle.lu_text.specs.declared.fault.Fault.TheVariants.{At};
-ghost use Rattle.lu_lang.specs.declared.fault.LangFaultKind.{LangFaultKind as Kind};
-ghost use Rattle.lu_lang.specs.Draft.{nothing};
-ghost use Rattle.lu_lang.specs.Sound.{IsDraft};
+ghost use Rattle.lu_text.specs.Faults.{Gives, OnLine, TellsFirst, meaning_of, meaning_of_lines};
+ghost use Rattle.lu_lang.specs.Sound.{IsSoundDraft};
 ghost use Rattle.lu_lang.specs.Grammar as spec;
-ghost use Rattle.lu_lang.specs.Grammar.{component_grammar};
+ghost use Rattle.lu_lang.specs.Grammar.{component_grammar, inside, instr_line};
 
 use crate::draft::{Draft, Label, OpenOp, Statement};
 use crate::fault::{LangFault, LangFaultKind};
@@ -34,7 +31,7 @@ fn component_line(
     mut draft: Draft,
     words: &[&[u8]],
 ) -> Result<Draft, LangFault>
-    ensures { Gives result (on_line line (spec.component_line draft (one (texts words.now)))) }
+    ensures { OnLine line result (spec.component_line draft (one (texts words.now))) }
 {
     let Some(name) = one(words) else {
         return Err(Fault::At(LangFaultKind::Form, line));
@@ -51,7 +48,7 @@ fn component_line(
 
 /// `local L`
 fn local_line(line: usize, mut draft: Draft, words: &[&[u8]]) -> Result<Draft, LangFault>
-    ensures { Gives result (on_line line (spec.local_line draft (one (texts words.now)))) }
+    ensures { OnLine line result (spec.local_line draft (one (texts words.now))) }
 {
     let Some(most) = one(words) else {
         return Err(Fault::At(LangFaultKind::Form, line));
@@ -82,7 +79,7 @@ fn array_line(
     mut draft: Draft,
     words: &[&[u8]],
 ) -> Result<Draft, LangFault>
-    ensures { Gives result (on_line line (spec.array_line draft (three (texts words.now)))) }
+    ensures { OnLine line result (spec.array_line draft (three (texts words.now))) }
 {
     let Some((name, len, init)) = three(words) else {
         return Err(Fault::At(LangFaultKind::Form, line));
@@ -120,7 +117,7 @@ fn lock_line(
     mut draft: Draft,
     words: &[&[u8]],
 ) -> Result<Draft, LangFault>
-    ensures { Gives result (on_line line (spec.lock_line draft (one (texts words.now)))) }
+    ensures { OnLine line result (spec.lock_line draft (one (texts words.now))) }
 {
     let Some(name) = one(words) else {
         return Err(Fault::At(LangFaultKind::Form, line));
@@ -151,7 +148,7 @@ fn op_line(
     mut draft: Draft,
     words: &[&[u8]],
 ) -> Result<Draft, LangFault>
-    ensures { Gives result (on_line line (spec.op_line draft (two (texts words.now)))) }
+    ensures { OnLine line result (spec.op_line draft (two (texts words.now))) }
 {
     let Some((name, args)) = two(words) else {
         return Err(Fault::At(LangFaultKind::Form, line));
@@ -184,7 +181,7 @@ fn declaration(
     word: &[u8],
     words: &[&[u8]],
 ) -> Result<Draft, LangFault>
-    ensures { Gives result (on_line line (spec.declaration draft word.now (texts words.now))) }
+    ensures { OnLine line result (spec.declaration draft word.now (texts words.now)) }
 {
     if word == b"word".as_slice() {
         array_line(alloc, line, draft, words)
@@ -239,7 +236,7 @@ fn has_most_statements(op: &OpenOp) -> bool
 
 /// What is wrong with a label, and with one more instruction.
 fn place_fault(op: &OpenOp, label: Option<&[u8]>) -> Option<LangFaultKind>
-    ensures { result ≡ spec.place_fault op.now (option_map (λ label. label.now) label.entry) }
+    ensures { result ≡ spec.place_fault op.now (text_if label.entry) }
 {
     let Some(label) = label else {
         return if has_most_statements(op) {
@@ -266,8 +263,8 @@ fn with_statement(
     label: Option<&[u8]>,
     statement: Statement,
 ) -> Result<OpenOp, AllocError>
-    requires { spec.place_fault op (option_map (λ label. label.now) label) ≡ None }
-    ensures { IfOk result (λ next. next ≡ spec.with_statement op (option_map (λ label. label.now) label.entry) statement) }
+    requires { spec.place_fault op (text_if label) ≡ None }
+    ensures { IfOk result (λ next. next ≡ spec.with_statement op (text_if label.entry) statement) }
 {
     if let Some(label) = label {
         let place = op.statements.len() as u8;
@@ -288,12 +285,12 @@ fn instr_line(
     op: OpenOp,
     label: Option<&[u8]>,
     word: &[u8],
-    words: &[&[u8]],
+    rest: &[&[u8]],
 ) -> Result<Draft, LangFault>
-    ensures { Gives result (on_line line (spec.instr_line draft op (option_map (λ label. label.now) label.entry) word.now (texts words.now))) }
+    ensures { OnLine line result (instr_line draft op (text_if label.entry) word.now (texts rest.now)) }
 {
     let fault = place_fault(&op, label);
-    match statement(alloc, &draft, keyword_in(word), words)? {
+    match statement(alloc, &draft, keyword_in(word), rest)? {
         Err(kind) => Err(Fault::At(sooner(fault, kind), line)),
         Ok(statement) => match fault {
             Some(kind) => Err(Fault::At(kind, line)),
@@ -314,7 +311,7 @@ fn labelled(
     label: &[u8],
     words: &[&[u8]],
 ) -> Result<Draft, LangFault>
-    ensures { Gives result (on_line line (spec.labelled draft op label.now (texts words.now))) }
+    ensures { OnLine line result (spec.labelled draft op label.now (texts words.now)) }
 {
     match words {
         [] => Err(Fault::At(LangFaultKind::Form, line)),
@@ -425,7 +422,7 @@ fn end_line(
     words: &[&[u8]],
 ) -> Result<Draft, LangFault>
     requires { draft.begun ≡ None }
-    ensures { Gives result (on_line line (spec.end_line draft op (texts words.now))) }
+    ensures { OnLine line result (spec.end_line draft op (texts words.now)) }
 {
     if !words.is_empty() {
         return Err(Fault::At(LangFaultKind::Form, line));
@@ -450,7 +447,7 @@ fn inside(
     words: &[&[u8]],
 ) -> Result<Draft, LangFault>
     requires { draft.begun ≡ None }
-    ensures { Gives result (on_line line (spec.inside draft op (spec.label_in word.now) word.now (texts words.now))) }
+    ensures { OnLine line result (inside draft op (spec.label_in word.now) word.now (texts words.now)) }
 {
     if let Some(label) = label_in(word) {
         return labelled(alloc, line, draft, op, label, words);
@@ -470,7 +467,7 @@ fn component_first(
     word: &[u8],
     words: &[&[u8]],
 ) -> Result<Draft, LangFault>
-    ensures { Gives result (on_line line (spec.component_first draft word.now (texts words.now))) }
+    ensures { OnLine line result (spec.component_first draft word.now (texts words.now)) }
 {
     if word == b"component".as_slice() {
         component_line(alloc, line, draft, words)
@@ -486,7 +483,7 @@ fn by_state(
     word: &[u8],
     words: &[&[u8]],
 ) -> Result<Draft, LangFault>
-    ensures { Gives result (on_line line (spec.by_state (spec.closed draft) draft.name draft.begun word.now (texts words.now))) }
+    ensures { OnLine line result (spec.by_words draft (word.now ∷ texts words.now)) }
 {
     let begun = draft.begun.take();
     if draft.name.is_none() {
@@ -499,7 +496,7 @@ fn by_state(
 }
 
 fn by_words(alloc: Global, line: usize, draft: Draft, words: &[&[u8]]) -> Result<Draft, LangFault>
-    ensures { Gives result (on_line line (spec.by_words draft (texts words.now))) }
+    ensures { OnLine line result (spec.by_words draft (texts words.now)) }
 {
     match words {
         [] => Ok(draft),
@@ -509,7 +506,7 @@ fn by_words(alloc: Global, line: usize, draft: Draft, words: &[&[u8]]) -> Result
 
 #[tactic(auto, unfolding(crate::specs::Grammar::line_of))]
 fn read_line(alloc: Global, line: usize, draft: Draft, text: &[u8]) -> Result<Draft, LangFault>
-    ensures { Gives result (on_line line (spec.line_of draft text.now)) }
+    ensures { OnLine line result (spec.line_of draft text.now) }
 {
     if !are_allowed(text) {
         return Err(Fault::At(LangFaultKind::Byte, line));
@@ -521,8 +518,8 @@ fn read_line(alloc: Global, line: usize, draft: Draft, text: &[u8]) -> Result<Dr
 /// What is declared at the end of the text.
 #[tactic(auto, using(crate::proofs::Drafts::draft_component))]
 fn finished(line: usize, draft: Draft) -> Result<Component, LangFault>
-    requires { IsDraft draft }
-    ensures { Gives result (on_line line (component_grammar.finish draft)) }
+    requires { IsSoundDraft draft }
+    ensures { OnLine line result (component_grammar.finish draft) }
 {
     let Draft {
         name,
@@ -545,7 +542,7 @@ fn finished(line: usize, draft: Draft) -> Result<Component, LangFault>
 }
 
 fn read_lines(alloc: Global, lines: &[&[u8]]) -> Result<Component, LangFault>
-    ensures { Gives result (lines_after component_grammar 1 nothing (texts lines.now)) }
+    ensures { Gives result (meaning_of_lines component_grammar (texts lines.now)) }
 {
     let mut draft = Draft::new(alloc);
     for (before, text) in lines.iter().enumerate() {
@@ -555,7 +552,7 @@ fn read_lines(alloc: Global, lines: &[&[u8]]) -> Result<Component, LangFault>
 }
 
 fn component_in(alloc: Global, text: &[u8]) -> Result<Component, LangFault>
-    ensures { Gives result (value_of component_grammar text.now) }
+    ensures { Gives result (meaning_of component_grammar text.now) }
 {
     let lines = lines_of(alloc, text)?;
     read_lines(alloc, &lines)
@@ -571,9 +568,9 @@ fn component_in(alloc: Global, text: &[u8]) -> Result<Component, LangFault>
 /// The first fault of the text, or that there is no memory for the component.
 pub fn read_component(alloc: Global, text: &[u8]) -> Result<Component, LangFault>
     // Which component, or which fault.
-    ensures exact { Gives result (value_of component_grammar text.now) }
+    ensures exact { Gives result (meaning_of component_grammar text.now) }
     // No line before the fault's has one.
-    ensures first { (kind : Kind) (n : ℕ) → IsErrOf result (At kind n) → IsFirstFault component_grammar text.now kind n }
+    ensures first { TellsFirst component_grammar text.now result }
 {
     component_in(alloc, text)
 }

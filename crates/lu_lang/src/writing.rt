@@ -1,8 +1,8 @@
 //! Writing of components: their canonical text.
 
-ghost use Rattle.std.specs.Prelude.{◌≡◌, ◌++◌, Ok, IfOk, OnOk, string_bytes};
-ghost use Rattle.std.specs.List.{list_any, join_with_byte, flat_map};
-ghost use Rattle.lu_text.specs.Faults.{value_of};
+ghost use Rattle.std.specs.Prelude.{◌≡◌, IfOk, string_bytes};
+ghost use Rattle.std.specs.List.{list_any, flat_map};
+ghost use Rattle.lu_text.specs.Writing.{IsTextOf, Writes};
 ghost use Rattle.lu_lang.specs.ComponentText as spec;
 ghost use Rattle.lu_lang.specs.Grammar.{component_grammar};
 
@@ -37,7 +37,7 @@ pub fn lock_name(component: &Component, number: u8) -> &str
 ///
 /// There is no memory for the text.
 pub fn write_instr(text: &mut String, component: &Component, instr: Instr) -> Result<(), AllocError>
-    ensures { OnOk result (string_bytes text.new ≡ string_bytes text.old ++ join_with_byte 32 (spec.instr_words component.now instr)) }
+    ensures { Writes result text.old text.new (spec.spelled component.now instr) }
 {
     match instr {
         Instr::Set { to, value } => write!(text, "set r{to} {value}")?,
@@ -121,7 +121,7 @@ fn has_label(code: &[Instr], place: usize) -> bool
 ///
 /// There is no memory for the text.
 pub fn write_label(text: &mut String, code: &[Instr], place: usize) -> Result<(), AllocError>
-    ensures { OnOk result (string_bytes text.new ≡ string_bytes text.old ++ spec.label_text code.now place) }
+    ensures { Writes result text.old text.new (spec.label_text code.now place) }
 {
     if has_label(code, place) {
         write!(text, "L{place}: ")?;
@@ -137,7 +137,7 @@ fn write_line(
     place: usize,
     instr: Instr,
 ) -> Result<(), AllocError>
-    ensures { OnOk result (string_bytes text.new ≡ string_bytes text.old ++ spec.instr_line component.now code.now (place, instr)) }
+    ensures { Writes result text.old text.new (spec.instr_line component.now code.now (place, instr)) }
 {
     write_label(text, code, place)?;
     write_instr(text, component, instr)?;
@@ -147,7 +147,7 @@ fn write_line(
 /// Adds the lines of an operation's instructions at the end of a text.
 #[tactic(auto, using(crate::proofs::Lines::all_taken))]
 fn write_code(text: &mut String, component: &Component, code: &[Instr]) -> Result<(), AllocError>
-    ensures { OnOk result (string_bytes text.new ≡ string_bytes text.old ++ spec.code_text component.now code.now) }
+    ensures { Writes result text.old text.new (spec.code_text component.now code.now) }
 {
     for (place, instr) in code.iter().enumerate() {
         write_line(text, component, code, place, *instr)?;
@@ -157,7 +157,7 @@ fn write_code(text: &mut String, component: &Component, code: &[Instr]) -> Resul
 
 /// Adds the line of the local instructions that run with a move at the end of a text, where there are some.
 fn write_local(text: &mut String, local: u8) -> Result<(), AllocError>
-    ensures { OnOk result (string_bytes text.new ≡ string_bytes text.old ++ spec.local_text local) }
+    ensures { Writes result text.old text.new (spec.local_text local) }
 {
     if local > 0 {
         writeln!(text, "local {local}")?;
@@ -166,20 +166,20 @@ fn write_local(text: &mut String, local: u8) -> Result<(), AllocError>
 }
 
 fn write_array(text: &mut String, array: &Array) -> Result<(), AllocError>
-    ensures { OnOk result (string_bytes text.new ≡ string_bytes text.old ++ spec.array_text array.now) }
+    ensures { Writes result text.old text.new (spec.array_text array.now) }
 {
     let Array { name, len, init } = array;
     writeln!(text, "word {} {len} {init}", name.as_str())
 }
 
 fn write_lock(text: &mut String, name: &Name) -> Result<(), AllocError>
-    ensures { OnOk result (string_bytes text.new ≡ string_bytes text.old ++ spec.lock_text name.now) }
+    ensures { Writes result text.old text.new (spec.lock_text name.now) }
 {
     writeln!(text, "lock {}", name.as_str())
 }
 
 fn write_op(text: &mut String, component: &Component, op: &Op) -> Result<(), AllocError>
-    ensures { OnOk result (string_bytes text.new ≡ string_bytes text.old ++ spec.op_text component.now op.now) }
+    ensures { Writes result text.old text.new (spec.op_text component.now op.now) }
 {
     let args = op.args;
     writeln!(text, "op {} {args}", op.name.as_str())?;
@@ -188,7 +188,7 @@ fn write_op(text: &mut String, component: &Component, op: &Op) -> Result<(), All
 }
 
 fn write_arrays(text: &mut String, arrays: &[Array]) -> Result<(), AllocError>
-    ensures { OnOk result (string_bytes text.new ≡ string_bytes text.old ++ flat_map spec.array_text arrays.now) }
+    ensures { Writes result text.old text.new (flat_map spec.array_text arrays.now) }
 {
     for array in arrays {
         write_array(text, array)?;
@@ -197,7 +197,7 @@ fn write_arrays(text: &mut String, arrays: &[Array]) -> Result<(), AllocError>
 }
 
 fn write_locks(text: &mut String, locks: &[Name]) -> Result<(), AllocError>
-    ensures { OnOk result (string_bytes text.new ≡ string_bytes text.old ++ flat_map spec.lock_text locks.now) }
+    ensures { Writes result text.old text.new (flat_map spec.lock_text locks.now) }
 {
     for name in locks {
         write_lock(text, name)?;
@@ -206,7 +206,7 @@ fn write_locks(text: &mut String, locks: &[Name]) -> Result<(), AllocError>
 }
 
 fn write_operations(text: &mut String, component: &Component) -> Result<(), AllocError>
-    ensures { OnOk result (string_bytes text.new ≡ string_bytes text.old ++ flat_map (spec.op_text component.now) component.now.operations) }
+    ensures { Writes result text.old text.new (spec.operations_text component.now) }
 {
     for op in component.operations() {
         write_op(text, component, op)?;
@@ -226,7 +226,7 @@ fn write_operations(text: &mut String, component: &Component) -> Result<(), Allo
 /// There is no memory for the text.
 pub fn write_component(alloc: Global, component: &Component) -> Result<String, AllocError>
     ensures text { IfOk result (λ text. string_bytes text ≡ spec.component_text component.now) }
-    ensures again { IfOk result (λ text. value_of component_grammar (string_bytes text) ≡ Ok component.now) }
+    ensures again { IfOk result (IsTextOf component_grammar component.now) }
 {
     let mut text = String::new(alloc);
     writeln!(text, "component {}", component.name().as_str())?;

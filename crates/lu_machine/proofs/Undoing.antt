@@ -9,7 +9,7 @@ use Rattle.lu_machine.specs.declared.undo.Shared.{Shared}
 use Rattle.lu_machine.specs.declared.undo.Shared.TheVariants.{Nothing, Cell, Owner}
 use Rattle.lu_machine.specs.declared.undo.Undo.{Undo}
 use Rattle.lu_component.specs.Component.{Declarations, IsRegister}
-use Rattle.lu_machine.specs.Events.{IsInRange}
+use Rattle.lu_machine.specs.Events.{IsEventInRange}
 use Rattle.lu_machine.specs.Layout.{WasIn}
 use Rattle.lu_machine.specs.States.{State, with_thread}
 use Rattle.lu_machine.specs.Changes.{IsChanged, PutsBack, before, effect_of}
@@ -74,7 +74,7 @@ move_back s mid o t now standing back shared stands is =
     rw (with_shared-with_thread mid o t now, shared) (turned_back s t now standing back stands is)
 
 -- the state after a move has all that its undo puts back
-pub can_take : (s mid : State) (o : Shared) (t : ℕ) (now standing : Thread) (was : Was) (event : Option Event) → with_shared mid o ≡ s → IsThere mid o → slice_get s.threads t ≡ Some standing → IsRegister was.register → WasIn mid.component was → IfSome event IsInRange → CanTake (with_thread mid t now) (record { thread = t; was = was; overwritten = o; event = event })
+pub can_take : (s mid : State) (o : Shared) (t : ℕ) (now standing : Thread) (was : Was) (event : Option Event) → with_shared mid o ≡ s → IsThere mid o → slice_get s.threads t ≡ Some standing → IsRegister was.register → WasIn mid.component was → IfSome event IsEventInRange → CanTake (with_thread mid t now) (record { thread = t; was = was; overwritten = o; event = event })
 can_take s mid o t now standing was event back there stands register code range = record {
   thread = rw (length-set mid.threads t now) (slice_get_within mid.threads t standing (rw (threads_same s mid o back) stands));
   register = register;

@@ -1,5 +1,5 @@
 -- How a thread is changed where it stands, and put back.
-use Rattle.std.specs.Prelude.{◌≡◌, ◌≤◌, ℕ, Bool, true, false, Option, Some, None, slice_set}
+use Rattle.std.specs.Prelude.{◌≡◌, ◌≤◌, ℕ, Bool, true, false, Option, Some, None, slice_get, slice_set}
 use Rattle.lu_component.specs.Component.{IsRegister}
 use Rattle.lu_machine.specs.declared.event.Event.{Event}
 use Rattle.lu_machine.specs.declared.event.Event.TheVariants.{Call as Called, Return as Returned}
@@ -62,10 +62,21 @@ PutsBack kept standing change was now =
     (f : Frame) → standing.activity ≡ Open f → (t : ℕ) (whole : Bool) → (whole ≡ true → kept ≡ true)
     → before whole (event_after t standing.done (effect_of f change)) was now ≡ standing
 
+-- where a thread stands after the change, which stood so with an open operation
+abbrev pub IsThreadAfter : Thread → Change → Thread → Type 0
+IsThreadAfter standing change now =
+    (f : Frame) → standing.activity ≡ Open f → now ≡ thread_after standing.done (effect_of f change)
+
 -- thread t stood so in s; it is changed in `new`, and `was` tells how to put it back
 pub record IsChanged (s : State) (t : ℕ) (standing : Thread) (change : Change) (kept : Bool) (new : State) (was : Was) : Type 0 where
   pub now : Thread
   pub moved : new ≡ with_thread s t now
-  pub after : (f : Frame) → standing.activity ≡ Open f → now ≡ thread_after standing.done (effect_of f change)
+  pub after : IsThreadAfter standing change now
   pub back : PutsBack kept standing change was now
   pub register : IsRegister was.register
+
+-- thread t of s, if there is one, is changed in `new`, and `was` tells how to put it back
+abbrev pub ChangesThread : State → ℕ → Change → Bool → State → Was → Type 0
+ChangesThread s t change kept new was =
+    (standing : Thread) → slice_get s.threads t ≡ Some standing
+    → IsChanged s t standing change kept new was

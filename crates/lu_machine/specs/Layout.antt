@@ -1,5 +1,5 @@
 -- How a machine keeps its state.
-use Rattle.std.specs.Prelude.{◌≡◌, ℕ, ◌+◌, ◌^◌, ◌<◌, ◌≤◌, List, [], ◌∷◌, length, map, Option, All}
+use Rattle.std.specs.Prelude.{◌≡◌, ℕ, ◌+◌, ◌^◌, ◌<◌, ◌≤◌, List, [], ◌∷◌, length, map, Option, Some, IfSome, slice_get, All}
 use Rattle.lu_component.specs.declared.component.Array.{Array}
 use Rattle.lu_component.specs.declared.instr.Instr.{Instr}
 use Rattle.lu_component.specs.Component.{Declarations, IsComponent, IsInstr}
@@ -12,7 +12,7 @@ use Rattle.lu_machine.specs.declared.thread.Thread.{Thread}
 use Rattle.lu_machine.specs.declared.thread.Was.{Was}
 use Rattle.lu_machine.specs.declared.program.Agenda.{Agenda}
 use Rattle.lu_machine.specs.declared.program.Task.{Task}
-use Rattle.lu_machine.specs.States.{State, first_cell}
+use Rattle.lu_machine.specs.States.{State, first_cell, instr_at}
 use Rattle.lu_machine.specs.Tasks.{agenda_of, rows_of}
 
 -- where the cells of the arrays stand, behind so many others
@@ -42,6 +42,17 @@ StandsIn c thread = IsInCode c thread.activity
 abbrev pub WasIn : Declarations → Was → Type 0
 WasIn c was = (was.op < length c.operations) × (was.place ≤ 64)
 
+-- the operation of a thread that stood so, if one was open, is one of the component's
+abbrev pub StoodIn : Declarations → Thread → Was → Type 0
+StoodIn c standing was =
+    (f : Frame) → standing.activity ≡ Open f → StandsIn c standing → WasIn c was
+
+-- the operation of thread t of s, if one was open, is one of the component's
+abbrev pub ThreadStoodIn : State → ℕ → Was → Type 0
+ThreadStoodIn s t was =
+    (standing : Thread) (f : Frame) → slice_get s.threads t ≡ Some standing
+    → standing.activity ≡ Open f → WasIn s.component was
+
 -- a span for each array, a row of tasks for each operation, each thread's calls as they are opened, and as many cells, locks and
 -- threads as the component and the matrix have
 pub record IsLaidOut (c : Declarations) (matrix : Matrix) (spans : List Span) (rows : List (List Task)) (agendas : List Agenda)
@@ -63,3 +74,7 @@ pub record IsLaidOut (c : Declarations) (matrix : Matrix) (spans : List Span) (r
 pub record IsSound (s : State) (f : Frame) (instr : Instr) : Type 0 where
   pub place : f.place < 64
   pub named : IsInstr (length s.component.arrays) (length s.component.locks) 64 instr
+
+-- the next instruction of the operation f, if it has one, names what is there
+abbrev pub IsSoundNext : State → Frame → Type 0
+IsSoundNext s f = IfSome (instr_at s.component f.op f.place) (IsSound s f)

@@ -9,6 +9,7 @@ pub mod Order
 pub mod Changes
 pub mod Undoes
 pub mod Tasks
+pub mod Acts
 pub mod Layout
 pub mod Laws
 pub mod Schedules

@@ -1,5 +1,5 @@
 -- Where a run starts: after the calls of the setup, which thread 0 makes alone.
-use Rattle.std.specs.Prelude.{◌≡◌, ℕ, ◌+◌, ◌<◌, ◌≤◌, zero, suc, false, List, [], ◌∷◌, length, replicate, Option, None}
+use Rattle.std.specs.Prelude.{◌≡◌, ℕ, ◌+◌, ◌<◌, ◌≤◌, zero, suc, false, List, [], ◌∷◌, length, replicate, Option, None, MatchOption}
 use Rattle.std.specs.List.{flat_map}
 use Rattle.lu_component.specs.declared.component.Array.{Array}
 use Rattle.lu_component.specs.Component.{Declarations}
@@ -11,9 +11,13 @@ use Rattle.lu_machine.specs.declared.thread.Activity.TheVariants.{Idle}
 use Rattle.lu_machine.specs.States.{State, progress}
 use Rattle.lu_machine.specs.Runs.{Leads}
 
--- the cells of all arrays, one array after the other, each with its array's initial value
+-- the cells of an array, each with its initial value
+abbrev pub cells_of : Array → List ℕ
+cells_of array = replicate array.len array.init
+
+-- the cells of all arrays, one array after the other
 abbrev pub initial_cells : List Array → List ℕ
-initial_cells arrays = flat_map (λ a. replicate a.len a.init) arrays
+initial_cells arrays = flat_map cells_of arrays
 
 -- these cells and locks; threads are idle, and no call is made
 abbrev pub at_rest : Declarations → Matrix → List ℕ → List (Option ℕ) → State
@@ -72,11 +76,25 @@ pub record IsFirstOpen (c : Declarations) (calls : List Call) (k : ℕ) : Type 0
   pub made : MakesAll c calls k before
   pub open_still : (end : State) → Makes before k end → ⊥
 
+-- none where all these calls were made, which leads to the state `end`; else the first that does not end
+abbrev pub IsMaking : Declarations → List Call → Option ℕ → State → Type 0
+IsMaking c calls unsettled end =
+    MatchOption unsettled (MakesAll c calls (length calls) end) (IsFirstOpen c calls)
+
 -- call k of the setup is the first that does not end
 abbrev pub IsUnsettledAt : Declarations → Matrix → ℕ → Type 0
 IsUnsettledAt c matrix k = IsFirstOpen c matrix.setup k
+
+-- none where each call of the setup ends, else the first that does not end
+abbrev pub IsFirstUnsettled : Declarations → Matrix → Option ℕ → Type 0
+IsFirstUnsettled c matrix unsettled =
+    MatchOption unsettled (Settles c matrix) (IsUnsettledAt c matrix)
 
 -- the matrix is one of the component, and its setup settles
 pub record CanRun (c : Declarations) (matrix : Matrix) : Type 0 where
   pub of : IsOf matrix c
   pub settles : Settles c matrix
+
+-- what holds of the state where runs start, if there is one
+abbrev pub FromEachStart : Declarations → Matrix → (State → Type 0) → Type 0
+FromEachStart c matrix Holds = (s : State) → IsStart c matrix s → Holds s

@@ -1,7 +1,8 @@
 -- How a machine keeps the code of operations and the calls of threads.
 use Rattle.std.specs.Prelude.{ℕ, ◌-◌, ◌<◌, ◌==◌, Bool, false, not, if◌then◌else◌, List, ◌++◌, length, map, replicate, Option, Some, None, is_some}
-use Rattle.std.specs.Option.{option_map_or}
+use Rattle.std.specs.Option.{option_map, option_map_or}
 use Rattle.lu_component.specs.declared.instr.Instr.{Instr}
+use Rattle.lu_component.specs.declared.instr.Operand.{Operand}
 use Rattle.lu_component.specs.declared.instr.Instr.TheVariants.{Lock, Await, AwaitNot, Jump}
 use Rattle.lu_component.specs.Component.{Declarations, IsOperand}
 use Rattle.lu_test.specs.declared.matrix.Call.{Call}
@@ -40,6 +41,10 @@ rows_of c = map (λ o. row_of o.code) c.operations
 -- the task at the place of the operation f
 abbrev pub task_at : Declarations → Frame → Task
 task_at c f = option_map_or task_of (instr_at c f.op f.place) no_task
+
+-- whether the cell has the operand's value: none where its array has no such cell
+abbrev pub equals : State → Frame → ℕ → Operand → Operand → Option Bool
+equals s f array index value = option_map (λ p. value_at s p == value_of f value) (cell_at s f array index)
 
 -- whether the operation f has to wait
 abbrev pub waits : State → Frame → Wait → Bool

@@ -1,5 +1,5 @@
 -- How a move is taken back.
-use Rattle.std.specs.Prelude.{◌<◌, ℕ, Bool, nat_lt, IfSome, length, slice_get}
+use Rattle.std.specs.Prelude.{◌≡◌, ◌<◌, ℕ, Bool, false, nat_lt, IfSome, length, slice_get}
 use Rattle.std.specs.Option.{option_map_or}
 use Rattle.lu_machine.specs.declared.undo.Shared.{Shared}
 use Rattle.lu_machine.specs.declared.undo.Shared.TheVariants.{Nothing, Cell, Owner}
@@ -7,7 +7,7 @@ use Rattle.lu_machine.specs.declared.undo.Undo.{Undo}
 use Rattle.lu_component.specs.Component.{IsRegister}
 use Rattle.lu_machine.specs.declared.thread.Thread.{Thread}
 use Rattle.lu_machine.specs.Changes.{before}
-use Rattle.lu_machine.specs.Events.{IsInRange}
+use Rattle.lu_machine.specs.Events.{IsEventInRange}
 use Rattle.lu_machine.specs.Layout.{WasIn}
 use Rattle.lu_machine.specs.States.{State, with_cell, with_owner, with_thread}
 
@@ -42,5 +42,10 @@ pub record CanTake (s : State) (undo : Undo) : Type 0 where
   pub thread : undo.thread < length s.threads
   pub register : IsRegister undo.was.register
   pub code : WasIn s.component undo.was
-  pub event : IfSome undo.event IsInRange
+  pub event : IfSome undo.event IsEventInRange
   pub overwritten : IsThere s undo.overwritten
+
+-- The undo leads from `new` back to s. With `whole` false it has one register of an operation that went on, which is enough
+-- where no local instructions run with moves.
+abbrev pub LeadsBack : Bool → State → Undo → State → Type 0
+LeadsBack whole s undo new = (whole ≡ false → s.component.local ≡ 0) → restored undo new ≡ s

@@ -1,18 +1,15 @@
 //! What each instruction does.
 
-ghost use Rattle.std.specs.Prelude.{◌≡◌, ◌<◌, ◌==◌, length, IfSome, MatchOption};
-ghost use Rattle.std.specs.Option.{option_map};
+ghost use Rattle.std.specs.Prelude.{◌≡◌, ◌<◌, length, IfSome};
 ghost use Rattle.lu_component.specs.Component.{IsOperand};
-ghost use Rattle.lu_test.specs.declared.schedule.Move.{Move as AMove};
-ghost use Rattle.lu_machine.specs.declared.event.Outcome.TheVariants.{Trap};
-ghost use Rattle.lu_machine.specs.Changes.{IsChange, effect_of};
-ghost use Rattle.lu_machine.specs.Effects.{onward, value_of};
-ghost use Rattle.lu_machine.specs.Effects.Effect.{Ends};
+ghost use Rattle.lu_machine.specs.Acts.{Acts, ActsAt, ActsOf, Alters, PassesOrTraps};
+ghost use Rattle.lu_machine.specs.Changes.{IsChange};
+ghost use Rattle.lu_machine.specs.Effects.{value_of};
 ghost use Rattle.lu_machine.specs.Layout.{IsSound};
-ghost use Rattle.lu_machine.specs.States.{cell_at, value_at};
-ghost use Rattle.lu_machine.specs.Steps.{Carries, instr_picks, is_blocked, is_local};
-ghost use Rattle.lu_machine.specs.Tasks.{IsAwaitable, task_picks, waits};
-ghost use Rattle.lu_machine.specs.Undoes.{IsThere, with_shared};
+ghost use Rattle.lu_machine.specs.States.{value_at};
+ghost use Rattle.lu_machine.specs.Steps.{instr_picks, is_blocked, is_local};
+ghost use Rattle.lu_machine.specs.Tasks.{IsAwaitable, equals, task_picks, waits};
+ghost use Rattle.lu_machine.specs.Undoes.{IsThere};
 
 use crate::event::Outcome;
 use crate::machine::Machine;
@@ -109,9 +106,7 @@ impl Machine<'_> {
         requires array { array < length self.now.component.arrays }
         requires index { IsOperand index }
         requires value { IsOperand value }
-        ensures { result
-            ≡ option_map (λ p. value_at self.now p == value_of frame.now value)
-            (cell_at self.now frame.now array index) }
+        ensures { result ≡ equals self.now frame.now array index value }
     {
         let place = self.cell(array, frame.value(index))?;
         Some(self.value_at(place) == frame.value(value))
@@ -122,7 +117,7 @@ impl Machine<'_> {
     pub(crate) fn act(&self, next: Move, frame: &Frame, instr: &Instr) -> Act
         requires sound { IsSound self.now frame.now instr.now }
         requires feasible { next.pick < instr_picks self.now frame.now instr.now }
-        ensures carries { Carries self.now next frame.now instr.now (with_shared self.now result.shared) (effect_of frame.now result.change) }
+        ensures carries { ActsAt self.now next frame.now instr.now result }
         ensures there { IsThere self.now result.shared }
         ensures sound { IsChange result.change }
     {
@@ -175,7 +170,7 @@ impl Machine<'_> {
     #[inline(always)]
     fn load(&self, frame: &Frame, to: u8, array: u8, index: Operand) -> Change
         requires { IsSound self.now frame.now (Instr.Load to array index) }
-        ensures carries { (m : AMove) → Carries self.now m frame.now (Instr.Load to array index) self.now (effect_of frame.now result) }
+        ensures carries { Alters self.now frame.now (Instr.Load to array index) result }
         ensures sound { IsChange result }
     {
         match self.cell(array, frame.value(index)) {
@@ -187,7 +182,7 @@ impl Machine<'_> {
     #[inline(always)]
     fn store(&self, frame: &Frame, array: u8, index: Operand, value: Operand) -> Act
         requires { IsSound self.now frame.now (Instr.Store array index value) }
-        ensures carries { (m : AMove) → Carries self.now m frame.now (Instr.Store array index value) (with_shared self.now result.shared) (effect_of frame.now result.change) }
+        ensures carries { Acts self.now frame.now (Instr.Store array index value) result }
         ensures there { IsThere self.now result.shared }
         ensures sound { IsChange result.change }
     {
@@ -214,7 +209,7 @@ impl Machine<'_> {
         desired: Operand,
     ) -> Act
         requires { IsSound self.now frame.now (Instr.Cas to array index expected desired) }
-        ensures carries { (m : AMove) → Carries self.now m frame.now (Instr.Cas to array index expected desired) (with_shared self.now result.shared) (effect_of frame.now result.change) }
+        ensures carries { Acts self.now frame.now (Instr.Cas to array index expected desired) result }
         ensures there { IsThere self.now result.shared }
         ensures sound { IsChange result.change }
     {
@@ -234,7 +229,7 @@ impl Machine<'_> {
     #[inline(always)]
     fn unlock(&self, thread: u8, frame: &Frame, lock: u8) -> Act
         requires { IsSound self.now frame.now (Instr.Unlock lock) }
-        ensures carries { (m : AMove) → m.thread ≡ thread → Carries self.now m frame.now (Instr.Unlock lock) (with_shared self.now result.shared) (effect_of frame.now result.change) }
+        ensures carries { ActsOf self.now thread frame.now (Instr.Unlock lock) result }
         ensures there { IsThere self.now result.shared }
         ensures sound { IsChange result.change }
     {
@@ -254,9 +249,7 @@ impl Machine<'_> {
         requires room { frame.now.place < 64 }
         requires array { array < length self.now.component.arrays }
         requires index { IsOperand index }
-        ensures effect { MatchOption (cell_at self.now frame.now array index)
-            (effect_of frame.now result ≡ Ends Trap)
-            (λ _. effect_of frame.now result ≡ onward frame.now) }
+        ensures effect { PassesOrTraps self.now frame.now array index result }
         ensures sound { IsChange result }
     {
         match self.cell(array, frame.value(index)) {

@@ -1,22 +1,20 @@
 //! The machine.
 
-ghost use Rattle.std.specs.Prelude.{◌≡◌, ℕ, true, false, ◌+◌, ◌<◌, ◌≤◌, ◌↔◌, [], ◌∷◌, length, IsTrue, IsSome, IfSome, IfOk, MatchOption, slice_get, Some};
+ghost use Rattle.std.specs.Prelude.{◌≡◌, ℕ, true, false, ◌+◌, ◌<◌, ◌≤◌, ◌↔◌, [], ◌∷◌, length, IsTrue, IsSome, IfSome, IfOk, slice_get, Some};
 ghost use Rattle.std.specs.Option.{option_copied, option_map_or};
-ghost use Rattle.lu_test.specs.declared.schedule.Move.{Move as AMove};
-ghost use Rattle.lu_test.specs.declared.matrix.Call.{Call as ACall};
 ghost use Rattle.lu_test.specs.Matrix.{IsMatrix, IsOf, alone, calls_of};
 ghost use Rattle.lu_machine.specs.declared.thread.Activity.TheVariants.{Open};
 ghost use Rattle.lu_machine.specs.declared.thread.Frame.{Frame as AFrame};
-ghost use Rattle.lu_machine.specs.declared.thread.Thread.{Thread as AThread};
 ghost use Rattle.lu_component.specs.Component.{IsComponent, IsRegister};
-ghost use Rattle.lu_machine.specs.Changes.{IsChange, IsChanged, at_work, before, effect_of, idle};
+ghost use Rattle.lu_machine.specs.Changes.{ChangesThread, IsChange, at_work, before, effect_of, idle};
 ghost use Rattle.lu_machine.specs.States.{State as AState, call_count, cell_of, instr_at, owner_of, progress, value_at, with_cell, with_owner, with_thread};
-ghost use Rattle.lu_machine.specs.Steps.{IsEnabled, IsFeasible, OneStep, RunsOn, Step, event_after, is_at_local, more_local, opened, picks_of, thread_after};
-ghost use Rattle.lu_machine.specs.Layout.{IsInCode, IsSound, IsStanding, StandsIn, WasIn};
-ghost use Rattle.lu_machine.specs.Events.{IsInRange};
+ghost use Rattle.lu_machine.specs.Steps.{IsEnabled, IsFeasible, OneStep, RunsOn, Step, event_after, is_at_local, more_local, picks_of};
+ghost use Rattle.lu_machine.specs.Acts.{GoesOn, IsOpening, Opens};
+ghost use Rattle.lu_machine.specs.Layout.{IsInCode, IsSound, IsSoundNext, IsStanding, StandsIn, ThreadStoodIn, WasIn};
+ghost use Rattle.lu_machine.specs.Events.{IsEventInRange};
 ghost use Rattle.lu_machine.specs.Ends.{HasStatus, IsFinished};
-ghost use Rattle.lu_machine.specs.Undoes.{CanTake, IsThere, has_local, restored, with_shared, with_thread_back};
-ghost use Rattle.lu_machine.specs.Starts.{CanRun, IsFirstOpen, IsStart, Makes, MakesAll, empty_state};
+ghost use Rattle.lu_machine.specs.Undoes.{CanTake, IsThere, LeadsBack, has_local, restored, with_shared, with_thread_back};
+ghost use Rattle.lu_machine.specs.Starts.{CanRun, IsMaking, IsStart, Makes, empty_state};
 ghost use Rattle.lu_machine.specs.Tasks.{IsAwaitable, task_at};
 
 use crate::event::{Event, Status};
@@ -118,9 +116,7 @@ impl<'a> Machine<'a> {
     /// end within 256 moves after its call, if there is one. Asks for a machine before any call, of one thread.
     pub(crate) fn make_all(&mut self) -> Option<u8>
         requires { self.old ≡ empty_state self.old.component (alone (calls_of self.old.matrix 0)) }
-        ensures { MatchOption result
-            (MakesAll self.old.component (calls_of self.old.matrix 0) (call_count self.old 0) self.new)
-            (IsFirstOpen self.old.component (calls_of self.old.matrix 0)) }
+        ensures { IsMaking self.old.component (calls_of self.old.matrix 0) result self.new }
     {
         for k in 0..self.matrix.calls(0) {
             if !self.make(k) {
@@ -207,7 +203,7 @@ impl<'a> Machine<'a> {
         requires place { frame.now.place ≤ 64 }
         ensures value { result.now ≡ task_at self.now.component frame.now }
         ensures wait { IfSome result.now.wait (IsAwaitable self.now) }
-        ensures sound { IfSome (instr_at self.now.component frame.now.op frame.now.place) (IsSound self.now frame.now) }
+        ensures sound { IsSoundNext self.now frame.now }
     {
         &self.rows[usize::from(frame.op)][usize::from(frame.place)]
     }
@@ -216,7 +212,7 @@ impl<'a> Machine<'a> {
     #[inline(always)]
     fn opening(&self, thread: u8, k: u8) -> &Frame
         requires { k < call_count self.now thread }
-        ensures opened { (call : ACall) × (slice_get (calls_of self.now.matrix thread) k ≡ Some call) × (result.now ≡ opened call) }
+        ensures opened { IsOpening self.now thread k result.now }
         ensures few { k < 8 }
         ensures in_code { IsInCode self.now.component (Open result.now) }
     {
@@ -320,8 +316,8 @@ impl<'a> Machine<'a> {
     fn change<const WHOLE: bool>(&mut self, thread: u8, change: Change) -> Was
         requires there { thread < length self.old.threads }
         requires sound { IsChange change }
-        ensures changed { (standing : AThread) → slice_get self.old.threads thread ≡ Some standing → IsChanged self.old thread standing change WHOLE self.new result }
-        ensures was_in { (standing : AThread) (f : AFrame) → slice_get self.old.threads thread ≡ Some standing → standing.activity ≡ Open f → WasIn self.old.component result }
+        ensures changed { ChangesThread self.old thread change WHOLE self.new result }
+        ensures was_in { ThreadStoodIn self.old thread result }
     {
         self.threads[usize::from(thread)].change::<WHOLE>(change)
     }
@@ -332,7 +328,7 @@ impl<'a> Machine<'a> {
         requires there { thread < length self.old.threads }
         requires register { IsRegister was.register }
         requires code { WasIn self.old.component was }
-        requires event { IfSome event IsInRange }
+        requires event { IfSome event IsEventInRange }
         ensures { self.new ≡ with_thread_back self.old thread (before (has_local self.old) event was) }
     {
         let whole = self.component.local() > 0;
@@ -407,7 +403,7 @@ impl<'a> Machine<'a> {
     pub fn step(&mut self, next: Move) -> Option<Event>
         requires { IsFeasible self.old next }
         ensures step { Step self.old next self.new result }
-        ensures range { IfSome result IsInRange }
+        ensures range { IfSome result IsEventInRange }
     {
         self.apply(next).event()
     }
@@ -418,7 +414,7 @@ impl<'a> Machine<'a> {
     pub fn apply(&mut self, next: Move) -> Undo
         requires { IsFeasible self.old next }
         ensures step { Step self.old next self.new result.event }
-        ensures range { IfSome result.event IsInRange }
+        ensures range { IfSome result.event IsEventInRange }
         ensures back { restored result self.new ≡ self.old }
         ensures fits { CanTake self.new result }
     {
@@ -432,7 +428,7 @@ impl<'a> Machine<'a> {
         requires feasible { IsFeasible self.old next }
         requires one { LONG ≡ false → self.old.component.local ≡ 0 }
         ensures step { Step self.old next self.new result.event }
-        ensures range { IfSome result.event IsInRange }
+        ensures range { IfSome result.event IsEventInRange }
         ensures back { restored result self.new ≡ self.old }
         ensures fits { CanTake self.new result }
     {
@@ -494,8 +490,8 @@ impl<'a> Machine<'a> {
         requires { IsFeasible self.old next }
         ensures step { OneStep self.old next self.new result.event }
         ensures thread { result.thread ≡ next.thread }
-        ensures range { IfSome result.event IsInRange }
-        ensures back { (WHOLE ≡ false → self.old.component.local ≡ 0) → restored result self.new ≡ self.old }
+        ensures range { IfSome result.event IsEventInRange }
+        ensures back { LeadsBack WHOLE self.old result self.new }
         ensures fits { CanTake self.new result }
     {
         let Some(standing) = self.standing(next.thread) else {
@@ -518,9 +514,9 @@ impl<'a> Machine<'a> {
         requires few { thread < 8 }
         requires stands { slice_get self.old.threads thread ≡ Some (idle done) }
         requires left { done < call_count self.old thread }
-        ensures step { (m : AMove) → m.thread ≡ thread → m.pick ≡ 0 → OneStep self.old m self.new result.event }
+        ensures step { Opens self.old thread self.new result.event }
         ensures thread { result.thread ≡ thread }
-        ensures range { IfSome result.event IsInRange }
+        ensures range { IfSome result.event IsEventInRange }
         ensures back { restored result self.new ≡ self.old }
         ensures fits { CanTake self.new result }
     {
@@ -551,11 +547,11 @@ impl<'a> Machine<'a> {
         requires stands { (f : AFrame) × (slice_get self.old.threads thread ≡ Some (at_work done f)) }
         requires there { IsThere self.old act.shared }
         requires sound { IsChange act.change }
-        ensures after { (f : AFrame) → slice_get self.old.threads thread ≡ Some (at_work done f) → self.new ≡ with_thread (with_shared self.old act.shared) thread (thread_after done (effect_of f act.change)) }
+        ensures after { GoesOn self.old thread done act self.new }
         ensures thread { result.thread ≡ thread }
         ensures event { (f : AFrame) → result.event ≡ event_after thread done (effect_of f act.change) }
-        ensures range { IfSome result.event IsInRange }
-        ensures back { (WHOLE ≡ false → self.old.component.local ≡ 0) → restored result self.new ≡ self.old }
+        ensures range { IfSome result.event IsEventInRange }
+        ensures back { LeadsBack WHOLE self.old result self.new }
         ensures fits { CanTake self.new result }
     {
         let overwritten = self.write(act.shared);

@@ -1,8 +1,8 @@
 //! Whether a setup settles.
 
-ghost use Rattle.std.specs.Prelude.{IfOk, MatchOption};
+ghost use Rattle.std.specs.Prelude.{IfOk};
 ghost use Rattle.lu_test.specs.Matrix.{IsOf};
-ghost use Rattle.lu_machine.specs.Starts.{IsUnsettledAt, Settles};
+ghost use Rattle.lu_machine.specs.Starts.{IsFirstUnsettled};
 
 use crate::machine::Machine;
 use lu_component::Component;
@@ -22,7 +22,7 @@ pub fn settles(
     matrix: &Matrix,
 ) -> Result<Option<u8>, AllocError>
     requires { IsOf matrix.now component.now }
-    ensures { IfOk result (λ unsettled. MatchOption unsettled (Settles component.now matrix.now) (IsUnsettledAt component.now matrix.now)) }
+    ensures { IfOk result (IsFirstUnsettled component.now matrix.now) }
 {
     let alone = setup_alone(alloc, matrix)?;
     let mut setup = Machine::empty(alloc, component, &alone)?;

@@ -1,8 +1,8 @@
 //! Where the cells of each array stand among all cells.
 
-ghost use Rattle.std.specs.Prelude.{◌≡◌, ◌^◌, ◌<◌, ◌++◌, length, replicate, IfOk, OnOk};
+ghost use Rattle.std.specs.Prelude.{◌≡◌, ◌^◌, ◌<◌, ◌++◌, length, IfOk, OnOk};
 ghost use Rattle.lu_machine.specs.Layout.{spans_of};
-ghost use Rattle.lu_machine.specs.Starts.{initial_cells};
+ghost use Rattle.lu_machine.specs.Starts.{cells_of, initial_cells};
 
 use lu_component::Array;
 use std::alloc::{AllocError, Global};
@@ -37,7 +37,7 @@ pub(crate) fn lay_out(alloc: Global, arrays: &[Array]) -> Result<(Vec<Span>, Vec
 
 /// Adds the cells of the array.
 fn push_cells(cells: &mut Vec<u32>, array: &Array) -> Result<(), AllocError>
-    ensures { OnOk result (cells.new.items ≡ cells.old.items ++ replicate array.now.len array.now.init) }
+    ensures { OnOk result (cells.new.items ≡ cells.old.items ++ cells_of array.now) }
 {
     for _cell in 0..array.len {
         cells.push(array.init)?;

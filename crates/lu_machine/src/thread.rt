@@ -4,11 +4,11 @@ ghost use Rattle.std.specs.Prelude.{◌≡◌, ◌-◌, ◌<◌, ◌≤◌, ◌+
 ghost use Rattle.lu_component.specs.Component.{Declarations, IsRegister, IsOperand};
 ghost use Rattle.lu_machine.specs.declared.thread.Activity.TheVariants.{Open};
 ghost use Rattle.lu_machine.specs.declared.thread.Frame.{Frame as AFrame};
-ghost use Rattle.lu_machine.specs.Changes.{IsChange, PutsBack, before, effect_of, whole_frame};
+ghost use Rattle.lu_machine.specs.Changes.{IsChange, IsThreadAfter, PutsBack, before, effect_of, whole_frame};
 ghost use Rattle.lu_machine.specs.Effects.{computed, onward, onward_with, value_of};
-ghost use Rattle.lu_machine.specs.Events.{IsInRange};
-ghost use Rattle.lu_machine.specs.Layout.{IsStanding, StandsIn, WasIn};
-ghost use Rattle.lu_machine.specs.Steps.{event_after, thread_after};
+ghost use Rattle.lu_machine.specs.Events.{IsEventInRange};
+ghost use Rattle.lu_machine.specs.Layout.{IsStanding, StandsIn, StoodIn, WasIn};
+ghost use Rattle.lu_machine.specs.Steps.{event_after};
 
 use crate::event::{Event, Outcome};
 use lu_component::{Arithmetic, Operand};
@@ -145,12 +145,12 @@ impl Thread {
     pub(crate) fn change<const WHOLE: bool>(&mut self, change: Change) -> Was
         requires stands { IsStanding self.old }
         requires sound { IsChange change }
-        ensures after { (f : AFrame) → self.old.activity ≡ Open f → self.new ≡ thread_after self.old.done (effect_of f change) }
+        ensures after { IsThreadAfter self.old change self.new }
         ensures stands { IsStanding self.new }
         ensures back { PutsBack WHOLE self.old change result self.new }
         ensures register { IsRegister result.register }
         ensures in_code { (c : Declarations) → StandsIn c self.old → StandsIn c self.new }
-        ensures was_in { (c : Declarations) (f : AFrame) → self.old.activity ≡ Open f → StandsIn c self.old → WasIn c result }
+        ensures was_in { (c : Declarations) → StoodIn c self.old result }
     {
         let Activity::Open(frame) = &mut self.activity else {
             return Was::NOTHING;
@@ -192,7 +192,7 @@ impl Thread {
     #[inline(always)]
     pub(crate) fn put_back(&mut self, event: Option<Event>, was: Was, whole: bool)
         requires register { IsRegister was.register }
-        requires event { IfSome event IsInRange }
+        requires event { IfSome event IsEventInRange }
         ensures before { self.new ≡ before whole event was self.old }
         ensures stands { IsStanding self.old → IsStanding self.new }
         ensures in_code { (c : Declarations) → WasIn c was → StandsIn c self.old → StandsIn c self.new }
@@ -223,7 +223,7 @@ pub(crate) fn event_after(t: u8, done: u8, change: Change) -> Option<Event>
     requires thread { t < 8 }
     requires operation { done < 8 }
     ensures event { (f : AFrame) → result ≡ event_after t done (effect_of f change) }
-    ensures range { IfSome result IsInRange }
+    ensures range { IfSome result IsEventInRange }
 {
     match change {
         Change::GoesTo(_) | Change::Sets { .. } => None,

@@ -31,7 +31,7 @@ use Rattle.lu_board.proofs.Counts.{Has, one_at, one_at-same, count_of-without, c
 use Rattle.lu_parallel.specs.declared.parts.FoundPiece.{FoundPiece}
 use Rattle.lu_parallel.specs.declared.parts.Work.{Work}
 use Rattle.lu_parallel.specs.Works.{piece_at, IsClean, IsWork}
-use Rattle.lu_parallel.specs.Works.{IsFound as IsFoundPiece}
+use Rattle.lu_parallel.specs.Works.{IsFoundPiece as IsFoundPiece}
 use Rattle.lu_parallel.specs.Conclusions.{seats_of, counts_of, founds_of, SkipsAbove}
 use Rattle.lu_parallel.specs.Laws.{Concludes}
 

@@ -7,10 +7,10 @@ use Rattle.atomic_table.specs.Seated.{TableId}
 use Rattle.lu_machine.specs.declared.counts.Counts.{Counts}
 use Rattle.lu_machine.specs.Sums.{plus, total}
 use Rattle.lu_board.specs.Close.{found_by}
-use Rattle.lu_board.specs.Seats.{SeatModel, IsOf, IsDone}
+use Rattle.lu_board.specs.Seats.{SeatModel, IsSeatOf, IsDone}
 use Rattle.lu_parallel.specs.declared.parts.FoundPiece.{FoundPiece}
 use Rattle.lu_parallel.specs.declared.parts.Work.{Work}
-use Rattle.lu_parallel.specs.Works.{pieces_of, IsOver}
+use Rattle.lu_parallel.specs.Works.{found_pieces, IsSpentWork}
 use Rattle.lu_parallel.specs.Conclusions.{seats_of, counts_of, founds_of}
 use Rattle.lu_parallel.proofs.Tallies.{total_push}
 
@@ -48,21 +48,21 @@ founds_step found new all rest more w is pushed was =
 
 -- ---- all works
 
-pub seats_own : (board : TableId) (works : List Work) → All (IsOver board) works → All (IsOf board) (seats_of works)
-seats_own board works over = All-map (IsOf board) (λ (w : Work). w.seat) works (λ k d within. (over k d within).board_is)
+pub seats_own : (board : TableId) (works : List Work) → All (IsSpentWork board) works → All (IsSeatOf board) (seats_of works)
+seats_own board works over = All-map (IsSeatOf board) (λ (w : Work). w.seat) works (λ k d within. (over k d within).board_is)
 
-pub seats_done : (board : TableId) (works : List Work) → All (IsOver board) works → All IsDone (seats_of works)
+pub seats_done : (board : TableId) (works : List Work) → All (IsSpentWork board) works → All IsDone (seats_of works)
 seats_done board works over = All-map IsDone (λ (w : Work). w.seat) works (λ k d within. (over k d within).done)
 
 -- the entries are those of the found pieces
-pub founds_pieces : (board : TableId) (works : List Work) → All (IsOver board) works → pieces_of (founds_of works) ≡ found_by (seats_of works)
+pub founds_pieces : (board : TableId) (works : List Work) → All (IsSpentWork board) works → found_pieces (founds_of works) ≡ found_by (seats_of works)
 founds_pieces board [] over = refl
 founds_pieces board (w ∷ ws) over =
     let rest = founds_pieces board ws (λ k d within. over (suc k) d (omega arith)) in
     let first = (over 0 w (omega arith)).listed in
-    ap pieces_of (flat_map-cons (λ (y : Work). y.found.items) w ws)
+    ap found_pieces (flat_map-cons (λ (y : Work). y.found.items) w ws)
     ∙ (map-append (λ (f : FoundPiece). f.piece) w.found.items (founds_of ws)
-    ∙ (ap (λ (x : List ℕ). x ++ pieces_of (founds_of ws)) first ∙ (ap (λ (x : List ℕ). w.seat.view.found ++ x) rest
+    ∙ (ap (λ (x : List ℕ). x ++ found_pieces (founds_of ws)) first ∙ (ap (λ (x : List ℕ). w.seat.view.found ++ x) rest
     ∙ sym (flat_map-cons (λ (s : SeatModel). s.view.found) w.seat (seats_of ws)))))
 
 pub none_given : (b : Bool) (given : List ℕ) → ((b ≡ true) ↔ (0 < length given)) → b ≡ false → given ≡ []

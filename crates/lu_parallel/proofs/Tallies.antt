@@ -18,7 +18,7 @@ use Rattle.lu_board.specs.Events.{with_settled, with_found}
 use Rattle.lu_board.specs.Pieces.{without}
 use Rattle.lu_board.specs.Views.{pieces_of as seat_pieces}
 use Rattle.lu_parallel.specs.declared.parts.FoundPiece.{FoundPiece}
-use Rattle.lu_parallel.specs.Works.{piece_at, IsClean, IsFound, Holds}
+use Rattle.lu_parallel.specs.Works.{piece_at, IsClean, IsFoundPiece, IsTally}
 
 pub zip_push : {A B : Type 0} (R : A → B → Type 0) (xs : List A) (ys : List B) (x : A) (y : B) → AllZip R xs ys → R x y → AllZip R (xs ++ x ∷ []) (ys ++ y ∷ [])
 zip_push R [] [] x y all one = (one, tt)
@@ -43,9 +43,9 @@ sum_push f cs c =
 pub total_push : (cs : List Counts) (c : Counts) → plus (total cs) c ≡ total (cs ++ c ∷ [])
 total_push cs c = rw (sum_push (λ x. x.complete) cs c, sum_push (λ x. x.stuck) cs c, sum_push (λ x. x.cut) cs c) refl
 
-module _ (Set : List SerialOp → Type 0) (s : State) (bound : ℕ) (pieces : List (List Move)) (v : View) (counts : Counts) (found : List FoundPiece) (holds : Holds Set s bound pieces v counts found) where
+module _ (Set : List SerialOp → Type 0) (s : State) (bound : ℕ) (pieces : List (List Move)) (v : View) (counts : Counts) (found : List FoundPiece) (holds : IsTally Set s bound pieces v counts found) where
   -- one more clean piece
-  pub holds_clean : (i : ℕ) (p : List Move) (w : View) (c after : Counts) → p ≡ piece_at pieces i → w ≡ with_settled i Clean v → after ≡ plus counts c → AreAllGood Set s bound (Below p) c → Holds Set s bound pieces w after found
+  pub holds_clean : (i : ℕ) (p : List Move) (w : View) (c after : Counts) → p ≡ piece_at pieces i → w ≡ with_settled i Clean v → after ≡ plus counts c → AreAllGood Set s bound (Below p) c → IsTally Set s bound pieces w after found
   holds_clean i p w c after is settled sum clean =
       let clean' : IsClean Set s bound pieces i c = subst (λ (x : List Move). AreAllGood Set s bound (Below x) c) is clean in
       let lists : AllZip (IsClean Set s bound pieces) (v.clean ++ i ∷ []) (holds.numbers ++ c ∷ []) = zip_push (IsClean Set s bound pieces) v.clean holds.numbers i c holds.clean clean' in
@@ -58,16 +58,16 @@ module _ (Set : List SerialOp → Type 0) (s : State) (bound : ℕ) (pieces : Li
       })
 
   -- one more found piece
-  pub holds_found : (i best : ℕ) (p u : List Move) (why : Why) (w : View) (more : List FoundPiece) → p ≡ piece_at pieces i → w ≡ with_found i best v → more ≡ found ++ record { piece = i; schedule = u; why = why } ∷ [] → IsFirstBad Set s bound (Below p) u why → Holds Set s bound pieces w counts more
+  pub holds_found : (i best : ℕ) (p u : List Move) (why : Why) (w : View) (more : List FoundPiece) → p ≡ piece_at pieces i → w ≡ with_found i best v → more ≡ found ++ record { piece = i; schedule = u; why = why } ∷ [] → IsFirstBad Set s bound (Below p) u why → IsTally Set s bound pieces w counts more
   holds_found i best p u why w more is moved pushed bad =
       let entry : FoundPiece = record { piece = i; schedule = u; why = why } in
-      let bad' : IsFound Set s bound pieces entry = subst (λ (x : List Move). IsFirstBad Set s bound (Below x) u why) is bad in
+      let bad' : IsFoundPiece Set s bound pieces entry = subst (λ (x : List Move). IsFirstBad Set s bound (Below x) u why) is bad in
       rw (moved, pushed) (record {
         numbers = holds.numbers;
         clean = holds.clean;
         sums = holds.sums;
         listed = map-append (λ (f : FoundPiece). f.piece) found (entry ∷ []) ∙ ap (λ (x : List ℕ). x ++ i ∷ []) holds.listed;
-        right = All-push (IsFound Set s bound pieces) found entry holds.right bad';
+        right = All-push (IsFoundPiece Set s bound pieces) found entry holds.right bad';
       })
 
 -- nothing is in the parts of an empty list
@@ -85,18 +85,18 @@ no_pieces v none =
     (d.0, d.1, c.1)
 
 -- no piece is clean or found
-pub holds_empty : (Set : List SerialOp → Type 0) (s : State) (bound : ℕ) (pieces : List (List Move)) (v : View) (found : List FoundPiece) → v.clean ≡ [] → v.found ≡ [] → found ≡ [] → Holds Set s bound pieces v (record { complete = 0; stuck = 0; cut = 0 }) found
+pub holds_empty : (Set : List SerialOp → Type 0) (s : State) (bound : ℕ) (pieces : List (List Move)) (v : View) (found : List FoundPiece) → v.clean ≡ [] → v.found ≡ [] → found ≡ [] → IsTally Set s bound pieces v (record { complete = 0; stuck = 0; cut = 0 }) found
 holds_empty Set s bound pieces v found clean none empty =
     rw empty (record {
       numbers = [];
       clean = subst (λ (x : List ℕ). AllZip (IsClean Set s bound pieces) x []) (sym clean) tt;
       sums = refl;
       listed = sym none;
-      right = All-nil (IsFound Set s bound pieces);
+      right = All-nil (IsFoundPiece Set s bound pieces);
     })
 
 -- nothing is claimed
-pub holds_nothing : (Set : List SerialOp → Type 0) (s : State) (bound : ℕ) (pieces : List (List Move)) (v : View) (counts : Counts) (found : List FoundPiece) → seat_pieces v ≡ [] → counts ≡ record { complete = 0; stuck = 0; cut = 0 } → found ≡ [] → Holds Set s bound pieces v counts found
+pub holds_nothing : (Set : List SerialOp → Type 0) (s : State) (bound : ℕ) (pieces : List (List Move)) (v : View) (counts : Counts) (found : List FoundPiece) → seat_pieces v ≡ [] → counts ≡ record { complete = 0; stuck = 0; cut = 0 } → found ≡ [] → IsTally Set s bound pieces v counts found
 holds_nothing Set s bound pieces v counts found new none empty =
     let clean = (no_pieces v new).1 in
     let more = (no_pieces v new).2 in
@@ -105,11 +105,11 @@ holds_nothing Set s bound pieces v counts found new none empty =
       clean = subst (λ (x : List ℕ). AllZip (IsClean Set s bound pieces) x []) (sym clean) tt;
       sums = refl;
       listed = sym more;
-      right = All-nil (IsFound Set s bound pieces);
+      right = All-nil (IsFoundPiece Set s bound pieces);
     })
 
 -- a view with the same clean and found pieces
-pub holds_same : (Set : List SerialOp → Type 0) (s : State) (bound : ℕ) (pieces : List (List Move)) (v w : View) (counts : Counts) (found : List FoundPiece) → w.clean ≡ v.clean → w.found ≡ v.found → Holds Set s bound pieces v counts found → Holds Set s bound pieces w counts found
+pub holds_same : (Set : List SerialOp → Type 0) (s : State) (bound : ℕ) (pieces : List (List Move)) (v w : View) (counts : Counts) (found : List FoundPiece) → w.clean ≡ v.clean → w.found ≡ v.found → IsTally Set s bound pieces v counts found → IsTally Set s bound pieces w counts found
 holds_same Set s bound pieces v w counts found clean same holds = record {
   numbers = holds.numbers;
   clean = subst (λ (x : List ℕ). AllZip (IsClean Set s bound pieces) x holds.numbers) (sym clean) holds.clean;

@@ -3,6 +3,6 @@ use Rattle.std.specs.Prelude.{ℕ, List, codes}
 use Rattle.lu_parallel.specs.declared.fault.CheckFault.{CheckFault}
 use Rattle.lu_parallel.specs.declared.fault.CheckFault.TheVariants.{Memory, Worker}
 
-abbrev pub code_of : CheckFault → List ℕ
-code_of Memory = codes "memory"
-code_of Worker = codes "K2"
+abbrev pub fault_code : CheckFault → List ℕ
+fault_code Memory = codes "memory"
+fault_code Worker = codes "K2"

@@ -6,7 +6,7 @@ use Rattle.lu_machine.specs.Sums.{total}
 use Rattle.lu_tree.specs.declared.found.Found.{Found}
 use Rattle.lu_tree.specs.declared.found.Found.TheVariants.{Clean, Bad, Abandoned}
 use Rattle.lu_board.specs.Close.{found_by, skipped_by, given_by}
-use Rattle.lu_board.specs.Pieces.{IsLeast}
+use Rattle.lu_board.specs.Pieces.{IsLeastPiece}
 use Rattle.lu_board.specs.Seats.{SeatModel}
 use Rattle.lu_parallel.specs.declared.parts.FoundPiece.{FoundPiece}
 use Rattle.lu_parallel.specs.declared.parts.Work.{Work}
@@ -23,9 +23,9 @@ founds_of works = flat_map (λ w. w.found.items) works
 
 -- the sums of the numbers, where no piece is found; else the schedule of the least found piece, and why it is bad
 abbrev pub IsAnswer : List Work → Found → Type 0
-IsAnswer works (Clean counts) = IsLeast (found_by (seats_of works)) None × (counts ≡ total (counts_of works))
+IsAnswer works (Clean counts) = IsLeastPiece (found_by (seats_of works)) None × (counts ≡ total (counts_of works))
 IsAnswer works (Bad schedule why) =
-    (i : ℕ) × IsLeast (found_by (seats_of works)) (Some i)
+    (i : ℕ) × IsLeastPiece (found_by (seats_of works)) (Some i)
     × Contains (founds_of works) (record { piece = i; schedule = schedule; why = why })
 IsAnswer works Abandoned = ⊥
 

@@ -1,5 +1,6 @@
 -- The options of a check, and their ranges.
 use Rattle.std.specs.Prelude.{ℕ, ◌≤◌}
+use Rattle.lu_report.specs.Limits.{IsSerialBound, most_moves}
 
 -- what is chosen for a check
 pub record Choice : Type 0 where
@@ -8,9 +9,12 @@ pub record Choice : Type 0 where
   pub workers : ℕ
   pub depth : ℕ
 
+abbrev pub choice : ℕ → ℕ → ℕ → ℕ → Choice
+choice bound serial workers depth = record { bound = bound; serial = serial; workers = workers; depth = depth }
+
 -- each number is within its range
 pub record IsInRange (c : Choice) : Type 0 where
-  pub bound : c.bound ≤ 256
-  pub serial : (1 ≤ c.serial) × (c.serial ≤ 256)
+  pub bound : c.bound ≤ most_moves
+  pub serial : IsSerialBound c.serial
   pub workers : (1 ≤ c.workers) × (c.workers ≤ 16)
   pub depth : c.depth ≤ 8

@@ -1,10 +1,9 @@
 //! A check by many workers.
 
 ghost use Rattle.std.specs.Prelude.{◌≡◌, ◌≤◌, ◌<◌, IfOk, IfErr};
-ghost use Rattle.lu_machine.specs.States.{State};
-ghost use Rattle.lu_machine.specs.Starts.{CanRun, IsStart};
-ghost use Rattle.lu_witness.specs.Witnesses.{IsMember};
-ghost use Rattle.lu_replay.specs.Reports.{IsFinding, IsFindingAgainst, IsReport, IsReportAgainst};
+ghost use Rattle.lu_machine.specs.Starts.{CanRun};
+ghost use Rattle.lu_replay.specs.Reports.{IsReport};
+ghost use Rattle.lu_parallel.specs.Findings.{Finds, FindsAgainst, ReportsAgainst};
 ghost use Rattle.lu_parallel.specs.declared.fault.CheckFault.TheVariants.{Memory};
 
 use crate::conclusion::conclude;
@@ -13,6 +12,7 @@ use crate::gate::Gate;
 use crate::one::{finding_of, search_all};
 use crate::options::Options;
 use crate::threads::run_workers;
+use crate::worker::Job;
 use lu_board::board::Board;
 use lu_component::Component;
 use lu_replay::set_or_offence;
@@ -38,14 +38,20 @@ fn search_by_workers<R: Threads + Wait, G: Gate, T: SerialTree + Sync>(
 where
     T::Place: Send + Sync,
     requires of { CanRun component.now matrix.now }
-    ensures { (s : State) → IsStart component.now matrix.now s → IfOk result (IsFindingAgainst (IsMember (T.members tree.now)) s options.bound) }
+    ensures { FindsAgainst component.now matrix.now (T.members tree.now) options.bound result }
 {
     let bound = options.bound();
     let pieces = frontier(alloc, component, matrix, bound, options.depth())?;
     let (board, seats) = Board::new(alloc, pieces.len() as u64, u64::from(options.workers()))?;
-    let works = run_workers(
-        rt, alloc, component, matrix, tree, &pieces, bound, &board, seats, gate,
-    )?;
+    let job = Job {
+        alloc,
+        component,
+        matrix,
+        pieces: &pieces,
+        bound,
+        board: &board,
+    };
+    let works = run_workers(rt, job, tree, seats, gate)?;
     match conclude(alloc, board, works)? {
         Some(found) => Ok(finding_of(found)),
         None => Err(CheckFault::Memory),
@@ -65,7 +71,7 @@ fn search_tree<R: Threads + Wait, G: Gate, T: SerialTree + Sync>(
 where
     T::Place: Send + Sync,
     requires of { CanRun component.now matrix.now }
-    ensures found { (s : State) → IsStart component.now matrix.now s → IfOk result (IsFindingAgainst (IsMember (T.members tree.now)) s options.bound) }
+    ensures found { FindsAgainst component.now matrix.now (T.members tree.now) options.bound result }
     ensures alone { IfErr result (λ fault. options.workers ≡ 1 → fault ≡ Memory) }
 {
     if options.workers() == 1 {
@@ -86,7 +92,7 @@ fn search_packed<R: Threads + Wait, G: Gate>(
     options: Options,
 ) -> Result<Finding, CheckFault>
     requires of { CanRun component.now matrix.now }
-    ensures found { (s : State) → IsStart component.now matrix.now s → IfOk result (IsFindingAgainst (IsMember set) s options.bound) }
+    ensures found { FindsAgainst component.now matrix.now set options.bound result }
     ensures alone { IfErr result (λ fault. options.workers ≡ 1 → fault ≡ Memory) }
 {
     let packed = PackedTrie::pack(alloc, &set)?;
@@ -104,7 +110,7 @@ fn find<R: Threads + Wait, G: Gate>(
     options: Options,
 ) -> Result<Finding, CheckFault>
     requires of { CanRun component.now matrix.now }
-    ensures found { (s : State) → IsStart component.now matrix.now s → IfOk result (IsFinding s options.bound options.serial) }
+    ensures found { Finds component.now matrix.now options.bound options.serial result }
     ensures alone { IfErr result (λ fault. options.workers ≡ 1 → fault ≡ Memory) }
 {
     match set_or_offence(learn(alloc, alloc, component, matrix, options.serial())?) {
@@ -164,7 +170,7 @@ pub fn check_against<R: Threads + Wait, G: Gate, T: SerialTree + Sync>(
 where
     T::Place: Send + Sync,
     requires of { CanRun component.now matrix.now }
-    ensures report { IfOk result (IsReportAgainst (IsMember (T.members tree.now)) component.now matrix.now options.bound) }
+    ensures report { ReportsAgainst component.now matrix.now (T.members tree.now) options.bound result }
     ensures alone { IfErr result (λ fault. options.workers ≡ 1 → fault ≡ Memory) }
 {
     // Its clause says that the matrix is within its limits.

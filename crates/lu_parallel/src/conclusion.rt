@@ -3,7 +3,7 @@
 ghost use Rattle.std.specs.Prelude.{◌≡◌, IfOk, OnOk, All, Contains, length};
 ghost use Rattle.lu_machine.specs.Sums.{total};
 ghost use Rattle.lu_board.specs.Close.{SharesOut};
-ghost use Rattle.lu_parallel.specs.Works.{IsOver, pieces_of};
+ghost use Rattle.lu_parallel.specs.Works.{IsSpentWork, found_pieces};
 ghost use Rattle.lu_parallel.specs.Conclusions.{IsConclusion, SkipsAbove, seats_of, counts_of, founds_of};
 
 use crate::parts::{FoundPiece, Work};
@@ -47,7 +47,7 @@ fn gather(alloc: Global, works: Vec<Work>) -> Result<Gathered, AllocError>
 
 /// The entry of a piece that has one.
 fn entry_of(found: Vec<FoundPiece>, piece: u64) -> FoundPiece
-    requires { Contains (pieces_of found.items) piece }
+    requires { Contains (found_pieces found.items) piece }
     ensures piece { result.piece ≡ piece }
     ensures entry { Contains found.items result }
 {
@@ -67,7 +67,7 @@ fn entry_of(found: Vec<FoundPiece>, piece: u64) -> FoundPiece
 /// `AllocError` where memory was refused.
 pub fn conclude(alloc: Global, board: Board, works: Vec<Work>) -> Result<Option<Found>, AllocError>
     requires all { length works.items ≡ board.workers }
-    requires over { All (IsOver board.board) works.items }
+    requires over { All (IsSpentWork board.board) works.items }
     ensures conclusion { IfOk result (IsConclusion works.items) }
     ensures pieces { OnOk result (SharesOut board.pieces (seats_of works.items)) }
     ensures skipped { OnOk result (SkipsAbove works.items) }

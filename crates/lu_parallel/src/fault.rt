@@ -2,7 +2,7 @@
 
 ghost use Rattle.std.specs.Prelude.{◌≡◌};
 ghost use Rattle.lu_parallel.specs.declared.fault.CheckFault.TheVariants.{Memory};
-ghost use Rattle.lu_parallel.specs.Codes.{code_of};
+ghost use Rattle.lu_parallel.specs.Codes.{fault_code};
 
 use std::alloc::AllocError;
 use thiserror::Error;
@@ -21,7 +21,7 @@ pub enum CheckFault {
 impl CheckFault {
     /// The code: `memory` or `K2`.
     pub fn code(self) -> &'static str
-        ensures { result.now ≡ code_of self }
+        ensures { result.now ≡ fault_code self }
     {
         match self {
             CheckFault::Memory => "memory",

@@ -1,11 +1,10 @@
 //! A check on the calling thread.
 
 ghost use Rattle.std.specs.Prelude.{◌≡◌, ◌≤◌, IfOk, IsSome, Some};
-ghost use Rattle.lu_machine.specs.States.{State};
-ghost use Rattle.lu_machine.specs.Starts.{CanRun, IsStart};
-ghost use Rattle.lu_witness.specs.Witnesses.{IsMember};
-ghost use Rattle.lu_replay.specs.Reports.{IsReport, IsReportAgainst, IsFinding, IsFindingAgainst};
-ghost use Rattle.lu_parallel.specs.Findings.{finding_of};
+ghost use Rattle.lu_machine.specs.Starts.{CanRun};
+ghost use Rattle.lu_report.specs.Limits.{IsSerialBound, most_moves};
+ghost use Rattle.lu_replay.specs.Reports.{IsReport};
+ghost use Rattle.lu_parallel.specs.Findings.{Finds, FindsAgainst, ReportsAgainst, finding_of};
 
 use lu_component::Component;
 use lu_replay::set_or_offence;
@@ -37,8 +36,8 @@ pub(crate) fn search_all<T: SerialTree>(
     bound: u16,
 ) -> Result<Finding, AllocError>
     requires of { CanRun component.now matrix.now }
-    requires bound { bound ≤ 256 }
-    ensures { (s : State) → IsStart component.now matrix.now s → IfOk result (IsFindingAgainst (IsMember (T.members tree.now)) s bound) }
+    requires bound { bound ≤ most_moves }
+    ensures { FindsAgainst component.now matrix.now (T.members tree.now) bound result }
 {
     let whole = Schedule::new(Vec::new(alloc));
     let found = search(alloc, component, matrix, tree, &whole, bound)?;
@@ -55,9 +54,9 @@ fn find<A: Allocator + Clone>(
     serial: u16,
 ) -> Result<Finding, AllocError>
     requires of { CanRun component.now matrix.now }
-    requires bound { bound ≤ 256 }
-    requires serial { (1 ≤ serial) × (serial ≤ 256) }
-    ensures { (s : State) → IsStart component.now matrix.now s → IfOk result (IsFinding s bound serial) }
+    requires bound { bound ≤ most_moves }
+    requires serial { IsSerialBound serial }
+    ensures { Finds component.now matrix.now bound serial result }
 {
     match set_or_offence(learn(alloc, set_alloc, component, matrix, serial)?) {
         Ok(set) => search_all(alloc, component, matrix, &&set, bound),
@@ -81,8 +80,8 @@ pub fn check_one<A: Allocator + Clone>(
     serial: u16,
 ) -> Result<Report, AllocError>
     requires of { CanRun component.now matrix.now }
-    requires bound { bound ≤ 256 }
-    requires serial { (1 ≤ serial) × (serial ≤ 256) }
+    requires bound { bound ≤ most_moves }
+    requires serial { IsSerialBound serial }
     ensures { IfOk result (IsReport component.now matrix.now bound serial) }
 {
     // Its clause says that the matrix is within its limits.
@@ -106,8 +105,8 @@ pub fn check_one_against<T: SerialTree>(
     bound: u16,
 ) -> Result<Report, AllocError>
     requires of { CanRun component.now matrix.now }
-    requires bound { bound ≤ 256 }
-    ensures { IfOk result (IsReportAgainst (IsMember (T.members tree.now)) component.now matrix.now bound) }
+    requires bound { bound ≤ most_moves }
+    ensures { ReportsAgainst component.now matrix.now (T.members tree.now) bound result }
 {
     // Its clause says that the matrix is within its limits.
     let _threads = matrix.threads();

@@ -1,18 +1,16 @@
 //! The options of a check.
 
 ghost use Rattle.std.specs.Prelude.{◌≡◌, ◌≤◌, ◌↔◌, IsSome, IfSome};
-ghost use Rattle.lu_parallel.specs.Ranges.{IsInRange};
+ghost use Rattle.lu_report.specs.Limits.{IsSerialBound, most_moves};
+ghost use Rattle.lu_parallel.specs.Ranges.{IsInRange, choice};
 
+use lu_report::Bounds;
 use std::marker::Model;
 
 /// The options of a check.
 #[derive(Clone, Copy, Debug, PartialEq, Eq)]
 pub struct Options {
-    /// The most moves of a schedule, 0 to 256.
-    bound: u16,
-
-    /// The most moves of an operation after its call in a serial run, 1 to 256.
-    serial: u16,
+    bounds: Bounds,
 
     /// The number of workers, 1 to 16.
     workers: u8,
@@ -22,36 +20,30 @@ pub struct Options {
 }
 
 impl Model for Options {
-    ghost use Rattle.lu_parallel.specs.Ranges.{Choice, IsInRange};
+    ghost use Rattle.lu_parallel.specs.Ranges.{Choice, IsInRange, choice};
 
     ghost Value = { Choice };
 
-    ghost view = { λ o. record { bound = o.bound; serial = o.serial; workers = o.workers; depth = o.depth } };
+    ghost view = { λ o. choice o.bounds.bound o.bounds.serial o.workers o.depth };
 
-    ghost inverse = { λ c. record { bound = c.bound; serial = c.serial; workers = c.workers; depth = c.depth } };
+    ghost inverse = { λ c. record { bounds = record { bound = c.bound; serial = c.serial }; workers = c.workers; depth = c.depth } };
 
-    ghost invariant = { λ o. IsInRange (record { bound = o.bound; serial = o.serial; workers = o.workers; depth = o.depth }) };
+    ghost invariant = { λ o. IsInRange (choice o.bounds.bound o.bounds.serial o.workers o.depth) };
 }
 
 impl Options {
     /// These options: the most moves of a schedule, 0 to 256; the most moves of an operation after its call in a serial run,
     /// 1 to 256; the number of workers, 1 to 16; and the most moves of a piece, 0 to 8. `None` where one is outside.
     pub fn new(bound: u16, serial: u16, workers: u8, depth: u8) -> Option<Options>
-        ensures range { IsSome result ↔ IsInRange (record { bound = bound; serial = serial; workers = workers; depth = depth }) }
-        ensures choice { IfSome result (λ o. o ≡ record { bound = bound; serial = serial; workers = workers; depth = depth }) }
+        ensures range { IsSome result ↔ IsInRange (choice bound serial workers depth) }
+        ensures choice { IfSome result (λ o. o ≡ choice bound serial workers depth) }
     {
-        let within = bound <= 256
-            && 1 <= serial
-            && serial <= 256
-            && 1 <= workers
-            && workers <= 16
-            && depth <= 8;
-        if !within {
+        let bounds = Bounds::new(bound, serial)?;
+        if workers < 1 || workers > 16 || depth > 8 {
             return None;
         }
         Some(Options {
-            bound,
-            serial,
+            bounds,
             workers,
             depth,
         })
@@ -60,17 +52,17 @@ impl Options {
     /// The most moves of a schedule, 0 to 256.
     pub fn bound(&self) -> u16
         ensures bound { result ≡ self.now.bound }
-        ensures range { result ≤ 256 }
+        ensures range { result ≤ most_moves }
     {
-        self.bound
+        self.bounds.bound()
     }
 
     /// The most moves of an operation after its call in a serial run, 1 to 256.
     pub fn serial(&self) -> u16
         ensures serial { result ≡ self.now.serial }
-        ensures range { (1 ≤ result) × (result ≤ 256) }
+        ensures range { IsSerialBound result }
     {
-        self.serial
+        self.bounds.serial()
     }
 
     /// The number of workers, 1 to 16.

@@ -1,14 +1,13 @@
 //! The life of a worker.
 
-ghost use Rattle.std.specs.Prelude.{◌≡◌, ◌<◌, ◌≤◌, ◌∷◌, [], List, All, IfOk, length};
-ghost use Rattle.lu_machine.specs.States.{State};
-ghost use Rattle.lu_machine.specs.Starts.{CanRun, IsStart};
+ghost use Rattle.std.specs.Prelude.{◌≡◌, ◌<◌, ◌≤◌, ◌∷◌, [], List, length};
+ghost use Rattle.lu_machine.specs.Starts.{CanRun};
 ghost use Rattle.lu_history.specs.declared.serial.SerialOp.{SerialOp};
 ghost use Rattle.lu_witness.specs.Caches.{SameButEntries};
-ghost use Rattle.lu_witness.specs.Witnesses.{IsMember};
-ghost use Rattle.lu_tree.specs.Trees.{Below, IsFoundWatched, is_abandoned};
+ghost use Rattle.lu_report.specs.Limits.{most_moves};
+ghost use Rattle.lu_tree.specs.Trees.{is_abandoned};
 ghost use Rattle.lu_parallel.specs.Watches.{held_piece, rest_of};
-ghost use Rattle.lu_parallel.specs.Works.{Holds, IsFresh, IsJob, IsPiece, IsWork, PutsAway, piece_at};
+ghost use Rattle.lu_parallel.specs.Works.{ArePieces, IsFoundIn, IsFresh, IsLent, IsWorkFor, IsWorkOn, Tallied, PutsAway};
 
 use crate::gate::Gate;
 use crate::parts::{FoundPiece, Work};
@@ -27,14 +26,14 @@ use std::alloc::{AllocError, Global};
 const REMEMBERED: usize = 1024;
 
 /// What a worker is lent.
-#[derive(Drop)]
-struct Job<'a> {
-    alloc: Global,
-    component: &'a Component,
-    matrix: &'a Matrix,
-    pieces: &'a [Schedule],
-    bound: u16,
-    board: &'a Board,
+#[derive(Clone, Copy, Drop)]
+pub(crate) struct Job<'a> {
+    pub(crate) alloc: Global,
+    pub(crate) component: &'a Component,
+    pub(crate) matrix: &'a Matrix,
+    pub(crate) pieces: &'a [Schedule],
+    pub(crate) bound: u16,
+    pub(crate) board: &'a Board,
 }
 
 /// What a worker has done so far.
@@ -61,12 +60,12 @@ fn search_held<'t, T: SerialTree>(
     seat: Seat,
     piece: u64,
 ) -> Searched
-    requires job { IsJob job.now.component.now job.now.matrix.now job.now.bound job.now.pieces.now job.now.board.now }
+    requires job { IsLent job.now }
     requires board { seat.board ≡ job.now.board.now.board }
     requires piece { piece < length job.now.pieces.now }
     requires held { seat.view.held ≡ piece ∷ [] }
     ensures cache { SameButEntries cache.old cache.new }
-    ensures found { (s : State) → IsStart job.now.component.now job.now.matrix.now s → IfOk result.found (IsFoundWatched (IsMember (T.members cache.old.tree)) s job.now.bound (Below (piece_at job.now.pieces.now piece))) }
+    ensures found { IsFoundIn job.now (T.members cache.old.tree) piece result.found }
     ensures board { result.seat.board ≡ seat.board }
     ensures rest { rest_of piece result.seat.view ≡ rest_of piece seat.view }
     ensures held { result.seat.view.held ≡ held_piece (is_abandoned result.found) piece }
@@ -107,14 +106,14 @@ impl Tally {
         seat: Seat,
         piece: u64,
     ) -> Seat
-        requires job { IsJob job.now.component.now job.now.matrix.now job.now.bound job.now.pieces.now job.now.board.now }
+        requires job { IsLent job.now }
         requires board { seat.board ≡ job.now.board.now.board }
         requires piece { piece < length job.now.pieces.now }
         requires held { seat.view.held ≡ piece ∷ [] }
         ensures cache { SameButEntries cache.old cache.new }
         ensures board { result.board ≡ seat.board }
         ensures away { PutsAway piece seat.view result.view }
-        ensures holds { (s : State) → IsStart job.now.component.now job.now.matrix.now s → Holds (IsMember (T.members cache.old.tree)) s job.now.bound job.now.pieces.now seat.view self.old.counts self.old.found.items → Holds (IsMember (T.members cache.old.tree)) s job.now.bound job.now.pieces.now result.view self.new.counts self.new.found.items }
+        ensures holds { Tallied job.now (T.members cache.old.tree) seat.view self.old result.view self.new }
     {
         let Searched { found, mut seat } = search_held(job, cache, seat, piece);
         match found {
@@ -156,14 +155,14 @@ impl Tally {
         worker: u8,
         piece: u64,
     ) -> Seat
-        requires job { IsJob job.now.component.now job.now.matrix.now job.now.bound job.now.pieces.now job.now.board.now }
+        requires job { IsLent job.now }
         requires board { seat.board ≡ job.now.board.now.board }
         requires piece { piece < length job.now.pieces.now }
         requires held { seat.view.held ≡ piece ∷ [] }
         ensures cache { SameButEntries cache.old cache.new }
         ensures board { result.board ≡ seat.board }
         ensures away { PutsAway piece seat.view result.view }
-        ensures holds { (s : State) → IsStart job.now.component.now job.now.matrix.now s → Holds (IsMember (T.members cache.old.tree)) s job.now.bound job.now.pieces.now seat.view self.old.counts self.old.found.items → Holds (IsMember (T.members cache.old.tree)) s job.now.bound job.now.pieces.now result.view self.new.counts self.new.found.items }
+        ensures holds { Tallied job.now (T.members cache.old.tree) seat.view self.old result.view self.new }
     {
         let mut seat = seat;
         if self.starved {
@@ -193,9 +192,9 @@ fn serve_all<'t, T: SerialTree, G: Gate>(
     gate: &G,
     worker: u8,
 ) -> Work
-    requires job { IsJob job.now.component.now job.now.matrix.now job.now.bound job.now.pieces.now job.now.board.now }
+    requires job { IsLent job.now }
     requires fresh { IsFresh job.now.board.now.board seat }
-    ensures { IsWork job.now.component.now job.now.matrix.now (T.members cache.entry.tree) job.now.bound job.now.pieces.now job.now.board.now.board result }
+    ensures { IsWorkFor job.now (T.members cache.entry.tree) result }
 {
     let mut tally = Tally::new(job.alloc);
     while let Some(piece) = job.board.claim(&mut seat) {
@@ -210,9 +209,9 @@ fn serve_all<'t, T: SerialTree, G: Gate>(
 
 /// The life of a worker that found no memory before its first claim.
 fn give_up_all(job: &Job<'_>, mut seat: Seat) -> Work
-    requires job { IsJob job.now.component.now job.now.matrix.now job.now.bound job.now.pieces.now job.now.board.now }
+    requires job { IsLent job.now }
     requires fresh { IsFresh job.now.board.now.board seat }
-    ensures { (members : List (List SerialOp)) → IsWork job.now.component.now job.now.matrix.now members job.now.bound job.now.pieces.now job.now.board.now.board result }
+    ensures { (members : List (List SerialOp)) → IsWorkFor job.now members result }
 {
     while let Some(piece) = job.board.claim(&mut seat) {
         job.board.settle(&mut seat, piece, Kind::GivenUp);
@@ -242,11 +241,11 @@ pub fn work<T: SerialTree, G: Gate>(
     worker: u8,
 ) -> Work
     requires of { CanRun component.now matrix.now }
-    requires bound { bound ≤ 256 }
-    requires pieces { (s : State) → IsStart component.now matrix.now s → All (IsPiece s bound) pieces.now }
+    requires bound { bound ≤ most_moves }
+    requires pieces { ArePieces component.now matrix.now bound pieces.now }
     requires board { board.now.pieces ≡ length pieces.now }
     requires fresh { IsFresh board.now.board seat }
-    ensures { IsWork component.now matrix.now (T.members tree.now) bound pieces.now board.now.board result }
+    ensures { IsWorkOn component.now matrix.now (T.members tree.now) bound pieces.now board.now result }
 {
     let job = Job {
         alloc,

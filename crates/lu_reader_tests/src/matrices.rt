@@ -1,7 +1,8 @@
 use lu_lang::{Component, read_component};
 use lu_test::{
-    Arguments, Call, Calls, Matrix, MatrixFaultKind, Move, Schedule, ScheduleFault, copy_calls,
-    cut_to, read_matrix, read_schedule, remove, setup_alone, write_matrix, write_schedule,
+    Arguments, Call, Calls, Matrix, MatrixFaultKind, Move, Schedule, ScheduleFault, copy_call,
+    copy_calls, copy_matrix, cut_to, read_matrix, read_schedule, remove, setup_alone, write_matrix,
+    write_schedule,
 };
 use lu_text::Fault;
 use std::process::Abort;
@@ -252,21 +253,52 @@ fn codes_of_refusals(rt: HostRuntime) {
 
 #[test]
 fn a_matrix_is_made_of_calls(rt: HostRuntime) -> Result<(), Fail> {
+    let component = read_component(
+        rt.alloc(),
+        b"component c\nop f 0\nreturn 0\nend\nop g 0\nreturn 0\nend\n",
+    )?;
     let mut calls = Vec::new(rt.alloc());
     calls.push(Call {
-        op: 3,
+        op: 0,
         args: Arguments::new(Vec::new(rt.alloc())),
     })?;
     calls.push(Call {
-        op: 5,
+        op: 1,
         args: Arguments::new(Vec::new(rt.alloc())),
     })?;
     let mut calls = Calls::new(calls);
     calls.remove(0);
     let mut threads = Vec::new(rt.alloc());
     threads.push(calls)?;
-    let matrix = Matrix::new(Calls::new(Vec::new(rt.alloc())), threads);
-    assert_eq!(rt; numbers(&rt, &matrix, 0)?.as_slice(), [5].as_slice());
+    let setup = Calls::new(Vec::new(rt.alloc()));
+    let matrix = Matrix::new(&component, setup, threads).expect(&rt, "both operations are there");
+    assert_eq!(rt; numbers(&rt, &matrix, 0)?.as_slice(), [1].as_slice());
+    Ok(())
+}
+
+#[test]
+fn no_matrix_is_made_of_calls_that_the_component_lacks(rt: HostRuntime) -> Result<(), Fail> {
+    let component = component(&rt)?;
+    let mut calls = Vec::new(rt.alloc());
+    calls.push(Call {
+        op: 2,
+        args: Arguments::new(Vec::new(rt.alloc())),
+    })?;
+    let mut threads = Vec::new(rt.alloc());
+    threads.push(Calls::new(calls))?;
+    let setup = Calls::new(Vec::new(rt.alloc()));
+    assert!(rt; Matrix::new(&component, setup, threads).is_none());
+    Ok(())
+}
+
+#[test]
+fn a_matrix_is_copied(rt: HostRuntime) -> Result<(), Fail> {
+    let whole = matrix(&rt, b"setup inc\nthread add 1 2;inc\n")?;
+    let copy = copy_matrix(rt.alloc(), &whole)?;
+    assert_eq!(rt; numbers(&rt, &copy, 0)?.as_slice(), [1, 0].as_slice());
+    assert_eq!(rt; copy.calls(0), 2);
+    let call = copy_call(rt.alloc(), copy.call(0, 0))?;
+    assert_eq!(rt; call.args.as_slice(), [1, 2].as_slice());
     Ok(())
 }
 

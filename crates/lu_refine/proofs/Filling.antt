@@ -7,7 +7,7 @@ use Rattle.std.proofs.lemmas.List.Elements.{All-take, All-drop}
 use Rattle.std.proofs.lemmas.List.Sums.{sum_by-cons}
 use Rattle.lu_component.specs.Component.{Declarations}
 use Rattle.lu_test.specs.declared.matrix.Call.{Call}
-use Rattle.lu_test.specs.Matrix.{AreArguments, IsCallOf, IsMatrix, IsOf, IsSetup, Matrix}
+use Rattle.lu_test.specs.Matrix.{AreArguments, AreThreads, IsCallOf, IsOf, Matrix}
 use Rattle.lu_machine.specs.Starts.{AllEnd, CanRun}
 use Rattle.lu_refine.specs.Choices.{IsChoice, candidate_at, filled}
 use Rattle.lu_refine.specs.Campaigns.{AreCallsOf, HaveArguments, IsGrid}
@@ -51,16 +51,15 @@ rows_short candidates (suc threads) calls choice long few zero d h =
     omega (arith, row_long candidates (take calls choice), length-take-le calls choice (parts threads calls choice long).0, few)
 rows_short candidates (suc threads) calls choice long few (suc k) d h = rows_short candidates threads calls (drop calls choice) (parts threads calls choice long).1 few k d (omega arith)
 
-pub filled_matrix : (setup candidates : List Call) (threads calls : ℕ) (choice : List ℕ) → IsSetup setup → IsGrid threads calls → IsChoice (length candidates) (threads * calls) choice → HaveArguments candidates → IsMatrix (record { setup = setup; threads = filled candidates threads calls choice })
-filled_matrix setup candidates threads calls choice before grid chosen arguments = record {
-  some = omega (arith, length-filled candidates threads calls choice, grid.some_threads);
-  limits = record {
-    few = omega (arith, length-filled candidates threads calls choice, grid.few_threads);
-    each = rows_short candidates threads calls choice chosen.0 grid.few_calls;
-    calls = omega (arith, count_filled candidates threads calls choice chosen.0, grid.positions);
-    arguments = filled_all (λ call. AreArguments call.args) candidates arguments threads calls choice chosen.1;
-  };
-  before = before;
+pub filled_some : (candidates : List Call) (threads calls : ℕ) (choice : List ℕ) → IsGrid threads calls → 1 ≤ length (filled candidates threads calls choice)
+filled_some candidates threads calls choice grid = omega (arith, length-filled candidates threads calls choice, grid.some_threads)
+
+pub filled_limits : (candidates : List Call) (threads calls : ℕ) (choice : List ℕ) → IsGrid threads calls → IsChoice (length candidates) (threads * calls) choice → HaveArguments candidates → AreThreads (filled candidates threads calls choice)
+filled_limits candidates threads calls choice grid chosen arguments = record {
+  few = omega (arith, length-filled candidates threads calls choice, grid.few_threads);
+  each = rows_short candidates threads calls choice chosen.0 grid.few_calls;
+  calls = omega (arith, count_filled candidates threads calls choice chosen.0, grid.positions);
+  arguments = filled_all (λ call. AreArguments call.args) candidates arguments threads calls choice chosen.1;
 }
 
 pub filled_of : (c : Declarations) (setup candidates : List Call) (threads calls : ℕ) (choice : List ℕ) → AreCallsOf c setup → AreCallsOf c candidates → AreBelow (length candidates) choice → IsOf (record { setup = setup; threads = filled candidates threads calls choice }) c

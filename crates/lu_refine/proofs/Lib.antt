@@ -1,4 +1,3 @@
-pub mod Copies
 pub mod Chained
 pub mod Places
 pub mod Filling

@@ -1,5 +1,5 @@
 -- What campaigns answer.
-use Rattle.std.specs.Prelude.{◌≡◌, ℕ, ◌*◌, ◌^◌, ◌≤◌, List, length, All}
+use Rattle.std.specs.Prelude.{◌≡◌, ℕ, ◌*◌, ◌^◌, ◌≤◌, List, length, All, Result, IfOk}
 use Rattle.lu_component.specs.Component.{Declarations}
 use Rattle.lu_test.specs.declared.matrix.Call.{Call}
 use Rattle.lu_test.specs.Matrix.{Matrix, AreArguments, IsCallOf, IsOf}
@@ -10,7 +10,7 @@ use Rattle.lu_refine.specs.declared.campaigns.Campaign.{Campaign}
 use Rattle.lu_refine.specs.declared.campaigns.Campaign.TheVariants.{AllPass, First}
 use Rattle.lu_refine.specs.declared.campaigns.CampaignFault.{CampaignFault}
 use Rattle.lu_refine.specs.declared.campaigns.CampaignFault.TheVariants.{Candidates, Limit, Memory}
-use Rattle.lu_refine.specs.Choices.{IsChoice, IsBefore, filled}
+use Rattle.lu_refine.specs.Choices.{IsChoice, IsBefore, filled_matrix}
 
 -- what a campaign is asked for
 pub record Campaigned : Type 0 where
@@ -59,10 +59,7 @@ IsChoiceOf asked choice = IsChoice (length asked.candidates) (asked.threads * as
 
 -- the matrix that a choice fills, with the setup
 abbrev pub matrix_of : Campaigned → List ℕ → Matrix
-matrix_of asked choice = record {
-  setup = asked.setup;
-  threads = filled asked.candidates asked.threads asked.calls choice;
-}
+matrix_of asked choice = filled_matrix asked.setup asked.candidates asked.threads asked.calls choice
 
 -- r is the report of the matrix that the choice fills
 abbrev pub IsReportAt : Campaigned → List ℕ → Report → Type 0
@@ -89,8 +86,13 @@ IsCampaign asked (AllPass count) =
 IsCampaign asked (First matrix r) = IsFirst asked matrix r
 
 -- the limits hold, and this is found
-abbrev pub IsAnswer : Campaigned → Campaign → Type 0
-IsAnswer asked found = AreEnough (length asked.candidates) × IsGrid asked.threads asked.calls × IsCampaign asked found
+abbrev pub IsCampaignAnswer : Campaigned → Campaign → Type 0
+IsCampaignAnswer asked found = AreEnough (length asked.candidates) × IsGrid asked.threads asked.calls × IsCampaign asked found
+
+-- what a campaign answers that is asked for this, but for faults
+abbrev pub Chooses : Declarations → List Call → List Call → ℕ → ℕ → ℕ → ℕ → Result Campaign CampaignFault → Type 0
+Chooses c setup candidates threads calls bound serial result =
+    IfOk result (IsCampaignAnswer (campaigned c setup candidates threads calls bound serial))
 
 -- not 1 to 8 candidates; else no grid within its limits; or memory was refused
 abbrev pub IsLimitFault : ℕ → ℕ → ℕ → CampaignFault → Type 0

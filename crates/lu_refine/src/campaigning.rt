@@ -4,7 +4,7 @@ ghost use Rattle.std.specs.Prelude.{◌≡◌, ◌≤◌, ◌↔◌, ◌*◌, Is
 ghost use Rattle.lu_test.specs.Matrix.{IsSetup};
 ghost use Rattle.lu_machine.specs.Starts.{AllEnd};
 ghost use Rattle.lu_replay.specs.Confirmed.{IsPass};
-ghost use Rattle.lu_refine.specs.Campaigns.{AreCallsOf, AreEnough, HaveArguments, IsAnswer, IsFoundOf, IsGrid, IsLimitFault, campaigned};
+ghost use Rattle.lu_refine.specs.Campaigns.{AreCallsOf, AreEnough, Chooses, HaveArguments, IsFoundOf, IsGrid, IsLimitFault};
 
 use crate::arena::check_in_arena;
 use crate::campaigns::{Campaign, CampaignFault};
@@ -79,7 +79,7 @@ pub fn campaign(
     requires arguments { HaveArguments candidates.now }
     requires bound { bound ≤ 256 }
     requires serial { (1 ≤ serial) × (serial ≤ 256) }
-    ensures answer { IfOk result (IsAnswer (campaigned component.now setup.now candidates.now threads calls bound serial)) }
+    ensures answer { Chooses component.now setup.now candidates.now threads calls bound serial result }
     ensures of { IfOk result (IsFoundOf component.now) }
     ensures fault { IfErr result (IsLimitFault (length candidates.now) threads calls) }
 {
@@ -87,7 +87,8 @@ pub fn campaign(
     let count = (candidates.len() as u64).pow(positions);
     for place in 0..count {
         let choice = choice_at(alloc, place, candidates.len() as u64, positions)?;
-        let matrix = fill(alloc, setup, candidates, threads, calls, choice.as_slice())?;
+        let choice = choice.as_slice();
+        let matrix = fill(alloc, component, setup, candidates, threads, calls, choice)?;
         let report = check_in_arena(alloc, component, &matrix, bound, serial)?;
         if !is_pass(&report) {
             return Ok(Campaign::First { matrix, report });

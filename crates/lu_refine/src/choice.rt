@@ -2,10 +2,11 @@
 
 ghost use Rattle.std.specs.Prelude.{◌≡◌, ◌<◌, ◌≤◌, ◌*◌, ◌^◌, IfOk, length, map, All};
 ghost use Rattle.lu_test.specs.Matrix.{IsSetup};
-ghost use Rattle.lu_refine.specs.Campaigns.{HaveArguments, AreEnough, IsGrid};
-ghost use Rattle.lu_refine.specs.Choices.{IsChoice, candidate_at, filled, place_of};
+ghost use Rattle.lu_refine.specs.Campaigns.{AreCallsOf, AreEnough, HaveArguments, IsGrid};
+ghost use Rattle.lu_refine.specs.Choices.{IsChoice, candidate_at, filled_matrix, place_of};
 
-use lu_test::{Arguments, Call, Calls, MOST_CALLS, Matrix, copy_calls};
+use lu_component::Component;
+use lu_test::{Call, Calls, MOST_CALLS, Matrix, copy_call, copy_calls};
 use smallvec::SmallVec;
 use std::alloc::{AllocError, Global};
 
@@ -36,16 +37,6 @@ pub(crate) fn choice_at(
     Ok(choice)
 }
 
-fn copy_of(alloc: Global, call: &Call) -> Result<Call, AllocError>
-    ensures { IfOk result (λ copy. copy ≡ call.now) }
-{
-    let numbers = Vec::from_slice(alloc, call.args.as_slice())?;
-    Ok(Call {
-        op: call.op,
-        args: Arguments::new(numbers),
-    })
-}
-
 /// The calls of the candidates with these numbers.
 fn calls_of(alloc: Global, candidates: &[Call], numbers: &[u8]) -> Result<Calls, AllocError>
     requires { All (λ n. n < length candidates.now) numbers.now }
@@ -53,14 +44,16 @@ fn calls_of(alloc: Global, candidates: &[Call], numbers: &[u8]) -> Result<Calls,
 {
     let mut calls = Vec::with_capacity(alloc, numbers.len())?;
     for number in numbers {
-        calls.push(copy_of(alloc, &candidates[usize::from(*number)])?)?;
+        calls.push(copy_call(alloc, &candidates[usize::from(*number)])?)?;
     }
     Ok(Calls::new(calls))
 }
 
-/// The matrix of this setup and of so many threads of so many calls: the candidates of the choice, thread 0's calls first.
+/// The component's matrix of this setup and of so many threads of so many calls: the candidates of the choice, thread 0's
+/// calls first.
 pub(crate) fn fill(
     alloc: Global,
+    component: &Component,
     setup: &Calls,
     candidates: &[Call],
     threads: u8,
@@ -68,10 +61,12 @@ pub(crate) fn fill(
     choice: &[u8],
 ) -> Result<Matrix, AllocError>
     requires setup { IsSetup setup.now }
+    requires setup_of { AreCallsOf component.now setup.now }
+    requires of { AreCallsOf component.now candidates.now }
     requires grid { IsGrid threads calls }
     requires choice { IsChoice (length candidates.now) (threads * calls) choice.now }
     requires arguments { HaveArguments candidates.now }
-    ensures { IfOk result (λ matrix. matrix ≡ record { setup = setup.now; threads = filled candidates.now threads calls choice.now }) }
+    ensures { IfOk result (λ m. m ≡ filled_matrix setup.now candidates.now threads calls choice.now) }
 {
     let mut rows = Vec::with_capacity(alloc, usize::from(threads))?;
     let mut rest = choice;
@@ -80,5 +75,6 @@ pub(crate) fn fill(
         rows.push(calls_of(alloc, candidates, row)?)?;
         rest = others;
     }
-    Ok(Matrix::new(copy_calls(alloc, setup.as_slice())?, rows))
+    let setup = copy_calls(alloc, setup.as_slice())?;
+    Ok(Matrix::new(component, setup, rows).unwrap())
 }

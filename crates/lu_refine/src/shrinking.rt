@@ -10,20 +10,8 @@ use crate::arena::check_in_arena;
 use crate::shrink_fault::ShrinkFault;
 use lu_component::Component;
 use lu_report::{Finding, Report};
-use lu_test::{MOST_THREADS, Matrix, cut_to, remove};
-use smallvec::SmallVec;
+use lu_test::{Matrix, copy_matrix, remove};
 use std::alloc::{AllocError, Global};
-
-/// A copy of the matrix.
-fn copy_of(alloc: Global, matrix: &Matrix) -> Result<Matrix, AllocError>
-    ensures { IfOk result (λ copy. copy ≡ matrix.now) }
-{
-    let mut lengths: SmallVec<u8, MOST_THREADS> = SmallVec::new(alloc);
-    for t in 0..matrix.threads() {
-        lengths.push(matrix.calls(t))?;
-    }
-    cut_to(alloc, matrix, lengths.as_slice())
-}
 
 /// Whether the report is a failure or nondeterministic.
 fn is_failure(report: &Report) -> bool
@@ -90,7 +78,7 @@ pub fn shrink(
     if !is_failure(&report) {
         return Err(ShrinkFault::NotFailing(report));
     }
-    let mut shrunk = (copy_of(alloc, matrix)?, report);
+    let mut shrunk = (copy_matrix(alloc, matrix)?, report);
     while let Some(smaller) = take_least(alloc, component, &shrunk.0, bound, serial)? {
         shrunk = smaller;
     }

@@ -22,7 +22,7 @@ use Rattle.lu_serial.specs.Serial.{EndsAs, HasOpen, IsSerialHistory, entries_of,
 use Rattle.lu_serial.proofs.Opening.{same_or_not}
 use Rattle.lu_witness.specs.Witnesses.{entries}
 use Rattle.lu_witness.proofs.Entries.{entries-append}
-use Rattle.lu_spec.specs.Specs.{Fits}
+use Rattle.lu_spec.specs.Specs.{FitsMatrix}
 use Rattle.lu_refute.specs.Laws.{LearntCloses}
 use Rattle.lu_refute.proofs.Moves.{done_in, done_of}
 use Rattle.lu_refute.proofs.Fails.{made_in, made_of, made_open, run_returns}
@@ -62,7 +62,7 @@ done_made s t = by_thread (slice_get s.threads t)
     by_thread (Some a) = by_open (is_open a.activity) a.done
 
 -- what has ended, and the one that is stuck, was called
-fits : (g : Ground) (matrix : Matrix) (u : List Move) (end : State) (h : List Event) (q : List SerialOp) → Leads (start_on g matrix) u end h → EndsAs end h q → Fits matrix q
+fits : (g : Ground) (matrix : Matrix) (u : List Move) (end : State) (h : List Event) (q : List SerialOp) → Leads (start_on g matrix) u end h → EndsAs end h q → FitsMatrix matrix q
 fits g matrix u end h q leads ends t =
     let returned = run_returns (start_on g matrix) u end h leads t in
     let entered = entries_returned t h in
@@ -103,7 +103,7 @@ ends_serial end h q ends = elim ends as (λ _. IsSerial q) [
   | inr stops ↦ subst IsSerial (sym stops.3) (serial_entries h (stuck_of stops.0 ∷ []) ((λ e. refl), tt))
 ]
 
-pub serial_fits : (c : Declarations) (matrix : Matrix) (s : State) (q : List SerialOp) → IsStart c matrix s → IsSerialHistory s q → IsSerial q × Fits matrix q
+pub serial_fits : (c : Declarations) (matrix : Matrix) (s : State) (q : List SerialOp) → IsStart c matrix s → IsSerialHistory s q → IsSerial q × FitsMatrix matrix q
 serial_fits c matrix s q is history =
     let g = ground_of c s in
     let there : IsSerialHistory (start_on g matrix) q = subst (λ x. IsSerialHistory x q) (grounded c matrix s is) history in

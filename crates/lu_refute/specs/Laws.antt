@@ -16,7 +16,7 @@ use Rattle.lu_witness.specs.Witnesses.{IsMember, IsWitness, entries}
 use Rattle.lu_report.specs.declared.report.Finding.{Finding}
 use Rattle.lu_report.specs.declared.report.Report.{Report}
 use Rattle.lu_replay.specs.Reports.{IsReport}
-use Rattle.lu_spec.specs.Specs.{AreOf, Fits, IsSpec}
+use Rattle.lu_spec.specs.Specs.{AreOf, FitsMatrix, IsSpec}
 use Rattle.lu_refute.specs.Linearizable.{AreLengths, IsCounterexample, IsCutOf, IsLinearizable, Refutes}
 use Rattle.lu_refute.specs.Whole.{IsSeriallyWhole, made_calls}
 use Rattle.lu_refute.specs.Answers.{IsAnswer, IsAnswerTo, IsConfirmedFailure, IsFailure}
@@ -124,7 +124,7 @@ NotLinearizable =
 pub record IsDeterministicOf (matrix : Matrix) (spec : List SerialOp → Bool) : Type 0 where
   pub deterministic : (p q : List SerialOp) (i : ℕ) (o : SerialOutcome) → IsTrue (spec p) → IsTrue (spec q) → ConflictAt p q i o → ⊥
   pub serial : (q : List SerialOp) → IsTrue (spec q) → IsSerial q
-  pub fits : (q : List SerialOp) → IsTrue (spec q) → Fits matrix q
+  pub fits : (q : List SerialOp) → IsTrue (spec q) → FitsMatrix matrix q
 
 -- A failure that a run confirms refutes each of them: by none is the component linearizable.
 abbrev pub NoneLinearizable : Type 0

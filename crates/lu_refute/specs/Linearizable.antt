@@ -10,6 +10,7 @@ use Rattle.lu_machine.specs.Starts.{IsStart}
 use Rattle.lu_machine.specs.Ends.{IsEnded}
 use Rattle.lu_machine.specs.Schedules.{Reaches}
 use Rattle.lu_history.specs.declared.serial.SerialOp.{SerialOp}
+use Rattle.lu_witness.specs.Witnesses.{IsMember}
 use Rattle.lu_witness.specs.Goodness.{IsGoodAt}
 
 -- a length of each thread, at most its number of calls
@@ -34,3 +35,7 @@ Refutes Set s u = Reaches s u (λ end history. IsEnded end × (IsGoodAt Set end 
 abbrev pub IsCounterexample : Declarations → Matrix → (List SerialOp → Type 0) → Matrix × List Move → Type 0
 IsCounterexample c matrix Set example =
     IsCutOf matrix example.0 × ((s : State) → IsStart c example.0 s → Refutes Set s example.1)
+
+-- the same of the set with these members
+abbrev pub IsCounterexampleTo : Declarations → Matrix → List (List SerialOp) → Matrix × List Move → Type 0
+IsCounterexampleTo c matrix members example = IsCounterexample c matrix (IsMember members) example

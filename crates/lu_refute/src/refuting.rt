@@ -5,10 +5,10 @@ ghost use Rattle.lu_machine.specs.Starts.{CanRun};
 ghost use Rattle.lu_machine.specs.declared.event.Status.TheVariants.{Running};
 ghost use Rattle.lu_witness.specs.declared.judgement.Verdict.TheVariants.{Good};
 ghost use Rattle.lu_witness.specs.Witnesses.{IsMember};
-ghost use Rattle.lu_report.specs.Parts.{IsSerialBound};
+ghost use Rattle.lu_report.specs.Limits.{IsSerialBound, most_moves};
 ghost use Rattle.lu_replay.specs.Confirmed.{IsShownWith};
 ghost use Rattle.lu_spec.specs.Specs.{AreOf};
-ghost use Rattle.lu_refute.specs.Linearizable.{IsCounterexample, IsLinearizable};
+ghost use Rattle.lu_refute.specs.Linearizable.{IsCounterexampleTo, IsLinearizable};
 ghost use Rattle.lu_refute.specs.Answers.{IsAnswer, IsAnswerWith, IsConfirmedFailure, IsFailure, IsRefuteFault};
 ghost use Rattle.lu_refute.specs.Walks.{HasOutside, IsFailing, IsFromOutside, TellsRefutation};
 
@@ -67,11 +67,7 @@ fn refutes(
     ensures { IfOk result (TellsRefutation component.now matrix.now set.now schedule.now) }
 {
     match replay(alloc, component, matrix, schedule) {
-        Ok(shown) => {
-            // Its clause says that the history is well-formed.
-            let _events = shown.history.events();
-            Ok(is_bad(shown.status, verdict(&set, &shown.history)))
-        }
+        Ok(shown) => { Ok(is_bad(shown.status, verdict(&set, &shown.history))) }
         Err(ReplayFault::Infeasible(_)) => Ok(false),
         Err(ReplayFault::Memory) => Err(AllocError),
     }
@@ -113,7 +109,7 @@ fn from_outside(
 ) -> Result<(Matrix, Schedule), AllocError>
     requires of { CanRun component.now matrix.now }
     requires some { 1 ≤ serial }
-    requires few { serial ≤ 256 }
+    requires few { serial ≤ most_moves }
     requires empty { IsMember set.now [] }
     requires outside { HasOutside component.now matrix.now serial set.now }
     ensures { IfOk result (IsFromOutside component.now matrix.now serial set.now) }
@@ -173,7 +169,7 @@ pub fn refute(
     ensures shown { OnOk result (IsConfirmedFailure component.now matrix.now report.now) }
     ensures fault { IfErr result (IsRefuteFault component.now matrix.now report.now) }
     ensures answer { IfOk result (IsAnswer component.now matrix.now report.now spec.now) }
-    ensures counterexample { IfOk result (IsCounterexample component.now matrix.now (IsMember spec.now)) }
+    ensures counterexample { IfOk result (IsCounterexampleTo component.now matrix.now spec.now) }
     ensures refuted { OnOk result (IsLinearizable component.now matrix.now (IsMember spec.now) → ⊥) }
 {
     let Some(serial) = report.serial() else {

@@ -1,7 +1,7 @@
 -- A replay, move after move.
 use Rattle.std.proofs.Common.{◌≡◌, ◌⊎◌, ℕ, suc, ◌+◌, ◌<◌, ◌≤◌, List, [], ◌∷◌, ◌++◌, length, take, get_or, slice_get, Option, Some, None, IfSome, refl, sym, ◌∙◌, ap, subst, inl, inr, arith}
 use Rattle.std.proofs.lemmas.Bool.{cases_lt}
-use Rattle.std.proofs.lemmas.List.{get_or-take, length-take, take_all, take-take, take_more}
+use Rattle.std.proofs.lemmas.List.{append-nil, get_or-take, length-take, take_all, take-take, take_more}
 use Rattle.std.proofs.lemmas.Option.{get_or_from_slice_get, slice_get-get_or, slice_get_within}
 use Rattle.lu_component.specs.Component.{Declarations}
 use Rattle.lu_test.specs.declared.schedule.Move.{Move}
@@ -18,8 +18,9 @@ use Rattle.lu_machine.proofs.Starting.{start_same, start_there}
 use Rattle.lu_machine.proofs.Ended.{complete_or_not, move_or_not, status_same}
 use Rattle.lu_machine.proofs.StepLaws.{feasible_step}
 use Rattle.lu_machine.proofs.Paths.{leads_same, goes_on_feasible, child_leads}
-use Rattle.lu_machine.specs.Events.{IsInRange}
-use Rattle.lu_history.specs.Histories.{Fits}
+use Rattle.lu_machine.specs.Events.{IsEventInRange}
+use Rattle.lu_history.specs.Histories.{Fits, IsWellFormed}
+use Rattle.lu_history.proofs.Events.{push_history}
 use Rattle.lu_history.specs.Standing.{Agree}
 use Rattle.lu_history.proofs.Following.{start_agrees, step_agrees, step_fits}
 use Rattle.lu_replay.specs.Replays.{Plays, Shows, IsInfeasibleAt}
@@ -28,17 +29,24 @@ use Rattle.lu_replay.specs.Replays.{Plays, Shows, IsInfeasibleAt}
 pub record IsPlayed (start : State) (u : List Move) (many : ℕ) (now : State) (history : List Event) : Type 0 where
   pub leads : Leads start (take many u) now history
   pub agree : Agree (progress now) history
+  pub well_formed : IsWellFormed history
+
+-- a history that grows by an event that fits
+well_formed_more : (history : List Event) (event : Option Event) → IsWellFormed history → IfSome event (Fits history) → IsWellFormed (history ++ with_event event [])
+well_formed_more history None is fits = rw (append-nil history) is
+well_formed_more history (Some e) is fits = push_history history e is fits
 
 pub played_none : (c : Declarations) (matrix : Matrix) (start : State) (u : List Move) → IsStart c matrix start → IsPlayed start u 0 start []
-played_none c matrix start u is = record { leads = (refl, refl); agree = start_agrees c matrix start is }
+played_none c matrix start u is = record { leads = (refl, refl); agree = start_agrees c matrix start is; well_formed = λ i e at. absurd cc }
 
-pub played_more : (start : State) (u : List Move) (many : ℕ) (now : State) (history : List Event) (m : Move) (new : State) (event : Option Event) → IsPlayed start u many now history → many < length u → m ≡ get_or u many m → Step now m new event → IsPlayed start u (many + 1) new (history ++ with_event event [])
-played_more start u many now history m new event played below read step =
+pub played_more : (start : State) (u : List Move) (many : ℕ) (now : State) (history : List Event) (m : Move) (new : State) (event : Option Event) → IsPlayed start u many now history → many < length u → m ≡ get_or u many m → Step now m new event → IfSome event (Fits history) → IsPlayed start u (many + 1) new (history ++ with_event event [])
+played_more start u many now history m new event played below read step fits =
     let more : take (many + 1) u ≡ take many u ++ m ∷ [] =
     take_more u many m below ∙ ap (λ (n : Move). take many u ++ n ∷ []) (sym read) in
     record {
       leads = rw more (child_leads start (take many u) now history played.leads m new event step);
       agree = step_agrees now m new event history played.agree step;
+      well_formed = well_formed_more history event played.well_formed fits;
     }
 
 plays_same : (c : Declarations) (matrix : Matrix) (u : List Move) (a b : State) (h k : List Event) → Plays c matrix u a h → Plays c matrix u b k → (a ≡ b) × (h ≡ k)
@@ -86,7 +94,7 @@ one_fault c matrix u i j p q =
     ]
 
 -- the event of a feasible move fits what was played
-pub fits_played : (start : State) (u : List Move) (many : ℕ) (now : State) (history : List Event) (m : Move) (new : State) (event : Option Event) → IsPlayed start u many now history → Step now m new event → IfSome event IsInRange → IfSome event (Fits history)
+pub fits_played : (start : State) (u : List Move) (many : ℕ) (now : State) (history : List Event) (m : Move) (new : State) (event : Option Event) → IsPlayed start u many now history → Step now m new event → IfSome event IsEventInRange → IfSome event (Fits history)
 fits_played start u many now history m new None played step range = tt
 fits_played start u many now history m new (Some e) played step range = step_fits now m new e history played.agree step range
 

@@ -1,19 +1,21 @@
 -- Reports that a run confirms.
-use Rattle.std.specs.Prelude.{◌≡◌, ℕ, List, None, IsSomeAnd}
+use Rattle.std.specs.Prelude.{◌≡◌, ◌↔◌, ℕ, Bool, List, None, Result, IsSomeAnd, IsTrue, IfOk}
 use Rattle.lu_component.specs.Component.{Declarations}
 use Rattle.lu_test.specs.declared.schedule.Move.{Move}
 use Rattle.lu_test.specs.Matrix.{Matrix}
 use Rattle.lu_machine.specs.declared.event.Status.{Status}
 use Rattle.lu_machine.specs.declared.event.Status.TheVariants as status
 use Rattle.lu_machine.specs.States.{State}
-use Rattle.lu_machine.specs.Starts.{IsStart}
+use Rattle.lu_machine.specs.Starts.{FromEachStart, IsStart}
 use Rattle.lu_history.specs.declared.serial.SerialOp.{SerialOp}
 use Rattle.lu_serial.specs.Serial.{IsSerialHistory}
-use Rattle.lu_serial.specs.Offences.{NoOffence, IsFirstCut, IsFirstConflict}
+use Rattle.lu_serial.specs.Offences.{NoOffence, IsFirstCut, IsFirstConflict, IsLearnt}
+use Rattle.lu_serial.specs.declared.learning.Learnt.{Learnt}
 use Rattle.lu_witness.specs.declared.judgement.Verdict.{Verdict}
 use Rattle.lu_witness.specs.declared.judgement.Verdict.TheVariants.{NoWitness, NoWitnessFor}
 use Rattle.lu_witness.specs.declared.judgement.Why.{Why}
 use Rattle.lu_witness.specs.declared.judgement.Why.TheVariants.{Complete, Stuck}
+use Rattle.lu_witness.specs.Witnesses.{IsMember}
 use Rattle.lu_witness.specs.Goodness.{IsBad, IsWhy}
 use Rattle.lu_report.specs.declared.report.Finding.{Finding}
 use Rattle.lu_report.specs.declared.report.Finding.TheVariants.{SerialCut, Nondeterministic, Fail, Pass}
@@ -32,7 +34,7 @@ IsShown s bound serial (Pass counts) = ⊥
 
 -- what it says with this bound of serial runs is shown
 abbrev pub IsShownWith : Declarations → Matrix → Report → ℕ → Type 0
-IsShownWith c matrix r serial = (s : State) → IsStart c matrix s → IsShown s r.bound serial r.finding
+IsShownWith c matrix r serial = FromEachStart c matrix (λ s. IsShown s r.bound serial r.finding)
 
 -- as many local instructions of the component run with one move as the report says; it has a bound of serial runs; and what else
 -- it says is shown, with its own bounds
@@ -53,7 +55,7 @@ IsShownAgainst Set s bound (Pass counts) = ⊥
 abbrev pub IsConfirmedAgainst : (List SerialOp → Type 0) → Declarations → Matrix → Report → Type 0
 IsConfirmedAgainst Set c matrix r =
     (r.local ≡ c.local) × (r.serial ≡ None)
-    × ((s : State) → IsStart c matrix s → IsShownAgainst Set s r.bound r.finding)
+    × FromEachStart c matrix (λ s. IsShownAgainst Set s r.bound r.finding)
 
 abbrev pub IsPass : Finding → Type 0
 IsPass (SerialCut u) = ⊥
@@ -72,3 +74,27 @@ IsFailure (Pass counts) = ⊥
 abbrev pub IsReason : Status → Verdict → Why → Type 0
 IsReason end verdict Complete = (end ≡ status.Complete) × (verdict ≡ NoWitness)
 IsReason end verdict (Stuck t) = (end ≡ status.Stuck) × (verdict ≡ NoWitnessFor t)
+
+-- ---- answers of yes or no
+
+-- the answer is yes where this holds, and else no
+abbrev pub SaysWhether : {E : Type 0} → Result Bool E → Type 0 → Type 0
+SaysWhether result Holds = IfOk result (λ yes. IsTrue yes ↔ Holds)
+
+-- whether the schedule is bad for the set with these members, as it is said
+abbrev pub SaysBad : {E : Type 0} → Declarations → Matrix → List (List SerialOp) → ℕ → List Move → Why → Result Bool E → Type 0
+SaysBad c matrix members bound u why result = FromEachStart c matrix (λ s. SaysWhether result (IsBadFor (IsMember members) s bound u why))
+
+-- whether the finding is shown, where the serial runs came to this
+abbrev pub SaysShown : {A E : Type 0} → Declarations → Matrix → Learnt A → ℕ → Finding → Result Bool E → Type 0
+SaysShown c matrix learnt bound f result =
+    (s : State) (serial : ℕ) → IsStart c matrix s → IsLearnt s serial learnt → SaysWhether result (IsShown s bound serial f)
+
+-- whether the finding is shown against the set with these members
+abbrev pub SaysShownAgainst : {E : Type 0} → Declarations → Matrix → List (List SerialOp) → ℕ → Finding → Result Bool E → Type 0
+SaysShownAgainst c matrix members bound f result =
+    FromEachStart c matrix (λ s. SaysWhether result (IsShownAgainst (IsMember members) s bound f))
+
+-- whether the report is confirmed against the set with these members
+abbrev pub SaysConfirmedAgainst : {E : Type 0} → Declarations → Matrix → List (List SerialOp) → Report → Result Bool E → Type 0
+SaysConfirmedAgainst c matrix members r result = SaysWhether result (IsConfirmedAgainst (IsMember members) c matrix r)

@@ -16,6 +16,6 @@ abbrev pub Shows : Declarations → Matrix → List Move → List Event → Stat
 Shows c matrix u history status = (end : State) × Plays c matrix u end history × HasStatus end status
 
 -- the fault of the schedule; want of memory can come with any
-abbrev pub IsFaultOf : Declarations → Matrix → List Move → ReplayFault → Type 0
-IsFaultOf c matrix u (Infeasible i) = IsInfeasibleAt c matrix u i
-IsFaultOf c matrix u Memory = Unit {0}
+abbrev pub IsReplayFault : Declarations → Matrix → List Move → ReplayFault → Type 0
+IsReplayFault c matrix u (Infeasible i) = IsInfeasibleAt c matrix u i
+IsReplayFault c matrix u Memory = Unit {0}

@@ -3,10 +3,11 @@ use Rattle.std.specs.Prelude.{◌≡◌, ℕ, List, Some, None}
 use Rattle.lu_component.specs.Component.{Declarations}
 use Rattle.lu_test.specs.Matrix.{Matrix}
 use Rattle.lu_machine.specs.States.{State}
-use Rattle.lu_machine.specs.Starts.{IsStart}
+use Rattle.lu_machine.specs.Starts.{FromEachStart}
 use Rattle.lu_history.specs.declared.serial.SerialOp.{SerialOp}
 use Rattle.lu_serial.specs.Serial.{IsSerialHistory}
-use Rattle.lu_serial.specs.Offences.{NoOffence, IsFirstCut, IsFirstConflict}
+use Rattle.lu_serial.specs.Offences.{NoOffence, IsFirstCut, IsFirstConflict, IsLearnt, IsSetOf}
+use Rattle.lu_serial.specs.declared.learning.Learnt.{Learnt}
 use Rattle.lu_witness.specs.Goodness.{IsFirstBad, AreAllGood, Any}
 use Rattle.lu_report.specs.declared.report.Finding.{Finding}
 use Rattle.lu_report.specs.declared.report.Finding.TheVariants.{SerialCut, Nondeterministic, Fail, Pass}
@@ -19,12 +20,20 @@ IsFinding s bound serial (Nondeterministic u before earlier) = IsFirstConflict s
 IsFinding s bound serial (Fail u why) = NoOffence s serial × IsFirstBad (IsSerialHistory s) s bound Any u why
 IsFinding s bound serial (Pass counts) = NoOffence s serial × AreAllGood (IsSerialHistory s) s bound Any counts
 
+-- the set is that of all serial histories, where the serial runs came to this
+abbrev pub IsLearntSet : {A : Type 0} → Learnt A → List (List SerialOp) → Type 0
+IsLearntSet learnt set = (s : State) (serial : ℕ) → IsLearnt s serial learnt → IsSetOf s serial set
+
+-- the finding is a check's with any bound of schedules, where the serial runs came to this
+abbrev pub IsLearntOffence : {A : Type 0} → Learnt A → Finding → Type 0
+IsLearntOffence learnt finding = (s : State) (bound serial : ℕ) → IsLearnt s serial learnt → IsFinding s bound serial finding
+
 -- r is the report of the component and the matrix with these bounds; it says how many of the component's
 -- local instructions run with one move
 abbrev pub IsReport : Declarations → Matrix → ℕ → ℕ → Report → Type 0
 IsReport c matrix bound serial r =
     (r.bound ≡ bound) × (r.serial ≡ Some serial) × (r.local ≡ c.local)
-    × ((s : State) → IsStart c matrix s → IsFinding s bound serial r.finding)
+    × FromEachStart c matrix (λ s. IsFinding s bound serial r.finding)
 
 -- ---- against a specification
 
@@ -39,4 +48,4 @@ IsFindingAgainst Set s bound (Pass counts) = AreAllGood Set s bound Any counts
 abbrev pub IsReportAgainst : (List SerialOp → Type 0) → Declarations → Matrix → ℕ → Report → Type 0
 IsReportAgainst Set c matrix bound r =
     (r.bound ≡ bound) × (r.serial ≡ None) × (r.local ≡ c.local)
-    × ((s : State) → IsStart c matrix s → IsFindingAgainst Set s bound r.finding)
+    × FromEachStart c matrix (λ s. IsFindingAgainst Set s bound r.finding)

@@ -1,13 +1,10 @@
 //! Whether reports hold.
 
-ghost use Rattle.std.specs.Prelude.{◌≡◌, ◌↔◌, ◌≤◌, ℕ, IsTrue, IfOk};
-ghost use Rattle.lu_machine.specs.States.{State};
-ghost use Rattle.lu_machine.specs.Starts.{CanRun, IsStart};
+ghost use Rattle.std.specs.Prelude.{◌≡◌, ◌↔◌, IsTrue};
+ghost use Rattle.lu_machine.specs.Starts.{CanRun};
 ghost use Rattle.lu_serial.specs.declared.learning.Learnt.TheVariants.{Cut, Conflict};
-ghost use Rattle.lu_serial.specs.Offences.{IsLearnt};
-ghost use Rattle.lu_witness.specs.Witnesses.{IsMember};
-ghost use Rattle.lu_report.specs.Parts.{IsSerialBound};
-ghost use Rattle.lu_replay.specs.Confirmed.{IsBadFor, IsConfirmed, IsConfirmedAgainst, IsReason, IsShown, IsShownAgainst, IsShownWith};
+ghost use Rattle.lu_report.specs.Limits.{IsSerialBound};
+ghost use Rattle.lu_replay.specs.Confirmed.{IsConfirmed, IsReason, IsShownWith, SaysBad, SaysConfirmedAgainst, SaysShown, SaysShownAgainst, SaysWhether};
 
 use crate::fault::ReplayFault;
 use crate::player::replay;
@@ -81,15 +78,13 @@ fn fails<T: SerialTree>(
     why: Why,
 ) -> Result<bool, AllocError>
     requires { CanRun component.now matrix.now }
-    ensures { (s : State) → IsStart component.now matrix.now s → IfOk result (λ yes. IsTrue yes ↔ IsBadFor (IsMember (T.members tree.now)) s bound schedule.now why) }
+    ensures { SaysBad component.now matrix.now (T.members tree.now) bound schedule.now why result }
 {
     if schedule.moves().len() > usize::from(bound) {
         return Ok(false);
     }
     match replay(alloc, component, matrix, schedule) {
         Ok(shown) => {
-            // Its clause says that the history is well-formed.
-            let _events = shown.history.events();
             let verdict = verdict(tree, &shown.history);
             Ok(is_reason(shown.status, verdict, why))
         }
@@ -108,7 +103,7 @@ fn is_shown(
     finding: &Finding,
 ) -> Result<bool, AllocError>
     requires { CanRun component.now matrix.now }
-    ensures { (s : State) (serial : ℕ) → IsStart component.now matrix.now s → IsLearnt s serial learnt.now → IfOk result (λ yes. IsTrue yes ↔ IsShown s bound serial finding.now) }
+    ensures { SaysShown component.now matrix.now learnt.now bound finding.now result }
 {
     match finding {
         Finding::SerialCut(schedule) => Ok(is_cut(learnt, schedule)),
@@ -136,7 +131,7 @@ fn shows(
 ) -> Result<bool, AllocError>
     requires of { CanRun component.now matrix.now }
     requires range { IsSerialBound serial }
-    ensures { IfOk result (λ yes. IsTrue yes ↔ IsShownWith component.now matrix.now report.now serial) }
+    ensures { SaysWhether result (IsShownWith component.now matrix.now report.now serial) }
 {
     if let Finding::Pass(_) = report.finding() {
         return Ok(false);
@@ -156,7 +151,7 @@ fn is_shown_against<T: SerialTree>(
     finding: &Finding,
 ) -> Result<bool, AllocError>
     requires { CanRun component.now matrix.now }
-    ensures { (s : State) → IsStart component.now matrix.now s → IfOk result (λ yes. IsTrue yes ↔ IsShownAgainst (IsMember (T.members tree.now)) s bound finding.now) }
+    ensures { SaysShownAgainst component.now matrix.now (T.members tree.now) bound finding.now result }
 {
     match finding {
         Finding::SerialCut(_) => Ok(false),
@@ -191,7 +186,7 @@ pub fn confirm(
     report: &Report,
 ) -> Result<bool, AllocError>
     requires { CanRun component.now matrix.now }
-    ensures { IfOk result (λ yes. IsTrue yes ↔ IsConfirmed component.now matrix.now report.now) }
+    ensures { SaysWhether result (IsConfirmed component.now matrix.now report.now) }
 {
     if !says_local(component, report) {
         return Ok(false);
@@ -219,7 +214,7 @@ pub fn confirm_against<T: SerialTree>(
     tree: &T,
 ) -> Result<bool, AllocError>
     requires { CanRun component.now matrix.now }
-    ensures { IfOk result (λ yes. IsTrue yes ↔ IsConfirmedAgainst (IsMember (T.members tree.now)) component.now matrix.now report.now) }
+    ensures { SaysConfirmedAgainst component.now matrix.now (T.members tree.now) report.now result }
 {
     if !says_local(component, report) {
         return Ok(false);

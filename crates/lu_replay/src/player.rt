@@ -3,8 +3,8 @@
 ghost use Rattle.std.specs.Prelude.{◌≡◌, [], ◌++◌, IfOk, IfErr, IfSome, OnOk};
 ghost use Rattle.lu_machine.specs.Starts.{CanRun};
 ghost use Rattle.lu_machine.specs.Runs.{with_event};
-ghost use Rattle.lu_history.specs.Histories.{Fits};
-ghost use Rattle.lu_replay.specs.Replays.{IsFaultOf, Shows};
+ghost use Rattle.lu_history.specs.Histories.{Fits, IsWellFormed};
+ghost use Rattle.lu_replay.specs.Replays.{IsReplayFault, Shows};
 
 use crate::fault::ReplayFault;
 use crate::shown::Replay;
@@ -25,7 +25,8 @@ pub fn replay(
 ) -> Result<Replay, ReplayFault>
     requires { CanRun component.now matrix.now }
     ensures shows { IfOk result (λ r. Shows component.now matrix.now schedule.now r.history r.status) }
-    ensures fault { IfErr result (IsFaultOf component.now matrix.now schedule.now) }
+    ensures well_formed { IfOk result (λ r. IsWellFormed r.history) }
+    ensures fault { IfErr result (IsReplayFault component.now matrix.now schedule.now) }
 {
     let mut machine = Machine::start(alloc, component, matrix)?;
     let mut history = History::new(alloc);

@@ -1,13 +1,11 @@
--- Where texts differ from all texts of a form.
+-- Where a reader stops, and where texts differ from all texts of a form.
 use Rattle.std.proofs.Common.{◌≡◌, ℕ, suc, ◌+◌, ◌<◌, List, [], ◌∷◌, ◌++◌, length, take, refl, sym, ◌∙◌, ap, subst, add-one, inl, inr, arith}
 use Rattle.std.proofs.lemmas.Bool.{cases_lt}
 use Rattle.std.proofs.lemmas.List.{length-append}
-use Rattle.lu_text.specs.declared.fault.Fault.{Fault}
-use Rattle.lu_text.specs.declared.fault.Fault.TheVariants.{At, Memory}
-use Rattle.lu_report.specs.declared.fault.ReportFaultKind.{ReportFaultKind}
-use Rattle.lu_report.specs.declared.fault.ReportFaultKind.TheVariants.{Form}
+use Rattle.lu_report.specs.declared.reader.Unread.{Unread}
+use Rattle.lu_report.specs.declared.reader.Unread.TheVariants.{From, Exhausted}
 use Rattle.lu_text.specs.Lines.{kept_lines}
-use Rattle.lu_report.specs.Forms.{DiffersAt, IsFaultFrom, IsFirst}
+use Rattle.lu_report.specs.Forms.{Begins, DiffersAt, HasNo, IsFirst, Stops, StopsAt}
 
 -- ---- the first line of a text
 
@@ -60,23 +58,40 @@ behind Texts (line ∷ front) lines n d =
     let e : n + length front + 1 ≡ n + length (line ∷ front) = omega arith in
     subst (DiffersAt Texts (line ∷ (front ++ lines))) e (deeper Texts line (front ++ lines) (n + length front) rest)
 
--- the fault at the line behind the front
-pub fault_at : (Texts : List (List ℕ) → Type 0) (first line : ℕ) (text : List ℕ) (front lines : List (List ℕ)) → kept_lines text ≡ front ++ lines → line ≡ first + length front
-    → (other : List (List ℕ)) → Texts (front ++ other) → ((t : List (List ℕ)) → Texts (front ++ t) → take 1 t ≡ take 1 lines → ⊥) → IsFaultFrom Texts first text (At Form line)
-fault_at Texts first line text front lines kept number other is none =
-    let here : DiffersAt (λ t. Texts (front ++ t)) lines 0 = record { before = (other, is, refl); there = none } in
-    let d : DiffersAt Texts (front ++ lines) (0 + length front) = behind Texts front lines 0 here in
-    (0 + length front, omega arith, rw kept d)
+-- those of the form differ at the line behind the front where the reader stops
+pub differs : (Texts : List (List ℕ) → Type 0) (text rest : List ℕ) (s : StopsAt Texts text rest) → DiffersAt Texts (kept_lines text) (0 + length s.front)
+differs Texts text rest s =
+    let here : DiffersAt (λ t. Texts (s.front ++ t)) (kept_lines rest) 0 = record { before = (s.other, s.is, refl); there = s.none } in
+    rw s.whole (behind Texts s.front (kept_lines rest) 0 here)
 
--- the fault of what follows the front
-pub fault_behind : (Texts Tails : List (List ℕ) → Type 0) (first second : ℕ) (text rest : List ℕ) (front : List (List ℕ)) → kept_lines text ≡ front ++ kept_lines rest → second ≡ first + length front
-    → ((t : List (List ℕ)) → Tails t → Texts (front ++ t)) → ((t : List (List ℕ)) → Texts (front ++ t) → Tails t) → (e : Fault ReportFaultKind) → IsFaultFrom Tails second rest e → IsFaultFrom Texts first text e
-fault_behind Texts Tails first second text rest front kept number into back (At Form line) fault =
-    let d = fault.2 in
-    let alike : DiffersAt (λ t. Texts (front ++ t)) (kept_lines rest) fault.0 = record {
-      before = (d.before.0, into d.before.0 d.before.1, d.before.2);
-      there = λ other is. d.there other (back other is);
-    } in
-    let e = fault.1 in
-    (fault.0 + length front, omega arith, rw kept (behind Texts front (kept_lines rest) fault.0 alike))
-fault_behind Texts Tails first second text rest front kept number into back Memory fault = tt
+-- ---- where a reader stops
+
+-- at the first line
+pub at_once : (Texts : List (List ℕ) → Type 0) (text : List ℕ) (other : List (List ℕ)) → Texts other → ((t : List (List ℕ)) → Texts t → take 1 t ≡ take 1 (kept_lines text) → ⊥) → StopsAt Texts text text
+at_once Texts text other is none = record { front = []; whole = refl; other = other; is = is; none = none }
+
+-- where the reader of the lines behind this one stops
+pub later : (Texts Tails : List (List ℕ) → Type 0) (text rest line : List ℕ) → kept_lines text ≡ line ∷ kept_lines rest
+    → ((t : List (List ℕ)) → Tails t → Texts (line ∷ t)) → ((t : List (List ℕ)) → Texts (line ∷ t) → Tails t) → (e : Unread) → Stops Tails rest e → Stops Texts text e
+later Texts Tails text rest line kept into back (From last) s = record {
+  front = line ∷ s.front;
+  whole = kept ∙ ap (λ (x : List (List ℕ)). line ∷ x) s.whole;
+  other = s.other;
+  is = into (s.front ++ s.other) s.is;
+  none = λ t are e. s.none t (back (s.front ++ t) are) e;
+}
+later Texts Tails text rest line kept into back Exhausted s = tt
+
+module _ (IsHead : List ℕ → Type 0) (AreTail : List (List ℕ) → Type 0) (text : List ℕ) where
+  -- at a line that is no head
+  pub at_head : (line : List ℕ) × IsHead line → (t : List (List ℕ)) × AreTail t → (e : Unread) → HasNo IsHead text e → Stops (Begins IsHead AreTail) text e
+  at_head head tail (From rest) none = record { front = []; whole = rw none.0 refl; other = head.0 ∷ tail.0; is = (head.1, tail.1); none = λ u begins e. no_head u begins (rw none.0 at e) }
+    where
+      no_head : (u : List (List ℕ)) → Begins IsHead AreTail u → take 1 u ≡ take 1 (kept_lines text) → ⊥
+      no_head [] begins e = begins
+      no_head (x ∷ u) begins e = none.1 x begins.0 (sym e)
+  at_head head tail Exhausted none = tt
+
+  -- behind the head
+  pub in_tail : (rest line : List ℕ) → IsHead line → kept_lines text ≡ line ∷ kept_lines rest → (e : Unread) → Stops AreTail rest e → Stops (Begins IsHead AreTail) text e
+  in_tail rest line is kept e s = later (Begins IsHead AreTail) AreTail text rest line kept (λ t are. (is, are)) (λ t are. are.1) e s

@@ -1,6 +1,6 @@
 -- Lines that end with a number.
 use Rattle.std.proofs.Common.{◌≡◌, ℕ, ◌+◌, ◌<◌, ◌≤◌, ◌^◌, List, ◌++◌, Option, Some, None, true, false, refl, sym, ◌∙◌, ap, subst, arith}
-use Rattle.std.specs.Prelude.{Bool, cond, nat_lt, codes, IfNone, IfSome, IfErr, Result, Ok, Err}
+use Rattle.std.specs.Prelude.{Bool, cond, nat_lt, codes, IfNone, IfSome, IfErr, IfOk, Result, Ok, Err}
 use Rattle.std.specs.Fmt.{decimal}
 use Rattle.std.proofs.lemmas.Bool.{lt-ltb, ltb-true}
 use Rattle.std.proofs.lemmas.List.{append_assoc, append_cancel_left, append_cancel_right}
@@ -68,3 +68,7 @@ module _ (line front p : List ℕ) (same : p ≡ front) where
 pub err_weaker : {A E : Type 0} (r : Result A E) (P Q : E → Type 0) → ((e : E) → P e → Q e) → IfErr r P → IfErr r Q
 err_weaker (Ok x) P Q h p = p
 err_weaker (Err e) P Q h p = h e p
+
+pub ok_weaker : {A E : Type 0} (r : Result A E) (P Q : A → Type 0) → ((x : A) → P x → Q x) → IfOk r P → IfOk r Q
+ok_weaker (Ok x) P Q h p = h x p
+ok_weaker (Err e) P Q h p = p

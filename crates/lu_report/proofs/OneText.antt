@@ -31,8 +31,8 @@ use Rattle.lu_report.specs.declared.fault.ReportFaultKind.TheVariants.{Form}
 use Rattle.lu_report.specs.Parts.{Parts, AreLimits, IsSerialBound, IsThreadOf, parts_of}
 use Rattle.lu_report.specs.Text.{number_line, earlier_line, fail_line, finding_lines, version_of, version_line, serial_lines, local_lines, report_lines, report_text}
 use Rattle.lu_text.specs.Lines.{kept_lines}
-use Rattle.lu_report.specs.Forms.{IsLocalOf, IsOutcome, IsSound, IsFault, Gives, Spells}
-use Rattle.lu_report.proofs.Exits.{byte_at, clash, fail_byte, local_back, same_number, version_same}
+use Rattle.lu_report.specs.Forms.{IsOutcome, IsSound, IsFault, GivesReport, Spells}
+use Rattle.lu_report.proofs.Exits.{byte_at, clash, fail_byte, same_number, version_same}
 
 -- ---- the lines of a report's text are its lines
 
@@ -207,6 +207,21 @@ serials_same (Some x) None (suc m) n t u some also is e = absurd cc
 serials_same (Some x) (Some y) m n t u some also is e =
     (ap (λ (z : ℕ). Some z) (same_number (codes "serial ") x y (omega (arith, some.1)) (omega (arith, also.1)) (ap (line_at 0) e)), ap (λ (z : List (List ℕ)). drop 1 z) e)
 
+-- a report of this version may say so many local instructions
+abbrev IsLocalOf : Version → ℕ → Type 0
+IsLocalOf One local = local ≡ 0
+IsLocalOf Two local = (1 ≤ local) × (local ≤ 16)
+IsLocalOf Three local = local ≤ 16
+
+local_back : (version : Version) (serial : Option ℕ) (local : ℕ) → version ≡ version_of serial local → local ≤ 16 → IsLocalOf version local
+local_back One None local e low = absurd cc
+local_back One (Some n) zero e low = refl
+local_back One (Some n) (suc k) e low = absurd cc
+local_back Two None local e low = absurd cc
+local_back Two (Some n) zero e low = absurd cc
+local_back Two (Some n) (suc k) e low = (omega arith, low)
+local_back Three serial local e low = low
+
 -- the lines of local instructions, and those behind them
 locals_same : (version : Version) (a b : ℕ) (t u : List (List ℕ)) → a ≤ 16 → b ≤ 16 → IsLocalOf version a → IsLocalOf version b → local_lines version a ++ t ≡ local_lines version b ++ u → (a ≡ b) × (t ≡ u)
 locals_same One a b t u low less is also e = (is ∙ sym also, e)
@@ -244,7 +259,7 @@ one_spelt text r s is also =
     report_same r s is.0 is.1 also.0 also.1 (sym (report_again r is.0 is.1) ∙ (ap kept_lines (sym is.2 ∙ also.2) ∙ report_again s also.0 also.1))
 
 -- a report's text is read as the report
-pub text_read : (text : List ℕ) (result : Result Report (Fault ReportFaultKind)) → IfOk result (Spells text) → IfErr result (IsFault text) → (r : Report) → Spells text r → Gives result r
+pub text_read : (text : List ℕ) (result : Result Report (Fault ReportFaultKind)) → IfOk result (Spells text) → IfErr result (IsFault text) → (r : Report) → Spells text r → GivesReport result r
 text_read text (Ok x) found fault r is = one_spelt text x r found is
 text_read text (Err Memory) found fault r is = refl
 text_read text (Err (At Form line)) found fault r is =

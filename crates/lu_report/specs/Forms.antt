@@ -1,11 +1,12 @@
 -- The texts that are reports, and what is wrong with one that is none.
-use Rattle.std.specs.Prelude.{◌≡◌, ℕ, ◌+◌, ◌<◌, ◌≤◌, ◌^◌, ◌≢◌, List, [], ◌∷◌, ◌++◌, take, codes, Option, None, IsSomeAnd, Result, Ok, Err}
+use Rattle.std.specs.Prelude.{◌≡◌, ℕ, ◌+◌, ◌-◌, ◌<◌, ◌≤◌, ◌^◌, List, [], ◌∷◌, ◌++◌, take, codes, Result, Ok, Err}
 use Rattle.lu_test.specs.declared.schedule.Move.{Move}
 use Rattle.lu_test.specs.Schedule.{AreMoves}
 use Rattle.lu_test.specs.ScheduleText.{schedule_text}
 use Rattle.lu_machine.specs.declared.counts.Counts.{Counts}
 use Rattle.lu_history.specs.declared.serial.SerialOutcome.{SerialOutcome}
 use Rattle.lu_history.specs.declared.serial.SerialOutcome.TheVariants as serial
+use Rattle.lu_witness.specs.declared.judgement.Why.{Why}
 use Rattle.lu_report.specs.declared.report.Finding.{Finding}
 use Rattle.lu_report.specs.declared.report.Finding.TheVariants.{SerialCut, Nondeterministic, Fail, Pass}
 use Rattle.lu_report.specs.declared.report.Report.{Report}
@@ -14,10 +15,11 @@ use Rattle.lu_report.specs.declared.version.Version.{Version}
 use Rattle.lu_report.specs.declared.version.Version.TheVariants.{One, Two, Three}
 use Rattle.lu_text.specs.declared.fault.Fault.TheVariants.{At, Memory}
 use Rattle.lu_report.specs.declared.fault.ReportFaultKind.{ReportFaultKind}
-use Rattle.lu_report.specs.declared.fault.ReportFaultKind.TheVariants.{Form}
+use Rattle.lu_report.specs.declared.reader.Unread.{Unread}
+use Rattle.lu_report.specs.declared.reader.Unread.TheVariants.{From, Exhausted}
 use Rattle.lu_text.specs.Lines.{kept_lines}
-use Rattle.lu_report.specs.Parts.{AreLimits, IsJudgement, IsSerialBound, IsWithin}
-use Rattle.lu_report.specs.Text.{number_line, earlier_line, finding_lines, version_line, serial_lines, local_lines, report_lines, report_text}
+use Rattle.lu_report.specs.Parts.{AreLimits, IsJudgement, IsThreadOf, IsWithin, most_moves}
+use Rattle.lu_report.specs.Text.{number_line, earlier_line, fail_line, finding_lines, version_of, version_line, serial_lines, local_lines, report_lines, report_text}
 
 -- ---- reports
 
@@ -63,108 +65,140 @@ pub record DiffersAt (Texts : List (List ℕ) → Type 0) (lines : List (List �
   pub before : (other : List (List ℕ)) × Texts other × (take n other ≡ take n lines)
   pub there : (other : List (List ℕ)) → Texts other → take (n + 1) other ≡ take (n + 1) lines → ⊥
 
--- The fault of a text whose first line has this number: the number of the first line at which all texts of the form differ, after the same lines before it. Want of memory can come with any text.
-abbrev pub IsFaultFrom : (List (List ℕ) → Type 0) → ℕ → List ℕ → Fault ReportFaultKind → Type 0
-IsFaultFrom Texts first text (At kind line) = (n : ℕ) × (line ≡ first + n) × DiffersAt Texts (kept_lines text) n
-IsFaultFrom Texts first text Memory = Unit {0}
-
+-- The fault of a text: the number of the first line at which all reports' texts differ, after the same lines before it. Want of memory can come with any text.
 abbrev pub IsFault : List ℕ → Fault ReportFaultKind → Type 0
-IsFault text fault = IsFaultFrom AreReport 1 text fault
+IsFault text (At kind line) = (n : ℕ) × (line ≡ 1 + n) × DiffersAt AreReport (kept_lines text) n
+IsFault text Memory = Unit {0}
 
 -- What a reader returned is the report, unless memory ran out.
-abbrev pub Gives : Result Report (Fault ReportFaultKind) → Report → Type 0
-Gives (Ok read) r = read ≡ r
-Gives (Err fault) r = fault ≡ Memory
+abbrev pub GivesReport : Result Report (Fault ReportFaultKind) → Report → Type 0
+GivesReport (Ok read) r = read ≡ r
+GivesReport (Err fault) r = fault ≡ Memory
+
+-- ---- lines
+
+-- a number within these limits behind this front
+abbrev pub IsNumberLine : List ℕ → ℕ → ℕ → List ℕ → Type 0
+IsNumberLine front least most line = (n : ℕ) × (least ≤ n) × (n ≤ most) × (line ≡ number_line front n)
+
+abbrev pub IsVersionLine : List ℕ → Type 0
+IsVersionLine line = (version : Version) × (line ≡ version_line version)
+
+abbrev pub IsScheduleLine : List ℕ → Type 0
+IsScheduleLine line = (u : List Move) × AreMoves u × (line ≡ schedule_text u)
+
+-- an earlier outcome
+abbrev pub SaysEarlier : List ℕ → SerialOutcome → Type 0
+SaysEarlier line earlier = IsOutcome earlier × (line ≡ earlier_line earlier)
+
+abbrev pub IsEarlierLine : List ℕ → Type 0
+IsEarlierLine line = (earlier : SerialOutcome) × SaysEarlier line earlier
+
+abbrev pub IsFailLine : List ℕ → Type 0
+IsFailLine line = (why : Why) × IsThreadOf why × (line ≡ fail_line why)
 
 -- ---- parts of reports
 
+-- no lines
+abbrev pub AreNone : List (List ℕ) → Type 0
+AreNone lines = lines ≡ []
+
+-- one of these lines, and such lines behind it
+abbrev pub Begins : (List ℕ → Type 0) → (List (List ℕ) → Type 0) → List (List ℕ) → Type 0
+Begins IsHead AreTail [] = ⊥
+Begins IsHead AreTail (line ∷ lines) = IsHead line × AreTail lines
+
 -- the line of a schedule alone
 abbrev pub AreRun : List (List ℕ) → Type 0
-AreRun lines = (u : List Move) × AreMoves u × (lines ≡ schedule_text u ∷ [])
+AreRun lines = Begins IsScheduleLine AreNone lines
 
 -- the lines of a conflict: the schedule, where it is, and the earlier outcome
+abbrev pub AreEarlier : List (List ℕ) → Type 0
+AreEarlier lines = Begins IsEarlierLine AreNone lines
+
+abbrev pub AreBefore : List (List ℕ) → Type 0
+AreBefore lines = Begins (IsNumberLine (codes "before ") 0 15) AreEarlier lines
+
 abbrev pub AreConflict : List (List ℕ) → Type 0
-AreConflict lines =
-    (u : List Move) × (before : ℕ) × (earlier : SerialOutcome)
-    × AreMoves u × (before ≤ 15) × IsOutcome earlier
-    × (lines ≡ schedule_text u ∷ number_line (codes "before ") before ∷ earlier_line earlier ∷ [])
+AreConflict lines = Begins IsScheduleLine AreBefore lines
 
 -- the lines of the counts
+abbrev pub AreCut : List (List ℕ) → Type 0
+AreCut lines = Begins (IsNumberLine (codes "cut ") 0 (2 ^ 64 - 1)) AreNone lines
+
+abbrev pub AreStuck : List (List ℕ) → Type 0
+AreStuck lines = Begins (IsNumberLine (codes "stuck ") 0 (2 ^ 64 - 1)) AreCut lines
+
 abbrev pub AreCountLines : List (List ℕ) → Type 0
-AreCountLines lines =
-    (counts : Counts) × AreCounts counts
-    × (lines ≡ number_line (codes "complete ") counts.complete ∷ number_line (codes "stuck ") counts.stuck ∷ number_line (codes "cut ") counts.cut ∷ [])
+AreCountLines lines = Begins (IsNumberLine (codes "complete ") 0 (2 ^ 64 - 1)) AreStuck lines
+
+-- the lines of a failure or a pass
+abbrev pub AreJudgement : List (List ℕ) → Type 0
+AreJudgement lines = (f : Finding) × (IsSound f × IsJudgement f) × (lines ≡ finding_lines f)
+
+-- the lines behind that of the bound in a report of this version
+abbrev pub AreLocal : List (List ℕ) → Type 0
+AreLocal lines = Begins (IsNumberLine (codes "local ") 1 16) AreFinding lines
+
+abbrev pub AreBehind : Version → List (List ℕ) → Type 0
+AreBehind One lines = Begins (IsNumberLine (codes "serial ") 1 most_moves) AreFinding lines
+AreBehind Two lines = Begins (IsNumberLine (codes "serial ") 1 most_moves) AreLocal lines
+AreBehind Three lines = Begins (IsNumberLine (codes "local ") 0 16) AreJudgement lines
+
+-- the lines behind the first in a report of this version
+abbrev pub AreBounded : Version → List (List ℕ) → Type 0
+AreBounded version lines = Begins (IsNumberLine (codes "bound ") 0 most_moves) (AreBehind version) lines
+
+-- ---- what is read
+
+-- the text begins with this line, and goes on so
+abbrev pub Cuts : List ℕ → List ℕ → List ℕ → Type 0
+Cuts text line rest = kept_lines text ≡ line ∷ kept_lines rest
+
+-- the text says this number within these limits behind this front, and goes on so
+abbrev pub SaysNumber : List ℕ → ℕ → ℕ → List ℕ → ℕ → List ℕ → Type 0
+SaysNumber front least most text n rest = (least ≤ n) × (n ≤ most) × Cuts text (number_line front n) rest
+
+-- the text has the lines of these counts
+abbrev pub AreCountsOf : List ℕ → Counts → Type 0
+AreCountsOf text counts = AreCounts counts × (codes "pass\n" ∷ kept_lines text ≡ finding_lines (Pass counts))
+
+-- the text is that of a finding
+abbrev pub IsFindingOf : List ℕ → Finding → Type 0
+IsFindingOf text f = IsSound f × (kept_lines text ≡ finding_lines f)
+
+-- the text is that of a conflict behind its first line
+abbrev pub IsConflictOf : List ℕ → Finding → Type 0
+IsConflictOf text f = IsSound f × (codes "nondeterministic\n" ∷ kept_lines text ≡ finding_lines f)
+
+-- the text is that of a report of this version behind the line of this bound
+pub record IsBehind (version : Version) (bound : ℕ) (text : List ℕ) (r : Report) : Type 0 where
+  pub bounded : r.bound ≡ bound
+  pub of : version ≡ version_of r.serial r.local
+  pub limits : AreLimits r
+  pub sound : IsSound r.finding
+  pub lines : kept_lines text ≡ serial_lines r.serial ++ (local_lines version r.local ++ finding_lines r.finding)
+
+-- ---- where a reader stops
 
 -- the text begins with this line
 abbrev pub IsFirst : List ℕ → List ℕ → Type 0
 IsFirst text line = take 1 (kept_lines text) ≡ line ∷ []
 
--- the text, whose first line has this number, begins with no line of a schedule
-abbrev pub HasNoSchedule : ℕ → List ℕ → Fault ReportFaultKind → Type 0
-HasNoSchedule first text (At kind line) = (line ≡ first) × ((u : List Move) → AreMoves u → IsFirst text (schedule_text u) → ⊥)
-HasNoSchedule first text Memory = Unit {0}
+-- A reader of one such line stops where the text begins: its first line is none.
+abbrev pub HasNo : (List ℕ → Type 0) → List ℕ → Unread → Type 0
+HasNo IsHead text (From rest) = (rest.now ≡ text) × ((line : List ℕ) → IsHead line → IsFirst text line → ⊥)
+HasNo IsHead text Exhausted = Unit {0}
 
--- the text begins with no first line of a report
-abbrev pub HasNoVersion : List ℕ → Type 0
-HasNoVersion text = (version : Version) → IsFirst text (version_line version) → ⊥
+-- Some lines of the form begin with those before the rest, and none have the line behind these, too.
+pub record StopsAt (Texts : List (List ℕ) → Type 0) (text rest : List ℕ) : Type 0 where
+  pub front : List (List ℕ)
+  pub whole : kept_lines text ≡ front ++ kept_lines rest
+  pub other : List (List ℕ)
+  pub is : Texts (front ++ other)
+  pub none : (tail : List (List ℕ)) → Texts (front ++ tail) → take 1 tail ≡ take 1 (kept_lines rest) → ⊥
 
--- the text begins with no line that has a number of at least 1 and at most `most` behind this front
-abbrev pub HasNoNumber : List ℕ → ℕ → List ℕ → Type 0
-HasNoNumber front most text = (n : ℕ) → 1 ≤ n → n ≤ most → IsFirst text (number_line front n) → ⊥
-
--- ---- versions
-
--- a report of this version may have this bound of serial runs
-abbrev pub IsSerialOf : Version → Option ℕ → Type 0
-IsSerialOf One serial = IsSomeAnd serial IsSerialBound
-IsSerialOf Two serial = IsSomeAnd serial IsSerialBound
-IsSerialOf Three serial = serial ≡ None
-
--- a report of this version may say so many local instructions
-abbrev pub IsLocalOf : Version → ℕ → Type 0
-IsLocalOf One local = local ≡ 0
-IsLocalOf Two local = (1 ≤ local) × (local ≤ 16)
-IsLocalOf Three local = local ≤ 16
-
--- a report of this version may find this
-abbrev pub IsFindingOf : Version → Finding → Type 0
-IsFindingOf One f = IsSound f
-IsFindingOf Two f = IsSound f
-IsFindingOf Three f = IsSound f × IsJudgement f
-
--- these are the lines of what a report of this version may find
-abbrev pub AreFindingOf : Version → List (List ℕ) → Type 0
-AreFindingOf version lines = (f : Finding) × IsFindingOf version f × (lines ≡ finding_lines f)
-
--- these are the lines of a failure or a pass
-abbrev pub AreJudgement : List (List ℕ) → Type 0
-AreJudgement lines = (f : Finding) × (IsSound f × IsJudgement f) × (lines ≡ finding_lines f)
-
--- where a report of this version says how many local instructions, and what is found
-abbrev pub local_line : Version → ℕ
-local_line One = 4
-local_line Two = 4
-local_line Three = 3
-
-abbrev pub finding_line : Version → ℕ
-finding_line One = 4
-finding_line Two = 5
-finding_line Three = 4
-
--- the text begins with the lines of the bound of serial runs in a report of this version, and goes on so
-abbrev pub SaysSerial : Version → List ℕ → Option ℕ → List ℕ → Type 0
-SaysSerial version text serial rest = IsSerialOf version serial × (kept_lines text ≡ serial_lines serial ++ kept_lines rest)
-
--- the text begins with the lines of so many local instructions in a report of this version, and goes on so
-abbrev pub SaysLocal : Version → List ℕ → ℕ → List ℕ → Type 0
-SaysLocal version text local rest = IsLocalOf version local × (kept_lines text ≡ local_lines version local ++ kept_lines rest)
-
--- the third line of a report of version 1 or 2, with which the text begins, does not say the bound of serial runs
-abbrev pub HasNoSerial : Version → List ℕ → Fault ReportFaultKind → Type 0
-HasNoSerial version text fault = (fault ≡ At Form 3) × (version ≢ Three) × HasNoNumber (codes "serial ") 256 text
-
--- no number of local instructions that a report of this version may say is on the line with which the text begins
-abbrev pub HasNoLocal : Version → List ℕ → Fault ReportFaultKind → Type 0
-HasNoLocal version text fault =
-    (fault ≡ At Form (local_line version)) × (version ≢ One)
-    × ((n : ℕ) → IsLocalOf version n → IsFirst text (number_line (codes "local ") n) → ⊥)
+-- a reader of such lines stops at the first that is none
+abbrev pub Stops : (List (List ℕ) → Type 0) → List ℕ → Unread → Type 0
+Stops Texts text (From rest) = StopsAt Texts text rest.now
+Stops Texts text Exhausted = Unit {0}

@@ -4,6 +4,7 @@ use Rattle.lu_witness.specs.declared.judgement.Why.{Why}
 use Rattle.lu_witness.specs.declared.judgement.Why.TheVariants.{Complete, Stuck}
 use Rattle.lu_report.specs.declared.report.Finding.{Finding}
 use Rattle.lu_report.specs.declared.report.Finding.TheVariants.{SerialCut, Nondeterministic, Fail, Pass}
+pub use Rattle.lu_report.specs.Limits.{IsSerialBound, most_moves}
 
 -- The bound of schedules; that of serial runs, where the check is one against these, and none where it is against a
 -- specification; how many local instructions run with one move at most; and what is found.
@@ -47,13 +48,9 @@ IsJudgement (Nondeterministic u before earlier) = ⊥
 IsJudgement (Fail u why) = Unit {0}
 IsJudgement (Pass counts) = Unit {0}
 
--- a bound of serial runs is 1 to 256
-abbrev pub IsSerialBound : ℕ → Type 0
-IsSerialBound n = (1 ≤ n) × (n ≤ 256)
-
 -- the limits of a report; a check against a specification finds a failure or a pass
 pub record AreLimits (r : Parts) : Type 0 where
-  pub most : r.bound ≤ 256
+  pub most : r.bound ≤ most_moves
   pub serial : IfSome r.serial IsSerialBound
   pub local_few : r.local ≤ 16
   pub within : IsWithin r.finding

@@ -8,6 +8,7 @@
 //! ```
 #![tactic(auto)]
 
+mod bounds;
 mod fault;
 mod line;
 mod reader;
@@ -15,6 +16,7 @@ mod report;
 mod version;
 mod writer;
 
+pub use bounds::{Bounds, MOST_MOVES};
 pub use fault::{ReportFault, ReportFaultKind};
 pub use reader::read_report;
 pub use report::{Finding, Report};

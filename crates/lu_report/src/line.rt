@@ -6,7 +6,7 @@ ghost use Rattle.lu_witness.specs.declared.judgement.Why.{Why};
 ghost use Rattle.lu_report.specs.declared.version.Version.{Version as AVersion};
 ghost use Rattle.lu_report.specs.Parts.{IsThreadOf};
 ghost use Rattle.lu_report.specs.Text as spec;
-ghost use Rattle.lu_report.specs.Forms.{IsOutcome};
+ghost use Rattle.lu_report.specs.Forms.{SaysEarlier};
 
 use crate::version::Version;
 use lu_history::SerialOutcome;
@@ -48,8 +48,8 @@ pub(crate) fn number_behind(line: &[u8], front: &str, most: u64) -> Option<u64>
 
 /// The outcome that a line `earlier ..` says.
 pub(crate) fn earlier_in(line: &[u8]) -> Option<SerialOutcome>
-    ensures some { IfSome result (λ earlier. IsOutcome earlier × (line.now ≡ spec.earlier_line earlier)) }
-    ensures none { IfNone result ((earlier : SerialOutcome) → IsOutcome earlier → line.now ≡ spec.earlier_line earlier → ⊥) }
+    ensures some { IfSome result (SaysEarlier line.now) }
+    ensures none { IfNone result ((earlier : SerialOutcome) → SaysEarlier line.now earlier → ⊥) }
 {
     if is_line(line, "earlier trap\n") {
         return Some(SerialOutcome::Trap);

@@ -1,7 +1,7 @@
 //! Reports of checks.
 
 ghost use Rattle.std.specs.Prelude.{◌≡◌, ◌≤◌, None, Some, IfNone, IfSome};
-ghost use Rattle.lu_report.specs.Parts.{IsJudgement, IsSerialBound, IsWithin, parts_of};
+ghost use Rattle.lu_report.specs.Parts.{IsJudgement, IsSerialBound, IsWithin, most_moves, parts_of};
 
 use lu_history::SerialOutcome;
 use lu_machine::Counts;
@@ -60,9 +60,9 @@ impl Report {
     /// how many local instructions of the component run with one move at most, 0 to 16. A thread of `Why::Stuck` is at most 7,
     /// and `before` at most 15.
     pub fn new(bound: u16, serial: u16, local: u8, finding: Finding) -> Report
-        requires most { bound ≤ 256 }
+        requires most { bound ≤ most_moves }
         requires some { 1 ≤ serial }
-        requires few { serial ≤ 256 }
+        requires few { serial ≤ most_moves }
         requires local_few { local ≤ 16 }
         requires within { IsWithin finding }
         ensures { result ≡ parts_of bound (Some serial) local finding }
@@ -78,7 +78,7 @@ impl Report {
     /// The report of a check against a specification, with this bound, 0 to 256: a failure or a pass. `local` and a thread of
     /// `Why::Stuck` are as in [`Report::new`].
     pub fn against(bound: u16, local: u8, finding: Finding) -> Report
-        requires most { bound ≤ 256 }
+        requires most { bound ≤ most_moves }
         requires local_few { local ≤ 16 }
         requires within { IsWithin finding }
         requires judged { IsJudgement finding }
@@ -95,7 +95,7 @@ impl Report {
     /// The most moves of a schedule, 0 to 256.
     pub fn bound(&self) -> u16
         ensures bound { result ≡ self.now.bound }
-        ensures most { result ≤ 256 }
+        ensures most { result ≤ most_moves }
     {
         self.bound
     }

@@ -1,9 +1,10 @@
 //! Reports as text.
 
-ghost use Rattle.std.specs.Prelude.{◌≡◌, ◌<◌, ◌^◌, ◌++◌, IfOk, OnOk, string_bytes};
+ghost use Rattle.std.specs.Prelude.{◌≡◌, ◌<◌, ◌^◌, IfOk, OnOk, string_bytes};
 ghost use Rattle.std.specs.List.{concat};
 ghost use Rattle.lu_test.specs.Schedule.{AreMoves};
 ghost use Rattle.lu_test.specs.ScheduleText.{schedule_text};
+ghost use Rattle.lu_text.specs.Writing.{Writes};
 ghost use Rattle.lu_report.specs.Forms.{HasParts, IsOutcome, Spells};
 ghost use Rattle.lu_report.specs.Text.{finding_lines, local_lines, serial_lines};
 ghost use Rattle.lu_report.specs.Text as spec;
@@ -16,7 +17,7 @@ use lu_witness::Why;
 use std::alloc::{AllocError, Global};
 
 fn put_schedule(alloc: Global, text: &mut String, schedule: &Schedule) -> Result<(), AllocError>
-    ensures text { OnOk result (string_bytes text.new ≡ string_bytes text.old ++ schedule_text schedule.now) }
+    ensures text { Writes result text.old text.new (schedule_text schedule.now) }
     ensures moves { OnOk result (AreMoves schedule.now) }
 {
     // Its clause says that the moves are those of threads.
@@ -27,7 +28,7 @@ fn put_schedule(alloc: Global, text: &mut String, schedule: &Schedule) -> Result
 
 /// Adds a line with a number behind a front.
 fn put_number(text: &mut String, front: &str, number: u64) -> Result<(), AllocError>
-    ensures text { OnOk result (string_bytes text.new ≡ string_bytes text.old ++ spec.number_line front.now number) }
+    ensures text { Writes result text.old text.new (spec.number_line front.now number) }
     ensures range { number < 2 ^ 64 }
 {
     writeln!(text, "{front}{number}")?;
@@ -35,7 +36,7 @@ fn put_number(text: &mut String, front: &str, number: u64) -> Result<(), AllocEr
 }
 
 fn put_earlier(text: &mut String, earlier: SerialOutcome) -> Result<(), AllocError>
-    ensures text { OnOk result (string_bytes text.new ≡ string_bytes text.old ++ spec.earlier_line earlier) }
+    ensures text { Writes result text.old text.new (spec.earlier_line earlier) }
     ensures outcome { OnOk result (IsOutcome earlier) }
 {
     match earlier {
@@ -47,7 +48,7 @@ fn put_earlier(text: &mut String, earlier: SerialOutcome) -> Result<(), AllocErr
 }
 
 fn put_fail(text: &mut String, why: Why) -> Result<(), AllocError>
-    ensures { OnOk result (string_bytes text.new ≡ string_bytes text.old ++ spec.fail_line why) }
+    ensures { Writes result text.old text.new (spec.fail_line why) }
 {
     match why {
         Why::Complete => text.push_str("fail complete\n"),
@@ -57,7 +58,7 @@ fn put_fail(text: &mut String, why: Why) -> Result<(), AllocError>
 
 /// Adds the lines of what was found.
 fn put_finding(alloc: Global, text: &mut String, finding: &Finding) -> Result<(), AllocError>
-    ensures text { OnOk result (string_bytes text.new ≡ string_bytes text.old ++ concat (finding_lines finding.now)) }
+    ensures text { Writes result text.old text.new (concat (finding_lines finding.now)) }
     ensures parts { OnOk result (HasParts finding.now) }
 {
     match finding {
@@ -91,7 +92,7 @@ fn put_finding(alloc: Global, text: &mut String, finding: &Finding) -> Result<()
 
 /// Adds the line of the bound of serial runs, where there is one.
 fn put_serial(text: &mut String, serial: Option<u16>) -> Result<(), AllocError>
-    ensures { OnOk result (string_bytes text.new ≡ string_bytes text.old ++ concat (serial_lines serial)) }
+    ensures { Writes result text.old text.new (concat (serial_lines serial)) }
 {
     match serial {
         None => Ok(()),
@@ -101,7 +102,7 @@ fn put_serial(text: &mut String, serial: Option<u16>) -> Result<(), AllocError>
 
 /// Adds the line of the local instructions that run with a move, where the version has it.
 fn put_local(text: &mut String, version: Version, local: u8) -> Result<(), AllocError>
-    ensures { OnOk result (string_bytes text.new ≡ string_bytes text.old ++ concat (local_lines version local)) }
+    ensures { Writes result text.old text.new (concat (local_lines version local)) }
 {
     match version {
         Version::One => Ok(()),

@@ -42,6 +42,67 @@ fn orders_are_counted(rt: HostRuntime) -> Result<(), Fail> {
     Ok(())
 }
 
+/// Of four moves one thread makes at most one, or each of two makes two.
+#[test]
+fn orders_within_caps_are_counted(rt: HostRuntime) -> Result<(), Fail> {
+    let orders = Orders::new(rt.alloc(), 6)?;
+    assert_eq!(rt; orders.orders_within(4, &[1, 4]), Some(5));
+    assert_eq!(rt; orders.orders_within(4, &[2, 2]), Some(6));
+    assert_eq!(rt; orders.orders_within(3, &[1, 1]), Some(0));
+    assert_eq!(rt; orders.orders_within(5, &[9, 9, 9]), Some(243));
+    assert_eq!(rt; orders.orders_within(0, &[]), Some(1));
+    assert_eq!(rt; orders.orders_within(7, &[7, 7]), None);
+    assert_eq!(rt; orders.orders_within(300, &[7, 7]), None);
+    Ok(())
+}
+
+/// A thread that makes three moves, beside one or two that can always move.
+#[test]
+fn caps_are_counted(rt: HostRuntime) -> Result<(), Fail> {
+    let set = Trie::new(rt.alloc());
+    assert_counts(&rt, b"thread spin\nthread get\n", &set, EMPTY, 5, cut(26))?;
+    assert_counts(
+        &rt,
+        b"thread get\nthread spin\n",
+        &set,
+        EMPTY,
+        256,
+        cut(2_796_417),
+    )?;
+    assert_counts(
+        &rt,
+        b"thread spin\nthread spin\nthread get\n",
+        &set,
+        EMPTY,
+        10,
+        cut(33_024),
+    )
+}
+
+/// Threads whose retries end by the value that a `cas` gave.
+#[test]
+fn retries_are_counted(rt: HostRuntime) -> Result<(), Fail> {
+    let set = Trie::new(rt.alloc());
+    assert_counts(
+        &rt,
+        b"thread cinc\nthread cinc\nthread cinc\n",
+        &set,
+        EMPTY,
+        12,
+        cut(428_802),
+    )
+}
+
+/// How many schedules are cut below the machine's state.
+fn cut_below(
+    horizon: &Horizon,
+    orders: &Orders,
+    machine: &Machine<'_>,
+    left: usize,
+) -> Option<u64> {
+    orders.orders_within(left, &horizon.caps(machine, left)?)
+}
+
 /// Where the threads stand at the start, and after the first call.
 fn stands(
     rt: &(impl AllocGlobal + Abort),
@@ -52,12 +113,17 @@ fn stands(
 {
     let horizon = Horizon::new(rt.alloc(), component, matrix, 70)?;
     let mut machine = Machine::start(rt.alloc(), component, matrix)?;
-    assert_eq!(rt; horizon.cut(&machine, 9), Some(512));
+    let orders = Orders::new(rt.alloc(), 70)?;
+    assert_eq!(rt; cut_below(&horizon, &orders, &machine, 9), Some(512));
 
     // A number that is too great stands at the greatest.
-    assert_eq!(rt; horizon.cut(&machine, 63), Some(9_223_372_036_854_775_808));
-    assert_eq!(rt; horizon.cut(&machine, 64), Some(u64::MAX));
-    assert_eq!(rt; horizon.cut(&machine, 70), Some(u64::MAX));
+    assert_eq!(rt;
+        cut_below(&horizon, &orders, &machine, 63),
+        Some(9_223_372_036_854_775_808)
+    );
+    assert_eq!(rt; cut_below(&horizon, &orders, &machine, 64), Some(u64::MAX));
+    assert_eq!(rt; cut_below(&horizon, &orders, &machine, 70), Some(u64::MAX));
+    assert!(rt; horizon.caps(&machine, 72).is_none());
     assert!(rt; stand_at(&machine, 2).is_none());
     assert!(rt;
         stand_at(&machine, 0).is_some_and(|stand| stand.done == 0 && stand.place.is_none())

@@ -20,7 +20,7 @@ use Rattle.lu_machine.specs.declared.thread.Activity.TheVariants.{Idle}
 use Rattle.lu_machine.proofs.Moves.{feasible_is_move}
 use Rattle.lu_serial.specs.declared.node.OpenCall.{OpenCall}
 use Rattle.lu_serial.specs.Serial.{HasOpen, IsByOpen}
-use Rattle.lu_serial.specs.Walks.{AreCalls, IsOpenIn, IsFull, IsWithin, open_after, left_of, moves_left}
+use Rattle.lu_serial.specs.Walks.{AreCalls, IsOpenIn, IsFull, StaysWithin, open_after, left_of, moves_left}
 use Rattle.lu_serial.proofs.Opening.{Turned, step_turned, open_before, none_open, same_or_not, slice_get_set_other, slice_get_set_same}
 
 left_set : (rows : List (List ACall)) (threads : List Thread) (t : ℕ) (x y : Thread) → slice_get threads t ≡ Some x → x.done < length (row_of rows t) → y.done ≡ x.done + 1 → left_of rows (slice_set threads t y) + 1 ≡ left_of rows threads
@@ -125,7 +125,7 @@ calls_keep s m new event step calls i x is busy =
     ]
 
 -- the path of a kid is within the limits
-pub within_kid : (bound : ℕ) (u : List Move) (s : State) (current : Option OpenCall) → IsWithin bound u s current → (m : Move) (new : State) (event : Option Event) → Step s m new event → IsFeasible s m → IsByOpen s m → IsOpenIn s current → (IsFull current bound → ⊥) → ((o : OpenCall) → current ≡ Some o → o.taken ≤ bound) → IsWithin bound (u ++ m ∷ []) new (open_after current m.thread event)
+pub within_kid : (bound : ℕ) (u : List Move) (s : State) (current : Option OpenCall) → StaysWithin bound u s current → (m : Move) (new : State) (event : Option Event) → Step s m new event → IsFeasible s m → IsByOpen s m → IsOpenIn s current → (IsFull current bound → ⊥) → ((o : OpenCall) → current ≡ Some o → o.taken ≤ bound) → StaysWithin bound (u ++ m ∷ []) new (open_after current m.thread event)
 within_kid bound u s current w m new event step f by opens room few =
     let t = step_turned s m new event step in
     let threads : length new.threads ≡ length s.threads = ap length t.threads ∙ length-set s.threads m.thread t.after in
@@ -142,7 +142,7 @@ within_kid bound u s current w m new event step f by opens room few =
     }
 
 -- a path within the limits is a schedule
-pub within_moves : (bound : ℕ) (u : List Move) (s : State) (current : Option OpenCall) → IsWithin bound u s current → AreMoves u
+pub within_moves : (bound : ℕ) (u : List Move) (s : State) (current : Option OpenCall) → StaysWithin bound u s current → AreMoves u
 within_moves bound u s current w = (let short = w.short in omega arith, w.moves)
 
 left_at_start : (rows : List (List ACall)) → left_of rows (replicate (length rows) (record { done = 0; activity = Idle })) ≡ sum_by length rows
@@ -170,7 +170,7 @@ none_at_rest c matrix cells locks t o = o.2 (none_idle (length matrix.threads) t
 pub none_at_start : (c : Declarations) (matrix : Matrix) (s : State) → IsStart c matrix s → (t : ℕ) → HasOpen s t → ⊥
 none_at_start c matrix s is t o = none_at_rest c matrix is.end.cells is.end.locks t (subst (λ x. HasOpen x t) is.is o)
 
-within_rest : (c : Declarations) (matrix : Matrix) (cells : List ℕ) (locks : List (Option ℕ)) (bound : ℕ) → IsComponent c → IsMatrix matrix → bound ≤ 256 → IsWithin bound [] (at_rest c matrix cells locks) None
+within_rest : (c : Declarations) (matrix : Matrix) (cells : List ℕ) (locks : List (Option ℕ)) (bound : ℕ) → IsComponent c → IsMatrix matrix → bound ≤ 256 → StaysWithin bound [] (at_rest c matrix cells locks) None
 within_rest c matrix cells locks bound is are few =
     let idle : Thread = record { done = 0; activity = Idle } in
     let threads : length (replicate (length matrix.threads) idle) ≡ length matrix.threads = length-replicate (length matrix.threads) idle in
@@ -184,6 +184,6 @@ within_rest c matrix cells locks bound is are few =
     }
 
 -- the empty path is within the limits
-pub within_start : (c : Declarations) (matrix : Matrix) (s : State) (bound : ℕ) → IsStart c matrix s → IsComponent c → IsMatrix matrix → bound ≤ 256 → IsWithin bound [] s None
+pub within_start : (c : Declarations) (matrix : Matrix) (s : State) (bound : ℕ) → IsStart c matrix s → IsComponent c → IsMatrix matrix → bound ≤ 256 → StaysWithin bound [] s None
 within_start c matrix s bound start is are few =
-    subst (λ x. IsWithin bound [] x None) (sym start.is) (within_rest c matrix start.end.cells start.end.locks bound is are few)
+    subst (λ x. StaysWithin bound [] x None) (sym start.is) (within_rest c matrix start.end.cells start.end.locks bound is are few)

@@ -1,10 +1,10 @@
 -- Serial offences, and what is learnt of a component and a matrix.
-use Rattle.std.specs.Prelude.{◌≡◌, ℕ, ◌≤◌, List, ◌⊎◌, ◌↔◌, true, false, Option, Some, None}
+use Rattle.std.specs.Prelude.{◌≡◌, ℕ, ◌≤◌, List, ◌⊎◌, ◌↔◌, true, false, Option, Some, None, Result, IfOk}
 use Rattle.lu_component.specs.Component.{Declarations}
 use Rattle.lu_test.specs.declared.schedule.Move.{Move}
 use Rattle.lu_test.specs.Matrix.{Matrix}
 use Rattle.lu_machine.specs.States.{State}
-use Rattle.lu_machine.specs.Starts.{IsStart}
+use Rattle.lu_machine.specs.Starts.{FromEachStart, IsStart}
 use Rattle.lu_machine.specs.Order.{IsSmaller}
 use Rattle.lu_history.specs.declared.serial.SerialOutcome.{SerialOutcome}
 use Rattle.lu_history.specs.declared.serial.SerialOp.{SerialOp}
@@ -63,6 +63,11 @@ IsOutside s bound members u =
 abbrev pub IsFirstOutside : State → ℕ → List (List SerialOp) → Option (List Move) → Type 0
 IsFirstOutside s bound members None = (u : List Move) → IsOutside s bound members u → ⊥
 IsFirstOutside s bound members (Some u) = IsLeast (IsOutside s bound members) u
+
+-- from each start this is the first one outside
+abbrev pub FindsOutside : {E : Type 0} → Declarations → Matrix → ℕ → List (List SerialOp) → Result (Option (List Move)) E → Type 0
+FindsOutside c matrix bound members result =
+    FromEachStart c matrix (λ s. IfOk result (IsFirstOutside s bound members))
 
 -- Where there is no serial offence, no operation of a serially ended schedule takes more than `bound` moves after its call.
 abbrev pub SerialShort : Type 0

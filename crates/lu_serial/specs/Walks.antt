@@ -8,6 +8,7 @@ use Rattle.lu_test.specs.Schedule.{IsMove, AreMoves}
 use Rattle.lu_machine.specs.declared.event.Event.{Event}
 use Rattle.lu_machine.specs.declared.event.Event.TheVariants.{Call, Return}
 use Rattle.lu_machine.specs.declared.thread.Thread.{Thread}
+use Rattle.lu_machine.specs.declared.undo.Undo.{Undo}
 use Rattle.lu_machine.specs.declared.thread.Activity.TheVariants.{Idle}
 use Rattle.lu_machine.specs.States.{State, call_count}
 use Rattle.lu_machine.specs.Steps.{IsFeasible}
@@ -59,6 +60,15 @@ abbrev pub entry_if : Option Event → List SerialOp
 entry_if None = []
 entry_if (Some e) = entry_of e
 
+-- the entry of the undo's event, if it has one, was added
+abbrev pub HasEntered : Undo → Node → Node → Type 0
+HasEntered undo old new = new.entries.items ≡ old.entries.items ++ entry_if undo.event
+
+-- the entry of the undo's event, if it has one, was taken away
+abbrev pub HasLeft : Undo → Node → Node → Type 0
+HasLeft undo old new =
+    (entries : List SerialOp) → old.entries.items ≡ entries ++ entry_if undo.event → new.entries.items ≡ entries
+
 -- the serial operations, and the open one, which is stuck
 abbrev pub ended_entries : List SerialOp → Option OpenCall → List SerialOp
 ended_entries entries None = entries
@@ -85,7 +95,7 @@ AreCalls s =
     (t : ℕ) (thread : Thread) → slice_get s.threads t ≡ Some thread → thread.activity ≢ Idle → thread.done < call_count s t
 
 -- The path is within the limits of schedules, and stays so.
-pub record IsWithin (bound : ℕ) (u : List Move) (s : State) (current : Option OpenCall) : Type 0 where
+pub record StaysWithin (bound : ℕ) (u : List Move) (s : State) (current : Option OpenCall) : Type 0 where
   pub component : IsComponent s.component
   pub threads : length s.threads ≤ 8
   pub calls : AreCalls s
@@ -100,7 +110,7 @@ pub record IsAt (start : State) (bound : ℕ) (u : List Move) (s : State) (entri
   pub are : entries ≡ entries_of history
   pub opens : IsOpenIn s current
   pub taken : HasTakenOf start u s bound current
-  pub within : IsWithin bound u s current
+  pub within : StaysWithin bound u s current
 
 -- No schedule of this part is cut, and these are the histories of those that are serially ended.
 pub record AreShown (s : State) (bound : ℕ) (Part : List Move → Type 0) (shown : List (List SerialOp)) : Type 0 where
@@ -117,6 +127,15 @@ abbrev pub Answers : {H S : Type 0} → (H → List (List SerialOp) → Type 0) 
 Answers {H} Old New Stops q None = (first : H) (shown : List (List SerialOp)) → Old first shown → New first (q ∷ shown)
 Answers {H} Old New Stops q (Some stop) =
     ((first : H) (shown : List (List SerialOp)) → Old first shown → New first shown) × Stops q stop
+
+-- the harvest gathers this history, or stops there
+abbrev pub GathersHistory : {H S : Type 0} → (H → H → List (List SerialOp) → Type 0) → (H → List SerialOp → S → Type 0) → H → H → List SerialOp → Option S → Type 0
+GathersHistory was_shown stops old new q = Answers (was_shown old) (was_shown new) (stops new) q
+
+-- it gathers the history of a schedule that ends at the node, or stops there
+abbrev pub Gathers : {H S : Type 0} → (H → H → List (List SerialOp) → Type 0) → (H → List SerialOp → S → Type 0) → H → H → Node → Option OpenCall → Option S → Type 0
+Gathers was_shown stops old new node current =
+    GathersHistory was_shown stops old new (ended_entries node.entries.items current)
 
 -- a walk that passed leaves path, machine and entries as they were, and one that halted leaves a schedule at the path
 abbrev pub IsHome : {S : Type 0} → List Move → Node → Option (Halt S) → List Move → Node → Type 0

@@ -1,8 +1,7 @@
 //! The serial histories of a matrix, or its least serial offence.
 
 ghost use Rattle.std.specs.Prelude.{◌≤◌, IfOk};
-ghost use Rattle.lu_machine.specs.States.{State};
-ghost use Rattle.lu_machine.specs.Starts.{CanRun, IsStart};
+ghost use Rattle.lu_machine.specs.Starts.{CanRun, FromEachStart};
 ghost use Rattle.lu_trie.specs.Conflicts.{HasConflict};
 ghost use Rattle.lu_serial.specs.Offences.{IsLearnt};
 ghost use Rattle.lu_serial.specs.Walks.{Learns};
@@ -74,7 +73,7 @@ pub fn learn<A: Allocator + Clone>(
     requires of { CanRun component.now matrix.now }
     requires some { 1 ≤ bound }
     requires few { bound ≤ 256 }
-    ensures { (s : State) → IsStart component.now matrix.now s → IfOk result (IsLearnt s bound) }
+    ensures { FromEachStart component.now matrix.now (λ s. IfOk result (IsLearnt s bound)) }
 {
     limits(component, matrix);
     let mut node = Node::start(alloc, component, matrix)?;

@@ -1,14 +1,13 @@
 //! A node of the tree of serial schedules.
 
-ghost use Rattle.std.specs.Prelude.{◌≡◌, ◌↔◌, ◌++◌, [], IsTrue, IfOk, List};
+ghost use Rattle.std.specs.Prelude.{◌≡◌, ◌↔◌, [], IsTrue, IfOk};
 ghost use Rattle.lu_component.specs.Component.{IsComponent};
 ghost use Rattle.lu_test.specs.Matrix.{IsMatrix};
 ghost use Rattle.lu_machine.specs.Ends.{HasMove};
 ghost use Rattle.lu_machine.specs.Starts.{CanRun, IsStart};
 ghost use Rattle.lu_machine.specs.Steps.{IsFeasible, Step};
 ghost use Rattle.lu_machine.specs.Undoes.{CanTake, restored};
-ghost use Rattle.lu_history.specs.declared.serial.SerialOp.{SerialOp};
-ghost use Rattle.lu_serial.specs.Walks.{AreTurns, HasRoom, HasSerialMove, IsFull, IsOpenIn, entry_if, open_after};
+ghost use Rattle.lu_serial.specs.Walks.{AreTurns, HasEntered, HasLeft, HasRoom, HasSerialMove, IsFull, IsOpenIn, open_after};
 
 use lu_component::Component;
 use lu_history::{SerialOp, SerialOutcome};
@@ -51,7 +50,7 @@ impl<'a> Node<'a> {
     pub(crate) fn enter(&mut self, next: Move) -> Result<Undo, AllocError>
         requires { IsFeasible self.old.machine next }
         ensures step { IfOk result (λ undo. Step self.old.machine next self.new.machine undo.event) }
-        ensures entries { IfOk result (λ undo. self.new.entries.items ≡ self.old.entries.items ++ entry_if undo.event) }
+        ensures entries { IfOk result (λ undo. HasEntered undo self.old self.new) }
         ensures back { IfOk result (λ undo. restored undo self.new.machine ≡ self.old.machine) }
         ensures fits { IfOk result (λ undo. CanTake self.new.machine undo) }
     {
@@ -69,7 +68,7 @@ impl<'a> Node<'a> {
     pub(crate) fn leave(&mut self, undo: Undo)
         requires { CanTake self.old.machine undo }
         ensures machine { self.new.machine ≡ restored undo self.old.machine }
-        ensures entries { (entries : List SerialOp) → self.old.entries.items ≡ entries ++ entry_if undo.event → self.new.entries.items ≡ entries }
+        ensures entries { HasLeft undo self.old self.new }
     {
         if let Some(Event::Return { .. }) = undo.event() {
             self.entries.pop();

@@ -1,10 +1,9 @@
 //! Serial histories that are not in a set.
 
-ghost use Rattle.std.specs.Prelude.{◌≡◌, ◌≤◌, false, IfOk};
-ghost use Rattle.lu_machine.specs.States.{State};
-ghost use Rattle.lu_machine.specs.Starts.{CanRun, IsStart};
+ghost use Rattle.std.specs.Prelude.{◌≡◌, ◌≤◌, false};
+ghost use Rattle.lu_machine.specs.Starts.{CanRun};
 ghost use Rattle.lu_trie.specs.Members.{contains};
-ghost use Rattle.lu_serial.specs.Offences.{IsFirstOutside};
+ghost use Rattle.lu_serial.specs.Offences.{FindsOutside};
 ghost use Rattle.lu_serial.specs.Walks.{Seeks};
 
 use crate::node::{Node, limits};
@@ -53,7 +52,7 @@ pub fn first_outside<A: Allocator>(
     requires of { CanRun component.now matrix.now }
     requires some { 1 ≤ bound }
     requires few { bound ≤ 256 }
-    ensures { (s : State) → IsStart component.now matrix.now s → IfOk result (IsFirstOutside s bound set.now) }
+    ensures { FindsOutside component.now matrix.now bound set.now result }
 {
     limits(component, matrix);
     let mut node = Node::start(alloc, component, matrix)?;

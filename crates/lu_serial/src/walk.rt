@@ -3,7 +3,7 @@
 ghost use Rattle.std.specs.Prelude.{◌≡◌, List, IfOk, OnOk};
 ghost use Rattle.lu_history.specs.declared.serial.SerialOp.{SerialOp};
 ghost use Rattle.lu_history.specs.Serial.{IsSerial};
-ghost use Rattle.lu_serial.specs.Walks.{Answers, CanWalk, IsHome, Walks, ended_entries};
+ghost use Rattle.lu_serial.specs.Walks.{CanWalk, Gathers, GathersHistory, IsHome, Walks, ended_entries};
 
 use crate::node::{Node, OpenCall, goes_on, is_full, open_after, turns};
 use lu_history::{SerialOp, SerialOutcome};
@@ -22,7 +22,7 @@ pub(crate) trait Harvest {
     /// What holds where it stops at this history.
     ghost stops: { Self → List SerialOp → Self.Stop → Type 0 };
 
-    /// Takes the history of a schedule that ends, or stops the walk there.
+    /// TakesHistory the history of a schedule that ends, or stops the walk there.
     ///
     /// # Errors
     ///
@@ -30,7 +30,7 @@ pub(crate) trait Harvest {
     fn at_end(&mut self, history: &[SerialOp]) -> Result<Option<Self::Stop>, AllocError>
         requires serial { IsSerial history.now }
         requires begun { (first : Self) × (shown : _) × was_shown self.old first shown }
-        ensures { IfOk result (Answers (was_shown self.old) (was_shown self.new) (stops self.new) history.now) };
+        ensures { IfOk result (GathersHistory was_shown stops self.old self.new history.now) };
 }
 
 /// Where a walk halts before it has passed all schedules of its part.
@@ -54,7 +54,7 @@ impl Node<'_> {
         requires begun { (first : H) × (shown : _) × H.was_shown harvest.old first shown }
         ensures machine { self.new.machine ≡ self.old.machine }
         ensures entries { OnOk result (self.new.entries.items ≡ self.old.entries.items) }
-        ensures answers { IfOk result (Answers (H.was_shown harvest.old) (H.was_shown harvest.new) (H.stops harvest.new) (ended_entries self.old.entries.items current)) }
+        ensures takes { IfOk result (Gathers H.was_shown H.stops harvest.old harvest.new self.old current) }
     {
         let Some(current) = current else {
             return harvest.at_end(&self.entries);

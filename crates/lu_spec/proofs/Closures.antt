@@ -13,7 +13,7 @@ use Rattle.lu_trie.specs.Conflicts.{ConflictAt, IsDeterministic}
 use Rattle.lu_witness.specs.Witnesses.{entries}
 use Rattle.lu_witness.proofs.Entries.{entries-append}
 use Rattle.lu_spec.specs.Beginnings.{Has, Begins, IsClosed, IsClosureOf, IsBelow, AddsBelow}
-use Rattle.lu_spec.specs.Specs.{IsSpec, Fits, AreOf, AllHaveOutcomes, HasOutcome}
+use Rattle.lu_spec.specs.Specs.{IsSpec, FitsMatrix, AreOf, AllHaveOutcomes, HasOutcome}
 use Rattle.lu_spec.proofs.Sets.{begins_trans, serial_begin}
 
 got_front : (h rest : List SerialOp) (i : ℕ) (op : SerialOp) → slice_get h i ≡ Some op → slice_get (h ++ rest) i ≡ Some op
@@ -94,7 +94,7 @@ module _ (set closed : List (List SerialOp)) (closure : IsClosureOf set closed) 
 
   pub closure_of : (matrix : Matrix) → AreOf matrix set → AreOf matrix closed
   closure_of matrix of q has t = elim ((closure q).0 has) [
-    | inl empty ↦ subst (λ (x : List SerialOp). Fits matrix x) (sym empty) (λ u. omega arith) t
+    | inl empty ↦ subst (λ (x : List SerialOp). FitsMatrix matrix x) (sym empty) (λ u. omega arith) t
     | inr (h, begins, member) ↦
         let parts = ap length (ap (entries t) begins.1 ∙ entries-append t q begins.0) in
         omega (arith, of h member t, parts, length-append (entries t q) (entries t begins.0))

@@ -12,7 +12,7 @@ use Rattle.lu_trie.specs.Conflicts.{ConflictAt}
 use Rattle.lu_spec.specs.declared.fault.SpecFaultKind.{SpecFaultKind}
 use Rattle.lu_spec.specs.declared.fault.SpecFaultKind.TheVariants.{Form, Foreign, Nondeterministic}
 use Rattle.lu_spec.specs.Beginnings.{Has}
-use Rattle.lu_spec.specs.Specs.{Fits}
+use Rattle.lu_spec.specs.Specs.{FitsMatrix}
 use Rattle.lu_spec.specs.SpecText.{AreListed, IsFaultOfLine, IsLineOf, IsListable, IsReadAs, IsSpecFault, first_line, history_line, spec_text, words_of}
 use Rattle.lu_spec.proofs.Sets.{has_first, has_left, has_next, has_right}
 use Rattle.lu_spec.proofs.HistoryLines.{line_same, words_lack}
@@ -78,7 +78,7 @@ module _ (matrix : Matrix) (listed : List (List SerialOp)) (are : AreListed matr
 
       by_kind : (k : SpecFaultKind) → IsFaultOfLine matrix before line k → ⊥
       by_kind Form none = none found.history is_line
-      by_kind Foreign (p, other, fails) = fails (subst (Fits matrix) (sym (same p other)) (are.each found.history here).1)
+      by_kind Foreign (p, other, fails) = fails (subst (FitsMatrix matrix) (sym (same p other)) (are.each found.history here).1)
       by_kind Nondeterministic (p, other, fits, (h, has, i, o, conflict)) =
           let member = subst (λ (x : List (List SerialOp)). Has x h) (sym found.parts) (has_left before (found.history ∷ found.after) h has) in
           are.deterministic found.history h i o here member (subst (λ (x : List SerialOp). ConflictAt x h i o) (same p other) conflict)

@@ -12,15 +12,15 @@ use Rattle.lu_test.specs.Matrix.{Matrix}
 use Rattle.lu_spec.specs.declared.fault.SpecFaultKind.{SpecFaultKind}
 use Rattle.lu_spec.specs.declared.fault.SpecFaultKind.TheVariants.{Form}
 use Rattle.lu_spec.specs.SpecText.{IsSpecFault, HasNoFirstLine, first_line, history_line, spec_text}
-use Rattle.lu_spec.specs.Reading.{IsDraft, IsNextDraft, IsRefusal, IsRefusalAmong}
+use Rattle.lu_spec.specs.Reading.{IsListedDraft, IsNextDraft, IsRefusal, IsRefusalAmong}
 
 -- the lines up to the rest are those of the listed histories
 pub record AreReadTo (matrix : Matrix) (text : List ℕ) (listed set : List (List SerialOp)) (last : List SerialOp) (rest : List ℕ) (number : ℕ) : Type 0 where
-  pub draft : IsDraft matrix listed set last
+  pub draft : IsListedDraft matrix listed set last
   pub lines : kept_lines text ≡ map history_line listed ++ kept_lines rest
   pub numbered : number ≡ length listed + 1
 
-pub none_read : (matrix : Matrix) (text : List ℕ) (set : List (List SerialOp)) (last : List SerialOp) → IsDraft matrix [] set last → AreReadTo matrix text [] set last text 1
+pub none_read : (matrix : Matrix) (text : List ℕ) (set : List (List SerialOp)) (last : List SerialOp) → IsListedDraft matrix [] set last → AreReadTo matrix text [] set last text 1
 none_read matrix text set last draft = record { draft = draft; lines = refl; numbered = refl }
 
 pub line_read : (matrix : Matrix) (text line rest others : List ℕ) (listed set new : List (List SerialOp)) (last q : List SerialOp) (number : ℕ) → AreReadTo matrix text listed set last rest number → kept_lines rest ≡ line ∷ kept_lines others → IsNextDraft matrix listed line new q → AreReadTo matrix text (listed ++ q ∷ []) new q others (number + 1)

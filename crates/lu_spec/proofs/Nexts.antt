@@ -7,9 +7,9 @@ use Rattle.lu_test.specs.Matrix.{Matrix, calls_of}
 use Rattle.lu_trie.specs.Conflicts.{ConflictAt, HasConflict, IsDeterministic}
 use Rattle.lu_trie.proofs.Determinism.{conflict_back, no_self_conflict}
 use Rattle.lu_spec.specs.Beginnings.{Has, Begins, IsClosureOf, AddsBeginnings}
-use Rattle.lu_spec.specs.Specs.{IsSpec, Fits, FitsIn}
+use Rattle.lu_spec.specs.Specs.{IsSpec, FitsMatrix, FitsIn}
 use Rattle.lu_spec.specs.SpecText.{AreListed, ComesAfter, GoesOn, HasConflictIn, IsLineOf, IsListable, history_line}
-use Rattle.lu_spec.specs.Reading.{IsDraft, IsNextOf, IsNextDraft}
+use Rattle.lu_spec.specs.Reading.{IsListedDraft, IsNextOf, IsNextDraft}
 use Rattle.lu_spec.proofs.Sets.{begins_self, has_either, has_right, has_left, has_first, has_cons}
 use Rattle.lu_spec.proofs.Closures.{conflict_on, none_right, is_spec}
 use Rattle.lu_spec.proofs.HistoryLines.{line_same}
@@ -26,7 +26,7 @@ last_same [] (b ∷ ys) x y e = absurd (no_push ys y (let f : [] ≡ ys ++ y ∷
 last_same (a ∷ xs) [] x y e = absurd (no_push xs x (let f : [] ≡ xs ++ x ∷ [] = cc in f))
 last_same (a ∷ xs) (b ∷ ys) x y e = last_same xs ys x y (let f : xs ++ x ∷ [] ≡ ys ++ y ∷ [] = cc in f)
 
-pub follows : (matrix : Matrix) (listed set : List (List SerialOp)) (last q : List SerialOp) → IsDraft matrix listed set last → (last ≢ [] → ComesAfter last q) → GoesOn listed q
+pub follows : (matrix : Matrix) (listed set : List (List SerialOp)) (last q : List SerialOp) → IsListedDraft matrix listed set last → (last ≢ [] → ComesAfter last q) → GoesOn listed q
 follows matrix listed set last q draft after before p is = by_end draft.ends
   where
     by_end : ((listed ≡ []) × (last ≡ [])) ⊎ ((front : List (List SerialOp)) × (listed ≡ front ++ last ∷ [])) → ComesAfter p q
@@ -37,7 +37,7 @@ follows matrix listed set last q draft after before p is = by_end draft.ends
         let some = (draft.are.each last member).0.some in
         subst (λ (x : List SerialOp). ComesAfter x q) same (after (λ empty. absurd (omega (arith, some, ap length empty))))
 
-pub must_follow : (matrix : Matrix) (listed set : List (List SerialOp)) (last q : List SerialOp) → IsDraft matrix listed set last → GoesOn listed q → last ≢ [] → ComesAfter last q
+pub must_follow : (matrix : Matrix) (listed set : List (List SerialOp)) (last q : List SerialOp) → IsListedDraft matrix listed set last → GoesOn listed q → last ≢ [] → ComesAfter last q
 must_follow matrix listed set last q draft goes some = by_end draft.ends
   where
     by_end : ((listed ≡ []) × (last ≡ [])) ⊎ ((front : List (List SerialOp)) × (listed ≡ front ++ last ∷ [])) → ComesAfter last q
@@ -45,22 +45,22 @@ must_follow matrix listed set last q draft goes some = by_end draft.ends
     by_end (inr (front, e)) = goes front last e
 
 -- a line whose history does not follow is that of none that does
-pub none_follows : (matrix : Matrix) (listed set : List (List SerialOp)) (last q : List SerialOp) (line : List ℕ) → IsDraft matrix listed set last → IsListable q → line ≡ history_line q → ((last ≢ [] → ComesAfter last q) → ⊥) → (p : List SerialOp) → IsLineOf listed line p → ⊥
+pub none_follows : (matrix : Matrix) (listed set : List (List SerialOp)) (last q : List SerialOp) (line : List ℕ) → IsListedDraft matrix listed set last → IsListable q → line ≡ history_line q → ((last ≢ [] → ComesAfter last q) → ⊥) → (p : List SerialOp) → IsLineOf listed line p → ⊥
 none_follows matrix listed set last q line draft listable is fails p other =
     let same : p ≡ q = line_same p q other.1 listable (sym other.0 ∙ is) in
     fails (λ some. must_follow matrix listed set last q draft (subst (GoesOn listed) same other.2) some)
 
 -- ---- the calls that are left
 
-pub fits_from : (matrix : Matrix) (left : List ℕ) (q : List SerialOp) → ((t : ℕ) → get_or left t 0 ≡ length (calls_of matrix t)) → FitsIn left q → Fits matrix q
+pub fits_from : (matrix : Matrix) (left : List ℕ) (q : List SerialOp) → ((t : ℕ) → get_or left t 0 ≡ length (calls_of matrix t)) → FitsIn left q → FitsMatrix matrix q
 fits_from matrix left q are fits t = omega (arith, are t, fits t)
 
-pub fits_to : (matrix : Matrix) (left : List ℕ) (q : List SerialOp) → ((t : ℕ) → get_or left t 0 ≡ length (calls_of matrix t)) → Fits matrix q → FitsIn left q
+pub fits_to : (matrix : Matrix) (left : List ℕ) (q : List SerialOp) → ((t : ℕ) → get_or left t 0 ≡ length (calls_of matrix t)) → FitsMatrix matrix q → FitsIn left q
 fits_to matrix left q are fits t = omega (arith, are t, fits t)
 
 -- ---- conflicts
 
-pub draft_spec : (matrix : Matrix) (listed set : List (List SerialOp)) (last : List SerialOp) → IsDraft matrix listed set last → IsSpec set
+pub draft_spec : (matrix : Matrix) (listed set : List (List SerialOp)) (last : List SerialOp) → IsListedDraft matrix listed set last → IsSpec set
 draft_spec matrix listed set last draft =
     is_spec listed set draft.closure draft.are.deterministic (λ q has. (draft.are.each q has).0.serial) (λ q has k d within. ((draft.are.each q has).0.entries k d within).1)
 
@@ -91,7 +91,7 @@ split_push (y ∷ xs) (b ∷ before) after q x e =
       | inr (rest, is) ↦ inr (rest, rw (head, is) refl)
     ]
 
-module _ (matrix : Matrix) (listed set : List (List SerialOp)) (last : List SerialOp) (draft : IsDraft matrix listed set last) (line : List ℕ) (q : List SerialOp) (next : IsNextOf matrix listed line q) where
+module _ (matrix : Matrix) (listed set : List (List SerialOp)) (last : List SerialOp) (draft : IsListedDraft matrix listed set last) (line : List ℕ) (q : List SerialOp) (next : IsNextOf matrix listed line q) where
   either : (x : List SerialOp) → Has (listed ++ q ∷ []) x → Has listed x ⊎ (x ≡ q)
   either x has = elim (has_either listed (q ∷ []) x has) [
     | inl was ↦ inl was
@@ -119,7 +119,7 @@ module _ (matrix : Matrix) (listed set : List (List SerialOp)) (last : List Seri
   listed_more = record {
     each = λ x has. elim (either x has) [
       | inl was ↦ draft.are.each x was
-      | inr is ↦ subst (λ (z : List SerialOp). IsListable z × Fits matrix z) (sym is) (next.is.1, next.fits)
+      | inr is ↦ subst (λ (z : List SerialOp). IsListable z × FitsMatrix matrix z) (sym is) (next.is.1, next.fits)
     ];
     order = order;
     deterministic = deterministic;
@@ -157,7 +157,7 @@ is_not_there (Some y) b e f x is = cc
 
 -- ---- no history
 
-pub none_listed : (matrix : Matrix) (old set : List (List SerialOp)) (h last : List SerialOp) → old ≡ [] → h ≡ [] → last ≡ [] → AddsBeginnings old set h → IsDraft matrix [] set last
+pub none_listed : (matrix : Matrix) (old set : List (List SerialOp)) (h last : List SerialOp) → old ≡ [] → h ≡ [] → last ≡ [] → AddsBeginnings old set h → IsListedDraft matrix [] set last
 none_listed matrix old set h last none empty at_start adds = record {
   are = record {
     each = λ q has. absurd cc;

@@ -13,7 +13,7 @@ use Rattle.lu_trie.proofs.Ops.{same_ops_are, ops_equiv}
 use Rattle.lu_witness.specs.Witnesses.{entries}
 use Rattle.lu_witness.proofs.Entries.{entries_own}
 use Rattle.lu_spec.specs.Beginnings.{Has, Begins, IsClosureOf}
-use Rattle.lu_spec.specs.Specs.{IsSpec, Fits, AreOf, HasOutcome}
+use Rattle.lu_spec.specs.Specs.{IsSpec, FitsMatrix, AreOf, HasOutcome}
 use Rattle.lu_spec.specs.SpecText.{AreListed, GoesOn, IsEntry, IsListable, IsReadAs, spec_text}
 use Rattle.lu_spec.specs.Listed.{IsListing, Rises}
 use Rattle.lu_spec.proofs.Sets.{begins_self, begins_trans, has_cons, has_first, has_next}
@@ -93,7 +93,7 @@ few_from (calls ∷ rows) k q fits =
 
 -- ---- the limits of a history that fits a matrix
 
-few_entries : (matrix : Matrix) (q : List SerialOp) → IsMatrix matrix → Fits matrix q → length q ≤ 16
+few_entries : (matrix : Matrix) (q : List SerialOp) → IsMatrix matrix → FitsMatrix matrix q → length q ≤ 16
 few_entries matrix q is fits =
     let few = few_from matrix.threads 0 q (λ t. subst (λ (u : ℕ). length (entries u q) ≤ length (calls_of matrix t)) (let e : t ≡ 0 + t = omega arith in e) (fits t)) in
     omega (arith, few, all_from q, is.limits.calls)
@@ -109,7 +109,7 @@ few_threads matrix t is some = elim (cases_lt t (length matrix.threads)) [
   | inr past ↦ absurd (omega (arith, calls_past matrix t past))
 ]
 
-each_entry : (matrix : Matrix) (q : List SerialOp) → IsMatrix matrix → Fits matrix q → All HasOutcome q → All IsEntry q
+each_entry : (matrix : Matrix) (q : List SerialOp) → IsMatrix matrix → FitsMatrix matrix q → All HasOutcome q → All IsEntry q
 each_entry matrix q is fits outcomes k d within =
     let t = (get_or q k d).thread in
     (few_threads matrix t is (omega (arith, own_some q k d within, fits t)), outcomes k d within)

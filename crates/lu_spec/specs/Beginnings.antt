@@ -1,6 +1,7 @@
 -- Beginnings of serial histories, and sets that are closed under them.
 use Rattle.std.specs.Prelude.{◌≡◌, ◌↔◌, ◌⊎◌, true, List, [], ◌++◌}
 use Rattle.lu_history.specs.declared.serial.SerialOp.{SerialOp}
+use Rattle.lu_history.specs.Serial.{IsSerial}
 use Rattle.lu_trie.specs.Members.{contains}
 
 -- the history is a member
@@ -27,6 +28,10 @@ abbrev pub IsBelow : List SerialOp → List (List SerialOp) → List SerialOp �
 IsBelow path below q =
     (q ≡ path)
     ⊎ ((begin : List SerialOp) × (h : List SerialOp) × (q ≡ path ++ begin) × Begins begin h × Has below h)
+
+-- the path is serial with each history below it
+abbrev pub AreSerialBehind : List SerialOp → List (List SerialOp) → Type 0
+AreSerialBehind path below = (q : List SerialOp) → Has below q → IsSerial (path ++ q)
 
 -- new is old, the path, and what goes on from it with the beginnings of the histories below
 abbrev pub AddsBelow : List (List SerialOp) → List (List SerialOp) → List SerialOp → List (List SerialOp) → Type 0

@@ -1,10 +1,10 @@
 -- The histories that a specification's text lists.
-use Rattle.std.specs.Prelude.{◌≡◌, ◌≢◌, ◌↔◌, List, [], ◌∷◌, ◌++◌, length}
-use Rattle.std.specs.List.{AllByRecursion}
+use Rattle.std.specs.Prelude.{◌≡◌, ◌≢◌, ◌↔◌, List, [], ◌∷◌, ◌++◌, length, String, string_bytes}
+use Rattle.std.specs.List.{AllByRecursion, flat_map}
 use Rattle.lu_history.specs.declared.serial.SerialOp.{SerialOp}
 use Rattle.lu_trie.specs.Branches.{branches_of}
 use Rattle.lu_spec.specs.Beginnings.{Has, Begins}
-use Rattle.lu_spec.specs.SpecText.{ComesAfter}
+use Rattle.lu_spec.specs.SpecText.{ComesAfter, history_line, spec_text}
 
 -- q is a member that is not empty and begins no other member
 pub record IsMaximal (members : List (List SerialOp)) (q : List SerialOp) : Type 0 where
@@ -22,6 +22,11 @@ pub record IsListing (members listed : List (List SerialOp)) : Type 0 where
   pub are : (q : List SerialOp) → Has listed q ↔ IsMaximal members q
   pub rises : Rises listed
 
+-- the text lists the members that begin no other
+abbrev pub IsSpecText : {Z : Type 0} → List (List SerialOp) → String Z → Type 0
+IsSpecText members text =
+    (listed : List (List SerialOp)) × IsListing members listed × (string_bytes text ≡ spec_text listed)
+
 -- ---- a walk down a tree
 
 -- q goes on from the path with a history below, which begins no other
@@ -36,6 +41,12 @@ pub record IsEnd (path : List SerialOp) (below : List (List SerialOp)) (q : List
 pub record AreEnds (path : List SerialOp) (below listed : List (List SerialOp)) : Type 0 where
   pub are : (q : List SerialOp) → Has listed q ↔ IsEnd path below q
   pub rises : Rises listed
+
+-- the text grows by the lines of those histories
+abbrev pub AddsEnds : {Z : Type 0} → List SerialOp → List (List SerialOp) → String Z → String Z → Type 0
+AddsEnds path below old new =
+    (listed : List (List SerialOp)) × AreEnds path below listed
+    × (string_bytes new ≡ string_bytes old ++ flat_map history_line listed)
 
 -- the path is a member that begins no other, and is not empty
 abbrev pub IsEndHere : List SerialOp → List (List SerialOp) → Type 0

@@ -1,12 +1,13 @@
 -- What is known of the lines of a specification that are read.
-use Rattle.std.specs.Prelude.{◌≡◌, ℕ, ◌⊎◌, List, [], ◌∷◌, ◌++◌}
+use Rattle.std.specs.Prelude.{◌≡◌, ℕ, ◌⊎◌, List, [], ◌∷◌, ◌++◌, map, Vec, Result, IfOk, IfErr}
 use Rattle.lu_text.specs.declared.fault.Fault.{Fault}
 use Rattle.lu_text.specs.declared.fault.Fault.TheVariants.{At, Memory}
 use Rattle.lu_history.specs.declared.serial.SerialOp.{SerialOp}
 use Rattle.lu_test.specs.Matrix.{Matrix}
 use Rattle.lu_spec.specs.declared.fault.SpecFaultKind.{SpecFaultKind}
+use Rattle.lu_spec.specs.declared.reader.Draft.{Draft}
 use Rattle.lu_spec.specs.Beginnings.{IsClosureOf}
-use Rattle.lu_spec.specs.Specs.{Fits}
+use Rattle.lu_spec.specs.Specs.{FitsMatrix}
 use Rattle.lu_spec.specs.SpecText.{AreListed, HasConflictIn, IsFaultAmong, IsFaultOfLine, IsLineOf, history_line}
 
 -- the last of the listed histories; the empty one where none is listed
@@ -14,20 +15,29 @@ abbrev pub IsLast : List (List SerialOp) → List SerialOp → Type 0
 IsLast listed last = ((listed ≡ []) × (last ≡ [])) ⊎ ((before : List (List SerialOp)) × (listed ≡ before ++ last ∷ []))
 
 -- the listed histories, with their closure and the last of them
-pub record IsDraft (matrix : Matrix) (listed set : List (List SerialOp)) (last : List SerialOp) : Type 0 where
+pub record IsListedDraft (matrix : Matrix) (listed set : List (List SerialOp)) (last : List SerialOp) : Type 0 where
   pub are : AreListed matrix listed
   pub closure : IsClosureOf listed set
   pub ends : IsLast listed last
 
+-- there are such histories
+abbrev pub IsSomeDraft : Matrix → List (List SerialOp) → List SerialOp → Type 0
+IsSomeDraft matrix set last = (listed : List (List SerialOp)) × IsListedDraft matrix listed set last
+
+-- these lines are theirs
+abbrev pub IsDraftOf : Matrix → List (List ℕ) → Draft → Type 0
+IsDraftOf matrix lines draft =
+    (listed : List (List SerialOp)) × IsListedDraft matrix listed draft.set draft.last.items × (lines ≡ map history_line listed)
+
 -- the line is that of one more history, which may stand there
 pub record IsNextOf (matrix : Matrix) (listed : List (List SerialOp)) (line : List ℕ) (q : List SerialOp) : Type 0 where
   pub is : IsLineOf listed line q
-  pub fits : Fits matrix q
+  pub fits : FitsMatrix matrix q
   pub apart : HasConflictIn listed q → ⊥
 
 -- with the history of one more line
 abbrev pub IsNextDraft : Matrix → List (List SerialOp) → List ℕ → List (List SerialOp) → List SerialOp → Type 0
-IsNextDraft matrix listed line set last = (line ≡ history_line last) × IsDraft matrix (listed ++ last ∷ []) set last
+IsNextDraft matrix listed line set last = (line ≡ history_line last) × IsListedDraft matrix (listed ++ last ∷ []) set last
 
 -- the fault of line n, or want of memory
 abbrev pub IsRefusal : Matrix → List (List SerialOp) → List ℕ → ℕ → Fault SpecFaultKind → Type 0
@@ -38,3 +48,20 @@ IsRefusal matrix listed line n Memory = Unit {0}
 abbrev pub IsRefusalAmong : Matrix → List (List ℕ) → Fault SpecFaultKind → Type 0
 IsRefusalAmong matrix lines (At kind n) = IsFaultAmong matrix lines kind n
 IsRefusalAmong matrix lines Memory = Unit {0}
+
+-- ---- what is returned of a line, which is line n, behind the histories of a draft
+
+-- the history of the line
+abbrev pub FindsNext : {Z E : Type 0} → Matrix → List (List SerialOp) → List SerialOp → List ℕ → Result (Vec SerialOp Z) E → Type 0
+FindsNext matrix set last line returned =
+    (listed : List (List SerialOp)) → IsListedDraft matrix listed set last → IfOk returned (λ q. IsNextOf matrix listed line q.items)
+
+-- the draft with it
+abbrev pub DraftsNext : {E : Type 0} → Matrix → List (List SerialOp) → List SerialOp → List ℕ → Result Draft E → Type 0
+DraftsNext matrix set last line returned =
+    (listed : List (List SerialOp)) → IsListedDraft matrix listed set last → IfOk returned (λ next. IsNextDraft matrix listed line next.set next.last.items)
+
+-- what is wrong with the line
+abbrev pub Refuses : {A : Type 0} → Matrix → List (List SerialOp) → List SerialOp → List ℕ → ℕ → Result A (Fault SpecFaultKind) → Type 0
+Refuses matrix set last line n returned =
+    (listed : List (List SerialOp)) → IsListedDraft matrix listed set last → IfErr returned (IsRefusal matrix listed line n)

@@ -16,7 +16,7 @@ use Rattle.lu_trie.specs.Conflicts.{IsDeterministic, ConflictAt}
 use Rattle.lu_spec.specs.declared.fault.SpecFaultKind.{SpecFaultKind}
 use Rattle.lu_spec.specs.declared.fault.SpecFaultKind.TheVariants.{Form, Foreign, Nondeterministic}
 use Rattle.lu_spec.specs.Beginnings.{Has, IsClosureOf}
-use Rattle.lu_spec.specs.Specs.{Fits, IsOutcome}
+use Rattle.lu_spec.specs.Specs.{FitsMatrix, IsOutcome}
 
 -- ---- the spelling
 
@@ -56,6 +56,31 @@ pub record IsListable (q : List SerialOp) : Type 0 where
   pub serial : IsSerial q
   pub entries : All IsEntry q
 
+-- the word says no outcome
+abbrev pub SaysNoOutcome : List ℕ → Type 0
+SaysNoOutcome word = (outcome : SerialOutcome) → IsOutcome outcome → word ≡ outcome_text outcome → ⊥
+
+-- the words say these entries
+abbrev pub SayEntries : List (List ℕ) → List SerialOp → Type 0
+SayEntries words q = All IsEntry q × (words ≡ map entry_text q)
+
+abbrev pub SayNoEntries : List (List ℕ) → Type 0
+SayNoEntries words = (q : List SerialOp) → All IsEntry q → words ≡ map entry_text q → ⊥
+
+-- the words say this history, which may be listed
+abbrev pub SayHistory : List (List ℕ) → List SerialOp → Type 0
+SayHistory words q = IsListable q × (words ≡ words_of q)
+
+abbrev pub SayNoHistory : List (List ℕ) → Type 0
+SayNoHistory words = (q : List SerialOp) → IsListable q → words ≡ words_of q → ⊥
+
+-- the line says this history, which may be listed
+abbrev pub SaysHistory : List ℕ → List SerialOp → Type 0
+SaysHistory line q = IsListable q × (line ≡ history_line q)
+
+abbrev pub SaysNoHistory : List ℕ → Type 0
+SaysNoHistory line = (q : List SerialOp) → IsListable q → line ≡ history_line q → ⊥
+
 -- At the first place where they differ q has the greater entry: so it is greater than p, and does not begin with it.
 abbrev pub ComesAfter : List SerialOp → List SerialOp → Type 0
 ComesAfter [] q = ⊥
@@ -68,7 +93,7 @@ GoesOn listed q = (before : List (List SerialOp)) (p : List SerialOp) → listed
 
 -- a list of histories of the matrix, in order and none a beginning of the next, without conflict
 pub record AreListed (matrix : Matrix) (listed : List (List SerialOp)) : Type 0 where
-  pub each : (q : List SerialOp) → Has listed q → IsListable q × Fits matrix q
+  pub each : (q : List SerialOp) → Has listed q → IsListable q × FitsMatrix matrix q
   pub order : (before : List (List SerialOp)) (q : List SerialOp) (after : List (List SerialOp)) → listed ≡ before ++ q ∷ after → GoesOn before q
   pub deterministic : IsDeterministic listed
 
@@ -85,9 +110,9 @@ HasConflictIn listed q = (p : List SerialOp) × Has listed p × (i : ℕ) × (o 
 -- no history's line; that of a history that does not fit the matrix; or that of one that conflicts with a listed one
 abbrev pub IsFaultOfLine : Matrix → List (List SerialOp) → List ℕ → SpecFaultKind → Type 0
 IsFaultOfLine matrix listed line Form = (q : List SerialOp) → IsLineOf listed line q → ⊥
-IsFaultOfLine matrix listed line Foreign = (q : List SerialOp) × IsLineOf listed line q × (Fits matrix q → ⊥)
+IsFaultOfLine matrix listed line Foreign = (q : List SerialOp) × IsLineOf listed line q × (FitsMatrix matrix q → ⊥)
 IsFaultOfLine matrix listed line Nondeterministic =
-    (q : List SerialOp) × IsLineOf listed line q × Fits matrix q × HasConflictIn listed q
+    (q : List SerialOp) × IsLineOf listed line q × FitsMatrix matrix q × HasConflictIn listed q
 
 -- among the lines behind the first line, those before line n are of listed histories, and line n has this fault
 pub record IsFaultAmong (matrix : Matrix) (lines : List (List ℕ)) (kind : SpecFaultKind) (n : ℕ) : Type 0 where

@@ -33,12 +33,12 @@ pub record IsSpec (members : List (List SerialOp)) : Type 0 where
   pub outcomes : AllHaveOutcomes members
 
 -- no more entries of a thread than it has calls: none of a thread that the matrix does not have
-abbrev pub Fits : Matrix → List SerialOp → Type 0
-Fits matrix q = (t : ℕ) → length (entries t q) ≤ length (calls_of matrix t)
+abbrev pub FitsMatrix : Matrix → List SerialOp → Type 0
+FitsMatrix matrix q = (t : ℕ) → length (entries t q) ≤ length (calls_of matrix t)
 
 -- each member fits the matrix
 abbrev pub AreOf : Matrix → List (List SerialOp) → Type 0
-AreOf matrix members = (q : List SerialOp) → Has members q → Fits matrix q
+AreOf matrix members = (q : List SerialOp) → Has members q → FitsMatrix matrix q
 
 -- no more entries of a thread than are left to it
 abbrev pub FitsIn : List ℕ → List SerialOp → Type 0

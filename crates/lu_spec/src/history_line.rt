@@ -1,12 +1,11 @@
 //! The lines of the histories that a specification lists.
 
-ghost use Rattle.std.specs.Prelude.{◌≡◌, ◌↔◌, List, IsTrue, IfOk, IfSome, IfNone, All, map};
+ghost use Rattle.std.specs.Prelude.{◌≡◌, ◌↔◌, IsTrue, IfOk, IfSome, IfNone, All};
 ghost use Rattle.lu_text.specs.Lines.{texts};
 ghost use Rattle.lu_history.specs.declared.serial.SerialOp.{SerialOp};
-ghost use Rattle.lu_history.specs.declared.serial.SerialOutcome.{SerialOutcome};
 ghost use Rattle.lu_history.specs.Serial.{IsSerial};
 ghost use Rattle.lu_spec.specs.Specs.{IsOutcome};
-ghost use Rattle.lu_spec.specs.SpecText.{ComesAfter, IsEntry, IsListable, entry_text, history_line, outcome_text, words_of};
+ghost use Rattle.lu_spec.specs.SpecText.{ComesAfter, IsEntry, IsListable, SayEntries, SayHistory, SayNoEntries, SayNoHistory, SaysHistory, SaysNoHistory, SaysNoOutcome, entry_text, outcome_text};
 
 use lu_history::{SerialOp, SerialOutcome};
 use lu_test::MOST_CALLS;
@@ -23,7 +22,7 @@ pub(crate) fn is_word(word: &[u8], text: &str) -> bool
 /// The outcome that a word says.
 fn outcome_in(word: &[u8]) -> Option<SerialOutcome>
     ensures some { IfSome result (λ outcome. IsOutcome outcome × (word.now ≡ outcome_text outcome)) }
-    ensures none { IfNone result ((outcome : SerialOutcome) → IsOutcome outcome → word.now ≡ outcome_text outcome → ⊥) }
+    ensures none { IfNone result (SaysNoOutcome word.now) }
 {
     if is_word(word, "trap") {
         return Some(SerialOutcome::Trap);
@@ -57,8 +56,8 @@ fn entry_in(word: &[u8]) -> Option<SerialOp>
 
 /// The operations that words say, where each says one.
 fn entries_in(alloc: Global, words: &[&[u8]]) -> Result<Option<Vec<SerialOp>>, AllocError>
-    ensures some { IfOk result (λ read. IfSome read (λ ops. All IsEntry ops.items × (texts words.now ≡ map entry_text ops.items))) }
-    ensures none { IfOk result (λ read. IfNone read ((q : List SerialOp) → All IsEntry q → texts words.now ≡ map entry_text q → ⊥)) }
+    ensures some { IfOk result (λ read. IfSome read (λ ops. SayEntries (texts words.now) ops.items)) }
+    ensures none { IfOk result (λ read. IfNone read (SayNoEntries (texts words.now))) }
 {
     let mut entries = Vec::with_capacity(alloc, words.len())?;
     for word in words {
@@ -105,8 +104,8 @@ fn is_listable(entries: &[SerialOp]) -> bool
 
 /// The history that words say behind `history`, where a specification may list it.
 fn history_of(alloc: Global, words: &[&[u8]]) -> Result<Option<Vec<SerialOp>>, AllocError>
-    ensures some { IfOk result (λ read. IfSome read (λ q. IsListable q.items × (texts words.now ≡ words_of q.items))) }
-    ensures none { IfOk result (λ read. IfNone read ((q : List SerialOp) → IsListable q → texts words.now ≡ words_of q → ⊥)) }
+    ensures some { IfOk result (λ read. IfSome read (λ q. SayHistory (texts words.now) q.items)) }
+    ensures none { IfOk result (λ read. IfNone read (SayNoHistory (texts words.now))) }
 {
     match words {
         [] => Ok(None),
@@ -130,8 +129,8 @@ fn history_of(alloc: Global, words: &[&[u8]]) -> Result<Option<Vec<SerialOp>>, A
 
 /// The history that a line says, with its LF, where a specification may list it.
 pub(crate) fn history_in(alloc: Global, line: &[u8]) -> Result<Option<Vec<SerialOp>>, AllocError>
-    ensures some { IfOk result (λ read. IfSome read (λ q. IsListable q.items × (line.now ≡ history_line q.items))) }
-    ensures none { IfOk result (λ read. IfNone read ((q : List SerialOp) → IsListable q → line.now ≡ history_line q → ⊥)) }
+    ensures some { IfOk result (λ read. IfSome read (λ q. SaysHistory line.now q.items)) }
+    ensures none { IfOk result (λ read. IfNone read (SaysNoHistory line.now)) }
 {
     match line.strip_suffix(b"\n") {
         None => Ok(None),

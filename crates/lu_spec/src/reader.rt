@@ -1,14 +1,13 @@
 //! Reading of specifications.
 
-ghost use Rattle.std.specs.Prelude.{◌≡◌, ◌≢◌, ◌↔◌, List, [], map, OnOk, IfOk, IfErr, IsTrue};
+ghost use Rattle.std.specs.Prelude.{◌≢◌, ◌↔◌, [], OnOk, IfOk, IfErr, IsTrue};
 ghost use Rattle.lu_text.specs.Lines.{kept_lines};
 ghost use Rattle.lu_test.specs.Matrix.{Matrix as AMatrix};
-ghost use Rattle.lu_history.specs.declared.serial.SerialOp.{SerialOp};
 ghost use Rattle.lu_history.specs.Serial.{IsSerial};
 ghost use Rattle.lu_spec.specs.Beginnings.{AddsBeginnings};
-ghost use Rattle.lu_spec.specs.Reading.{IsDraft, IsNextDraft, IsNextOf, IsRefusal, IsRefusalAmong};
+ghost use Rattle.lu_spec.specs.Reading.{DraftsNext, FindsNext, IsListedDraft, IsDraftOf, IsRefusalAmong, IsSomeDraft, Refuses};
 ghost use Rattle.lu_spec.specs.Specs.{AreOf};
-ghost use Rattle.lu_spec.specs.SpecText.{ComesAfter, IsReadAs, IsSpecFault, history_line};
+ghost use Rattle.lu_spec.specs.SpecText.{ComesAfter, IsReadAs, IsSpecFault};
 
 use crate::fault::{SpecFault, SpecFaultKind};
 use crate::fitting::{calls_of, fits_in};
@@ -57,9 +56,9 @@ fn next_history(
     line: &[u8],
     number: usize,
 ) -> Result<Vec<SerialOp>, SpecFault>
-    requires { (listed : List (List SerialOp)) × IsDraft matrix.now listed draft.now.set draft.now.last.items }
-    ensures next { (listed : List (List SerialOp)) → IsDraft matrix.now listed draft.now.set draft.now.last.items → IfOk result (λ q. IsNextOf matrix.now listed line.now q.items) }
-    ensures fault { (listed : List (List SerialOp)) → IsDraft matrix.now listed draft.now.set draft.now.last.items → IfErr result (IsRefusal matrix.now listed line.now number) }
+    requires { IsSomeDraft matrix.now draft.now.set draft.now.last.items }
+    ensures next { FindsNext matrix.now draft.now.set draft.now.last.items line.now result }
+    ensures fault { Refuses matrix.now draft.now.set draft.now.last.items line.now number result }
 {
     match history_in(alloc, line)? {
         None => Err(Fault::At(SpecFaultKind::Form, number)),
@@ -86,9 +85,9 @@ fn read_line(
     line: &[u8],
     number: usize,
 ) -> Result<Draft, SpecFault>
-    requires { (listed : List (List SerialOp)) × IsDraft matrix.now listed draft.set draft.last.items }
-    ensures next { (listed : List (List SerialOp)) → IsDraft matrix.now listed draft.set draft.last.items → IfOk result (λ next. IsNextDraft matrix.now listed line.now next.set next.last.items) }
-    ensures fault { (listed : List (List SerialOp)) → IsDraft matrix.now listed draft.set draft.last.items → IfErr result (IsRefusal matrix.now listed line.now number) }
+    requires { IsSomeDraft matrix.now draft.set draft.last.items }
+    ensures next { DraftsNext matrix.now draft.set draft.last.items line.now result }
+    ensures fault { Refuses matrix.now draft.set draft.last.items line.now number result }
 {
     let history = next_history(alloc, matrix, &draft, line, number)?;
     add_beginnings(&mut draft.set, &history)?;
@@ -98,7 +97,7 @@ fn read_line(
 
 /// The draft before the first history.
 fn nothing_listed(alloc: Global) -> Result<Draft, AllocError>
-    ensures { (matrix : AMatrix) → IfOk result (λ draft. IsDraft matrix [] draft.set draft.last.items) }
+    ensures { (matrix : AMatrix) → IfOk result (λ draft. IsListedDraft matrix [] draft.set draft.last.items) }
 {
     let mut set = Trie::new(alloc);
     add_beginnings(&mut set, &[])?;
@@ -110,7 +109,7 @@ fn nothing_listed(alloc: Global) -> Result<Draft, AllocError>
 
 /// The draft of the histories of all lines; the text is what follows the first line.
 fn read_lines(alloc: Global, matrix: &Matrix, text: &[u8]) -> Result<Draft, SpecFault>
-    ensures read { IfOk result (λ draft. (listed : List (List SerialOp)) × IsDraft matrix.now listed draft.set draft.last.items × (kept_lines text.now ≡ map history_line listed)) }
+    ensures read { IfOk result (IsDraftOf matrix.now (kept_lines text.now)) }
     ensures fault { IfErr result (IsRefusalAmong matrix.now (kept_lines text.now)) }
 {
     let mut draft = nothing_listed(alloc)?;

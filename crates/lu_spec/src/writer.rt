@@ -1,10 +1,9 @@
 //! Writing of specifications.
 
-ghost use Rattle.std.specs.Prelude.{◌≡◌, ◌↔◌, ◌++◌, ◌∷◌, List, IsTrue, OnOk, IfOk, string_bytes};
-ghost use Rattle.std.specs.List.{flat_map};
-ghost use Rattle.lu_history.specs.declared.serial.SerialOp.{SerialOp};
-ghost use Rattle.lu_spec.specs.Listed.{AreEnds, IsEndHere, IsListing};
-ghost use Rattle.lu_spec.specs.SpecText.{entry_text, history_line, spec_text};
+ghost use Rattle.std.specs.Prelude.{◌≡◌, ◌↔◌, ◌∷◌, IsTrue, OnOk, IfOk};
+ghost use Rattle.lu_text.specs.Writing.{Writes};
+ghost use Rattle.lu_spec.specs.Listed.{AddsEnds, IsEndHere, IsSpecText};
+ghost use Rattle.lu_spec.specs.SpecText.{entry_text, history_line};
 
 use crate::spec::Spec;
 use lu_history::{SerialOp, SerialOutcome};
@@ -13,7 +12,7 @@ use std::alloc::{AllocError, Global};
 
 /// Adds an operation at the end of a text: ` t=n`, ` t=trap` or ` t=stuck`.
 fn write_entry(text: &mut String, op: SerialOp) -> Result<(), AllocError>
-    ensures { OnOk result (string_bytes text.new ≡ string_bytes text.old ++ 32 ∷ entry_text op) }
+    ensures { Writes result text.old text.new (32 ∷ entry_text op) }
 {
     let thread = op.thread;
     match op.outcome {
@@ -25,7 +24,7 @@ fn write_entry(text: &mut String, op: SerialOp) -> Result<(), AllocError>
 
 /// Adds a history's line at the end of a text.
 fn write_line(text: &mut String, history: &[SerialOp]) -> Result<(), AllocError>
-    ensures { OnOk result (string_bytes text.new ≡ string_bytes text.old ++ history_line history.now) }
+    ensures { Writes result text.old text.new (history_line history.now) }
 {
     text.push_str("history")?;
     for op in history {
@@ -51,7 +50,7 @@ fn write_below<T: SerialTree>(
     path: &mut Vec<SerialOp>,
 ) -> Result<(), AllocError>
     requires { T.is_place tree.now place }
-    ensures text { OnOk result ((listed : List (List SerialOp)) × AreEnds path.old.items (T.below tree.now place) listed × (string_bytes text.new ≡ string_bytes text.old ++ flat_map history_line listed)) }
+    ensures text { OnOk result (AddsEnds path.old.items (T.below tree.now place) text.old text.new) }
     ensures path { OnOk result (path.new.items ≡ path.old.items) }
 {
     if is_end(tree, place, path) {
@@ -72,7 +71,7 @@ fn write_below<T: SerialTree>(
 ///
 /// `AllocError` where memory was refused.
 pub fn write_spec(alloc: Global, spec: &Spec) -> Result<String, AllocError>
-    ensures { IfOk result (λ text. (listed : List (List SerialOp)) × IsListing spec.now listed × (string_bytes text ≡ spec_text listed)) }
+    ensures { IfOk result (IsSpecText spec.now) }
 {
     let mut text = String::from_str(alloc, "lineup spec 1\n")?;
     let tree = &spec.tree();

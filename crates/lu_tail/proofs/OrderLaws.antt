@@ -1,12 +1,32 @@
 -- The numbers of orders by the first move.
-use Rattle.std.proofs.Common.{◌≡◌, ℕ, zero, suc, ◌+◌, ◌-◌, ◌*◌, ◌<◌, List, [], ◌∷◌, ◌++◌, get_or, slice_set, length, length-append, replicate, refl, sym, ◌∙◌, ap, inl, inr, arith}
-use Rattle.std.proofs.Math.Nat.{mul-add, mul-zero, mul_comm, one-mul}
+use Rattle.std.proofs.Common.{◌≡◌, ℕ, zero, suc, ◌+◌, ◌-◌, ◌*◌, ◌^◌, ◌<◌, ◌≤◌, List, [], ◌∷◌, ◌++◌, get_or, slice_set, length, length-append, replicate, refl, sym, ◌∙◌, ap, inl, inr, arith}
+use Rattle.std.proofs.Math.Nat.{le-mul_of_pos_right, mul-add, mul-zero, mul_comm, one-mul}
 use Rattle.std.proofs.lemmas.Bool.{cases_lt}
 use Rattle.lu_machine.specs.Sums.{capped}
-use Rattle.lu_horizon.proofs.Words.{capped_times}
 use Rattle.lu_tail.specs.Orders.{AreRows, IsRow, all_moves, orders, interleavings, led_by, led_below}
 
-add-mul' : (a b k : ℕ) → (a + b) * k ≡ a * k + b * k
+capped_times : (a k : ℕ) → capped (capped a * k) ≡ capped (a * k)
+capped_times a zero = rw (mul-zero (capped a), mul-zero a) refl
+capped_times a (suc k) =
+    elim (cases_lt a (2 ^ 64)) [
+      | inl few ↦ (let e : capped a ≡ a = omega arith in rw e refl)
+      | inr many ↦
+          (let e : capped a ≡ 2 ^ 64 - 1 = omega arith in
+          let x : capped a ≤ capped a * suc k = le-mul_of_pos_right (capped a) (omega arith) in
+          let y : a ≤ a * suc k = le-mul_of_pos_right a (omega arith) in
+          omega arith)
+    ]
+
+-- capped numbers have the same capped product
+pub capped_product : (a b : ℕ) → capped (capped a * capped b) ≡ capped (a * b)
+capped_product a b =
+    let p : capped (capped a * capped b) ≡ capped (a * capped b) = capped_times a (capped b) in
+    let q : capped (capped b * a) ≡ capped (b * a) = capped_times b a in
+    let r : a * capped b ≡ capped b * a = mul_comm a (capped b) in
+    let t : b * a ≡ a * b = mul_comm b a in
+    p ∙ (ap capped r ∙ (q ∙ ap capped t))
+
+pub add-mul' : (a b k : ℕ) → (a + b) * k ≡ a * k + b * k
 add-mul' a b k =
     let e : (a + b) * k ≡ k * (a + b) = mul_comm (a + b) k in
     let f : k * (a + b) ≡ k * a + k * b = mul-add k a b in
@@ -14,7 +34,7 @@ add-mul' a b k =
     let h : k * b ≡ b * k = mul_comm k b in
     omega arith
 
-orders_zero : (a : ℕ) → orders a zero ≡ 1
+pub orders_zero : (a : ℕ) → orders a zero ≡ 1
 orders_zero zero = refl
 orders_zero (suc a) = refl
 
@@ -142,11 +162,5 @@ rows_push k n (first ∷ rows) row are e is = (are.0, rows_push (suc k) n rows r
 -- one thread more
 pub interleavings_more : (n : ℕ) (ns : List ℕ) (all of before number : ℕ) → all ≡ all_moves ns → of ≡ capped (orders n all) → before ≡ capped (interleavings ns) → number ≡ capped (of * before) → number ≡ capped (interleavings (n ∷ ns))
 interleavings_more n ns all of before number a x y z =
-    let o = orders n (all_moves ns) in
-    let i = interleavings ns in
-    let p : capped (capped o * capped i) ≡ capped (o * capped i) = capped_times o (capped i) in
-    let q : capped (capped i * o) ≡ capped (i * o) = capped_times i o in
-    let r : o * capped i ≡ capped i * o = mul_comm o (capped i) in
-    let t : i * o ≡ o * i = mul_comm i o in
-    let x' : of ≡ capped o = rw (← a) x in
-    z ∙ (ap (λ (w : ℕ). capped (w * before)) x' ∙ (ap (λ (w : ℕ). capped (capped o * w)) y ∙ (p ∙ (ap capped r ∙ (q ∙ ap capped t)))))
+    let x' : of ≡ capped (orders n (all_moves ns)) = rw (← a) x in
+    z ∙ (ap (λ (w : ℕ). capped (w * before)) x' ∙ (ap (λ (w : ℕ). capped (capped (orders n (all_moves ns)) * w)) y ∙ capped_product (orders n (all_moves ns)) (interleavings ns)))

@@ -6,7 +6,8 @@ use Rattle.std.proofs.lemmas.List.{take_more, take_all, length-take-le}
 use Rattle.std.proofs.lemmas.List.Elements.{All-take}
 use Rattle.std.proofs.lemmas.List.Sums.{sum_by-cons}
 use Rattle.lu_test.specs.declared.matrix.Call.{Call}
-use Rattle.lu_test.specs.Matrix.{AreArguments, IsMatrix, Matrix, cut, first_calls}
+use Rattle.lu_test.specs.Matrix.{AreArguments, IsCallOf, IsMatrix, Matrix, cut, first_calls}
+use Rattle.lu_test.proofs.SomeComponent.{of_same}
 
 abbrev pub Fits : List (List Call) → List ℕ → Type 0
 Fits threads lengths = AllZip (λ calls n. n ≤ length calls) threads lengths
@@ -66,6 +67,10 @@ cut_limits matrix lengths fits h =
         arguments = each_cut (λ calls. All (λ call. AreArguments call.args) calls) (λ calls n le all. All-take (λ call. AreArguments call.args) n calls all) threads lengths fits h.limits.arguments;
       };
       before = h.before;
+      of_some = of_same matrix (cut matrix lengths) (λ c of. (
+        of.0,
+        each_cut (λ calls. All (IsCallOf c) calls) (λ calls n le all. All-take (IsCallOf c) n calls all) threads lengths fits of.1,
+      )) h.of_some;
     }
 
 -- the same of a setup and threads that are the cut's

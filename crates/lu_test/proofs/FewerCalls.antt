@@ -1,14 +1,16 @@
 -- A matrix without one of its calls is a matrix.
-use Rattle.std.proofs.Common.{◌≡◌, ℕ, suc, ◌<◌, ◌≤◌, List, [], length, get_or, Option, refl, sym, ap, ◌∙◌, inl, inr, arith}
+use Rattle.std.proofs.Common.{◌≡◌, ℕ, suc, ◌<◌, ◌≤◌, List, [], ◌∷◌, length, get_or, Option, refl, sym, ap, ◌∙◌, inl, inr, arith}
 use Rattle.std.specs.Prelude.{All, remove, slice_set, take, drop}
 use Rattle.std.specs.Option.{unwrap_or}
 use Rattle.std.proofs.lemmas.Option.{slice_get_cases, slice_get-get_or}
 use Rattle.std.proofs.lemmas.List.Edits.{length-remove}
-use Rattle.std.proofs.lemmas.List.Elements.{All-set, All-append, All-take, All-drop}
-use Rattle.std.proofs.lemmas.List.Sums.{sum_by-set}
+use Rattle.std.proofs.lemmas.List.Elements.{All-set, All-append, All-take, All-drop, All-nil}
+use Rattle.std.proofs.lemmas.List.Sums.{sum_by-set, sum_by-cons}
 use Rattle.std.proofs.Math.ListN.{length-set}
+use Rattle.lu_text.proofs.Written.{All-last}
 use Rattle.lu_test.specs.declared.matrix.Call.{Call}
-use Rattle.lu_test.specs.Matrix.{AreArguments, IsMatrix, Matrix, calls_of, thread_count, without}
+use Rattle.lu_test.specs.Matrix.{AreArguments, IsCallOf, IsMatrix, Matrix, alone, calls_of, thread_count, without}
+use Rattle.lu_test.proofs.SomeComponent.{of_same}
 
 -- there is a thread where there is a call
 pub is_thread : (m : Matrix) (t k : ℕ) → k < length (calls_of m t) → t < thread_count m
@@ -53,8 +55,32 @@ keeps_limits m t k h within =
             h.limits.arguments;
       };
       before = h.before;
+      of_some = of_same m (without m t k) (λ c of. (
+        of.0,
+        All-set (λ calls. All (IsCallOf c) calls) threads t new (All-remove (IsCallOf c) (calls_of m t) k (at_thread (IsCallOf c) m t there of.1)) of.1,
+      )) h.of_some;
     }
+
+-- the setup alone is a matrix
+pub alone_limits : (m : Matrix) → IsMatrix m → IsMatrix (alone m.setup)
+alone_limits m h = record {
+  some = omega arith;
+  limits = record {
+    few = omega arith;
+    each = All-last (λ calls. length calls ≤ 8) [] m.setup (All-nil (λ calls. length calls ≤ 8)) h.before.few;
+    calls = (let count = sum_by-cons length m.setup [] in let few = h.before.few in omega (arith, count, few));
+    arguments = All-last (λ calls. All (λ call. AreArguments call.args) calls) [] m.setup (All-nil (λ calls. All (λ call. AreArguments call.args) calls)) h.before.arguments;
+  };
+  before = record { few = omega arith; arguments = All-nil (λ call. AreArguments call.args) };
+  of_some = of_same m (alone m.setup) (λ c of. (
+    All-nil (IsCallOf c),
+    All-last (λ calls. All (IsCallOf c) calls) [] m.setup (All-nil (λ calls. All (IsCallOf c) calls)) of.0,
+  )) h.of_some;
+}
 
 -- the same of a setup and threads that are the matrix's
 pub without_made : (m : Matrix) (t k : ℕ) (setup : List Call) (threads : List (List Call)) → setup ≡ m.setup → threads ≡ (without m t k).threads → let made : Matrix = record { setup = setup; threads = threads } in made ≡ without m t k
 without_made m t k setup threads p q = rw (p, q) refl
+
+pub alone_made : (m : Matrix) (setup : List Call) (threads : List (List Call)) → setup ≡ [] → threads ≡ m.setup ∷ [] → let made : Matrix = record { setup = setup; threads = threads } in made ≡ alone m.setup
+alone_made m setup threads p q = rw (p, q) refl

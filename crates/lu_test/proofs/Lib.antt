@@ -4,6 +4,7 @@ pub mod Words
 pub mod RoundTrip
 pub mod Parts
 pub mod Threads
+pub mod SomeComponent
 pub mod FewerCalls
 pub mod Cutting
 pub mod MatrixRoundTrip

@@ -6,7 +6,7 @@ use Rattle.lu_test.specs.declared.schedule_fault.ScheduleFault.{ScheduleFault}
 use Rattle.lu_test.specs.declared.schedule_fault.ScheduleFault.TheVariants.{Form, Number, Limit, Memory}
 use Rattle.std.proofs.lemmas.Bool.{lt-ltb, le-ltb}
 use Rattle.std.proofs.lemmas.List.{append-nil, length-append}
-use Rattle.lu_test.specs.ScheduleText.{◌>>=◌, IsUnlessMemory, move_of, moves_of}
+use Rattle.lu_test.specs.ScheduleText.{◌>>=◌, IsScheduleUnlessMemory, move_of, moves_of}
 
 -- what was read before, and what is still read
 abbrev pub with_front : List Move → Result (List Move) ScheduleFault → Result (List Move) ScheduleFault
@@ -45,7 +45,7 @@ unfolding moves_of
 is_done front n total so_far = sym so_far ∙ ap (λ (x : List Move). Ok x) (append-nil front)
 
 -- a fault that isn't want of memory
-pub told : (f : ScheduleFault) (total : Result (List Move) ScheduleFault) → total ≡ Err f → IsUnlessMemory f total
+pub told : (f : ScheduleFault) (total : Result (List Move) ScheduleFault) → total ≡ Err f → IsScheduleUnlessMemory f total
 told Memory total e = tt
 told Form total e = e
 told Number total e = e

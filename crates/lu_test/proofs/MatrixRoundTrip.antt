@@ -14,7 +14,7 @@ use Rattle.lu_text.specs.Names.{is_name_start, is_name_part, has_name_form, IsNa
 use Rattle.lu_text.specs.Numbers.{value_in}
 use Rattle.lu_text.specs.Lines.{before_comment, words_of}
 use Rattle.lu_text.specs.Words.{Word}
-use Rattle.lu_text.specs.Faults.{value_of}
+use Rattle.lu_text.specs.Faults.{meaning_of}
 use Rattle.lu_text.proofs.Written.{IsText, IsLineByte, Reads, reads_nothing, reads_line, reads_on, reads_value, allowed_line, one_line, words_line, words_again, no_comment, split_joined, each_joined, each_weaker}
 use Rattle.lu_text.proofs.WordText.{IsDigit, digits_each, literal_text, name_text, number_text, value_again}
 use Rattle.lu_component.specs.declared.component.Op.{Op}
@@ -284,7 +284,7 @@ threads_read c is setup all done (calls ∷ rest) cut few count each fits argume
     (thread_reads c (record { setup = setup; threads = done }) calls said room each.0 fewer)
     (threads_read c is setup all (done ++ calls ∷ []) rest (cut ∙ sym (append_assoc done (calls ∷ []) rest)) few count each.1 fits.1 arguments.1)
 
-pub matrix_again : (c : Declarations) (matrix : Matrix) → IsComponent c → IsMatrix matrix → IsOf matrix c → value_of (matrix_grammar c) (matrix_text c matrix) ≡ Ok matrix
+pub matrix_again : (c : Declarations) (matrix : Matrix) → IsComponent c → IsMatrix matrix → IsOf matrix c → meaning_of (matrix_grammar c) (matrix_text c matrix) ≡ Ok matrix
 matrix_again c matrix is m fits =
     let setup = setup_of matrix.setup in
     let all : Drafted = record { setup = setup; threads = matrix.threads } in
@@ -299,5 +299,5 @@ matrix_again c matrix is m fits =
     reads_value (matrix_grammar c) (matrix_text c matrix) all matrix both (rw (ne_eqb (length matrix.threads) 0 (λ e. omega arith), whole) refl)
 
 -- the same of a text that is the matrix's
-pub written_again : (c : Declarations) (matrix : Matrix) → IsComponent c → IsMatrix matrix → IsOf matrix c → (text : List ℕ) → text ≡ matrix_text c matrix → value_of (matrix_grammar c) text ≡ Ok matrix
+pub written_again : (c : Declarations) (matrix : Matrix) → IsComponent c → IsMatrix matrix → IsOf matrix c → (text : List ℕ) → text ≡ matrix_text c matrix → meaning_of (matrix_grammar c) text ≡ Ok matrix
 written_again c matrix is m fits text e = rw e (matrix_again c matrix is m fits)

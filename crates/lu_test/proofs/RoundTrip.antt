@@ -11,7 +11,7 @@ use Rattle.std.proofs.lemmas.List.Splits.{slice_split_at, slice_split_none, join
 use Rattle.lu_test.specs.declared.schedule.Move.{Move}
 use Rattle.lu_test.specs.declared.schedule_fault.ScheduleFault.{ScheduleFault}
 use Rattle.lu_test.specs.declared.schedule_fault.ScheduleFault.TheVariants.{Form, Limit}
-use Rattle.lu_test.specs.ScheduleText.{◌>>=◌, Gives, has_form, line_to, one_line, move_of, move_text, moves_by, moves_in, moves_of, schedule_of, schedule_text}
+use Rattle.lu_test.specs.ScheduleText.{◌>>=◌, GivesSchedule, has_form, line_to, one_line, move_of, move_text, moves_by, moves_in, moves_of, schedule_of, schedule_text}
 use Rattle.lu_text.proofs.NumberText.{bytes_same}
 use Rattle.lu_text.proofs.Written.{each_append}
 use Rattle.lu_test.specs.Schedule.{IsMove, AreMoves}
@@ -167,7 +167,7 @@ schedule_again ms h =
     let split : slice_split (λ b. b == 32) line ≡ word ∷ map move_text ms = split_again word ms (refl, (refl, (refl, (refl, (refl, (refl, (refl, (refl, tt)))))))) each in
     ap moves_in one ∙ (ap moves_by split ∙ rw (words_again ms each) (moves_again 0 ms (omega (arith, h.0)) each))
 
-pub is_found : (text : List ℕ) (r : Result (List Move) ScheduleFault) → Gives r (schedule_of text) → IfOk r (λ s. AreMoves s × (text ≡ schedule_text s))
+pub is_found : (text : List ℕ) (r : Result (List Move) ScheduleFault) → GivesSchedule r (schedule_of text) → IfOk r (λ s. AreMoves s × (text ≡ schedule_text s))
 is_found text (Ok s) e = schedule_takes text s e
 is_found text (Err f) e = tt
 

@@ -24,7 +24,7 @@ use Rattle.lu_component.proofs.Named.{place_small}
 use Rattle.lu_test.specs.declared.matrix.Call.{Call}
 use Rattle.lu_test.specs.declared.matrix_fault.MatrixFaultKind.{MatrixFaultKind}
 use Rattle.lu_test.specs.declared.matrix_fault.MatrixFaultKind.TheVariants.{Byte, Form, UnknownOp, Arguments, Number, Limit}
-use Rattle.lu_test.specs.Matrix.{AreArguments, AreThreads, IsMatrix, IsOf, IsCallOf, IsSetup, Matrix}
+use Rattle.lu_test.specs.Matrix.{AreArguments, AreThreads, IsOf, IsCallOf, Matrix}
 use Rattle.lu_test.specs.MatrixText.{Drafted, IsDraft, nothing, is_nothing, matrix_of, name_in, has_name, has_operation, has_arguments, has_values, call_of, calls_fault, is_full, with_thread, with_setup, calls_after, by_keyword, by_parts, parts_in, line_of, finished}
 
 -- ---- a call
@@ -195,7 +195,3 @@ of_finished c draft n (Err e) gives fits = tt
 of_finished c draft n (Ok m) gives fits =
     let x = said ((length draft.threads == 0, Limit) ∷ []) (matrix_of draft) m (line_ok n (finished draft) m gives) in
     subst (λ (m : Matrix). IsOf m c) x.same fits
-
--- the limits of the finished matrix hold
-pub is_finished : (draft : Drafted) (setup : List Call) → IsDraft draft → setup ≡ (matrix_of draft).setup → 1 ≤ length draft.threads → IsMatrix (record { setup = setup; threads = draft.threads })
-is_finished draft setup limits is some = record { some = some; limits = limits.0; before = subst IsSetup (sym is) limits.1 }

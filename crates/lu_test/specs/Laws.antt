@@ -1,6 +1,6 @@
 -- What holds of the texts of matrices.
 use Rattle.std.specs.Prelude.{◌≡◌, Ok}
-use Rattle.lu_text.specs.Faults.{value_of}
+use Rattle.lu_text.specs.Faults.{meaning_of}
 use Rattle.lu_component.specs.Component.{Declarations, IsComponent}
 use Rattle.lu_test.specs.Matrix.{Matrix, IsMatrix, IsOf}
 use Rattle.lu_test.specs.MatrixText.{matrix_grammar, matrix_text}
@@ -9,4 +9,4 @@ use Rattle.lu_test.specs.MatrixText.{matrix_grammar, matrix_text}
 abbrev pub RoundTrip : Type 0
 RoundTrip =
     (c : Declarations) (matrix : Matrix) → IsComponent c → IsMatrix matrix → IsOf matrix c
-    → value_of (matrix_grammar c) (matrix_text c matrix) ≡ Ok matrix
+    → meaning_of (matrix_grammar c) (matrix_text c matrix) ≡ Ok matrix

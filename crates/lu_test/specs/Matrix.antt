@@ -1,12 +1,17 @@
 -- Matrices: the calls of a setup, and for each thread the calls that it makes.
 use Rattle.std.specs.Prelude.{◌≡◌, ℕ, ◌<◌, ◌≤◌, ◌^◌, List, [], ◌∷◌, length, take, remove, slice_set, All, slice_get, sum_by, unwrap_or, IsSomeAnd}
-use Rattle.lu_component.specs.Component.{Declarations}
+use Rattle.lu_component.specs.declared.component.Op.{Op}
+use Rattle.lu_component.specs.Component.{Declarations, IsComponent}
 use Rattle.lu_test.specs.declared.matrix.Call.{Call}
 
 -- the calls that are made before the start, and those of each thread
 pub record Matrix : Type 0 where
   pub setup : List Call
   pub threads : List (List Call)
+
+-- the matrix of this setup and these threads
+abbrev pub matrix_with : List Call → List (List Call) → Matrix
+matrix_with setup threads = record { setup = setup; threads = threads }
 
 -- the number of threads
 abbrev pub thread_count : Matrix → ℕ
@@ -40,19 +45,28 @@ pub record IsSetup (calls : List Call) : Type 0 where
   pub few : length calls ≤ 8
   pub arguments : All (λ call. AreArguments call.args) calls
 
--- the limits of the setup and of the threads hold, and there is a thread
-pub record IsMatrix (matrix : Matrix) : Type 0 where
-  pub some : 1 ≤ thread_count matrix
-  pub limits : AreThreads matrix.threads
-  pub before : IsSetup matrix.setup
+-- among the operations is the call's, with as many arguments
+abbrev pub IsCallAmong : List Op → Call → Type 0
+IsCallAmong operations call = IsSomeAnd (slice_get operations call.op) (λ op. length call.args ≡ op.args)
 
 -- the component has the call's operation, with as many arguments
 abbrev pub IsCallOf : Declarations → Call → Type 0
-IsCallOf c call = IsSomeAnd (slice_get c.operations call.op) (λ op. length call.args ≡ op.args)
+IsCallOf c call = IsCallAmong c.operations call
 
 -- the component has the operation of each call, with as many arguments
 abbrev pub IsOf : Matrix → Declarations → Type 0
 IsOf matrix c = All (IsCallOf c) matrix.setup × All (λ calls. All (IsCallOf c) calls) matrix.threads
+
+-- some component has the operation of each call, with as many arguments
+unfoldable pub IsOfSome : Matrix → Type 0
+IsOfSome matrix = (c : Declarations) × IsComponent c × IsOf matrix c
+
+-- A matrix of some component: the limits of the setup and of the threads hold, and there is a thread.
+pub record IsMatrix (matrix : Matrix) : Type 0 where
+  pub some : 1 ≤ thread_count matrix
+  pub limits : AreThreads matrix.threads
+  pub before : IsSetup matrix.setup
+  pub of_some : IsOfSome matrix
 
 -- ---- the setup as a matrix of its own
 

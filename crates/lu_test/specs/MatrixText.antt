@@ -6,7 +6,8 @@ use Rattle.std.specs.Fmt.{decimal}
 use Rattle.std.specs.Option.{unwrap_or, option_map}
 use Rattle.std.specs.Prelude.{slice_get}
 use Rattle.lu_text.specs.Numbers.{value_in}
-use Rattle.lu_text.specs.Lines.{words_of, before_comment, is_allowed}
+use denote.Ref.{Bor}
+use Rattle.lu_text.specs.Lines.{texts, words_of, before_comment, is_allowed}
 use Rattle.lu_text.specs.Words.{Word}
 use Rattle.lu_text.specs.Faults.{Grammar, first_fault, or_else, says}
 use Rattle.lu_component.specs.Component.{Declarations, operation_place}
@@ -39,10 +40,14 @@ has_arguments c words = unwrap_or (wanted c words) 0 == length (drop 1 words)
 abbrev pub has_values : List Word → Bool
 has_values words = list_all (λ word. is_some (value_in word)) (drop 1 words)
 
+-- the number that the word is
+abbrev pub argument_in : Word → ℕ
+argument_in word = unwrap_or (value_in word) 0
+
 abbrev pub call_of : Declarations → List Word → Call
 call_of c words = record {
   op = unwrap_or (operation_place c.operations (name_in words)) 0;
-  args = map (λ word. unwrap_or (value_in word) 0) (drop 1 words);
+  args = map argument_in (drop 1 words);
 }
 
 -- ---- lines
@@ -109,6 +114,10 @@ by_parts c draft [] = Ok draft
 by_parts c draft ([] ∷ []) = Ok draft
 by_parts c draft ([] ∷ part ∷ parts) = Err Form
 by_parts c draft ((word ∷ words) ∷ parts) = by_keyword c draft word (calls_after words parts)
+
+-- the words of each of these parts in memory
+abbrev pub words_in : List (Bor (List ℕ)) → List (List Word)
+words_in parts = map words_of (texts parts)
 
 -- the words of each part of a line
 abbrev pub parts_in : List ℕ → List (List Word)

@@ -75,12 +75,12 @@ abbrev pub schedule_of : List ℕ → Result (List Move) ScheduleFault
 schedule_of text = moves_in (one_line text)
 
 -- What a reader returned is the schedule or the fault of the definition, unless memory ran out.
-abbrev pub IsUnlessMemory : {A : Type 0} → ScheduleFault → Result A ScheduleFault → Type 0
-IsUnlessMemory Memory meant = Unit {0}
-IsUnlessMemory Form meant = meant ≡ Err Form
-IsUnlessMemory Number meant = meant ≡ Err Number
-IsUnlessMemory Limit meant = meant ≡ Err Limit
+abbrev pub IsScheduleUnlessMemory : {A : Type 0} → ScheduleFault → Result A ScheduleFault → Type 0
+IsScheduleUnlessMemory Memory meant = Unit {0}
+IsScheduleUnlessMemory Form meant = meant ≡ Err Form
+IsScheduleUnlessMemory Number meant = meant ≡ Err Number
+IsScheduleUnlessMemory Limit meant = meant ≡ Err Limit
 
-abbrev pub Gives : {A : Type 0} → Result A ScheduleFault → Result A ScheduleFault → Type 0
-Gives (Ok x) meant = meant ≡ Ok x
-Gives (Err e) meant = IsUnlessMemory e meant
+abbrev pub GivesSchedule : {A : Type 0} → Result A ScheduleFault → Result A ScheduleFault → Type 0
+GivesSchedule (Ok x) meant = meant ≡ Ok x
+GivesSchedule (Err e) meant = IsScheduleUnlessMemory e meant

@@ -1,4 +1,4 @@
-//! Matrices made from others by taking calls away.
+//! Matrices made from others: copies, and those with fewer calls.
 
 ghost use Rattle.std.specs.Prelude.{◌≡◌, ◌<◌, ◌≤◌, IfOk, length, remove, take};
 ghost use Rattle.std.specs.List.{AllZip};
@@ -7,7 +7,12 @@ ghost use Rattle.lu_test.specs.Matrix.{alone, calls_of, without, cut, IsMatrix};
 use crate::matrix::{Arguments, Call, Calls, Matrix};
 use std::alloc::{AllocError, Global};
 
-fn copy_of_call(alloc: Global, call: &Call) -> Result<Call, AllocError>
+/// A copy of the call.
+///
+/// # Errors
+///
+/// There is no memory for the copy.
+pub fn copy_call(alloc: Global, call: &Call) -> Result<Call, AllocError>
     ensures { IfOk result (λ copy. copy ≡ call.now) }
 {
     let numbers = Vec::from_slice(alloc, call.args.as_slice())?;
@@ -27,7 +32,7 @@ pub fn copy_calls(alloc: Global, calls: &[Call]) -> Result<Calls, AllocError>
 {
     let mut copies = Vec::with_capacity(alloc, calls.len())?;
     for call in calls {
-        copies.push(copy_of_call(alloc, call)?)?;
+        copies.push(copy_call(alloc, call)?)?;
     }
     Ok(Calls::new(copies))
 }
@@ -40,6 +45,19 @@ fn copies_of(alloc: Global, threads: &[Calls]) -> Result<Vec<Calls>, AllocError>
         copies.push(copy_calls(alloc, calls.as_slice())?)?;
     }
     Ok(copies)
+}
+
+/// A copy of the matrix.
+///
+/// # Errors
+///
+/// There is no memory for the copy.
+pub fn copy_matrix(alloc: Global, matrix: &Matrix) -> Result<Matrix, AllocError>
+    ensures { IfOk result (λ copy. copy ≡ matrix.now) }
+{
+    let setup = copy_calls(alloc, matrix.setup().as_slice())?;
+    let threads = copies_of(alloc, matrix.as_slice())?;
+    Ok(Matrix::of_calls(setup, threads))
 }
 
 /// The matrix without call number `k` of thread `t`, both from 0. The thread stays, also with no calls,
@@ -56,7 +74,7 @@ pub fn remove(alloc: Global, matrix: &Matrix, t: u8, k: u8) -> Result<Matrix, Al
     let setup = copy_calls(alloc, matrix.setup().as_slice())?;
     let mut threads = copies_of(alloc, matrix.as_slice())?;
     threads[usize::from(t)].remove(usize::from(k));
-    Ok(Matrix::new(setup, threads))
+    Ok(Matrix::of_calls(setup, threads))
 }
 
 /// The matrix of each thread's first calls: of thread `t` as many as `lengths[t]` says. The setup stays.
@@ -74,7 +92,7 @@ pub fn cut_to(alloc: Global, matrix: &Matrix, lengths: &[u8]) -> Result<Matrix, 
     for (t, calls) in matrix.as_slice().iter().enumerate() {
         threads.push(copy_calls(alloc, &calls.as_slice()[..usize::from(lengths[t])])?)?;
     }
-    Ok(Matrix::new(setup, threads))
+    Ok(Matrix::of_calls(setup, threads))
 }
 
 /// The matrix of one thread that makes the calls of the setup, before which no calls are made.
@@ -87,5 +105,5 @@ pub fn setup_alone(alloc: Global, matrix: &Matrix) -> Result<Matrix, AllocError>
 {
     let mut threads = Vec::with_capacity(alloc, 1)?;
     threads.push(copy_calls(alloc, matrix.setup().as_slice())?)?;
-    Ok(Matrix::new(Calls::new(Vec::new(alloc)), threads))
+    Ok(Matrix::of_calls(Calls::new(Vec::new(alloc)), threads))
 }

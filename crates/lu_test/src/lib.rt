@@ -11,7 +11,7 @@ mod schedule;
 mod schedule_fault;
 mod schedule_text;
 
-pub use edits::{copy_calls, cut_to, remove, setup_alone};
+pub use edits::{copy_call, copy_calls, copy_matrix, cut_to, remove, setup_alone};
 pub use laws::round_trip;
 pub use matrix::{Arguments, Call, Calls, MOST_CALLS, MOST_CALLS_OF_THREAD, MOST_THREADS, Matrix};
 pub use matrix_fault::{MatrixFault, MatrixFaultKind};

@@ -1,9 +1,10 @@
 //! Matrices.
 
-ghost use Rattle.std.specs.Prelude.{◌≡◌, ◌<◌, ◌≤◌, ◌↔◌, IsTrue, length, slice_get, remove, All, Some};
-ghost use Rattle.lu_test.specs.Matrix.{IsMatrix, IsCallOf, IsOf, calls_of, thread_count};
+ghost use Rattle.std.specs.Prelude.{◌≡◌, ◌<◌, ◌≤◌, ◌↔◌, IsTrue, IsSome, IfSome, length, slice_get, remove, All, Some};
+ghost use Rattle.lu_component.specs.Component.{IsComponent};
+ghost use Rattle.lu_test.specs.Matrix.{AreThreads, IsCallAmong, IsCallOf, IsMatrix, IsOf, IsSetup, calls_of, matrix_with, thread_count};
 
-use lu_component::Component;
+use lu_component::{Component, Op};
 use std::marker::Model;
 
 /// The most threads that a matrix has.
@@ -53,10 +54,10 @@ pub struct Call {
 }
 
 impl Call {
-    fn is_of(&self, component: &Component) -> bool
-        ensures { IsTrue result ↔ IsCallOf component.now self.now }
+    fn is_among(&self, operations: &[Op]) -> bool
+        ensures { IsTrue result ↔ IsCallAmong operations.now self.now }
     {
-        match component.operation(self.op) {
+        match operations.get(usize::from(self.op)) {
             None => false,
             Some(op) => self.args.as_slice().len() == usize::from(op.args),
         }
@@ -101,22 +102,34 @@ impl Calls {
         self.calls.remove(k);
     }
 
-    fn are_of(&self, component: &Component) -> bool
-        ensures { IsTrue result ↔ All (IsCallOf component.now) self.now }
+    fn are_among(&self, operations: &[Op]) -> bool
+        ensures { IsTrue result ↔ All (IsCallAmong operations.now) self.now }
     {
-        self.calls.iter().all(|call| call.is_of(component))
+        self.calls.iter().all(|call| call.is_among(operations))
     }
 }
 
-fn all_are_of(threads: &[Calls], component: &Component) -> bool
-    ensures { IsTrue result ↔ All (λ calls. All (IsCallOf component.now) calls) threads.now }
+fn all_are_among(threads: &[Calls], operations: &[Op]) -> bool
+    ensures { IsTrue result ↔ All (λ calls. All (IsCallAmong operations.now) calls) threads.now }
 {
-    threads.iter().all(|calls| calls.are_of(component))
+    threads.iter().all(|calls| calls.are_among(operations))
+}
+
+/// Whether the component has the operation of each call, with as many arguments.
+fn are_of(setup: &Calls, threads: &[Calls], component: &Component) -> bool
+    ensures of { IsTrue result ↔ IsOf (matrix_with setup.now threads.now) component.now }
+    ensures sound { IsComponent component.now }
+{
+    let operations = component.operations();
+    setup.are_among(operations) && all_are_among(threads, operations)
 }
 
 /// A matrix: the calls of a setup, which are made before the start, and for each thread the calls that it
 /// makes. 1 to 8 threads of at most 8 calls, 16 calls in all, at most 8 more of the setup, and at most 4
 /// arguments of a call.
+///
+/// It is always one that some text gives: there is a component that has the operation of each call, with as
+/// many arguments.
 #[derive(Debug, Drop)]
 pub struct Matrix {
     setup: Calls,
@@ -134,11 +147,26 @@ impl Model for Matrix {
 }
 
 impl Matrix {
-    /// The matrix of this setup and of these threads' calls. Asks for what each matrix keeps: 1 to 8 threads
-    /// of at most 8 calls, 16 calls in all, at most 8 of the setup, and at most 4 arguments of a call.
-    pub fn new(setup: Calls, threads: Vec<Calls>) -> Matrix
-        requires { IsMatrix (record { setup = setup; threads = threads.items }) }
-        ensures { result ≡ record { setup = setup; threads = threads.items } }
+    /// The matrix of this setup and of these threads' calls, where it is one of the component: that has the
+    /// operation of each call, with as many arguments. Asks for the limits of each matrix: 1 to 8 threads of
+    /// at most 8 calls, 16 calls in all, at most 8 of the setup, and at most 4 arguments of a call.
+    pub fn new(component: &Component, setup: Calls, threads: Vec<Calls>) -> Option<Matrix>
+        requires some { 1 ≤ length threads.items }
+        requires limits { AreThreads threads.items }
+        requires before { IsSetup setup }
+        ensures calls { IfSome result (λ matrix. matrix ≡ matrix_with setup threads.items) }
+        ensures of { IsSome result ↔ IsOf (matrix_with setup threads.items) component.now }
+    {
+        if !are_of(&setup, &threads, component) {
+            return None;
+        }
+        Some(Matrix::of_calls(setup, threads))
+    }
+
+    /// The matrix of these calls, which are asked to be a matrix of some component.
+    pub(crate) fn of_calls(setup: Calls, threads: Vec<Calls>) -> Matrix
+        requires { IsMatrix (matrix_with setup threads.items) }
+        ensures { result ≡ matrix_with setup threads.items }
     {
         Matrix { setup, threads }
     }
@@ -190,6 +218,6 @@ impl Matrix {
     pub fn of(&self, component: &Component) -> bool
         ensures { IsTrue result ↔ IsOf self.now component.now }
     {
-        self.setup().are_of(component) && all_are_of(self.as_slice(), component)
+        are_of(self.setup(), self.as_slice(), component)
     }
 }

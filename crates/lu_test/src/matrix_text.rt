@@ -6,13 +6,11 @@ ghost use Rattle.std.specs.List.{position, list_all, slice_split};
 ghost use Rattle.std.specs.Str.{bytes_eq};
 ghost use Rattle.lu_text.specs.Lines.{texts, words_of};
 ghost use Rattle.lu_text.specs.Numbers.{value_in};
-ghost use Rattle.lu_text.specs.Faults.{Gives, IsFirstFault, on_line, value_of, lines_after};
-ghost use Rattle.lu_text.specs.declared.fault.Fault.TheVariants.{At};
+ghost use Rattle.lu_text.specs.Faults.{Gives, OnLine, TellsFirst, meaning_of, meaning_of_lines};
 ghost use Rattle.lu_component.specs.Component.{operation_place};
-ghost use Rattle.lu_test.specs.declared.matrix_fault.MatrixFaultKind.{MatrixFaultKind as Kind};
-ghost use Rattle.lu_test.specs.Matrix.{AreThreads, IsMatrix, IsOf};
+ghost use Rattle.lu_test.specs.Matrix.{AreThreads, IsMatrix, IsOf, IsOfSome};
 ghost use Rattle.lu_test.specs.MatrixText as spec;
-ghost use Rattle.lu_test.specs.MatrixText.{IsDraft, matrix_grammar};
+ghost use Rattle.lu_test.specs.MatrixText.{IsDraft, by_parts, calls_after, matrix_grammar, words_in};
 
 use crate::matrix::{
     Arguments, Call, Calls, MOST_CALLS, MOST_CALLS_OF_THREAD, MOST_THREADS, Matrix,
@@ -138,7 +136,7 @@ fn all_have_values(parts: &[Part<'_>]) -> bool
 }
 
 fn values_of(alloc: Global, words: &[&[u8]]) -> Result<Vec<u32>, AllocError>
-    ensures { IfOk result (λ numbers. numbers.items ≡ map (λ word. unwrap_or (value_in word.now) 0) words.now) }
+    ensures { IfOk result (λ numbers. numbers.items ≡ map (λ w. spec.argument_in w.now) words.now) }
 {
     words
         .iter()
@@ -147,7 +145,7 @@ fn values_of(alloc: Global, words: &[&[u8]]) -> Result<Vec<u32>, AllocError>
 }
 
 fn arguments_of(alloc: Global, part: &Part<'_>) -> Result<Arguments, AllocError>
-    ensures { IfOk result (λ args. args ≡ map (λ word. unwrap_or (value_in word) 0) (drop 1 part.now)) }
+    ensures { IfOk result (λ args. args ≡ map spec.argument_in (drop 1 part.now)) }
 {
     let numbers = values_of(alloc, part.arguments())?;
     Ok(Arguments::new(numbers))
@@ -246,7 +244,7 @@ fn with_thread(
     calls: &[Part<'_>],
 ) -> Result<Draft, MatrixFault>
     requires { IsDraft draft }
-    ensures { Gives result (on_line line (spec.with_thread component.now draft calls.now)) }
+    ensures { OnLine line result (spec.with_thread component.now draft calls.now) }
 {
     let full = is_full(&draft.threads, calls.len());
     match calls_fault(component, calls, full) {
@@ -267,7 +265,7 @@ fn with_setup(
     mut draft: Draft,
     calls: &[Part<'_>],
 ) -> Result<Draft, MatrixFault>
-    ensures { Gives result (on_line line (spec.with_setup component.now draft calls.now)) }
+    ensures { OnLine line result (spec.with_setup component.now draft calls.now) }
 {
     let full = calls.len() > MOST_CALLS_OF_THREAD;
     match calls_fault(component, calls, full) {
@@ -286,7 +284,7 @@ fn call_parts<'a>(
     words: &[&'a [u8]],
     others: &[&'a [u8]],
 ) -> Result<Vec<Part<'a>>, AllocError>
-    ensures { IfOk result (λ calls. calls.items ≡ spec.calls_after (texts words.now) (map words_of (texts others.now))) }
+    ensures { IfOk result (λ calls. calls.items ≡ calls_after (texts words.now) (words_in others.now)) }
 {
     let mut calls = Vec::new(alloc);
     if words.is_empty() && others.is_empty() {
@@ -308,14 +306,14 @@ fn by_words(
     component: &Component,
     draft: Draft,
     words: &[&[u8]],
-    others: &[&[u8]],
+    more: &[&[u8]],
 ) -> Result<Draft, MatrixFault>
     requires { IsDraft draft }
-    ensures { Gives result (on_line line (spec.by_parts component.now draft (texts words.now ∷ map words_of (texts others.now)))) }
+    ensures { OnLine line result (by_parts component.now draft (texts words.now ∷ words_in more.now)) }
 {
     match words {
         [] => {
-            if others.is_empty() {
+            if more.is_empty() {
                 Ok(draft)
             } else {
                 Err(Fault::At(MatrixFaultKind::Form, line))
@@ -323,10 +321,10 @@ fn by_words(
         }
         [word, rest @ ..] => {
             if *word == b"thread".as_slice() {
-                let calls = call_parts(alloc, rest, others)?;
+                let calls = call_parts(alloc, rest, more)?;
                 with_thread(alloc, line, component, draft, &calls)
             } else if *word == b"setup".as_slice() && draft.is_nothing() {
-                let calls = call_parts(alloc, rest, others)?;
+                let calls = call_parts(alloc, rest, more)?;
                 with_setup(alloc, line, component, draft, &calls)
             } else {
                 Err(Fault::At(MatrixFaultKind::Form, line))
@@ -344,7 +342,7 @@ fn by_parts(
     parts: &[&[u8]],
 ) -> Result<Draft, MatrixFault>
     requires { IsDraft draft }
-    ensures { Gives result (on_line line (spec.by_parts component.now draft (map words_of (texts parts.now)))) }
+    ensures { OnLine line result (spec.by_parts component.now draft (words_in parts.now)) }
 {
     match parts {
         [] => Ok(draft),
@@ -364,7 +362,7 @@ fn read_line(
     text: &[u8],
 ) -> Result<Draft, MatrixFault>
     requires { IsDraft draft }
-    ensures { Gives result (on_line line (spec.line_of component.now draft text.now)) }
+    ensures { OnLine line result (spec.line_of component.now draft text.now) }
 {
     if !are_allowed(text) {
         return Err(Fault::At(MatrixFaultKind::Byte, line));
@@ -385,17 +383,18 @@ fn setup_of(alloc: Global, setup: Option<Calls>) -> Calls
 
 /// The matrix at the end of the text.
 fn finished(alloc: Global, line: usize, draft: Draft) -> Result<Matrix, MatrixFault>
-    requires { IsDraft draft }
-    ensures { Gives result (on_line line (spec.finished draft)) }
+    requires limits { IsDraft draft }
+    requires of_some { IsOfSome (spec.matrix_of draft) }
+    ensures { OnLine line result (spec.finished draft) }
 {
     if draft.threads.is_empty() {
         return Err(Fault::At(MatrixFaultKind::Limit, line));
     }
-    Ok(Matrix::new(setup_of(alloc, draft.setup), draft.threads))
+    Ok(Matrix::of_calls(setup_of(alloc, draft.setup), draft.threads))
 }
 
 fn read_lines(alloc: Global, component: &Component, lines: &[&[u8]]) -> Result<Matrix, MatrixFault>
-    ensures exact { Gives result (lines_after (matrix_grammar component.now) 1 spec.nothing (texts lines.now)) }
+    ensures exact { Gives result (meaning_of_lines (matrix_grammar component.now) (texts lines.now)) }
     ensures of { IfOk result (λ matrix. IsOf matrix component.now) }
 {
     // The proof needs that the component obeys its rules.
@@ -411,7 +410,7 @@ fn read_lines(alloc: Global, component: &Component, lines: &[&[u8]]) -> Result<M
 }
 
 fn matrix_in(alloc: Global, component: &Component, text: &[u8]) -> Result<Matrix, MatrixFault>
-    ensures exact { Gives result (value_of (matrix_grammar component.now) text.now) }
+    ensures exact { Gives result (meaning_of (matrix_grammar component.now) text.now) }
     ensures of { IfOk result (λ matrix. IsOf matrix component.now) }
 {
     let lines = lines_of(alloc, text)?;
@@ -428,9 +427,9 @@ fn matrix_in(alloc: Global, component: &Component, text: &[u8]) -> Result<Matrix
 /// The first fault of the text, or that there is no memory for the matrix.
 pub fn read_matrix(alloc: Global, component: &Component, text: &[u8]) -> Result<Matrix, MatrixFault>
     // Which matrix, or which fault.
-    ensures exact { Gives result (value_of (matrix_grammar component.now) text.now) }
+    ensures exact { Gives result (meaning_of (matrix_grammar component.now) text.now) }
     // No line before the fault's has one.
-    ensures first { (kind : Kind) (n : ℕ) → IsErrOf result (At kind n) → IsFirstFault (matrix_grammar component.now) text.now kind n }
+    ensures first { TellsFirst (matrix_grammar component.now) text.now result }
     // Each call's operation is there, with its number of arguments.
     ensures of { IfOk result (λ matrix. IsOf matrix component.now) }
 {

@@ -1,8 +1,8 @@
 //! Writing of matrices.
 
-ghost use Rattle.std.specs.Prelude.{◌≡◌, ◌++◌, Ok, IfOk, OnOk, string_bytes};
+ghost use Rattle.std.specs.Prelude.{◌≡◌, IfOk, string_bytes};
 ghost use Rattle.std.specs.List.{flat_map};
-ghost use Rattle.lu_text.specs.Faults.{value_of};
+ghost use Rattle.lu_text.specs.Writing.{IsTextOf, Writes};
 ghost use Rattle.lu_test.specs.Matrix.{IsOf};
 ghost use Rattle.lu_test.specs.MatrixText as spec;
 
@@ -12,7 +12,7 @@ use std::alloc::{AllocError, Global};
 
 /// Adds the name of operation number `number` at the end of a text.
 fn put_name(text: &mut String, component: &Component, number: u8) -> Result<(), AllocError>
-    ensures { OnOk result (string_bytes text.new ≡ string_bytes text.old ++ spec.operation_name component.now number) }
+    ensures { Writes result text.old text.new (spec.operation_name component.now number) }
 {
     match component.operation(number) {
         None => Ok(()),
@@ -21,14 +21,14 @@ fn put_name(text: &mut String, component: &Component, number: u8) -> Result<(), 
 }
 
 fn put_argument(text: &mut String, argument: u32) -> Result<(), AllocError>
-    ensures { OnOk result (string_bytes text.new ≡ string_bytes text.old ++ spec.argument_text argument) }
+    ensures { Writes result text.old text.new (spec.argument_text argument) }
 {
     write!(text, " {argument}")?;
     Ok(())
 }
 
 fn put_arguments(text: &mut String, arguments: &[u32]) -> Result<(), AllocError>
-    ensures { OnOk result (string_bytes text.new ≡ string_bytes text.old ++ spec.arguments_text arguments.now) }
+    ensures { Writes result text.old text.new (spec.arguments_text arguments.now) }
 {
     for argument in arguments {
         put_argument(text, *argument)?;
@@ -37,7 +37,7 @@ fn put_arguments(text: &mut String, arguments: &[u32]) -> Result<(), AllocError>
 }
 
 fn put_call(text: &mut String, component: &Component, call: &Call) -> Result<(), AllocError>
-    ensures { OnOk result (string_bytes text.new ≡ string_bytes text.old ++ spec.call_text component.now call.now) }
+    ensures { Writes result text.old text.new (spec.call_text component.now call.now) }
 {
     put_name(text, component, call.op)?;
     put_arguments(text, call.args.as_slice())
@@ -45,14 +45,14 @@ fn put_call(text: &mut String, component: &Component, call: &Call) -> Result<(),
 
 /// Adds a call behind `;`.
 fn put_other(text: &mut String, component: &Component, call: &Call) -> Result<(), AllocError>
-    ensures { OnOk result (string_bytes text.new ≡ string_bytes text.old ++ spec.other_text component.now call.now) }
+    ensures { Writes result text.old text.new (spec.other_text component.now call.now) }
 {
     text.push(';')?;
     put_call(text, component, call)
 }
 
 fn put_others(text: &mut String, component: &Component, calls: &[Call]) -> Result<(), AllocError>
-    ensures { OnOk result (string_bytes text.new ≡ string_bytes text.old ++ spec.others_text component.now calls.now) }
+    ensures { Writes result text.old text.new (spec.others_text component.now calls.now) }
 {
     for call in calls {
         put_other(text, component, call)?;
@@ -61,7 +61,7 @@ fn put_others(text: &mut String, component: &Component, calls: &[Call]) -> Resul
 }
 
 fn put_calls(text: &mut String, component: &Component, calls: &[Call]) -> Result<(), AllocError>
-    ensures { OnOk result (string_bytes text.new ≡ string_bytes text.old ++ spec.calls_text component.now calls.now) }
+    ensures { Writes result text.old text.new (spec.calls_text component.now calls.now) }
 {
     match calls {
         [] => Ok(()),
@@ -80,7 +80,7 @@ fn put_line(
     word: &str,
     calls: &[Call],
 ) -> Result<(), AllocError>
-    ensures { OnOk result (string_bytes text.new ≡ string_bytes text.old ++ spec.line_text component.now word.now calls.now) }
+    ensures { Writes result text.old text.new (spec.line_text component.now word.now calls.now) }
 {
     text.push_str(word)?;
     put_calls(text, component, calls)?;
@@ -90,7 +90,7 @@ fn put_line(
 
 /// Adds the line of a setup, which is not written where it has no calls.
 fn put_setup(text: &mut String, component: &Component, calls: &[Call]) -> Result<(), AllocError>
-    ensures { OnOk result (string_bytes text.new ≡ string_bytes text.old ++ spec.setup_text component.now calls.now) }
+    ensures { Writes result text.old text.new (spec.setup_text component.now calls.now) }
 {
     match calls {
         [] => Ok(()),
@@ -103,7 +103,7 @@ fn put_threads(
     component: &Component,
     threads: &[Calls],
 ) -> Result<(), AllocError>
-    ensures { OnOk result (string_bytes text.new ≡ string_bytes text.old ++ flat_map (spec.thread_text component.now) threads.now) }
+    ensures { Writes result text.old text.new (flat_map (spec.thread_text component.now) threads.now) }
 {
     for calls in threads {
         put_line(text, component, "thread", calls.as_slice())?;
@@ -125,7 +125,7 @@ pub fn write_matrix(
 ) -> Result<String, AllocError>
     requires { IsOf matrix.now component.now }
     ensures text { IfOk result (λ text. string_bytes text ≡ spec.matrix_text component.now matrix.now) }
-    ensures again { IfOk result (λ text. value_of (spec.matrix_grammar component.now) (string_bytes text) ≡ Ok matrix.now) }
+    ensures again { IfOk result (IsTextOf (spec.matrix_grammar component.now) matrix.now) }
 {
     // The proof needs that the component obeys its rules.
     let _operations = component.operations();

@@ -1,12 +1,13 @@
 //! Reading and writing of schedules.
 
-ghost use Rattle.std.specs.Prelude.{◌≡◌, ◌==◌, ◌++◌, ◌∷◌, List, IfOk, OnOk, Ok, not, length, string_bytes};
+ghost use Rattle.std.specs.Prelude.{◌≡◌, ◌==◌, ◌∷◌, List, IfOk, Ok, not, length, string_bytes};
 ghost use Rattle.std.specs.Option.{option_map};
 ghost use Rattle.std.specs.List.{position, list_all};
 ghost use Rattle.lu_text.specs.Lines.{texts};
 ghost use Rattle.lu_text.specs.Numbers.{number_in};
+ghost use Rattle.lu_text.specs.Writing.{Writes};
 ghost use Rattle.lu_test.specs.Schedule.{AreMoves};
-ghost use Rattle.lu_test.specs.ScheduleText.{Gives, schedule_text, move_text, schedule_of, move_of, one_line};
+ghost use Rattle.lu_test.specs.ScheduleText.{GivesSchedule, schedule_text, move_text, schedule_of, move_of, one_line};
 ghost use Rattle.lu_test.specs.ScheduleText as spec;
 
 use crate::schedule::{MOST_MOVES, Move, Schedule};
@@ -71,7 +72,7 @@ fn has_form(words: &[&[u8]]) -> bool
 }
 
 fn moves_of(alloc: Global, words: &[&[u8]]) -> Result<Schedule, ScheduleFault>
-    ensures { Gives result (spec.moves_of 0 (texts words.now)) }
+    ensures { GivesSchedule result (spec.moves_of 0 (texts words.now)) }
 {
     let mut moves = Vec::new(alloc);
     for word in words {
@@ -85,7 +86,7 @@ fn moves_of(alloc: Global, words: &[&[u8]]) -> Result<Schedule, ScheduleFault>
 }
 
 fn schedule_in(alloc: Global, text: &[u8]) -> Result<Schedule, ScheduleFault>
-    ensures { Gives result (schedule_of text.now) }
+    ensures { GivesSchedule result (schedule_of text.now) }
 {
     let Some(line) = line_in(text) else {
         return Err(ScheduleFault::Form);
@@ -110,16 +111,16 @@ pub fn read_schedule(alloc: Global, text: &[u8]) -> Result<Schedule, ScheduleFau
     // What is read is spelled so.
     ensures found { IfOk result (λ s. AreMoves s × (text.now ≡ schedule_text s)) }
     // What is spelled so is read, unless memory runs out.
-    ensures only { (ms : List Move) → AreMoves ms → text.now ≡ schedule_text ms → Gives result (Ok ms) }
+    ensures only { (ms : List Move) → AreMoves ms → text.now ≡ schedule_text ms → GivesSchedule result (Ok ms) }
     // Which fault it is.
-    ensures exact { Gives result (schedule_of text.now) }
+    ensures exact { GivesSchedule result (schedule_of text.now) }
 {
     schedule_in(alloc, text)
 }
 
 /// Adds a space and a move at the end of a text.
 fn put_move(text: &mut String, next: &Move) -> Result<(), AllocError>
-    ensures { OnOk result (string_bytes text.new ≡ string_bytes text.old ++ 32 ∷ move_text next.now) }
+    ensures { Writes result text.old text.new (32 ∷ move_text next.now) }
 {
     if next.pick == 0 {
         write!(text, " {}", next.thread)?;

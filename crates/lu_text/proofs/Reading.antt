@@ -5,7 +5,7 @@ use denote.Ref.{Bor}
 use Rattle.lu_text.specs.Lines.{texts, lines_of}
 use Rattle.lu_text.specs.declared.fault.Fault.{Fault}
 use Rattle.lu_text.specs.declared.fault.Fault.TheVariants.{At, Memory}
-use Rattle.lu_text.specs.Faults.{Grammar, on_line, then_lines, lines_after, value_of, Gives, IsUnlessMemory, LeadsTo, IsNext, IsFirstFault}
+use Rattle.lu_text.specs.Faults.{Grammar, on_line, then_lines, lines_after, meaning_of, Gives, IsUnlessMemory, LeadsTo, IsNext, IsFirstFault}
 
 -- ---- words in memory
 
@@ -87,7 +87,7 @@ stops {Kind = Kind} {Draft = Draft} {Value = Value} g n d (line ∷ lines) kind 
         record { before = []; rest = line ∷ lines; draft = d; cut = refl; sound = refl; numbered = omega arith; next = cc }
 
 -- a fault that the definition answers is the first one
-pub first : {Kind Draft Value : Type 0} (g : Grammar Kind Draft Value) (text : List ℕ) (kind : Kind) (m : ℕ) → value_of g text ≡ Err (At kind m) → IsFirstFault g text kind m
+pub first : {Kind Draft Value : Type 0} (g : Grammar Kind Draft Value) (text : List ℕ) (kind : Kind) (m : ℕ) → meaning_of g text ≡ Err (At kind m) → IsFirstFault g text kind m
 first g text kind m e =
     let s = stops g 1 g.nothing (lines_of text) kind m e in
     record { before = s.before; rest = s.rest; draft = s.draft; cut = s.cut; sound = s.sound; numbered = s.numbered; next = s.next }

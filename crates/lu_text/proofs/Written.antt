@@ -8,7 +8,7 @@ use Rattle.std.proofs.lemmas.List.Elements.{All-from_recursion, All-append}
 use Rattle.std.proofs.lemmas.List.Splits.{slice_split_at, slice_split_none}
 use Rattle.lu_text.specs.Lines.{lines_of, is_allowed, is_blank, before_comment, words_of}
 use Rattle.lu_text.specs.Words.{Word}
-use Rattle.lu_text.specs.Faults.{Grammar, lines_after, value_of, LeadsTo}
+use Rattle.lu_text.specs.Faults.{Grammar, lines_after, meaning_of, LeadsTo}
 
 -- ---- lists
 
@@ -112,7 +112,7 @@ led_value g n d to [] v p e = rw (p, e) refl
 led_value g n d to (line ∷ lines) v p e = rw p.1 (led_value g (n + 1) p.0 to lines v p.2 e)
 
 -- a text whose lines lead to a draft with a value has this value
-pub reads_value : {Kind Draft Value : Type 0} (g : Grammar Kind Draft Value) (text : List ℕ) (to : Draft) (v : Value) → Reads g g.nothing text to → g.finish to ≡ Ok v → value_of g text ≡ Ok v
+pub reads_value : {Kind Draft Value : Type 0} (g : Grammar Kind Draft Value) (text : List ℕ) (to : Draft) (v : Value) → Reads g g.nothing text to → g.finish to ≡ Ok v → meaning_of g text ≡ Ok v
 reads_value g text to v p e =
     ap (λ (t : List (List ℕ)). lines_after g 1 g.nothing t) (ap lines_of p.spelled ∙ lines_again p.lines p.whole)
     ∙ led_value g 1 g.nothing to p.lines v p.leads e

@@ -1,5 +1,5 @@
 -- Texts that are read by lines: the value of a text, or its first fault.
-use Rattle.std.specs.Prelude.{◌≡◌, ℕ, ◌+◌, Bool, List, [], ◌∷◌, ◌++◌, length, Option, Some, None, Result, Ok, Err, if◌then◌else◌}
+use Rattle.std.specs.Prelude.{◌≡◌, ℕ, ◌+◌, Bool, List, [], ◌∷◌, ◌++◌, length, Option, Some, None, Result, Ok, Err, IsErrOf, if◌then◌else◌}
 use Rattle.lu_text.specs.declared.fault.Fault.{Fault}
 use Rattle.lu_text.specs.declared.fault.Fault.TheVariants.{At, Memory}
 use Rattle.lu_text.specs.Lines.{lines_of}
@@ -47,9 +47,13 @@ unfoldable pub lines_after : {Kind Draft Value : Type 0} → Grammar Kind Draft 
 lines_after g n d [] = on_line n (g.finish d)
 lines_after g n d (line ∷ lines) = then_lines (on_line n (g.line d line)) (λ next. lines_after g (n + 1) next lines)
 
+-- the value of a text's lines, or their first fault
+abbrev pub meaning_of_lines : {Kind Draft Value : Type 0} → Grammar Kind Draft Value → List (List ℕ) → Result Value (Fault Kind)
+meaning_of_lines g lines = lines_after g 1 g.nothing lines
+
 -- the value of a text, or its first fault
-abbrev pub value_of : {Kind Draft Value : Type 0} → Grammar Kind Draft Value → List ℕ → Result Value (Fault Kind)
-value_of g text = lines_after g 1 g.nothing (lines_of text)
+abbrev pub meaning_of : {Kind Draft Value : Type 0} → Grammar Kind Draft Value → List ℕ → Result Value (Fault Kind)
+meaning_of g text = meaning_of_lines g (lines_of text)
 
 -- What a reader returned is the value or the fault of the definition, unless memory ran out.
 abbrev pub IsUnlessMemory : {Kind A : Type 0} → Fault Kind → Result A (Fault Kind) → Type 0
@@ -59,6 +63,10 @@ IsUnlessMemory (At kind n) meant = meant ≡ Err (At kind n)
 abbrev pub Gives : {Kind A : Type 0} → Result A (Fault Kind) → Result A (Fault Kind) → Type 0
 Gives (Ok x) meant = meant ≡ Ok x
 Gives (Err e) meant = IsUnlessMemory e meant
+
+-- what a reader returned of line n is the line's value or fault, unless memory ran out
+abbrev pub OnLine : {Kind A : Type 0} → ℕ → Result A (Fault Kind) → Result A Kind → Type 0
+OnLine n returned meant = Gives returned (on_line n meant)
 
 -- ---- the fault is the first one
 
@@ -81,3 +89,7 @@ pub record IsFirstFault {Kind Draft Value : Type 0} (g : Grammar Kind Draft Valu
   pub sound : LeadsTo g g.nothing before draft
   pub numbered : n ≡ length before + 1
   pub next : IsNext g draft rest kind
+
+-- a fault that a reader returned is the first one of the text
+abbrev pub TellsFirst : {Kind Draft Value A : Type 0} → Grammar Kind Draft Value → List ℕ → Result A (Fault Kind) → Type 0
+TellsFirst {Kind = Kind} g text returned = (kind : Kind) (n : ℕ) → IsErrOf returned (At kind n) → IsFirstFault g text kind n

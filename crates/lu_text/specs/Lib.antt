@@ -3,3 +3,4 @@ pub mod Numbers
 pub mod Lines
 pub mod Words
 pub mod Faults
+pub mod Writing

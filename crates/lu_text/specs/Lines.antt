@@ -1,11 +1,16 @@
 -- Lines and words of a text.
 use Rattle.std.specs.Prelude.{ℕ, suc, ◌-◌, Bool, List, [], ◌∷◌, length, map, take, slice_index, Option, Some, None, ◌==◌, ◌&&◌, ◌||◌, not, nat_le, filter, if◌then◌else◌}
 use Rattle.std.specs.List.{slice_split, position}
+use Rattle.std.specs.Option.{option_map}
 use denote.Ref.{Bor}
 
 -- the bytes of words in memory
 abbrev pub texts : List (Bor (List ℕ)) → List (List ℕ)
 texts words = map (λ w. w.now) words
+
+-- the bytes of a word in memory, where there is one
+abbrev pub text_if : Option (Bor (List ℕ)) → Option (List ℕ)
+text_if word = option_map (λ w. w.now) word
 
 -- the lines, without their LFs; a last LF begins no further line, and the empty text has no lines
 abbrev pub without_last_lf : List ℕ → List ℕ

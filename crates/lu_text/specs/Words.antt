@@ -1,8 +1,16 @@
 -- So many words and no more.
 use Rattle.std.specs.Prelude.{ℕ, List, [], ◌∷◌, Option, Some, None}
+use denote.Ref.{Bor}
 
 abbrev pub Word : Type 0
 Word = List ℕ
+
+-- the bytes of words in memory
+abbrev pub four_texts : Bor Word × Bor Word × Bor Word × Bor Word → Word × Word × Word × Word
+four_texts (a, b, c, d) = (a.now, b.now, c.now, d.now)
+
+abbrev pub five_texts : Bor Word × Bor Word × Bor Word × Bor Word × Bor Word → Word × Word × Word × Word × Word
+five_texts (a, b, c, d, e) = (a.now, b.now, c.now, d.now, e.now)
 
 abbrev pub one : List Word → Option Word
 one [] = None

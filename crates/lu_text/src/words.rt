@@ -49,7 +49,7 @@ pub fn three<'a>(words: &[&'a [u8]]) -> Option<(&'a [u8], &'a [u8], &'a [u8])>
 /// The four words, where there are so many and no more.
 #[tactic(auto, using(crate::proofs::Arity::are_four, crate::proofs::Arity::are_not_four))]
 pub fn four<'a>(words: &[&'a [u8]]) -> Option<(&'a [u8], &'a [u8], &'a [u8], &'a [u8])>
-    ensures { option_map (λ p. (p.0.now, p.1.now, p.2.now, p.3.now)) result ≡ spec.four (texts words.now) }
+    ensures { option_map spec.four_texts result ≡ spec.four (texts words.now) }
 {
     if words.len() != 4 {
         return None;
@@ -60,7 +60,7 @@ pub fn four<'a>(words: &[&'a [u8]]) -> Option<(&'a [u8], &'a [u8], &'a [u8], &'a
 /// The five words, where there are so many and no more.
 #[tactic(auto, using(crate::proofs::Arity::are_five, crate::proofs::Arity::are_not_five))]
 pub fn five<'a>(words: &[&'a [u8]]) -> Option<(&'a [u8], &'a [u8], &'a [u8], &'a [u8], &'a [u8])>
-    ensures { option_map (λ p. (p.0.now, p.1.now, p.2.now, p.3.now, p.4.now)) result ≡ spec.five (texts words.now) }
+    ensures { option_map spec.five_texts result ≡ spec.five (texts words.now) }
 {
     if words.len() != 5 {
         return None;

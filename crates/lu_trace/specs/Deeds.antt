@@ -1,7 +1,8 @@
 -- What an instruction does, and what it waits for, in words: of the state before it.
-use Rattle.std.specs.Prelude.{ℕ, ◌++◌, ◌==◌, if◌then◌else◌, List, [], codes, Option, Some, None}
+use Rattle.std.specs.Prelude.{ℕ, ◌++◌, ◌==◌, if◌then◌else◌, List, [], codes, Option, Some, None, Result, String}
 use Rattle.std.specs.Option.{option_map}
 use Rattle.std.specs.Fmt.{decimal}
+use Rattle.lu_text.specs.Writing.{Writes}
 use Rattle.lu_component.specs.declared.instr.Instr.{Instr}
 use Rattle.lu_component.specs.declared.instr.Instr.TheVariants.{Set, Compute, Load, Store, Cas, Lock, Unlock, Await, AwaitNot, Pick, Jump, JumpIfZero, Return}
 use Rattle.lu_component.specs.declared.instr.Operand.{Operand}
@@ -71,6 +72,10 @@ abbrev pub swap_deed : Declarations → ℕ → ℕ → ℕ → ℕ → ℕ → 
 swap_deed c to w i expected desired n =
     if n == expected then cell_becomes c w i desired ++ codes ", " ++ register_becomes to 1
     else cell_is c w i n ++ codes ", " ++ register_becomes to 0
+
+-- such a deed is written
+abbrev pub WritesSwap : {T E Z : Type 0} → Result T E → String Z → String Z → Declarations → ℕ → ℕ → ℕ → ℕ → ℕ → ℕ → Type 0
+WritesSwap result old new c to w i expected desired n = Writes result old new (swap_deed c to w i expected desired n)
 
 -- the lock is free; a trap where thread t does not own it
 abbrev pub unlock_deed : State → ℕ → ℕ → List ℕ

@@ -1,5 +1,5 @@
 -- Traces: what a schedule does, line by line.
-use Rattle.std.specs.Prelude.{◌≡◌, ℕ, zero, suc, ◌+◌, ◌++◌, List, [], ◌∷◌, length, Option, Some, None, MatchBool}
+use Rattle.std.specs.Prelude.{◌≡◌, ℕ, zero, suc, ◌+◌, ◌++◌, List, [], ◌∷◌, length, Option, Some, None, MatchBool, String, string_bytes}
 use Rattle.lu_component.specs.Component.{Declarations}
 use Rattle.lu_test.specs.declared.schedule.Move.{Move}
 use Rattle.lu_test.specs.Matrix.{Matrix}
@@ -49,13 +49,19 @@ IsTrace c matrix u text =
     × IsStart c matrix start × TraceLines 0 start u end lines × HasStatus end status
     × (text ≡ status_line status ++ lines ++ waits end (length end.threads))
 
+abbrev pub IsTraceText : {Z : Type 0} → Declarations → Matrix → List Move → String Z → Type 0
+IsTraceText c matrix u text = IsTrace c matrix u (string_bytes text)
+
 -- the fault of the schedule; want of memory can come with any
-abbrev pub IsFaultOf : Declarations → Matrix → List Move → TraceFault → Type 0
-IsFaultOf c matrix u (Infeasible i) = IsInfeasibleAt c matrix u i
-IsFaultOf c matrix u Memory = Unit {0}
+abbrev pub IsTraceFault : Declarations → Matrix → List Move → TraceFault → Type 0
+IsTraceFault c matrix u (Infeasible i) = IsInfeasibleAt c matrix u i
+IsTraceFault c matrix u Memory = Unit {0}
 
 -- ---- texts that grow
 
 -- the new text is the old one and such lines
 abbrev pub Adds : (List ℕ → Type 0) → List ℕ → List ℕ → Type 0
 Adds Are old new = (lines : List ℕ) × Are lines × (new ≡ old ++ lines)
+
+abbrev pub AddsText : {Z : Type 0} → (List ℕ → Type 0) → String Z → String Z → Type 0
+AddsText Are old new = Adds Are (string_bytes old) (string_bytes new)

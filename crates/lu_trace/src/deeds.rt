@@ -1,8 +1,10 @@
 //! What an instruction does, in words.
 
-ghost use Rattle.std.specs.Prelude.{◌≡◌, ◌<◌, ◌++◌, OnOk, length, string_bytes};
+ghost use Rattle.std.specs.Prelude.{◌≡◌, ◌<◌, length};
+ghost use Rattle.lu_text.specs.Writing.{Writes};
 ghost use Rattle.lu_component.specs.Component.{IsOperand};
 ghost use Rattle.lu_machine.specs.Layout.{IsSound};
+ghost use Rattle.lu_trace.specs.Deeds.{WritesSwap, store_deed};
 ghost use Rattle.lu_trace.specs.Deeds as spec;
 
 use lu_component::{Component, Instr, Operand};
@@ -13,7 +15,7 @@ use std::alloc::AllocError;
 
 /// Adds what a register becomes.
 fn write_register(text: &mut String, register: u8, value: u32) -> Result<(), AllocError>
-    ensures { OnOk result (string_bytes text.new ≡ string_bytes text.old ++ spec.register_becomes register value) }
+    ensures { Writes result text.old text.new (spec.register_becomes register value) }
 {
     write!(text, "r{register} = {value}")
 }
@@ -26,7 +28,7 @@ fn write_becoming(
     index: u32,
     value: u32,
 ) -> Result<(), AllocError>
-    ensures { OnOk result (string_bytes text.new ≡ string_bytes text.old ++ spec.cell_becomes component.now array index value) }
+    ensures { Writes result text.old text.new (spec.cell_becomes component.now array index value) }
 {
     write!(text, "{}[{index}] = {value}", array_name(component, array))
 }
@@ -39,14 +41,14 @@ pub(crate) fn write_cell(
     index: u32,
     value: u32,
 ) -> Result<(), AllocError>
-    ensures { OnOk result (string_bytes text.new ≡ string_bytes text.old ++ spec.cell_is component.now array index value) }
+    ensures { Writes result text.old text.new (spec.cell_is component.now array index value) }
 {
     write!(text, "{}[{index}] is {value}", array_name(component, array))
 }
 
 /// Adds where a jump leads.
 fn write_jump(text: &mut String, target: u8) -> Result<(), AllocError>
-    ensures { OnOk result (string_bytes text.new ≡ string_bytes text.old ++ spec.goes_on_at target) }
+    ensures { Writes result text.old text.new (spec.goes_on_at target) }
 {
     write!(text, "goes on at L{target}")
 }
@@ -62,7 +64,7 @@ fn write_swap(
     desired: u32,
     value: u32,
 ) -> Result<(), AllocError>
-    ensures { OnOk result (string_bytes text.new ≡ string_bytes text.old ++ spec.swap_deed component.now to array index expected desired value) }
+    ensures { WritesSwap result text.old text.new component.now to array index expected desired value }
 {
     if value == expected {
         write_becoming(text, component, array, index, desired)?;
@@ -101,7 +103,7 @@ fn write_load(
 ) -> Result<(), AllocError>
     requires array { array < length machine.now.component.arrays }
     requires index { IsOperand index }
-    ensures { OnOk result (string_bytes text.new ≡ string_bytes text.old ++ spec.load_deed machine.now frame.now to array index) }
+    ensures { Writes result text.old text.new (spec.load_deed machine.now frame.now to array index) }
 {
     match value_in(machine, frame, array, index) {
         None => text.push_str("trap"),
@@ -120,7 +122,7 @@ fn write_store(
 ) -> Result<(), AllocError>
     requires array { array < length machine.now.component.arrays }
     requires index { IsOperand index }
-    ensures { OnOk result (string_bytes text.new ≡ string_bytes text.old ++ spec.store_deed machine.now frame.now array index value) }
+    ensures { Writes result text.old text.new (store_deed machine.now frame.now array index value) }
 {
     let component = machine.component();
     let index_value = frame.value(index);
@@ -140,7 +142,7 @@ fn write_seen(
 ) -> Result<(), AllocError>
     requires array { array < length machine.now.component.arrays }
     requires index { IsOperand index }
-    ensures { OnOk result (string_bytes text.new ≡ string_bytes text.old ++ spec.look_deed machine.now frame.now array index) }
+    ensures { Writes result text.old text.new (spec.look_deed machine.now frame.now array index) }
 {
     match value_in(machine, frame, array, index) {
         None => text.push_str("trap"),
@@ -156,7 +158,7 @@ fn write_unlock(
     lock: u8,
 ) -> Result<(), AllocError>
     requires { lock < length machine.now.component.locks }
-    ensures { OnOk result (string_bytes text.new ≡ string_bytes text.old ++ spec.unlock_deed machine.now next.thread lock) }
+    ensures { Writes result text.old text.new (spec.unlock_deed machine.now next.thread lock) }
 {
     if machine.owner(lock) == Some(next.thread) {
         write!(text, "{} is free", lock_name(machine.component(), lock))
@@ -167,7 +169,7 @@ fn write_unlock(
 
 /// Adds what a jump does that is taken where the value is 0.
 fn write_jump_if_zero(text: &mut String, value: u32, target: u8) -> Result<(), AllocError>
-    ensures { OnOk result (string_bytes text.new ≡ string_bytes text.old ++ spec.jump_deed target value) }
+    ensures { Writes result text.old text.new (spec.jump_deed target value) }
 {
     if value == 0 {
         write_jump(text, target)
@@ -185,7 +187,7 @@ pub(crate) fn write_deed(
     instr: &Instr,
 ) -> Result<(), AllocError>
     requires { IsSound machine.now frame.now instr.now }
-    ensures { OnOk result (string_bytes text.new ≡ string_bytes text.old ++ spec.deed machine.now next frame.now instr.now) }
+    ensures { Writes result text.old text.new (spec.deed machine.now next frame.now instr.now) }
 {
     let component = machine.component();
     match *instr {

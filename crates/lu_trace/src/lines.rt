@@ -1,6 +1,7 @@
 //! The lines of a trace.
 
-ghost use Rattle.std.specs.Prelude.{◌≡◌, ◌++◌, OnOk, string_bytes};
+ghost use Rattle.std.specs.Prelude.{◌≡◌};
+ghost use Rattle.lu_text.specs.Writing.{Writes};
 ghost use Rattle.lu_test.specs.MatrixText.{argument_text, arguments_text, operation_name};
 ghost use Rattle.lu_trace.specs.Lines as spec;
 
@@ -42,7 +43,7 @@ fn margin(number: usize) -> &'static str
 
 /// Adds a move's number, or four blanks.
 fn write_number(text: &mut String, number: Option<usize>) -> Result<(), AllocError>
-    ensures { OnOk result (string_bytes text.new ≡ string_bytes text.old ++ spec.number_text number) }
+    ensures { Writes result text.old text.new (spec.number_text number) }
 {
     match number {
         None => text.push_str("    "),
@@ -57,7 +58,7 @@ pub(crate) fn write_head(
     number: Option<usize>,
     thread: u8,
 ) -> Result<(), AllocError>
-    ensures { OnOk result (string_bytes text.new ≡ string_bytes text.old ++ spec.head number thread) }
+    ensures { Writes result text.old text.new (spec.head number thread) }
 {
     let indent = COLUMN.repeat(alloc, usize::from(thread))?;
     write_number(text, number)?;
@@ -81,7 +82,7 @@ pub(crate) fn write_instr_text(
     frame: &Frame,
     instr: &Instr,
 ) -> Result<(), AllocError>
-    ensures { OnOk result (string_bytes text.new ≡ string_bytes text.old ++ spec.instr_text component.now frame.now instr.now) }
+    ensures { Writes result text.old text.new (spec.instr_text component.now frame.now instr.now) }
 {
     write_label(text, code_of(component, frame.op), usize::from(frame.place))?;
     write_instr(text, component, *instr)?;
@@ -90,7 +91,7 @@ pub(crate) fn write_instr_text(
 
 /// Adds the name of an operation, by its number. No call of a component names one that is not there.
 fn write_name(text: &mut String, component: &Component, op: u8) -> Result<(), AllocError>
-    ensures { OnOk result (string_bytes text.new ≡ string_bytes text.old ++ operation_name component.now op) }
+    ensures { Writes result text.old text.new (operation_name component.now op) }
 {
     match component.operation(op) {
         None => Ok(()),
@@ -99,13 +100,13 @@ fn write_name(text: &mut String, component: &Component, op: u8) -> Result<(), Al
 }
 
 fn write_argument(text: &mut String, argument: u32) -> Result<(), AllocError>
-    ensures { OnOk result (string_bytes text.new ≡ string_bytes text.old ++ argument_text argument) }
+    ensures { Writes result text.old text.new (argument_text argument) }
 {
     write!(text, " {argument}")
 }
 
 fn write_arguments(text: &mut String, arguments: &[u32]) -> Result<(), AllocError>
-    ensures { OnOk result (string_bytes text.new ≡ string_bytes text.old ++ arguments_text arguments.now) }
+    ensures { Writes result text.old text.new (arguments_text arguments.now) }
 {
     for argument in arguments {
         write_argument(text, *argument)?;
@@ -115,7 +116,7 @@ fn write_arguments(text: &mut String, arguments: &[u32]) -> Result<(), AllocErro
 
 /// Adds a call, as a matrix has it.
 fn write_call(text: &mut String, component: &Component, call: &Call) -> Result<(), AllocError>
-    ensures { OnOk result (string_bytes text.new ≡ string_bytes text.old ++ spec.call_words component.now call.now) }
+    ensures { Writes result text.old text.new (spec.call_words component.now call.now) }
 {
     text.push_str("call ")?;
     write_name(text, component, call.op)?;
@@ -129,7 +130,7 @@ fn write_next_call(
     thread: u8,
     done: u8,
 ) -> Result<(), AllocError>
-    ensures { OnOk result (string_bytes text.new ≡ string_bytes text.old ++ spec.next_call machine.now thread done) }
+    ensures { Writes result text.old text.new (spec.next_call machine.now thread done) }
 {
     let matrix = machine.matrix();
     if done < matrix.calls(thread) {
@@ -146,7 +147,7 @@ fn write_next_instr(
     next: Move,
     frame: &Frame,
 ) -> Result<(), AllocError>
-    ensures { OnOk result (string_bytes text.new ≡ string_bytes text.old ++ spec.next_instr machine.now next frame.now) }
+    ensures { Writes result text.old text.new (spec.next_instr machine.now next frame.now) }
 {
     match machine.instr(frame) {
         None => Ok(()),
@@ -159,7 +160,7 @@ fn write_next_instr(
 
 /// Adds what the thread of the move does next.
 fn write_step(text: &mut String, machine: &Machine<'_>, next: Move) -> Result<(), AllocError>
-    ensures { OnOk result (string_bytes text.new ≡ string_bytes text.old ++ spec.step_words machine.now next) }
+    ensures { Writes result text.old text.new (spec.step_words machine.now next) }
 {
     let Some(standing) = machine.standing(next.thread) else {
         return Ok(());
@@ -178,7 +179,7 @@ pub(crate) fn write_line(
     number: Option<usize>,
     next: Move,
 ) -> Result<(), AllocError>
-    ensures { OnOk result (string_bytes text.new ≡ string_bytes text.old ++ spec.step_line number machine.now next) }
+    ensures { Writes result text.old text.new (spec.step_line number machine.now next) }
 {
     write_head(alloc, text, number, next.thread)?;
     write_step(text, machine, next)?;

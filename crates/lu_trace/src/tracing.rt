@@ -1,9 +1,9 @@
 //! The writer of traces.
 
-ghost use Rattle.std.specs.Prelude.{◌≡◌, IfErr, IfOk, OnOk, string_bytes};
+ghost use Rattle.std.specs.Prelude.{IfErr, IfOk, OnOk};
 ghost use Rattle.lu_machine.specs.Starts.{CanRun};
 ghost use Rattle.lu_machine.specs.Steps.{IsFeasible};
-ghost use Rattle.lu_trace.specs.Traces.{Adds, IsFaultOf, IsTrace, LocalLines, MoveLines};
+ghost use Rattle.lu_trace.specs.Traces.{AddsText, IsTraceFault, IsTraceText, LocalLines, MoveLines};
 
 use crate::fault::TraceFault;
 use crate::lines::{status_line, write_line};
@@ -22,7 +22,7 @@ fn run_on(
     t: u8,
     most: u8,
 ) -> Result<(), AllocError>
-    ensures { OnOk result (Adds (LocalLines most machine.old t machine.new) (string_bytes text.old) (string_bytes text.new)) }
+    ensures { OnOk result (AddsText (LocalLines most machine.old t machine.new) text.old text.new) }
 {
     if most == 0 {
         return Ok(());
@@ -45,7 +45,7 @@ fn write_move(
     next: Move,
 ) -> Result<(), AllocError>
     requires { IsFeasible machine.old next }
-    ensures { OnOk result (Adds (MoveLines number machine.old next machine.new) (string_bytes text.old) (string_bytes text.new)) }
+    ensures { OnOk result (AddsText (MoveLines number machine.old next machine.new) text.old text.new) }
 {
     let more = machine.more_local(next.thread);
     write_line(alloc, text, machine, Some(number), next)?;
@@ -72,8 +72,8 @@ pub fn write_trace(
     schedule: &Schedule,
 ) -> Result<String, TraceFault>
     requires { CanRun component.now matrix.now }
-    ensures trace { IfOk result (λ text. IsTrace component.now matrix.now schedule.now (string_bytes text)) }
-    ensures fault { IfErr result (IsFaultOf component.now matrix.now schedule.now) }
+    ensures trace { IfOk result (IsTraceText component.now matrix.now schedule.now) }
+    ensures fault { IfErr result (IsTraceFault component.now matrix.now schedule.now) }
 {
     let mut machine = Machine::start(alloc, component, matrix)?;
     let mut lines = String::new(alloc);

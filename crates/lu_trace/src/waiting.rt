@@ -1,8 +1,10 @@
 //! What blocked threads wait for.
 
-ghost use Rattle.std.specs.Prelude.{◌≡◌, ◌<◌, ◌++◌, OnOk, length, string_bytes};
+ghost use Rattle.std.specs.Prelude.{◌<◌, length};
+ghost use Rattle.lu_text.specs.Writing.{Writes};
 ghost use Rattle.lu_component.specs.Component.{IsOperand};
 ghost use Rattle.lu_machine.specs.Layout.{IsSound};
+ghost use Rattle.lu_trace.specs.Deeds.{awaited_value};
 ghost use Rattle.lu_trace.specs.Deeds as words;
 ghost use Rattle.lu_trace.specs.Lines as spec;
 
@@ -15,7 +17,7 @@ use std::alloc::{AllocError, Global};
 
 /// Adds which thread has a lock, if one has it.
 fn write_owner(text: &mut String, owner: Option<u8>) -> Result<(), AllocError>
-    ensures { OnOk result (string_bytes text.new ≡ string_bytes text.old ++ words.owned_by owner) }
+    ensures { Writes result text.old text.new (words.owned_by owner) }
 {
     match owner {
         None => Ok(()),
@@ -25,7 +27,7 @@ fn write_owner(text: &mut String, owner: Option<u8>) -> Result<(), AllocError>
 
 /// Adds what a cell's value is, if there is such a cell.
 fn write_present(text: &mut String, present: Option<u32>) -> Result<(), AllocError>
-    ensures { OnOk result (string_bytes text.new ≡ string_bytes text.old ++ words.present present) }
+    ensures { Writes result text.old text.new (words.present present) }
 {
     match present {
         None => Ok(()),
@@ -41,7 +43,7 @@ fn write_other(
     index: u32,
     value: u32,
 ) -> Result<(), AllocError>
-    ensures { OnOk result (string_bytes text.new ≡ string_bytes text.old ++ words.cell_is_not component.now array index value) }
+    ensures { Writes result text.old text.new (words.cell_is_not component.now array index value) }
 {
     let name = array_name(component, array);
     write!(text, "{name}[{index}] is not {value}")
@@ -50,7 +52,7 @@ fn write_other(
 /// Adds what a blocked `lock` waits for.
 fn write_lock_wait(text: &mut String, machine: &Machine<'_>, lock: u8) -> Result<(), AllocError>
     requires { lock < length machine.now.component.locks }
-    ensures { OnOk result (string_bytes text.new ≡ string_bytes text.old ++ words.awaited_lock machine.now lock) }
+    ensures { Writes result text.old text.new (words.awaited_lock machine.now lock) }
 {
     text.push_str("waits for lock ")?;
     text.push_str(lock_name(machine.component(), lock))?;
@@ -69,7 +71,7 @@ fn write_await(
     requires array { array < length machine.now.component.arrays }
     requires index { IsOperand index }
     requires value { IsOperand value }
-    ensures { OnOk result (string_bytes text.new ≡ string_bytes text.old ++ words.awaited_value machine.now frame.now array index value) }
+    ensures { Writes result text.old text.new (awaited_value machine.now frame.now array index value) }
 {
     let component = machine.component();
     text.push_str("waits until ")?;
@@ -91,7 +93,7 @@ fn write_await_not(
     index: u32,
     value: u32,
 ) -> Result<(), AllocError>
-    ensures { OnOk result (string_bytes text.new ≡ string_bytes text.old ++ words.awaited_other component.now array index value) }
+    ensures { Writes result text.old text.new (words.awaited_other component.now array index value) }
 {
     text.push_str("waits until ")?;
     write_other(text, component, array, index, value)
@@ -105,7 +107,7 @@ fn write_awaited(
     instr: &Instr,
 ) -> Result<(), AllocError>
     requires { IsSound machine.now frame.now instr.now }
-    ensures { OnOk result (string_bytes text.new ≡ string_bytes text.old ++ words.awaited machine.now frame.now instr.now) }
+    ensures { Writes result text.old text.new (words.awaited machine.now frame.now instr.now) }
 {
     match *instr {
         Instr::Lock(lock) => write_lock_wait(text, machine, lock),
@@ -139,7 +141,7 @@ fn write_instr_wait(
     instr: &Instr,
 ) -> Result<(), AllocError>
     requires { IsSound machine.now frame.now instr.now }
-    ensures { OnOk result (string_bytes text.new ≡ string_bytes text.old ++ spec.instr_wait machine.now t frame.now instr.now) }
+    ensures { Writes result text.old text.new (spec.instr_wait machine.now t frame.now instr.now) }
 {
     if !machine.is_blocked(frame, instr) {
         return Ok(());
@@ -157,7 +159,7 @@ fn write_wait(
     machine: &Machine<'_>,
     t: u8,
 ) -> Result<(), AllocError>
-    ensures { OnOk result (string_bytes text.new ≡ string_bytes text.old ++ spec.thread_wait machine.now t) }
+    ensures { Writes result text.old text.new (spec.thread_wait machine.now t) }
 {
     let Some(standing) = machine.standing(t) else {
         return Ok(());
@@ -177,7 +179,7 @@ pub(crate) fn write_waits(
     text: &mut String,
     machine: &Machine<'_>,
 ) -> Result<(), AllocError>
-    ensures { OnOk result (string_bytes text.new ≡ string_bytes text.old ++ spec.waits machine.now (length machine.now.threads)) }
+    ensures { Writes result text.old text.new (spec.waits machine.now (length machine.now.threads)) }
 {
     for t in 0..machine.threads() {
         write_wait(alloc, text, machine, t)?;

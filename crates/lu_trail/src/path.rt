@@ -4,7 +4,7 @@ ghost use Rattle.std.specs.Prelude.{◌≡◌, ◌≢◌, ◌<◌, ◌≤◌, �
 ghost use Rattle.lu_history.specs.declared.serial.SerialOp.{SerialOp};
 ghost use Rattle.lu_history.specs.Histories.{Fits};
 ghost use Rattle.lu_witness.specs.Witnesses.{IsMember, IsGood};
-ghost use Rattle.lu_trail.specs.Paths.{IsPath, AreGood, IsLonger, history_of, history_at};
+ghost use Rattle.lu_trail.specs.Paths.{IsPath, AreGood, IsBlank, IsLonger, KeepsGood, NotesGood, TellsGood, history_of, history_at};
 
 use crate::events::Events;
 use lu_machine::Event;
@@ -41,7 +41,7 @@ pub(crate) struct Path {
 
 /// The empty beginning.
 fn empty() -> Beginning
-    ensures { (result.shorter ≡ 0) × (result.next ≡ 0) × (result.longer ≡ 0) × (IsTrue result.good → ⊥) }
+    ensures { IsBlank result }
 {
     Beginning {
         event: Event::Call { t: 0, k: 0 },
@@ -92,7 +92,7 @@ impl Path {
         ensures path { IsPath self.new }
         ensures history { history_of self.new ≡ history_of self.old ++ event ∷ [] }
         ensures length { length self.new.beginnings.items ≡ length self.old.beginnings.items + 1 }
-        ensures good { (members : List (List SerialOp)) → AreGood members self.old → AreGood members self.new }
+        ensures good { KeepsGood self.old self.new }
     {
         let place = self.place as usize;
         let added = self.beginnings.len() as u32;
@@ -167,7 +167,7 @@ impl Path {
         ensures path { IsPath self.new }
         ensures history { IsTrue result → history_of self.new ≡ history_of self.old ++ event ∷ [] }
         ensures same { IsFalse result → self.new ≡ self.old }
-        ensures good { (members : List (List SerialOp)) → AreGood members self.old → AreGood members self.new }
+        ensures good { KeepsGood self.old self.new }
     {
         let found = self.find(event);
         if found == 0 {
@@ -184,7 +184,7 @@ impl Path {
         requires some { history_of self.old ≢ [] }
         ensures path { IsPath self.new }
         ensures history { history_of self.old ≡ history_of self.new ++ result ∷ [] }
-        ensures good { (members : List (List SerialOp)) → AreGood members self.old → AreGood members self.new }
+        ensures good { KeepsGood self.old self.new }
     {
         let beginning = &self.beginnings[self.place as usize];
         let event = beginning.event;
@@ -197,7 +197,7 @@ impl Path {
         requires { IsPath self.old }
         ensures path { IsPath self.new }
         ensures history { history_of self.new ≡ [] }
-        ensures good { (members : List (List SerialOp)) → AreGood members self.old → AreGood members self.new }
+        ensures good { KeepsGood self.old self.new }
     {
         self.place = 0;
     }
@@ -206,7 +206,7 @@ impl Path {
     #[inline(always)]
     pub(crate) fn is_good(&self) -> bool
         requires { IsPath self.now }
-        ensures { (members : List (List SerialOp)) → AreGood members self.now → IsTrue result → IsGood (IsMember members) (history_of self.now) }
+        ensures { TellsGood self.now result }
     {
         self.beginnings[self.place as usize].good
     }
@@ -216,7 +216,7 @@ impl Path {
         requires { IsPath self.old }
         ensures path { IsPath self.new }
         ensures history { history_of self.new ≡ history_of self.old }
-        ensures good { (members : List (List SerialOp)) → AreGood members self.old → IsGood (IsMember members) (history_of self.old) → AreGood members self.new }
+        ensures good { NotesGood self.old self.new }
     {
         self.beginnings[self.place as usize].good = true;
     }

@@ -1,13 +1,16 @@
 -- What the steps to a frontier promise one another.
-use Rattle.std.specs.Prelude.{◌≡◌, ℕ, ◌<◌, List, [], ◌∷◌, ◌++◌, length, map, Some, slice_get}
+use Rattle.std.specs.Prelude.{◌≡◌, ℕ, ◌+◌, ◌<◌, List, [], ◌∷◌, ◌++◌, drop, length, map, min, Some, slice_get}
+use Rattle.lu_component.specs.Component.{Declarations}
 use Rattle.lu_test.specs.declared.schedule.Move.{Move}
+use Rattle.lu_test.specs.Matrix.{Matrix}
 use Rattle.lu_machine.specs.declared.event.Event.{Event}
 use Rattle.lu_machine.specs.States.{State}
 use Rattle.lu_machine.specs.Steps.{IsFeasible}
 use Rattle.lu_machine.specs.Runs.{Leads}
 use Rattle.lu_machine.specs.Order.{IsMoveBelow}
-use Rattle.lu_machine.specs.Schedules.{AreAll}
-use Rattle.lu_tree.specs.Trees.{IsPieceAt}
+use Rattle.lu_machine.specs.Schedules.{AreAll, IsCover}
+use Rattle.lu_machine.specs.Starts.{IsStart}
+use Rattle.lu_tree.specs.Trees.{IsFrontier, IsPieceAt}
 
 -- the feasible moves of s, in order
 pub record AreMovesOf (s : State) (moves : List Move) : Type 0 where
@@ -38,3 +41,18 @@ AreKids s p rest kids =
 abbrev pub TooMany : State → List (List Move) → Type 0
 TooMany s pieces =
     (d e : ℕ) (list : List (List Move)) → AreAll (IsPieceAt s d) pieces → d < e → AreAll (IsPieceAt s e) list → 65536 < length list
+
+-- the pieces before, and then what p becomes, `made` moves of which lead to s
+abbrev pub GrowByKids : State → List Move → ℕ → List (List Move) → List (List Move) → Type 0
+GrowByKids s p made before after = (kids : List (List Move)) × (after ≡ before ++ kids) × AreKids s p (drop made p) kids
+
+-- where the pieces are those at some depth, these are the ones one move deeper
+abbrev pub AreDeeper : State → List (List Move) → List (List Move) → Type 0
+AreDeeper s pieces next = (d : ℕ) → AreAll (IsPieceAt s d) pieces → AreAll (IsPieceAt s (d + 1)) next
+
+-- the frontier and the cover of the tree of a component and a matrix
+abbrev pub IsFrontierFrom : Declarations → Matrix → ℕ → ℕ → List (List Move) → Type 0
+IsFrontierFrom c matrix bound depth pieces = (s : State) → IsStart c matrix s → IsFrontier s (min bound depth) pieces
+
+abbrev pub IsCoverFrom : Declarations → Matrix → ℕ → List (List Move) → Type 0
+IsCoverFrom c matrix bound pieces = (s : State) → IsStart c matrix s → IsCover s bound pieces

@@ -1,10 +1,14 @@
 -- What is found below a schedule, and the frontier of a tree of schedules.
-use Rattle.std.specs.Prelude.{◌≡◌, ℕ, ◌<◌, ◌≤◌, ◌⊎◌, Bool, true, false, List, length, Result, Ok, Err}
+use Rattle.std.specs.Prelude.{◌≡◌, ℕ, ◌<◌, ◌≤◌, ◌⊎◌, Bool, true, false, List, length, Result, Ok, Err, IfOk}
+use Rattle.lu_component.specs.Component.{Declarations}
 use Rattle.lu_test.specs.declared.schedule.Move.{Move}
+use Rattle.lu_test.specs.Matrix.{Matrix}
 use Rattle.lu_machine.specs.States.{State}
 use Rattle.lu_machine.specs.Ends.{IsEnded}
+use Rattle.lu_machine.specs.Starts.{IsStart}
 use Rattle.lu_machine.specs.Schedules.{BeginsWith, Reaches, IsSchedule, AreAll}
 use Rattle.lu_history.specs.declared.serial.SerialOp.{SerialOp}
+use Rattle.lu_witness.specs.Witnesses.{IsMember}
 use Rattle.lu_witness.specs.Goodness.{IsFirstBad, AreAllGood}
 use Rattle.lu_tree.specs.declared.found.Found.{Found}
 use Rattle.lu_tree.specs.declared.found.Found.TheVariants.{Clean, Bad, Abandoned}
@@ -43,3 +47,12 @@ pub record IsFrontier (s : State) (most : ℕ) (pieces : List (List Move)) : Typ
   pub all : AreAll (IsPieceAt s depth) pieces
   pub few : length pieces ≤ 65536
   pub greatest : (d : ℕ) (list : List (List Move)) → depth < d → d ≤ most → AreAll (IsPieceAt s d) list → 65536 < length list
+
+-- what is found from the start of the component and the matrix among the schedules that begin with `from`; and the same, unless the search was abandoned
+abbrev pub Finds : {E : Type 0} → Declarations → Matrix → List (List SerialOp) → List Move → ℕ → Result Found E → Type 0
+Finds c matrix members from bound result =
+    (s : State) → IsStart c matrix s → IfOk result (IsFound (IsMember members) s bound (Below from))
+
+abbrev pub MayFind : {E : Type 0} → Declarations → Matrix → List (List SerialOp) → List Move → ℕ → Result Found E → Type 0
+MayFind c matrix members from bound result =
+    (s : State) → IsStart c matrix s → IfOk result (IsFoundWatched (IsMember members) s bound (Below from))

@@ -1,16 +1,21 @@
 -- What the steps of the walk promise one another.
-use Rattle.std.specs.Prelude.{◌≡◌, ◌⊎◌, ℕ, ◌+◌, ◌≤◌, ◌++◌, List, [], length, reverse, vec_capacity}
+use Rattle.std.specs.Prelude.{◌≡◌, ◌⊎◌, Bool, false, ℕ, ◌+◌, ◌≤◌, ◌++◌, List, [], Option, length, reverse, vec_capacity}
+use Rattle.lu_component.specs.Component.{Declarations}
 use Rattle.lu_test.specs.declared.schedule.Move.{Move}
+use Rattle.lu_test.specs.Matrix.{Matrix}
 use Rattle.lu_machine.specs.declared.counts.Counts.{Counts}
 use Rattle.lu_machine.specs.declared.event.Event.{Event}
 use Rattle.lu_machine.specs.States.{State}
 use Rattle.lu_machine.specs.Ends.{HasMove, IsComplete, IsStuck, IsEnded}
 use Rattle.lu_machine.specs.Order.{IsSmaller}
-use Rattle.lu_machine.specs.Runs.{Leads}
+use Rattle.lu_machine.specs.Runs.{Leads, with_event}
+use Rattle.lu_machine.specs.Starts.{IsStart}
 use Rattle.lu_machine.specs.Sums.{plus}
 use Rattle.lu_history.specs.declared.serial.SerialOp.{SerialOp}
 use Rattle.lu_witness.specs.declared.judgement.Why.{Why}
 use Rattle.lu_witness.specs.Goodness.{IsGoodAt, IsWhyAt, AreGood, AreAllGood}
+use Rattle.lu_witness.specs.Witnesses.{HasWitness, IsMember}
+use Rattle.lu_tree.specs.declared.node.Node.{Node}
 use Rattle.lu_tree.specs.declared.tally.Tally.{Tally}
 use Rattle.lu_tree.specs.Trees.{Below}
 
@@ -82,3 +87,39 @@ abbrev pub StopsAt : (List SerialOp → Type 0) → State → List Event → ℕ
 StopsAt Set s h left path end history =
     (start : State) (u : List Move) → Leads start u s h →
     IsFirstAt Set start (length u + left) (Below u) (u ++ reverse path) end history
+
+-- the same of a node and a tally, over the histories of the node's tree
+abbrev pub IsCounted : {T Place : Type 0} → (T → List (List SerialOp)) → Node T Place → Tally → Tally → Type 0
+IsCounted members node old new =
+    Counted (IsMember (members node.trail.tree)) node.machine node.trail.history old.counts new.counts
+
+abbrev pub AreBelowNode : {T Place : Type 0} → (T → List (List SerialOp)) → Node T Place → ℕ → Counts → Type 0
+AreBelowNode members node left below = AreBelow (IsMember (members node.trail.tree)) node.machine node.trail.history left below
+
+abbrev pub HasPassed : {T Place : Type 0} → (T → List (List SerialOp)) → Node T Place → ℕ → Tally → Tally → Type 0
+HasPassed members node left old new =
+    Passes (IsMember (members node.trail.tree)) node.machine node.trail.history left old.counts new.counts
+
+-- or, where it did not pass and the watch did not stop it
+abbrev pub Stopped : {T Place : Type 0} → (T → List (List SerialOp)) → Node T Place → ℕ → Bool → Bool → Tally → Node T Place → Type 0
+Stopped members node left passed stopped tally end =
+    passed ≡ false → stopped ≡ false →
+    StopsAt (IsMember (members node.trail.tree)) node.machine node.trail.history left tally.path.items end.machine end.trail.history
+
+-- a schedule that ends at the node is good, or complete and good, or not good and why
+abbrev pub IsGoodEnd : {T Place : Type 0} → (T → List (List SerialOp)) → Node T Place → Type 0
+IsGoodEnd members node = IsGoodAt (IsMember (members node.trail.tree)) node.machine node.trail.history
+
+abbrev pub IsGoodComplete : {T Place : Type 0} → (T → List (List SerialOp)) → Node T Place → Type 0
+IsGoodComplete members node = IsComplete node.machine × HasWitness (IsMember (members node.trail.tree)) node.trail.history
+
+abbrev pub IsBadEnd : {T Place : Type 0} → (T → List (List SerialOp)) → Node T Place → Why → Type 0
+IsBadEnd members node why = IsBadAt (IsMember (members node.trail.tree)) node.machine node.trail.history why
+
+-- the history before the move with this event
+abbrev pub IsTakenBack : Option Event → List Event → List Event → Type 0
+IsTakenBack event old new = (h : List Event) → old ≡ h ++ with_event event [] → new ≡ h
+
+-- the schedule leads to the node from the start
+abbrev pub LeadsToNode : {T Place : Type 0} → Declarations → Matrix → List Move → Node T Place → Type 0
+LeadsToNode c matrix u node = (s : State) → IsStart c matrix s → Leads s u node.machine node.trail.history

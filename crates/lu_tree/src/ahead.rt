@@ -1,9 +1,7 @@
 //! What is known of the moves ahead before a walk.
 
-ghost use Rattle.std.specs.Prelude.{◌≡◌, IfOk};
-ghost use Rattle.lu_machine.specs.Starts.{IsStart};
-ghost use Rattle.lu_machine.specs.States.{State};
-ghost use Rattle.lu_horizon.specs.Tables.{Serves};
+ghost use Rattle.std.specs.Prelude.{IfOk};
+ghost use Rattle.lu_horizon.specs.Tables.{ServesRuns};
 
 use lu_component::Component;
 use lu_horizon::Horizon;
@@ -31,7 +29,7 @@ impl Ahead {
         matrix: &Matrix,
         most: u16,
     ) -> Result<Ahead, AllocError>
-        ensures { (s : State) → component.now.local ≡ 0 → IsStart component.now matrix.now s → IfOk result (λ ahead. Serves ahead.horizon s) }
+        ensures { IfOk result (λ ahead. ServesRuns component.now matrix.now ahead.horizon) }
     {
         Ok(Ahead {
             alloc,

@@ -10,7 +10,8 @@ ghost use Rattle.lu_machine.specs.Starts.{CanRun, IsStart};
 ghost use Rattle.lu_history.specs.Standing.{Agree};
 ghost use Rattle.lu_witness.specs.Caches.{SameButEntries};
 ghost use Rattle.lu_witness.specs.Witnesses.{IsMember};
-ghost use Rattle.lu_tree.specs.Trees.{Below, IsFound, IsFoundWatched, is_abandoned};
+ghost use Rattle.lu_tree.specs.Trees.{Finds, MayFind, is_abandoned};
+ghost use Rattle.lu_tree.specs.Walks.{LeadsToNode};
 
 use crate::ahead::Ahead;
 use crate::found::Found;
@@ -46,7 +47,7 @@ fn node_after<'a, 't, T: SerialTree>(
 ) -> Result<Node<'a, 't, T>, AllocError>
     requires of { CanRun component.now matrix.now }
     requires leads { (s : State) → IsStart component.now matrix.now s → IsSchedule s schedule.now }
-    ensures leads { (s : State) → IsStart component.now matrix.now s → IfOk result (λ node. Leads s schedule.now node.machine node.trail.history) }
+    ensures leads { IfOk result (LeadsToNode component.now matrix.now schedule.now) }
     ensures agree { IfOk result (λ node. Agree (progress node.machine) node.trail.history) }
     ensures tree { IfOk result (λ node. node.trail.tree ≡ tree.entry.now) }
 {
@@ -90,7 +91,7 @@ pub fn search_watched<'a, 't, T: SerialTree, W: Watch>(
     requires short { length from.now ≤ bound }
     requires leads { (s : State) → IsStart component.now matrix.now s → IsSchedule s from.now }
     requires running { W.is_stopped watch.old ≡ false }
-    ensures found { (s : State) → IsStart component.now matrix.now s → IfOk result (IsFoundWatched (IsMember (T.members cache.old.tree)) s bound (Below from.now)) }
+    ensures found { MayFind component.now matrix.now (T.members cache.old.tree) from.now bound result }
     ensures base { W.base watch.new ≡ W.base watch.old }
     ensures cache { SameButEntries cache.old cache.new }
     ensures stopped { W.is_stopped watch.new ≡ is_abandoned result }
@@ -99,8 +100,8 @@ pub fn search_watched<'a, 't, T: SerialTree, W: Watch>(
     let moves = from.moves();
     let mut node = node_after(alloc, component, matrix, cache.tree(), moves)?;
     let mut tally = Tally::new(alloc)?;
-    let ahead = Ahead::new(alloc, component, matrix, bound)?;
     let left = bound - moves.len() as u16;
+    let ahead = Ahead::new(alloc, component, matrix, left)?;
     if walk(cache, watch, &ahead, left, &mut node, &mut tally) {
         return Ok(Found::Clean(tally.counts));
     }
@@ -133,7 +134,7 @@ pub fn search<T: SerialTree>(
     requires few { bound ≤ 256 }
     requires short { length from.now ≤ bound }
     requires leads { (s : State) → IsStart component.now matrix.now s → IsSchedule s from.now }
-    ensures { (s : State) → IsStart component.now matrix.now s → IfOk result (IsFound (IsMember (T.members tree.now)) s bound (Below from.now)) }
+    ensures { Finds component.now matrix.now (T.members tree.now) from.now bound result }
 {
     let mut cache = Cache::new(alloc, tree, REMEMBERED)?;
     let mut watch = Unwatched;

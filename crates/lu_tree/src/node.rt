@@ -12,7 +12,7 @@ ghost use Rattle.lu_history.specs.Standing.{Agree};
 ghost use Rattle.lu_witness.specs.Caches.{SameButEntries};
 ghost use Rattle.lu_witness.specs.Goodness.{IsGoodAt};
 ghost use Rattle.lu_witness.specs.Witnesses.{HasWitness, IsMember};
-ghost use Rattle.lu_tree.specs.Walks.{IsBadAt};
+ghost use Rattle.lu_tree.specs.Walks.{IsBadEnd, IsGoodComplete, IsGoodEnd, IsTakenBack};
 
 use lu_component::Component;
 use lu_machine::{Machine, Status, Undo};
@@ -78,7 +78,7 @@ impl<'a, 't, T: SerialTree> Node<'a, 't, T> {
         requires fits { CanTake self.old.machine undo }
         requires made { (h : List Event) × (self.old.trail.history ≡ h ++ with_event undo.event []) }
         ensures machine { self.new.machine ≡ restored undo self.old.machine }
-        ensures history { (h : List Event) → self.old.trail.history ≡ h ++ with_event undo.event [] → self.new.trail.history ≡ h }
+        ensures history { IsTakenBack undo.event self.old.trail.history self.new.trail.history }
         ensures tree { self.new.trail.tree ≡ self.old.trail.tree }
     {
         if undo.event().is_some() {
@@ -95,7 +95,7 @@ impl<'a, 't, T: SerialTree> Node<'a, 't, T> {
         requires ended { IsEnded self.old.machine }
         ensures same { self.new ≡ self.old }
         ensures cache { SameButEntries cache.old cache.new }
-        ensures good { IsTrue result → IsGoodAt (IsMember (T.members self.old.trail.tree)) self.old.machine self.old.trail.history }
+        ensures good { IsTrue result → IsGoodEnd T.members self.old }
     {
         match self.trail.judge(cache) {
             Ok(Verdict::Good) => true,
@@ -109,7 +109,7 @@ impl<'a, 't, T: SerialTree> Node<'a, 't, T> {
         requires tree { cache.old.tree ≡ self.old.trail.tree }
         ensures same { self.new ≡ self.old }
         ensures cache { SameButEntries cache.old cache.new }
-        ensures well { IsTrue result → IsComplete self.old.machine × HasWitness (IsMember (T.members self.old.trail.tree)) self.old.trail.history }
+        ensures well { IsTrue result → IsGoodComplete T.members self.old }
     {
         match self.machine.status() {
             Status::Complete => self.is_good(cache),
@@ -127,7 +127,7 @@ impl<'a, 't, T: SerialTree> Node<'a, 't, T> {
         requires tree { cache.old.tree ≡ self.old.trail.tree }
         requires ended { IsEnded self.old.machine }
         ensures cache { SameButEntries cache.old cache.new }
-        ensures bad { IfOk result (IsBadAt (IsMember (T.members self.old.trail.tree)) self.old.machine self.old.trail.history) }
+        ensures bad { IfOk result (IsBadEnd T.members self.old) }
     {
         match self.trail.judge(cache)? {
             // It was not found good since memory was refused.

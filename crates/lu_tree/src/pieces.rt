@@ -8,7 +8,7 @@ ghost use Rattle.lu_machine.specs.States.{State};
 ghost use Rattle.lu_machine.specs.Schedules.{AreAll, IsCover, IsSchedule, Lists};
 ghost use Rattle.lu_machine.specs.Starts.{CanRun, IsStart};
 ghost use Rattle.lu_tree.specs.Trees.{IsFrontier, IsPieceAt};
-ghost use Rattle.lu_tree.specs.Pieces.{AreKids, HasKids, TooMany};
+ghost use Rattle.lu_tree.specs.Pieces.{AreDeeper, GrowByKids, HasKids, IsCoverFrom, IsFrontierFrom, TooMany};
 
 use lu_component::Component;
 use lu_machine::Machine;
@@ -67,7 +67,7 @@ fn deepen(
     requires within { made ≤ length piece.now }
     requires leads { IsSchedule machine.old (drop made piece.now) }
     ensures home { OnOk result (machine.new ≡ machine.old) }
-    ensures kids { OnOk result ((kids : List (List AMove)) × (next.new.items ≡ next.old.items ++ kids) × AreKids machine.old piece.now (drop made piece.now) kids) }
+    ensures kids { OnOk result (GrowByKids machine.old piece.now made next.old.items next.new.items) }
 {
     let moves = piece.moves();
     if made == moves.len() {
@@ -90,7 +90,7 @@ fn deeper(
     requires leads { (u : List AMove) → Lists pieces.now u → IsSchedule machine.old u }
     ensures home { OnOk result (machine.new ≡ machine.old) }
     ensures few { IfOk result (λ deeper. IfSome deeper (λ next. length next.items ≤ 65536)) }
-    ensures some { IfOk result (λ deeper. IfSome deeper (λ next. (d : ℕ) → AreAll (IsPieceAt machine.old d) pieces.now → AreAll (IsPieceAt machine.old (d + 1)) next.items)) }
+    ensures some { IfOk result (λ d. IfSome d (λ next. AreDeeper machine.old pieces.now next.items)) }
     ensures none { IfOk result (λ deeper. IfNone deeper (TooMany machine.old pieces.now)) }
 {
     let mut next = Vec::new(alloc);
@@ -120,8 +120,8 @@ pub fn frontier(
     requires of { CanRun component.now matrix.now }
     requires few { bound ≤ 256 }
     requires shallow { depth ≤ 8 }
-    ensures frontier { (s : State) → IsStart component.now matrix.now s → IfOk result (λ pieces. IsFrontier s (min bound depth) pieces.items) }
-    ensures cover { (s : State) → IsStart component.now matrix.now s → IfOk result (λ pieces. IsCover s bound pieces.items) }
+    ensures frontier { IfOk result (λ p. IsFrontierFrom component.now matrix.now bound depth p.items) }
+    ensures cover { IfOk result (λ pieces. IsCoverFrom component.now matrix.now bound pieces.items) }
 {
     let mut machine = Machine::start(alloc, component, matrix)?;
     let mut pieces = Vec::new(alloc);

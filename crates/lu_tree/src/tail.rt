@@ -7,13 +7,13 @@ ghost use Rattle.lu_history.specs.Standing.{Agree};
 ghost use Rattle.lu_witness.specs.Caches.{SameButEntries};
 ghost use Rattle.lu_witness.specs.Witnesses.{HasWitness, IsMember};
 ghost use Rattle.lu_horizon.specs.Tables.{Serves};
-ghost use Rattle.lu_tree.specs.Tails.{IsGoodTail, IsRest};
-ghost use Rattle.lu_tree.specs.Walks.{AreBelow};
+ghost use Rattle.lu_tree.specs.Tails.{IsCutBelow, IsGoodTailOf, IsRestOf};
+ghost use Rattle.lu_tree.specs.Walks.{AreBelowNode};
 
 use crate::ahead::Ahead;
 use crate::node::Node;
 use lu_horizon::{is_unseen_at, stand_at};
-use lu_machine::Counts;
+use lu_machine::{Counts, Machine};
 use lu_test::Move;
 use lu_trie::SerialTree;
 use lu_witness::Cache;
@@ -49,7 +49,7 @@ fn finish<'t, T: SerialTree>(
     ensures tree { node.new.trail.tree ≡ node.old.trail.tree }
     ensures machine { node.new.machine ≡ node.old.machine }
     ensures history { node.new.trail.history ≡ node.old.trail.history }
-    ensures rest { IfSome result (λ lengths. IsRest (IsMember (T.members node.old.trail.tree)) node.old.machine node.old.trail.history special t left lengths.items) }
+    ensures rest { IfSome result (λ ns. IsRestOf T.members node.old special t left ns.items) }
 {
     let threads = node.machine.threads();
     if t == threads {
@@ -101,11 +101,19 @@ fn complete_below<'t, T: SerialTree>(
     ensures tree { node.new.trail.tree ≡ node.old.trail.tree }
     ensures machine { node.new.machine ≡ node.old.machine }
     ensures history { node.new.trail.history ≡ node.old.trail.history }
-    ensures tail { IfSome result (IsGoodTail (IsMember (T.members node.old.trail.tree)) node.old.machine node.old.trail.history left) }
+    ensures tail { IfSome result (IsGoodTailOf T.members node.old left) }
 {
     let special = ahead.horizon.special(&node.machine, left)?;
     let lengths = finish(ahead.alloc, cache, special, 0, left, node)?;
     ahead.orders.interleavings(&lengths)
+}
+
+/// Where no schedule from the machine's state ends within `left` moves, how many are cut: none where that is not certain.
+fn cut_below(ahead: &Ahead, left: usize, machine: &Machine<'_>) -> Option<u64>
+    ensures { Serves ahead.now.horizon machine.now → IfSome result (IsCutBelow machine.now left) }
+{
+    let caps = ahead.horizon.caps(machine, left)?;
+    ahead.orders.orders_within(left, &caps)
 }
 
 /// How many schedules there are below the node, by a law: all of them are cut, or all end complete and good. None where
@@ -116,7 +124,6 @@ pub(crate) fn counted_below<'t, T: SerialTree>(
     left: u16,
     node: &mut Node<'_, 't, T>,
 ) -> Option<Counts>
-    requires some { 1 ≤ left }
     requires short { node.old.machine.component.local ≡ 0 }
     requires serves { Serves ahead.now.horizon node.old.machine }
     requires agree { Agree (progress node.old.machine) node.old.trail.history }
@@ -125,10 +132,10 @@ pub(crate) fn counted_below<'t, T: SerialTree>(
     ensures tree { node.new.trail.tree ≡ node.old.trail.tree }
     ensures machine { node.new.machine ≡ node.old.machine }
     ensures history { node.new.trail.history ≡ node.old.trail.history }
-    ensures below { IfSome result (AreBelow (IsMember (T.members node.old.trail.tree)) node.old.machine node.old.trail.history left) }
+    ensures below { IfSome result (AreBelowNode T.members node.old left) }
 {
     let left = usize::from(left);
-    if let Some(cut) = ahead.horizon.cut(&node.machine, left) {
+    if let Some(cut) = cut_below(ahead, left, &node.machine) {
         return Some(Counts {
             cut,
             ..Counts::NONE

@@ -7,7 +7,7 @@ ghost use Rattle.lu_horizon.specs.Tables.{Serves};
 ghost use Rattle.lu_history.specs.Standing.{Agree};
 ghost use Rattle.lu_witness.specs.Caches.{SameButEntries};
 ghost use Rattle.lu_witness.specs.Witnesses.{IsMember};
-ghost use Rattle.lu_tree.specs.Walks.{Counted, IsReady, Passes, StopsAt};
+ghost use Rattle.lu_tree.specs.Walks.{HasPassed, IsCounted, IsReady, Stopped};
 
 use crate::ahead::Ahead;
 use crate::node::Node;
@@ -36,7 +36,7 @@ fn end<'t, T: SerialTree, W: Watch>(
     ensures base { W.base watch.new ≡ W.base watch.old }
     ensures path { tally.new.path ≡ tally.old.path }
     ensures running { result ≡ true → W.is_stopped watch.new ≡ false }
-    ensures counted { result ≡ true → Counted (IsMember (T.members node.old.trail.tree)) node.old.machine node.old.trail.history tally.old.counts tally.new.counts }
+    ensures counted { result ≡ true → IsCounted T.members node.old tally.old tally.new }
     ensures ended { result ≡ false → W.is_stopped watch.new ≡ false → IsEnded node.old.machine }
 {
     match node.machine.status() {
@@ -88,10 +88,10 @@ pub(crate) fn walk<'t, T: SerialTree, W: Watch>(
     ensures history { result ≡ true → node.new.trail.history ≡ node.old.trail.history }
     ensures running { result ≡ true → W.is_stopped watch.new ≡ false }
     ensures ready { result ≡ true → IsReady tally.new }
-    ensures passes { result ≡ true → Passes (IsMember (T.members node.old.trail.tree)) node.old.machine node.old.trail.history left tally.old.counts tally.new.counts }
+    ensures passes { result ≡ true → HasPassed T.members node.old left tally.old tally.new }
     ensures room { 256 ≤ vec_capacity tally.new.path }
     ensures path { length tally.new.path.items ≤ left }
-    ensures stops { result ≡ false → W.is_stopped watch.new ≡ false → StopsAt (IsMember (T.members node.old.trail.tree)) node.old.machine node.old.trail.history left tally.new.path.items node.new.machine node.new.trail.history }
+    ensures stops { Stopped T.members node.old left result (W.is_stopped watch.new) tally.new node.new }
 {
     if node.machine.local() == 0 {
         walk_as::<false, T, W>(cache, watch, ahead, left, node, tally)
@@ -124,10 +124,10 @@ fn walk_as<'t, const LONG: bool, T: SerialTree, W: Watch>(
     ensures history { result ≡ true → node.new.trail.history ≡ node.old.trail.history }
     ensures running { result ≡ true → W.is_stopped watch.new ≡ false }
     ensures ready { result ≡ true → IsReady tally.new }
-    ensures passes { result ≡ true → Passes (IsMember (T.members node.old.trail.tree)) node.old.machine node.old.trail.history left tally.old.counts tally.new.counts }
+    ensures passes { result ≡ true → HasPassed T.members node.old left tally.old tally.new }
     ensures room { 256 ≤ vec_capacity tally.new.path }
     ensures path { length tally.new.path.items ≤ left }
-    ensures stops { result ≡ false → W.is_stopped watch.new ≡ false → StopsAt (IsMember (T.members node.old.trail.tree)) node.old.machine node.old.trail.history left tally.new.path.items node.new.machine node.new.trail.history }
+    ensures stops { Stopped T.members node.old left result (W.is_stopped watch.new) tally.new node.new }
 {
     if left == 0 {
         return end(cache, watch, node, tally);

@@ -1,5 +1,6 @@
 -- A set of serial histories as a node of a tree: whether the empty history is a member, and what follows each first entry.
-use Rattle.std.specs.Prelude.{◌≡◌, ◌≢◌, ℕ, ◌<◌, ◌≤◌, Bool, List, [], ◌∷◌, ◌++◌, map, length, if◌then◌else◌, slice_index_or}
+use Rattle.std.specs.Prelude.{◌≡◌, ◌≢◌, ℕ, ◌<◌, ◌≤◌, Bool, List, [], ◌∷◌, ◌++◌, map, length, if◌then◌else◌, Some, slice_get, slice_index_or}
+use Rattle.std.specs.List.{HoldsAt}
 use Rattle.std.specs.List.Sorted.{IsStrictlySortedBy}
 use Rattle.std.specs.declared.cmp.Ordering.TheVariants.{Less, Greater}
 use Rattle.lu_history.specs.declared.serial.SerialOp.{SerialOp}
@@ -64,3 +65,11 @@ pub record IsGapFor (branches : List Branch) (label : SerialOp) (i : ℕ) : Type
   pub in_range : i ≤ length branches
   pub smaller_before : (j : ℕ) (d : Branch) → j < i → op_cmp (slice_index_or branches j d).0 label ≡ Less
   pub greater_after : (j : ℕ) (d : Branch) → i ≤ j → j < length branches → op_cmp (slice_index_or branches j d).0 label ≡ Greater
+
+-- branch i of the histories
+abbrev pub IsBranchOf : List (List SerialOp) → ℕ → Branch → Type 0
+IsBranchOf histories i branch = slice_get (branches_of histories) i ≡ Some branch
+
+-- kid i is labelled with an operation of thread t
+abbrev pub IsKidOf : {K : Type 0} → List (SerialOp × K) → ℕ → ℕ → Type 0
+IsKidOf kids t i = (i < length kids) × HoldsAt (λ kid. kid.0.thread ≡ t) kids i

@@ -1,5 +1,5 @@
 -- Conflicts of serial histories (Burckhardt, Dern, Musuvathi and Tan, 2010).
-use Rattle.std.specs.Prelude.{◌≡◌, ◌≢◌, ℕ, true, List, take, Some, slice_get}
+use Rattle.std.specs.Prelude.{◌≡◌, ◌≢◌, ◌↔◌, ℕ, true, List, take, Option, Some, slice_get}
 use Rattle.lu_history.specs.declared.serial.SerialOp.{SerialOp}
 use Rattle.lu_history.specs.declared.serial.SerialOutcome.{SerialOutcome}
 use Rattle.lu_trie.specs.Members.{contains}
@@ -19,3 +19,8 @@ IsDeterministic histories = (h q : List SerialOp) (i : ℕ) (o : SerialOutcome) 
 -- the history conflicts at i with a member whose next outcome is o
 abbrev pub HasConflict : List (List SerialOp) → List SerialOp → ℕ → SerialOutcome → Type 0
 HasConflict histories history i o = (q : List SerialOp) × (contains histories q ≡ true) × ConflictAt history q i o
+
+-- where the history conflicts with a member, and the outcome of that member there; none where it conflicts with none
+abbrev pub IsConflict : List (List SerialOp) → List SerialOp → Option (ℕ × SerialOutcome) → Type 0
+IsConflict histories history found =
+    (i : ℕ) (o : SerialOutcome) → (found ≡ Some (i, o)) ↔ HasConflict histories history i o

@@ -1,9 +1,9 @@
 //! Sets of serial histories, read as trees.
 
-ghost use Rattle.std.specs.Prelude.{◌≡◌, ◌<◌, List, [], length, Some, slice_get};
+ghost use Rattle.std.specs.Prelude.{◌≡◌, ◌<◌, List, [], length};
 ghost use Rattle.lu_history.specs.declared.serial.SerialOp.{SerialOp};
 ghost use Rattle.lu_trie.specs.Members.{contains};
-ghost use Rattle.lu_trie.specs.Branches.{branches_of, IsBranching};
+ghost use Rattle.lu_trie.specs.Branches.{branches_of, IsBranchOf, IsBranching};
 
 use crate::trie::Trie;
 use lu_history::SerialOp;
@@ -54,7 +54,7 @@ pub trait SerialTree {
         requires place { is_place self.now place }
         requires in_range { i < length (branches_of (below self.now place)) }
         ensures place { is_place self.now result.1 }
-        ensures kid { slice_get (branches_of (below self.now place)) i ≡ Some (result.0, below self.now result.1) };
+        ensures kid { IsBranchOf (below self.now place) i (result.0, below self.now result.1) };
 
     /// The laws: what is below a place is the empty history, where the place ends one, and what is below its kids, each behind
     /// its label; the labels rise strictly; and below each kid there is a member.

@@ -1,13 +1,12 @@
 //! Sets of serial histories, in a trie over any allocator.
 
-ghost use Rattle.std.specs.Prelude.{◌≡◌, ◌≢◌, ◌↔◌, ◌<◌, ℕ, min, [], ◌∷◌, length, not, IsTrue, IfOk, IfErr, OnOk, OnErr, IfSome, IfNone, Some};
-ghost use Rattle.std.specs.List.{HoldsAt, All};
+ghost use Rattle.std.specs.Prelude.{◌≡◌, ◌≢◌, ◌↔◌, ◌<◌, min, [], ◌∷◌, length, not, IsTrue, IfOk, IfErr, OnOk, OnErr, IfSome, IfNone};
+ghost use Rattle.std.specs.List.{All};
 ghost use Rattle.std.specs.List.Sorted.{IsStrictlySortedBy};
-ghost use Rattle.lu_history.specs.declared.serial.SerialOutcome.{SerialOutcome};
 ghost use Rattle.lu_history.specs.Serial.{IsSerial};
 ghost use Rattle.lu_trie.specs.Members.{contains, Adds, history_cmp};
-ghost use Rattle.lu_trie.specs.Conflicts.{IsDeterministic, HasConflict};
-ghost use Rattle.lu_trie.specs.Branches.{AreBranches, IsBranchAt, IsGapFor};
+ghost use Rattle.lu_trie.specs.Conflicts.{IsConflict, IsDeterministic};
+ghost use Rattle.lu_trie.specs.Branches.{AreBranches, IsBranchAt, IsGapFor, IsKidOf};
 
 use lu_history::{SerialOp, SerialOutcome};
 use std::alloc::{AllocError, Allocator};
@@ -94,7 +93,7 @@ impl<A: Allocator> Trie<A> {
     /// there is at most one such pair.
     pub fn conflict(&self, history: &[SerialOp]) -> Option<(usize, SerialOutcome)>
         requires { IsDeterministic self.now }
-        ensures { (i : ℕ) (o : SerialOutcome) → (result ≡ Some (i, o)) ↔ HasConflict self.now history.now i o }
+        ensures { IsConflict self.now history.now result }
     {
         match history {
             [] => None,
@@ -168,7 +167,7 @@ fn find_kid<A: Allocator>(kids: &[(SerialOp, Trie<A>)], label: SerialOp) -> Resu
 
 /// The first kid of a thread.
 fn of_thread<A: Allocator>(kids: &[(SerialOp, Trie<A>)], thread: u8) -> Option<usize>
-    ensures some { IfSome result (λ i. (i < length kids.now) × HoldsAt (λ kid. kid.0.thread ≡ thread) kids.now i) }
+    ensures some { IfSome result (IsKidOf kids.now thread) }
     ensures none { IfNone result (All (λ kid. kid.0.thread ≢ thread) kids.now) }
 {
     for (i, (label, _)) in kids.iter().enumerate() {

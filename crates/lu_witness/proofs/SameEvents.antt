@@ -30,5 +30,8 @@ same_events [] (y ∷ ys) h = search rules
 same_events (x ∷ xs) [] h = search rules
 same_events (x ∷ xs) (y ∷ ys) h = by_first x y xs ys ((event.TheImpl.ghosts).eq x y) (same_events xs ys) refl h
 
+abbrev pub event_eq : Event → Event → Bool
+event_eq = (event.TheImpl.ghosts).eq
+
 abbrev pub events_eq : List Event → List Event → Bool
-events_eq = pointwise (event.TheImpl.ghosts).eq
+events_eq = pointwise event_eq

@@ -1,4 +1,5 @@
 -- What is said of entries, by the events of their keys.
+use lib.Pointwise.{pointwise}
 use Rattle.std.proofs.Common.{◌≡◌, ℕ, zero, suc, ◌-◌, Bool, true, false, cond, List, [], ◌∷◌, map, take, Option, Some, None, MatchOption, ◌⊎◌, refl, sym, ap, subst, ◌∙◌}
 use Rattle.std.specs.Global.{Vec}
 use Rattle.std.specs.Option.{option_map_or}
@@ -6,7 +7,7 @@ use Rattle.std.specs.Map.{lookup, lookup_entry, remove_entry}
 use Rattle.lru.specs.LruCache.{LruCache, promoted, put_entries, lru_cache}
 use Rattle.lu_machine.specs.declared.event.Event.{Event}
 use Rattle.lu_witness.specs.declared.judgement.Verdict.{Verdict}
-use Rattle.lu_witness.specs.Caches.{shown, IsLookedUp}
+use Rattle.lu_witness.specs.Caches.{shown, LooksUp}
 
 abbrev Entries : Type 0
 Entries = List (Vec Event × Verdict)
@@ -66,23 +67,23 @@ put_shown eq c k v =
 abbrev view : LruCache (Vec Event) Verdict → LruCache (List Event) Verdict
 view c = lru_cache (map shown c.entries) c.cap
 
-pub looked_hit : (eq : List Event → List Event → Bool) (events h : List Event) → events ≡ h → (c d : LruCache (Vec Event) Verdict) (old : LruCache (List Event) Verdict) (v : Verdict)
-    → view c ≡ old → lookup (λ k. eq events k.items) c.entries ≡ Some v → d ≡ lru_cache (promoted (λ k. eq events k.items) c.entries) c.cap → IsLookedUp eq h old (view d) v
-looked_hit eq events h same c d old v is found after =
-    let R : List Event → Type 0 = λ x. IsLookedUp eq x old (view d) v in
-    let P : LruCache (List Event) Verdict → Type 0 = λ o. IsLookedUp eq events o (view d) v in
-    let e : lookup (eq events) (map shown c.entries) ≡ Some v = sym (lookup_shown (eq events) c.entries) ∙ found in
+pub looked_hit : (same_one : Event → Event → Bool) (events h : List Event) → events ≡ h → (c d : LruCache (Vec Event) Verdict) (old : LruCache (List Event) Verdict) (v : Verdict)
+    → view c ≡ old → lookup (λ k. (pointwise same_one) events k.items) c.entries ≡ Some v → d ≡ lru_cache (promoted (λ k. (pointwise same_one) events k.items) c.entries) c.cap → LooksUp same_one h old (view d) v
+looked_hit same_one events h same c d old v is found after =
+    let R : List Event → Type 0 = λ x. LooksUp same_one x old (view d) v in
+    let P : LruCache (List Event) Verdict → Type 0 = λ o. LooksUp same_one events o (view d) v in
+    let e : lookup ((pointwise same_one) events) (map shown c.entries) ≡ Some v = sym (lookup_shown ((pointwise same_one) events) c.entries) ∙ found in
     let Q : Option Verdict → Type 0 = λ o.
-    MatchOption o ((view d ≡ view c) ⊎ (view d ≡ lru_cache (put_entries eq (view c) events v) c.cap)) (λ w. (v ≡ w) × (view d ≡ lru_cache (promoted (eq events) (map shown c.entries)) c.cap)) in
-    subst R same (subst P is (subst Q (sym e) (refl, ap view after ∙ ap (λ es. lru_cache es c.cap) (promoted_shown (eq events) c.entries))))
+    MatchOption o ((view d ≡ view c) ⊎ (view d ≡ lru_cache (put_entries (pointwise same_one) (view c) events v) c.cap)) (λ w. (v ≡ w) × (view d ≡ lru_cache (promoted ((pointwise same_one) events) (map shown c.entries)) c.cap)) in
+    subst R same (subst P is (subst Q (sym e) (refl, ap view after ∙ ap (λ es. lru_cache es c.cap) (promoted_shown ((pointwise same_one) events) c.entries))))
 
-pub looked_miss : (eq : List Event → List Event → Bool) (events h : List Event) → events ≡ h → (c : LruCache (Vec Event) Verdict) (old new : LruCache (List Event) Verdict) (v : Verdict)
-    → view c ≡ old → lookup (λ k. eq events k.items) c.entries ≡ None → (new ≡ old) ⊎ (new ≡ lru_cache (put_entries eq old events v) old.cap) → IsLookedUp eq h old new v
-looked_miss eq events h same c old new v is found after =
-    let R : List Event → Type 0 = λ x. IsLookedUp eq x old new v in
-    let e : lookup (eq events) old.entries ≡ None = ap (λ (o : LruCache (List Event) Verdict). lookup (eq events) o.entries) (sym is) ∙ (sym (lookup_shown (eq events) c.entries) ∙ found) in
+pub looked_miss : (same_one : Event → Event → Bool) (events h : List Event) → events ≡ h → (c : LruCache (Vec Event) Verdict) (old new : LruCache (List Event) Verdict) (v : Verdict)
+    → view c ≡ old → lookup (λ k. (pointwise same_one) events k.items) c.entries ≡ None → (new ≡ old) ⊎ (new ≡ lru_cache (put_entries (pointwise same_one) old events v) old.cap) → LooksUp same_one h old new v
+looked_miss same_one events h same c old new v is found after =
+    let R : List Event → Type 0 = λ x. LooksUp same_one x old new v in
+    let e : lookup ((pointwise same_one) events) old.entries ≡ None = ap (λ (o : LruCache (List Event) Verdict). lookup ((pointwise same_one) events) o.entries) (sym is) ∙ (sym (lookup_shown ((pointwise same_one) events) c.entries) ∙ found) in
     let Q : Option Verdict → Type 0 = λ o.
-    MatchOption o ((new ≡ old) ⊎ (new ≡ lru_cache (put_entries eq old events v) old.cap)) (λ w. (v ≡ w) × (new ≡ lru_cache (promoted (eq events) old.entries) old.cap)) in
+    MatchOption o ((new ≡ old) ⊎ (new ≡ lru_cache (put_entries (pointwise same_one) old events v) old.cap)) (λ w. (v ≡ w) × (new ≡ lru_cache (promoted ((pointwise same_one) events) old.entries) old.cap)) in
     subst R same (subst Q (sym e) after)
 
 pub put_view : (eq : List Event → List Event → Bool) (c d : LruCache (Vec Event) Verdict) (old : LruCache (List Event) Verdict) (k : Vec Event) (events : List Event) (v : Verdict)

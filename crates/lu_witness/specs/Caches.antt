@@ -1,5 +1,6 @@
 -- What a cache of verdicts keeps.
-use Rattle.std.specs.Prelude.{◌≡◌, ◌⊎◌, Bool, List, Contains, MatchOption}
+use Rattle.std.specs.Prelude.{◌≡◌, ◌⊎◌, Bool, List, Contains, MatchOption, is_some}
+use lib.Pointwise.{pointwise}
 use Rattle.std.specs.Global.{Vec}
 use Rattle.std.specs.Map.{lookup}
 use Rattle.lru.specs.LruCache.{LruCache, promoted, put_entries, lru_cache}
@@ -21,13 +22,22 @@ pub record Remembered (T : Type 0) : Type 0 where
   pub tree : T
   pub kept : LruCache (List Event) Verdict
 
+-- whether a verdict of the events is kept
+abbrev pub has_entry : (Event → Event → Bool) → List Event → LruCache (List Event) Verdict → Bool
+has_entry same events kept = is_some (lookup (pointwise same events) kept.entries)
+
+-- the verdict is put in, unless there is no memory for that
+abbrev pub IsPut : (Event → Event → Bool) → List Event → LruCache (List Event) Verdict → LruCache (List Event) Verdict → Verdict → Type 0
+IsPut same events old new v =
+    (new ≡ old) ⊎ (new ≡ lru_cache (put_entries (pointwise same) old events v) old.cap)
+
 -- After a look-up of the events. One that finds them makes them the most recently used, and v is the verdict that is kept. One
 -- that does not puts them in with v, unless there is no memory for that.
-abbrev pub IsLookedUp : (List Event → List Event → Bool) → List Event → LruCache (List Event) Verdict → LruCache (List Event) Verdict → Verdict → Type 0
-IsLookedUp same events old new v =
-    MatchOption (lookup (same events) old.entries)
-    ((new ≡ old) ⊎ (new ≡ lru_cache (put_entries same old events v) old.cap))
-    (λ known. (v ≡ known) × (new ≡ lru_cache (promoted (same events) old.entries) old.cap))
+abbrev pub LooksUp : (Event → Event → Bool) → List Event → LruCache (List Event) Verdict → LruCache (List Event) Verdict → Verdict → Type 0
+LooksUp same events old new v =
+    MatchOption (lookup (pointwise same events) old.entries)
+    (IsPut same events old new v)
+    (λ known. (v ≡ known) × (new ≡ lru_cache (promoted (pointwise same events) old.entries) old.cap))
 
 -- the tree and the capacity are as before; the entries may be others
 pub record SameButEntries {T : Type 0} (old new : Remembered T) : Type 0 where

@@ -1,10 +1,8 @@
 //! Verdicts that are remembered.
 
-ghost use Rattle.std.specs.Prelude.{◌≡◌, ◌≤◌, ◌⊎◌, [], IfOk, is_some};
-ghost use Rattle.std.specs.Map.{lookup};
-ghost use Rattle.lru.specs.LruCache.{lru_cache, put_entries};
-ghost use lib.Pointwise.{pointwise};
-ghost use Rattle.lu_witness.specs.Caches.{IsLookedUp, SameButEntries};
+ghost use Rattle.std.specs.Prelude.{◌≡◌, ◌≤◌, [], IfOk};
+ghost use Rattle.lru.specs.LruCache.{lru_cache};
+ghost use Rattle.lu_witness.specs.Caches.{LooksUp, IsPut, SameButEntries, has_entry};
 ghost use Rattle.lu_witness.specs.Witnesses.{IsMember, IsVerdict};
 
 use crate::judge::verdict;
@@ -66,7 +64,7 @@ impl<'t, T: SerialTree> Cache<'t, T> {
 
     /// Whether the verdict of the history is kept. It takes no memory, and leaves the order of use as it is.
     pub fn keeps(&self, history: &History) -> bool
-        ensures { result ≡ is_some (lookup (pointwise ⟦<Event as PartialEq>⟧.eq history.now) self.now.kept.entries) }
+        ensures { result ≡ has_entry ⟦<Event as PartialEq>⟧.eq history.now self.now.kept }
     {
         self.kept.contains(history.events())
     }
@@ -77,7 +75,7 @@ impl<'t, T: SerialTree> Cache<'t, T> {
     pub fn verdict(&mut self, history: &History) -> Verdict
         ensures same { SameButEntries self.old self.new }
         ensures verdict { IsVerdict (IsMember (T.members self.old.tree)) history.now result }
-        ensures entries { IsLookedUp (pointwise ⟦<Event as PartialEq>⟧.eq) history.now self.old.kept self.new.kept result }
+        ensures entries { LooksUp ⟦<Event as PartialEq>⟧.eq history.now self.old.kept self.new.kept result }
     {
         let events = history.events();
         match self.kept.peek(events).copied() {
@@ -97,7 +95,7 @@ impl<'t, T: SerialTree> Cache<'t, T> {
     fn remember(&mut self, events: &[Event], found: Verdict)
         requires { IsVerdict (IsMember (T.members self.old.tree)) events.now found }
         ensures tree { self.new.tree ≡ self.old.tree }
-        ensures entries { (self.new.kept ≡ self.old.kept) ⊎ (self.new.kept ≡ lru_cache (put_entries (pointwise ⟦<Event as PartialEq>⟧.eq) self.old.kept events.now found) self.old.kept.cap) }
+        ensures entries { IsPut ⟦<Event as PartialEq>⟧.eq events.now self.old.kept self.new.kept found }
     {
         let mut key = Vec::new(self.alloc);
         if key.extend_from_slice(events).is_err() {

@@ -3,12 +3,11 @@
 //! It descends the tree with one count for each thread, of the operations that it has taken. A label is taken only where it is
 //! its thread's next outcome and all operations that precede it are taken.
 
-ghost use Rattle.std.specs.Prelude.{◌≡◌, ◌↔◌, ◌<◌, ◌≤◌, ℕ, List, [], ◌∷◌, ◌++◌, IsTrue, length, get_or};
-ghost use Rattle.lu_history.specs.declared.serial.SerialOp.{SerialOp};
+ghost use Rattle.std.specs.Prelude.{◌≡◌, ◌↔◌, ◌<◌, ◌≤◌, ℕ, IsTrue, length, get_or};
 ghost use Rattle.lu_history.specs.Histories.{IsWellFormed};
 ghost use Rattle.lu_history.specs.Parts.{part};
-ghost use Rattle.lu_witness.specs.Witnesses.{IsMember, HasWitness, IsWitness};
-ghost use Rattle.lu_witness.specs.Search.{AreTaken, IsBeginning, IsNext};
+ghost use Rattle.lu_witness.specs.Witnesses.{IsMember, HasWitness};
+ghost use Rattle.lu_witness.specs.Search.{Finds, FindsEnd, TakesOne, TellsNext};
 
 use crate::kept::Kept;
 use lu_history::{History, OpId, SerialOp};
@@ -33,7 +32,7 @@ pub(crate) fn is_witnessed<T: SerialTree>(tree: &T, history: &Kept<'_>) -> bool
 fn finds<T: SerialTree>(tree: &T, place: T::Place, history: &Kept<'_>, taken: &[u8; 8]) -> bool
     requires history { IsWellFormed history.now }
     requires place { T.is_place tree.now place }
-    ensures { (p : List SerialOp) → AreTaken p taken.now → IsBeginning history.now p → IsTrue result ↔ ((q : List SerialOp) × IsMember (T.below tree.now place) q × IsWitness (p ++ q) history.now) }
+    ensures { Finds (IsMember (T.below tree.now place)) taken.now history.now result }
 {
     if ends(tree, place, history, taken) {
         return true;
@@ -51,7 +50,7 @@ fn finds<T: SerialTree>(tree: &T, place: T::Place, history: &Kept<'_>, taken: &[
 fn ends<T: SerialTree>(tree: &T, place: T::Place, history: &Kept<'_>, taken: &[u8; 8]) -> bool
     requires history { IsWellFormed history.now }
     requires place { T.is_place tree.now place }
-    ensures { (p : List SerialOp) → AreTaken p taken.now → IsBeginning history.now p → IsTrue result ↔ (IsMember (T.below tree.now place) [] × IsWitness p history.now) }
+    ensures { FindsEnd (IsMember (T.below tree.now place)) taken.now history.now result }
 {
     tree.ends(place) && all_taken(history, taken)
 }
@@ -72,7 +71,7 @@ fn all_taken(history: &Kept<'_>, taken: &[u8; 8]) -> bool
 /// Whether the operation can be taken next: it is its thread's next outcome, and all operations that precede it are taken.
 fn is_next(history: &Kept<'_>, taken: &[u8; 8], op: SerialOp) -> bool
     requires { IsWellFormed history.now }
-    ensures next { (p : List SerialOp) → AreTaken p taken.now → IsTrue result ↔ IsNext history.now p op }
+    ensures next { TellsNext taken.now history.now op result }
     ensures room { IsTrue result → (op.thread < 8) × (get_or taken.now op.thread 0 < 8) }
 {
     if op.thread >= 8 {
@@ -96,7 +95,7 @@ fn are_at_most(few: &[u8; 8], many: &[u8; 8]) -> bool
 fn one_more(taken: &[u8; 8], thread: u8) -> [u8; 8]
     requires thread { thread < 8 }
     requires room { get_or taken.now thread 0 < 8 }
-    ensures { (p : List SerialOp) (op : SerialOp) → AreTaken p taken.now → op.thread ≡ thread → AreTaken (p ++ op ∷ []) result }
+    ensures { TakesOne thread taken.now result }
 {
     let mut more = *taken;
     more[usize::from(thread)] += 1;

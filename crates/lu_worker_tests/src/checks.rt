@@ -4,7 +4,7 @@ ghost use Rattle.std.specs.Prelude.{◌≡◌, ◌≤◌, IfOk, IfSome, OnOk, Al
 ghost use Rattle.lu_test.specs.Matrix.{IsOf};
 ghost use Rattle.lu_machine.specs.States.{State};
 ghost use Rattle.lu_machine.specs.Starts.{CanRun, IsStart};
-ghost use Rattle.lu_parallel.specs.Works.{IsFresh, IsOver, IsPiece};
+ghost use Rattle.lu_parallel.specs.Works.{IsFresh, IsSpentWork, IsPiece};
 
 use lu_board::board::{Board, Seat};
 use lu_board::view::Kind;
@@ -427,7 +427,7 @@ fn work_in_turn<R: AllocGlobal, T: SerialTree>(
     requires board { board.now.pieces ≡ length pieces.now }
     requires fresh { All (IsFresh board.now.board) seats.items }
     ensures all { IfOk result (λ works. length works.items ≡ length seats.items) }
-    ensures over { IfOk result (λ works. All (IsOver board.now.board) works.items) }
+    ensures over { IfOk result (λ works. All (IsSpentWork board.now.board) works.items) }
 {
     let mut works = Vec::new(rt.alloc());
     for seat in seats {

@@ -1,15 +1,15 @@
 use Rattle.std.proofs.Common.{arith, [], ◌∷◌, length, length-append, ◌<◌, All, ◌∙◌, sym, ap, subst}
 use Rattle.lu_board.specs.declared.view.View.{View}
 use Rattle.lu_board.specs.Views.{merged}
-use Rattle.lu_board.specs.Seats.{SeatModel, TellsGiven, IsOf, gathered}
+use Rattle.lu_board.specs.Seats.{SeatModel, TellsGiven, IsSeatOf, gathered}
 use Rattle.lu_board.proofs.Seats.{joins, gathered-push, all-front, tells-more}
 use Rattle.lu_board.proofs.board.gather.Goals as goal
 
 pub join_seat-requires : goal.join_seat-requires
 join_seat-requires c =
     let i = c.loop-seat.invariant in
-    let own = subst (All (IsOf c.args.table.now.shared.table_id)) c.in-Some.ensures.items i.own in
-    let mine = (all-front (IsOf c.args.table.now.shared.table_id) _ _ own).1 in
+    let own = subst (All (IsSeatOf c.args.table.now.shared.table_id)) c.in-Some.ensures.items i.own in
+    let mine = (all-front (IsSeatOf c.args.table.now.shared.table_id) _ _ own).1 in
     let one = c.seat.invariant.0.weight in (
       ap (λ (s : SeatModel). s.board) c.seat.view_is ∙ mine,
       i.table ∙ c.requires.table,
@@ -23,7 +23,7 @@ loop-seat-preserved c =
     let i = c.loop-seat.invariant in
     let items = c.in-Some.ensures.items in
     let left = c.pop.new.self.items in
-    let own = all-front (IsOf c.args.table.now.shared.table_id) _ _ (subst (All (IsOf c.args.table.now.shared.table_id)) items i.own) in
+    let own = all-front (IsSeatOf c.args.table.now.shared.table_id) _ _ (subst (All (IsSeatOf c.args.table.now.shared.table_id)) items i.own) in
     let token = c.loop-seat.token.me.0 in
     let view = ap (λ (s : SeatModel). s.view) c.seat.view_is in
     let both = ap (λ m. m.0) c.join_seat.ensures.2 ∙ ap (λ v. merged v token) view in

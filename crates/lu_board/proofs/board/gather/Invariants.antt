@@ -1,5 +1,5 @@
 use Rattle.std.proofs.Common.{◌≡◌, ◌+◌, ◌<◌, [], All, length}
-use Rattle.lu_board.specs.Seats.{TellsGiven, IsOf, gathered}
+use Rattle.lu_board.specs.Seats.{TellsGiven, IsSeatOf, gathered}
 use Rattle.lu_board.proofs.board.gather.Given as goal
 
 abbrev pub invariant-loop-seat : goal.invariant-loop-seat
@@ -9,7 +9,7 @@ invariant-loop-seat l = record {
   weight : 0 < l.token.me.0.weight;
   all_weight : length l.seats.items + l.token.me.0.weight ≡ length l.fn.seats.items + l.fn.token.me.0.weight;
   given : TellsGiven l.gave_up l.token.me.0;
-  own : All (IsOf l.table.shared.table_id) l.seats.items;
+  own : All (IsSeatOf l.table.shared.table_id) l.seats.items;
   all : gathered l.seats.items l.token.me.0 ≡ gathered l.fn.seats.items l.fn.token.me.0;
 }
 

@@ -3,7 +3,7 @@ use Rattle.std.proofs.lemmas.List.{take_more, length-replicate}
 use Rattle.lu_board.specs.declared.board_core.CoreEvent.{CoreEvent}
 use Rattle.lu_board.specs.declared.board_core.CoreEvent.TheVariants.{Claim}
 use Rattle.lu_board.specs.Views.{newcomer}
-use Rattle.lu_board.specs.Fit.{Fits}
+use Rattle.lu_board.specs.Fit.{FitsBoard}
 use Rattle.lu_board.specs.Core.{CoreState, CoreInvariant, start, after_event, is_legal, after_events, all_legal}
 use Rattle.lu_board.proofs.Core.{begins, next-small, keeps-one, after_events-push, all_legal-push, after_event-size}
 use Rattle.lu_board.proofs.board_core.run.Goals as goal
@@ -47,4 +47,4 @@ pub returns-clause-fits : goal.returns-clause-fits
 returns-clause-fits c =
     let i = c.loop-index.invariant in
     let m = c.loop-index.state in
-    subst (λ (z : ℕ × ℕ). Fits z.0 z.1 m.next m.best m.views) (λ j. (i.size.0 j, i.size.1 j)) i.kept.fits
+    subst (λ (z : ℕ × ℕ). FitsBoard z.0 z.1 m.next m.best m.views) (λ j. (i.size.0 j, i.size.1 j)) i.kept.fits

@@ -1,7 +1,7 @@
 use Rattle.std.proofs.Common.{◌≡◌, ◌≤◌, ◌++◌, length, take}
 use Rattle.lu_text.specs.Lines.{texts}
 use Rattle.lu_text.specs.Lines.{kept_lines}
-use Rattle.lu_cli.specs.Bundle.{parts_by, parts_of}
+use Rattle.lu_cli.specs.Bundle.{parts_by, bundle_parts}
 use Rattle.lu_cli.proofs.Lines.{join_first}
 use Rattle.lu_cli.proofs.bundle.parts_in.Given as goal
 
@@ -9,7 +9,7 @@ abbrev pub invariant-loop-rest : goal.invariant-loop-rest
 invariant-loop-rest l = record {
   within : l.size ≤ length l.part;
   whole : take l.size l.part ++ l.rest ≡ l.part;
-  told : texts l.parts.items ++ join_first (take l.size l.part) (parts_by (kept_lines l.rest)) ≡ parts_of l.text;
+  told : texts l.parts.items ++ join_first (take l.size l.part) (parts_by (kept_lines l.rest)) ≡ bundle_parts l.text;
 }
 
 abbrev pub decreases-loop-rest : goal.decreases-loop-rest

@@ -1,7 +1,7 @@
 use Rattle.std.proofs.Common.{◌≡◌, Some, rules}
 use Rattle.lu_text.specs.Lines.{texts}
 use Rattle.lu_text.specs.Words.{four}
-use Rattle.lu_cli.specs.Replies.{IsRefuteFrom}
+use Rattle.lu_cli.specs.Replies.{IsRefutedBy}
 use Rattle.lu_cli.proofs.Refuted.{texts_answered}
 use Rattle.lu_cli.proofs.commands.answer_refute.Goals as goal
 
@@ -11,5 +11,5 @@ returns c =
     let read = c.in_ok-component-2 in
     let parts : four (texts c.args.parts.now) ≡ Some (p.component.now, p.matrix.now, p.report.now, p.specification.now) = search rules in
     rw parts
-    (texts_answered p.component.now p.matrix.now read.component read.matrix (λ d m. IsRefuteFrom d m p.report.now p.specification.now)
+    (texts_answered p.component.now p.matrix.now read.component read.matrix (λ d m. IsRefutedBy d m p.report.now p.specification.now)
     read.ensures.read c.refute_texts.result c.refute_texts.ensures)

@@ -1,4 +1,4 @@
-use Rattle.std.proofs.Common.{◌≡◌, ℕ, List, length}
+use Rattle.std.proofs.Common.{◌≡◌, ℕ, length}
 use Rattle.lu_test.specs.Matrix.{Matrix}
 use Rattle.lu_horizon.specs.Tables.{ArePlaces, IsCall}
 use Rattle.lu_horizon.proofs.horizon.look.Given as goal

@@ -8,7 +8,7 @@ use Rattle.lu_parallel.proofs.threads.start_workers.Goals as goal
 pub loop-seat-preserved : goal.loop-seat-preserved
 loop-seat-preserved g c =
     let was = c.loop-seat.invariant in let pushed = c.push_reserved in (
-      all_rest (IsFresh c.args.shared.board.now.board) (into_iter_items c.loop-seat.seat-iterator) c.in-Some.seat (into_iter_items c.next.new.self) (search rules) was.0,
+      all_rest (IsFresh c.args.shared.job.board.now.board) (into_iter_items c.loop-seat.seat-iterator) c.in-Some.seat (into_iter_items c.next.new.self) (search rules) was.0,
       search rules,
       search rules,
       search rules,

@@ -6,7 +6,7 @@ use Rattle.lu_parallel.proofs.threads.start_workers.Given as goal
 
 abbrev pub invariant-loop-seat : goal.invariant-loop-seat
 invariant-loop-seat g l =
-    All (IsFresh l.shared.board.now.board) (into_iter_items l.seat-iterator)
+    All (IsFresh l.shared.job.board.now.board) (into_iter_items l.seat-iterator)
     × (vec_len l.children + into_iter_len l.seat-iterator ≡ vec_len l.fn.seats)
     × (l.worker ≡ vec_len l.children)
     × (vec_len l.fn.seats ≤ vec_capacity l.children)

@@ -3,7 +3,7 @@ use Rattle.lu_board.specs.declared.view.View.{View}
 use Rattle.lu_board.specs.declared.view.Kind.TheVariants.{GivenUp}
 use Rattle.lu_board.specs.Events.{with_held, with_settled, with_spent}
 use Rattle.lu_witness.specs.Witnesses.{IsMember}
-use Rattle.lu_parallel.specs.Works.{pieces_of}
+use Rattle.lu_parallel.specs.Works.{found_pieces}
 use Rattle.lu_parallel.proofs.Tallies.{holds_empty, no_pieces, without_one}
 use Rattle.lu_parallel.proofs.worker.give_up_all.Goals as goal
 
@@ -35,7 +35,7 @@ returns c = λ members.
       over = record {
         board_is = c.claim.ensures.board ∙ i.board;
         done = (ap (λ (v : View). v.spent) spent, ap (λ (v : View). v.held) spent ∙ i.held);
-        listed = ap pieces_of c.new.ensures.items ∙ sym found;
+        listed = ap found_pieces c.new.ensures.items ∙ sym found;
       };
       holds = λ s is. holds_empty (IsMember members) s c.args.job.now.bound c.args.job.now.pieces.now c.claim.new.seat.view c.new.result.items (ap (λ (v : View). v.clean) spent ∙ i.clean) found c.new.ensures.items;
     })

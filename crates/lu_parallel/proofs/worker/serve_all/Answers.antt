@@ -3,7 +3,7 @@ use Rattle.lu_board.specs.declared.view.View.{View}
 use Rattle.lu_board.specs.Events.{with_held, with_spent}
 use Rattle.lu_board.specs.Pieces.{without}
 use Rattle.lu_witness.specs.Witnesses.{IsMember}
-use Rattle.lu_parallel.specs.Works.{Holds}
+use Rattle.lu_parallel.specs.Works.{IsTally}
 use Rattle.lu_parallel.proofs.Tallies.{holds_nothing, holds_same, no_pieces, without_one}
 use Rattle.lu_machine.proofs.Starting.{start_there}
 use Rattle.lu_parallel.proofs.worker.serve_all.Goals as goal
@@ -33,8 +33,8 @@ loop-piece-preserved g c =
           (let members = ap (λ x. g.T.SerialTree.members x) i.tree in
           let claimed_holds = holds_same (IsMember (g.T.SerialTree.members c.args.cache.tree)) s c.args.job.now.bound c.args.job.now.pieces.now was c.claim.new.seat.view c.loop-piece.tally.counts c.loop-piece.tally.found.items
           (ap (λ (v : View). v.clean) claimed) (ap (λ (v : View). v.found) claimed) (i.holds s is) in
-          let there = subst (λ x. Holds (IsMember x) s c.args.job.now.bound c.args.job.now.pieces.now c.claim.new.seat.view c.loop-piece.tally.counts c.loop-piece.tally.found.items) (sym members) claimed_holds in
-          subst (λ x. Holds (IsMember x) s c.args.job.now.bound c.args.job.now.pieces.now c.serve-seat.result.view c.serve-seat.new.self.counts c.serve-seat.new.self.found.items) members (c.serve-seat.ensures.holds s is there));
+          let there = subst (λ x. IsTally (IsMember x) s c.args.job.now.bound c.args.job.now.pieces.now c.claim.new.seat.view c.loop-piece.tally.counts c.loop-piece.tally.found.items) (sym members) claimed_holds in
+          subst (λ x. IsTally (IsMember x) s c.args.job.now.bound c.args.job.now.pieces.now c.serve-seat.result.view c.serve-seat.new.self.counts c.serve-seat.new.self.found.items) members (c.serve-seat.ensures.holds s is there));
     }
 
 pub returns : goal.returns

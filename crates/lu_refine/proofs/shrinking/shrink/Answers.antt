@@ -1,4 +1,4 @@
-use Rattle.std.proofs.Common.{rules, List, sym, subst}
+use Rattle.std.proofs.Common.{rules, sym, subst}
 use Rattle.lu_test.specs.Matrix.{Matrix}
 use Rattle.lu_machine.specs.Starts.{CanRun}
 use Rattle.lu_replay.specs.Reports.{IsReport}
@@ -9,13 +9,13 @@ use Rattle.lu_refine.proofs.shrinking.shrink.Goals as goal
 pub loop-shrunk-init : goal.loop-shrunk-init
 loop-shrunk-init c =
     let failure : IsFailure c.in_ok-report.report.finding = search rules in
-    let same = sym c.in_ok-copy_of.ensures in
+    let same = sym c.in_ok-copy_matrix.ensures in
     let report = subst (λ (m : Matrix). IsReport c.args.component.now m c.args.bound c.args.serial c.in_ok-report.report) same c.in_ok-report.ensures in
     record {
       of = subst (CanRun c.args.component.now) same c.requires.of;
       report = report;
       fails = (c.in_ok-report.report, report, failure);
-      chain = λ last. subst (λ (m : Matrix). ShrinksTo (IsFailing c.args.component.now c.args.bound c.args.serial) m last) c.in_ok-copy_of.ensures;
+      chain = λ last. subst (λ (m : Matrix). ShrinksTo (IsFailing c.args.component.now c.args.bound c.args.serial) m last) c.in_ok-copy_matrix.ensures;
     }
 
 pub take_least-requires-clause-of : goal.take_least-requires-clause-of

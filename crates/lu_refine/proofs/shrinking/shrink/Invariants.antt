@@ -1,4 +1,3 @@
-use Rattle.std.proofs.Common.{List}
 use Rattle.lu_test.specs.Matrix.{Matrix, total_calls}
 use Rattle.lu_machine.specs.Starts.{CanRun}
 use Rattle.lu_replay.specs.Reports.{IsReport}

@@ -1,4 +1,4 @@
-use Rattle.std.proofs.Common.{rules, arith, ◌<◌, ◌≤◌, List, length, sym, subst, ap}
+use Rattle.std.proofs.Common.{rules, arith, ◌<◌, ◌≤◌, length, sym, subst, ap}
 use Rattle.lu_test.specs.Matrix.{Matrix, calls_of}
 use Rattle.lu_machine.specs.Starts.{CanRun}
 use Rattle.lu_machine.proofs.Starting.{settles_too}

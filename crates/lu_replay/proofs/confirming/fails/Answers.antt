@@ -9,8 +9,8 @@ pub returns-in-Ok : goal.returns-in-Ok
 returns-in-Ok g c =
     λ (s : State) (is : IsStart c.args.component.now c.args.matrix.now s).
     let short : length c.args.schedule.now ≤ c.args.bound = rw (← c.moves.ensures.moves) (omega (arith, c.from.ensures)) in (
-      λ yes. reason_bad c.args.component.now c.args.matrix.now s is (IsMember (g.T.SerialTree.members c.args.tree.now)) c.args.bound c.args.schedule.now c.in-Ok.shown.status c.in-Ok.shown.history c.in-Ok.ensures.shows c.events-events.ensures.well_formed c.verdict-verdict.result c.verdict-verdict.ensures c.args.why short (c.is_reason.ensures.0 yes),
-      λ bad. c.is_reason.ensures.1 (bad_reason c.args.component.now c.args.matrix.now s is (IsMember (g.T.SerialTree.members c.args.tree.now)) c.args.bound c.args.schedule.now c.in-Ok.shown.status c.in-Ok.shown.history c.in-Ok.ensures.shows c.events-events.ensures.well_formed c.verdict-verdict.result c.verdict-verdict.ensures c.args.why bad),
+      λ yes. reason_bad c.args.component.now c.args.matrix.now s is (IsMember (g.T.SerialTree.members c.args.tree.now)) c.args.bound c.args.schedule.now c.in-Ok.shown.status c.in-Ok.shown.history c.in-Ok.ensures.shows c.in-Ok.ensures.well_formed c.verdict-verdict.result c.verdict-verdict.ensures c.args.why short (c.is_reason.ensures.0 yes),
+      λ bad. c.is_reason.ensures.1 (bad_reason c.args.component.now c.args.matrix.now s is (IsMember (g.T.SerialTree.members c.args.tree.now)) c.args.bound c.args.schedule.now c.in-Ok.shown.status c.in-Ok.shown.history c.in-Ok.ensures.shows c.in-Ok.ensures.well_formed c.verdict-verdict.result c.verdict-verdict.ensures c.args.why bad),
     )
 
 pub returns-in-Err-Infeasible : goal.returns-in-Err-Infeasible

@@ -26,9 +26,13 @@ pub loop-index-preserved : goal.loop-index-preserved
 loop-index-preserved c =
     let none : Move = record { thread = 0; pick = 0 } in
     let m : Move = get_or c.moves-next-items.result.now c.loop-index.index none in
+    let fits = fits_played c.in_ok-machine.machine c.moves-next-items.result.now c.loop-index.index c.loop-index.machine c.loop-index.history m c.step-event.new.self c.step-event.result c.loop-index.invariant c.step-event.ensures.step c.step-event.ensures.range in
     rw c.in_ok-extend.ensures
-    (played_more c.in_ok-machine.machine c.moves-next-items.result.now c.loop-index.index c.loop-index.machine c.loop-index.history m c.step-event.new.self c.step-event.result c.loop-index.invariant c.loop-index-test.true (get_or_default c.moves-next-items.result.now c.loop-index.index none m c.loop-index-test.true) c.step-event.ensures.step)
+    (played_more c.in_ok-machine.machine c.moves-next-items.result.now c.loop-index.index c.loop-index.machine c.loop-index.history m c.step-event.new.self c.step-event.result c.loop-index.invariant c.loop-index-test.true (get_or_default c.moves-next-items.result.now c.loop-index.index none m c.loop-index-test.true) c.step-event.ensures.step fits)
 
 pub returns-clause-shows : goal.returns-clause-shows
 returns-clause-shows c =
     (c.loop-index.machine, played_all c.args.component.now c.args.matrix.now c.in_ok-machine.machine c.moves-next-items.result.now c.args.schedule.now c.loop-index.index c.loop-index.machine c.loop-index.history c.in_ok-machine.ensures.starts c.moves-next-items.ensures.moves c.loop-index-test.false c.loop-index.invariant, c.status-status.ensures)
+
+pub returns-clause-well_formed : goal.returns-clause-well_formed
+returns-clause-well_formed c = c.loop-index.invariant.well_formed

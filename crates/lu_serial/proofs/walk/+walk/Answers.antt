@@ -17,7 +17,7 @@ pub returns-then-not-goes_on-clause-walks : goal.returns-then-not-goes_on-clause
 returns-then-not-goes_on-clause-walks g t c = λ start first ready.
     (let none : HasSerialMove c.args.node.now.machine → ⊥ = search rules in
     let is : c.map.result ≡ option_map Stopped c.in_ok-stop.stop = search rules in
-    let walks = end_walk start c.args.bound c.args.path.now.items c.args.node.now.machine c.args.node.now.entries.items c.args.current ready.0 (λ m f. none (m, f)) first (g.H.Harvest.was_shown c.args.harvest.now) (g.H.Harvest.was_shown c.end.new.harvest) (g.H.Harvest.stops c.end.new.harvest) c.in_ok-stop.stop c.in_ok-stop.ensures.answers ready.1 in
+    let walks = end_walk start c.args.bound c.args.path.now.items c.args.node.now.machine c.args.node.now.entries.items c.args.current ready.0 (λ m f. none (m, f)) first (g.H.Harvest.was_shown c.args.harvest.now) (g.H.Harvest.was_shown c.end.new.harvest) (g.H.Harvest.stops c.end.new.harvest) c.in_ok-stop.stop c.in_ok-stop.ensures.takes ready.1 in
     rw is walks)
 
 pub returns-then-is_full-clause-walks : goal.returns-then-is_full-clause-walks

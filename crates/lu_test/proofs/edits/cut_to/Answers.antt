@@ -16,8 +16,8 @@ loop-t-preserved c =
     rw (c.in_ok-push.ensures.items, c.loop-t.invariant)
     (grows c.args.matrix.now.threads _ c.args.lengths.now c.loop-t.t _ _ _ c.from.result _ c.requires (omega (arith, ap length c.as_slice-calls-items.ensures.calls)) c.as_slice-calls-items.ensures.calls c.from.ensures c.calls-item.is c.as_slice-in-loop-t.ensures c.in_ok-copy_calls.ensures)
 
-pub new-requires : goal.new-requires
-new-requires c =
+pub of_calls-requires : goal.of_calls-requires
+of_calls-requires c =
     let m = c.args.matrix.now in
     let whole = cut_whole m.threads c.args.lengths.now c.requires c.loop-t.t (omega (arith, ap length c.as_slice-calls-items.ensures.calls)) in
     let setup = c.in_ok-setup.ensures ∙ (c.as_slice.ensures ∙ c.setup.ensures.calls) in
@@ -28,4 +28,4 @@ returns c =
     let m = c.args.matrix.now in
     let whole = cut_whole m.threads c.args.lengths.now c.requires c.loop-t.t (omega (arith, ap length c.as_slice-calls-items.ensures.calls)) in
     let setup = c.in_ok-setup.ensures ∙ (c.as_slice.ensures ∙ c.setup.ensures.calls) in
-    c.new.ensures ∙ cut_made m c.args.lengths.now _ _ setup (c.loop-t.invariant ∙ whole)
+    c.of_calls.ensures ∙ cut_made m c.args.lengths.now _ _ setup (c.loop-t.invariant ∙ whole)

@@ -2,6 +2,7 @@ use Rattle.std.proofs.Common.{refl, arith}
 use Rattle.std.proofs.lemmas.Result.{err_from_is_err_and}
 use Rattle.lu_text.proofs.Reading.{goes_on, ends, is_done, line_ok, text_more, texts_end}
 use Rattle.lu_test.specs.MatrixText.{matrix_grammar}
+use Rattle.lu_test.proofs.SomeComponent.{of_this}
 use Rattle.lu_test.proofs.Threads.{line_limits, line_fits, nothing_limits, nothing_fits, of_finished}
 use Rattle.lu_test.proofs.matrix_text.read_lines.Goals as goal
 
@@ -23,6 +24,9 @@ loop-before-preserved c =
       fits = line_fits _ c.operations-operations.ensures.sound _ c.loop-before.invariant.limits c.loop-before.invariant.fits _ _ read;
       read = goes_on (matrix_grammar c.args.component.now) _ _ _ _ _ _ c.in_ok-draft.ensures (rw step at c.loop-before.invariant.read);
     }
+
+pub finished-requires-clause-of_some : goal.finished-requires-clause-of_some
+finished-requires-clause-of_some c = of_this c.args.component.now _ c.operations-operations.ensures.sound c.loop-before.invariant.fits
 
 pub returns-clause-exact : goal.returns-clause-exact
 returns-clause-exact c = is_done (matrix_grammar c.args.component.now) _ _ c.loop-before.draft _ _ (omega arith) c.finished.ensures (rw (texts_end c.args.lines.now c.loop-before.before (omega arith)) at c.loop-before.invariant.read)

@@ -1,8 +1,6 @@
-use Rattle.std.proofs.Common.{◌≡◌, ◌+◌, refl, length, ap, subst, arith}
-use Rattle.lu_machine.specs.Ends.{IsComplete}
+use Rattle.std.proofs.Common.{◌+◌, refl, length, subst}
 use Rattle.lu_witness.specs.Witnesses.{IsMember}
-use Rattle.lu_horizon.specs.Tables.{IsCutBelow}
-use Rattle.lu_tree.specs.Tails.{IsGoodTail}
+use Rattle.lu_tree.specs.Tails.{IsCutBelow, IsGoodTail}
 use Rattle.lu_tree.proofs.CutBelow.{cut_all}
 use Rattle.lu_tree.proofs.Finishing.{tail_all}
 use Rattle.lu_tree.proofs.tail.counted_below.Goals as goal
@@ -12,7 +10,7 @@ returns-in-Some-clause-below g c = λ start u leads.
     (let s = c.args.node.now.machine in
     let Set = IsMember (g.T.SerialTree.members c.args.node.now.trail.tree) in
     let cut : IsCutBelow s c.args.left c.in-Some.cut = subst (λ n. IsCutBelow s n c.in-Some.cut) c.from-left.ensures (c.in-Some.ensures c.requires.serves) in
-    cut_all start Set (length u + c.args.left) c.args.left c.in-Some.cut u s c.args.node.now.trail.history leads refl c.requires.some cut)
+    cut_all start Set (length u + c.args.left) c.args.left c.in-Some.cut u s c.args.node.now.trail.history leads refl cut)
 
 pub returns-clause-below : goal.returns-clause-below
 returns-clause-below g c = λ start u leads.

@@ -1,7 +1,7 @@
 use Rattle.std.proofs.Common.{rules, arith, ◌≡◌, ◌∷◌, [], All, length, length-append, ap, subst, sym}
 use Rattle.std.specs.Vec.Iter.{into_iter_items}
 use Rattle.std.proofs.lemmas.List.Elements.{All-push}
-use Rattle.lu_parallel.specs.Works.{IsFresh, IsOver}
+use Rattle.lu_parallel.specs.Works.{IsFresh, IsSpentWork}
 use Rattle.lu_parallel.proofs.Ends.{all_rest}
 use Rattle.lu_worker_tests.proofs.checks.work_in_turn.Goals as goal
 
@@ -17,5 +17,5 @@ loop-seat-preserved g c =
     let pushed = c.in_ok-push.ensures.items in (
       all_rest (IsFresh c.args.board.now.board) rest seat more is was.0,
       (let a = ap length is in let b = ap length pushed in let d = length-append works (one ∷ []) in let e = was.1 in omega (arith, a, b, d, e)),
-      subst (All (IsOver c.args.board.now.board)) (sym pushed) (All-push (IsOver c.args.board.now.board) works one was.2 c.work.ensures.over),
+      subst (All (IsSpentWork c.args.board.now.board)) (sym pushed) (All-push (IsSpentWork c.args.board.now.board) works one was.2 c.work.ensures.over),
     )

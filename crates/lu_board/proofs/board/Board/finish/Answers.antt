@@ -2,7 +2,7 @@ use Rattle.std.proofs.Common.{arith, [], ◌∷◌, ◌≡◌, ◌<◌, ◌≤�
 use Rattle.std.specs.Prelude.{slice_index}
 use mathlib.Core.Option.{some}
 use Rattle.lu_board.specs.declared.view.View.{View}
-use Rattle.lu_board.specs.Pieces.{IsLeast, AllAbove}
+use Rattle.lu_board.specs.Pieces.{IsLeastPiece, AllAbove}
 use Rattle.lu_board.specs.Seats.{SeatModel, BoardModel, gathered}
 use Rattle.lu_board.specs.Close.{SharesOut, found_by, skipped_by, given_by}
 use Rattle.lu_board.proofs.Seats.{finishes, gathered-pieces, index-is}
@@ -27,7 +27,7 @@ returns-then-best-pieces c =
     let below : slice_index end.0.words 1 < key.pieces = (let t = c.if-best-pieces.true in omega arith) in
     record {
       pieces = subst (λ (b : BoardModel). SharesOut b.pieces seats) c.self.view_is f.once;
-      best = subst (λ b. IsLeast (found_by seats) (Some b)) best (f.least below);
+      best = subst (λ b. IsLeastPiece (found_by seats) (Some b)) best (f.least below);
       skipped = subst (λ b. AllAbove (Some b) (skipped_by seats)) best (f.above below);
       given_up = ((λ h. let g = given.0 h in omega arith), (λ h. given.1 (omega arith)));
     }

@@ -4,7 +4,7 @@ use mathlib.Core.Option.{none}
 use Rattle.lu_board.specs.declared.view.Look.{Look}
 use Rattle.lu_board.specs.declared.view.Look.TheVariants.{Skip, Go}
 use Rattle.lu_board.specs.declared.view.View.{View}
-use Rattle.lu_board.specs.Answer.{Answers}
+use Rattle.lu_board.specs.Answer.{IsLookAnswer}
 use Rattle.lu_board.specs.Seats.{SeatModel}
 use Rattle.lu_board.specs.Events.{with_skipped, with_seen}
 use Rattle.lu_board.specs.Plays.{Looked}
@@ -28,8 +28,8 @@ returns-clause-answer g c =
     let p = subst (λ i. Looked i (step slots 1 0 0 none) m found w) c.requires.piece c.load-best.ensures.2 in
     let view = ap (λ (h : SeatModel). h.view) c.seat.view_is in
     let told = c.seat.invariant.0.pieces in
-    let give : (l : Look) → c.if-best-piece.result ≡ l → Answers c.args.piece l m.0 w.0 → Answers c.args.piece c.if-best-piece.result c.args.seat.now.view w.0 =
-    λ l is a. subst (λ (z : Look × View). Answers c.args.piece z.0 z.1 w.0) (λ j. (sym is j, view j)) a in
+    let give : (l : Look) → c.if-best-piece.result ≡ l → IsLookAnswer c.args.piece l m.0 w.0 → IsLookAnswer c.args.piece c.if-best-piece.result c.args.seat.now.view w.0 =
+    λ l is a. subst (λ (z : Look × View). IsLookAnswer c.args.piece z.0 z.1 w.0) (λ j. (sym is j, view j)) a in
     let on = λ (above : c.args.piece ≤ found). p.0 ∙ ap (λ b. cond b (with_skipped c.args.piece found m.0) (with_seen found m.0)) (le-ltb found c.args.piece above) in
     elim c.if-best-piece.branch [
       | then-best-piece w ↦ give (Skip found) w.result-is (w.if-best-piece.true, p.1, p.0 ∙ ap (λ b. cond b (with_skipped c.args.piece found m.0) (with_seen found m.0)) (lt-ltb found c.args.piece w.if-best-piece.true))

@@ -6,8 +6,8 @@ use Rattle.lu_horizon.proofs.horizon.Horizon.new.Goals as goal
 
 pub loop-t-preserved : goal.loop-t-preserved
 loop-t-preserved c = record {
-  many = rw c.in_ok-push.ensures.items (omega (arith, c.loop-t.invariant.many, length-append c.loop-t.threads.items (c.in_ok-numbers.numbers ∷ [])));
-  table = rw c.in_ok-push.ensures.items (table_push c.args.component.now c.args.matrix.now c.loop-t.threads.items c.loop-t.t c.in_ok-numbers.numbers c.loop-t.invariant.many c.in_ok-numbers.ensures c.loop-t.invariant.table);
+  many = rw c.in_ok-push.ensures.items (omega (arith, c.loop-t.invariant.many, length-append c.loop-t.threads.items (c.in_ok-calls.calls ∷ [])));
+  table = rw c.in_ok-push.ensures.items (table_push c.args.component.now c.args.matrix.now c.loop-t.threads.items c.loop-t.t c.in_ok-calls.calls c.loop-t.invariant.many c.in_ok-calls.ensures c.loop-t.invariant.table);
 }
 
 pub returns : goal.returns

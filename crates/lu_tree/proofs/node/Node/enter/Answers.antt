@@ -1,6 +1,6 @@
 use Rattle.std.proofs.Common.{◌≡◌, ◌++◌, [], None, Some, sym, ◌∙◌, subst}
 use Rattle.std.proofs.lemmas.List.{append-nil}
-use Rattle.lu_machine.specs.Events.{IsInRange}
+use Rattle.lu_machine.specs.Events.{IsEventInRange}
 use Rattle.lu_machine.specs.Runs.{with_event}
 use Rattle.lu_machine.specs.States.{progress}
 use Rattle.lu_machine.specs.Steps.{Step}
@@ -12,7 +12,7 @@ pub push-requires : goal.push-requires
 push-requires g c =
     let is : c.apply_as-undo.result.event ≡ Some c.in-Some.event = sym c.event.ensures ∙ c.in-Some.is in
     let step : Step c.args.self.now.machine c.args.next c.apply_as-undo.new.self (Some c.in-Some.event) = subst (λ e. Step c.args.self.now.machine c.args.next c.apply_as-undo.new.self e) is c.apply_as-undo.ensures.step in
-    let range : IsInRange c.in-Some.event = rw is at c.apply_as-undo.ensures.range in
+    let range : IsEventInRange c.in-Some.event = rw is at c.apply_as-undo.ensures.range in
     step_fits c.args.self.now.machine c.args.next c.apply_as-undo.new.self c.in-Some.event c.args.self.now.trail.history c.requires.agree step range
 
 pub returns-in-Some-clause-agree : goal.returns-in-Some-clause-agree

@@ -1,5 +1,5 @@
 use Rattle.std.proofs.Common.{ap, sym, ◌∙◌}
-use Rattle.lu_witness.proofs.SameEvents.{same_events, events_eq}
+use Rattle.lu_witness.proofs.SameEvents.{same_events, event_eq}
 use Rattle.lu_witness.proofs.Right.{right_promoted, right_found, moved_verdict}
 use Rattle.lu_witness.proofs.Shown.{looked_hit, looked_miss}
 use Rattle.lu_witness.proofs.cache.Cache.verdict.Goals as goal
@@ -21,9 +21,9 @@ returns-in-Some-clause-verdict g c =
 pub returns-in-Some-clause-entries : goal.returns-in-Some-clause-entries
 returns-in-Some-clause-entries g c =
     let found = sym c.peek.ensures ∙ (sym c.copied.ensures ∙ c.in-Some.is) in
-    looked_hit events_eq c.events-events.result.now c.args.history.now c.events-events.ensures.events c.self.inside.kept c.promote.new.self c.args.self.now.kept c.in-Some.known (ap (λ s. s.kept) c.self.view_is) found c.promote.ensures.entries
+    looked_hit event_eq c.events-events.result.now c.args.history.now c.events-events.ensures.events c.self.inside.kept c.promote.new.self c.args.self.now.kept c.in-Some.known (ap (λ s. s.kept) c.self.view_is) found c.promote.ensures.entries
 
 pub returns-in-None-clause-entries : goal.returns-in-None-clause-entries
 returns-in-None-clause-entries g c =
     let found = sym c.peek.ensures ∙ (sym c.copied.ensures ∙ c.in-None.is) in
-    looked_miss events_eq c.events-events.result.now c.args.history.now c.events-events.ensures.events c.self.inside.kept c.args.self.now.kept _ c.verdict-found.result (ap (λ s. s.kept) c.self.view_is) found c.remember.ensures.entries
+    looked_miss event_eq c.events-events.result.now c.args.history.now c.events-events.ensures.events c.self.inside.kept c.args.self.now.kept _ c.verdict-found.result (ap (λ s. s.kept) c.self.view_is) found c.remember.ensures.entries

@@ -1,0 +1,19 @@
+-- What is read and written.
+use Rattle.std.specs.Prelude.{◌≡◌, ℕ, ◌<◌, Bool, List, length, Option, IfSome, IsTrue}
+use Rattle.std.specs.Io.KnownBytes.{Appends}
+
+-- the most bytes that are read
+abbrev pub most_bytes : ℕ
+most_bytes = 1048576
+
+-- these are all bytes that were there to be read, where these are known
+abbrev pub IsWhole : Option (List ℕ) → List ℕ → Type 0
+IsWhole known bytes = IfSome known (λ given. bytes ≡ given)
+
+-- they are too many, where they are known
+abbrev pub IsTooLong : Option (List ℕ) → Type 0
+IsTooLong known = IfSome known (λ given. most_bytes < length given)
+
+-- where all went well, the bytes were written
+abbrev pub WritesIf : Bool → Option (List ℕ) → Option (List ℕ) → List ℕ → Type 0
+WritesIf well old new bytes = IsTrue well → Appends old new bytes
