@@ -1,5 +1,5 @@
 -- What the program writes, and its status.
-use Rattle.std.specs.Prelude.{◌≡◌, ◌≢◌, ◌⊎◌, ◌↔◌, ℕ, List, [], ◌∷◌, ◌++◌, length, Option, Some, None, Result, Ok, Err, MatchBool, IfSome, codes, nat_lt}
+use Rattle.std.specs.Prelude.{◌≡◌, ◌≢◌, ◌⊎◌, ◌↔◌, ℕ, List, [], ◌∷◌, ◌++◌, length, map, Option, Some, None, Result, Ok, Err, MatchBool, IfSome, codes, nat_lt}
 use Rattle.std.specs.Fmt.{decimal}
 use Rattle.std.specs.Io.KnownBytes.{Appends}
 use Rattle.lu_text.specs.declared.fault.Fault.{Fault}
@@ -51,6 +51,7 @@ use Rattle.lu_spec.specs.Codes.{spec_code_of}
 use Rattle.lu_spec.specs.Listed.{IsListing}
 use Rattle.lu_spec.specs.SpecText.{IsReadAs, IsSpecFault, spec_text}
 use Rattle.lu_refute.specs.Answers.{IsAnswer as IsRefutation, IsConfirmedFailure}
+use Rattle.lu_cli.specs.declared.counted.Counted.{Counted}
 use Rattle.lu_cli.specs.declared.order.CampaignOptions.{CampaignOptions}
 use Rattle.lu_cli.specs.declared.order.Order.{Order}
 use Rattle.lu_cli.specs.declared.order.Order.TheVariants.{Replay, Trace, Serial, Check, CheckAgainst, Refute, Shrink, Campaign as Campaigning}
@@ -306,3 +307,46 @@ Tells answer old new status = Appends old new answer.text × (status ≡ answer.
 abbrev pub Answers : (Answer → Type 0) → Option (List ℕ) → Option (List ℕ) → ℕ → Type 0
 Answers IsAnswer old new status =
     ((answer : Answer) × IsAnswer answer × Tells answer old new status) ⊎ Tells no_memory old new status
+
+-- ---- what a run does to its reader and its writer, whose bytes `remaining` and `contents` give
+
+-- no call failed meanwhile
+abbrev pub IsUnfailed : {D : Type 0} → Counted D → Counted D → Type 0
+IsUnfailed old new = new.failures ≡ old.failures
+
+-- where no write failed, the text went out, and the status is this one
+abbrev pub Sends : {W : Type 0} → (W → Option (List ℕ)) → List ℕ → ℕ → Counted W → Counted W → ℕ → Type 0
+Sends contents text status old new result =
+    IsUnfailed old new → Appends (contents old.inner) (contents new.inner) text × (result ≡ status)
+
+-- such an answer went out or, where memory ran out, that
+abbrev pub Says : {W : Type 0} → (W → Option (List ℕ)) → (Answer → Type 0) → Counted W → Counted W → ℕ → Type 0
+Says contents IsAnswer old new status = Answers IsAnswer (contents old.inner) (contents new.inner) status
+
+-- where the words ask for something and no read and no write failed, the answer to what was read goes out
+abbrev pub SaysAnswer : {S R W : Type 0} → (S → List ℕ) → List S → (R → Option (List ℕ)) → (W → Option (List ℕ)) → Counted R → Counted R → Counted W → Counted W → ℕ → Type 0
+SaysAnswer text words remaining contents read_old read_new old new status =
+    (order : Order) → order_of (map text words) ≡ Some order
+    → IsUnfailed read_old read_new → IsUnfailed old new
+    → Says contents (IsAnswerFrom order (remaining read_old.inner)) old new status
+
+-- where they ask for nothing and no write failed, that is said
+abbrev pub SaysNoCommand : {S W : Type 0} → (S → List ℕ) → List S → (W → Option (List ℕ)) → Counted W → Counted W → ℕ → Type 0
+SaysNoCommand text words contents old new status =
+    order_of (map text words) ≡ None → IsUnfailed old new
+    → Says contents (λ answer. answer ≡ no_command) old new status
+
+-- this went out
+abbrev pub TellsOf : {W : Type 0} → Answer → (W → Option (List ℕ)) → Counted W → Counted W → ℕ → Type 0
+TellsOf answer contents old new status = Tells answer (contents old.inner) (contents new.inner) status
+
+-- where no write failed, a read that failed is told
+abbrev pub TellsUnread : {R W : Type 0} → (W → Option (List ℕ)) → Counted R → Counted R → Counted W → Counted W → ℕ → Type 0
+TellsUnread contents read_old read_new old new status =
+    IsUnfailed old new → IsUnfailed read_old read_new ⊎ TellsOf no_device contents old new status
+
+-- where no write and no read failed, something else is told
+abbrev pub TellsElse : {R W : Type 0} → (W → Option (List ℕ)) → Counted R → Counted R → Counted W → Counted W → ℕ → Type 0
+TellsElse contents read_old read_new old new status =
+    IsUnfailed old new → IsUnfailed read_old read_new
+    → (a : Answer) × (a ≢ no_device) × TellsOf a contents old new status

@@ -143,7 +143,7 @@ pub fn show_schedule(
 }
 
 /// That call number `call` of the setup does not end.
-fn unsettled(alloc: Global, call: u8) -> Result<Answer, AllocError>
+fn answer_unsettled(alloc: Global, call: u8) -> Result<Answer, AllocError>
     ensures { IfOk result (λ answer. answer ≡ spec.unsettled call) }
 {
     Ok(Answer {
@@ -181,7 +181,7 @@ pub fn show_refusal(alloc: Global, refusal: Refusal) -> Result<Answer, AllocErro
         Refusal::Texts(TextsFault::Spec(Fault::At(kind, line))) => {
             refused_on_line(alloc, kind.code(), line)
         }
-        Refusal::Texts(TextsFault::Setup(call)) => unsettled(alloc, call),
+        Refusal::Texts(TextsFault::Setup(call)) => answer_unsettled(alloc, call),
         Refusal::Texts(TextsFault::Check(CheckFault::Worker)) => no_worker(alloc),
         Refusal::Schedule(ScheduleFault::Form) => refused(alloc, "C1"),
         Refusal::Schedule(ScheduleFault::Number) => refused(alloc, "C2"),

@@ -42,7 +42,7 @@ fn flag<'a>(alloc: Global, name: &'a str) -> Arg<'a>
 }
 
 /// A command with the options `--bound` and `--serial`.
-fn bounded<'a>(alloc: Global, name: &'a str) -> Result<Command<'a>, AllocError>
+fn with_bounds<'a>(alloc: Global, name: &'a str) -> Result<Command<'a>, AllocError>
     ensures app { IfOk result (λ command. app_of command ≡ spec.bounded name.entry.now) }
     ensures local { IfOk result (λ command. (out-Command command).has_globals ≡ false) }
 {
@@ -55,7 +55,7 @@ fn check_command<'a>(alloc: Global) -> Result<Command<'a>, AllocError>
     ensures app { IfOk result (λ command. app_of command ≡ spec.check_command) }
     ensures local { IfOk result (λ command. (out-Command command).has_globals ≡ false) }
 {
-    bounded(alloc, "check")?
+    with_bounds(alloc, "check")?
         .arg(number_option(alloc, "workers", 1, 16, "1"))?
         .arg(number_option(alloc, "depth", 0, 8, "4"))?
         .arg(flag(alloc, "spec"))
@@ -65,7 +65,7 @@ fn campaign_command<'a>(alloc: Global) -> Result<Command<'a>, AllocError>
     ensures app { IfOk result (λ command. app_of command ≡ spec.campaign_command) }
     ensures local { IfOk result (λ command. (out-Command command).has_globals ≡ false) }
 {
-    bounded(alloc, "campaign")?
+    with_bounds(alloc, "campaign")?
         .arg(number_option(alloc, "threads", 1, 8, "2"))?
         .arg(number_option(alloc, "calls", 1, 8, "1"))
 }
@@ -109,7 +109,7 @@ fn single_commands<'a>(alloc: Global) -> Result<Command<'a>, AllocError>
     ensures local { IfOk result (λ command. (out-Command command).has_globals ≡ false) }
 {
     schedule_commands(alloc)?
-        .subcommand(bounded(alloc, "serial")?)?
+        .subcommand(with_bounds(alloc, "serial")?)?
         .subcommand(check_command(alloc)?)
 }
 
@@ -118,7 +118,7 @@ fn lineup_command<'a>(alloc: Global) -> Result<Command<'a>, AllocError>
 {
     single_commands(alloc)?
         .subcommand(refute_command(alloc))?
-        .subcommand(bounded(alloc, "shrink")?)?
+        .subcommand(with_bounds(alloc, "shrink")?)?
         .subcommand(campaign_command(alloc)?)
 }
 

@@ -2,7 +2,7 @@
 
 ghost use Rattle.std.specs.Prelude.{◌≡◌, IfOk};
 ghost use Rattle.lu_text.specs.Lines.{texts};
-ghost use Rattle.lu_test.specs.Matrix.{IsSetup};
+ghost use Rattle.lu_test.specs.Matrix.{IsMatrix, IsSetup};
 ghost use Rattle.lu_machine.specs.Starts.{AllEnd, CanRun};
 ghost use Rattle.lu_report.specs.Parts.{IsOfOffence};
 ghost use Rattle.lu_spec.specs.Specs.{AreOf};
@@ -98,12 +98,11 @@ fn show_offence(
     finding: Finding,
 ) -> Result<Answer, AllocError>
     requires of { CanRun component.now matrix.now }
+    requires limits { IsMatrix matrix.now }
     requires offence { IsOfOffence finding }
     requires found { spec.IsFoundWithin component.now matrix.now bounds finding }
     ensures { IfOk result (spec.IsRunSerially component.now matrix.now bounds) }
 {
-    // Its clause says that the matrix is within its limits.
-    let _threads = matrix.threads();
     show_report(
         alloc,
         &Report::new(bounds.bound(), bounds.serial(), component.local(), finding),

@@ -3,10 +3,7 @@
 ghost use Rattle.std.specs.Prelude.{◌≡◌, ◌≢◌, ◌<◌, ◌≤◌, ◌-◌, ◌^◌, ◌⊎◌, Some, None, map, IfOk, IsErrOf};
 ghost use Rattle.lu_cli.specs.declared.program.Failure.TheVariants.{Memory};
 ghost use Rattle.lu_cli.specs.Args.{order_of};
-ghost use Rattle.lu_cli.specs.Outcomes.{Answer as AnAnswer};
-ghost use Rattle.lu_cli.specs.Replies.{Answers, Tells, IsAnswerFrom, IsAnswerFor, no_device, no_command};
-ghost use Rattle.std.specs.Io.KnownBytes.{Appends};
-ghost use Rattle.lu_cli.specs.declared.order.Order.{Order as Orders};
+ghost use Rattle.lu_cli.specs.Replies.{IsAnswerFor, IsAnswerFrom, SaysAnswer, SaysNoCommand, Sends, TellsElse, TellsUnread, no_command, no_device};
 
 use crate::answer::{Answer, refused};
 use crate::args::read_order;
@@ -79,13 +76,13 @@ fn answer_for<X: AllocGlobal + Threads + Wait, S: AsStr, R: Read>(
 {
     match read_order(rt.alloc(), words) {
         Ok(order) => answer_in(rt, order, input),
-        Err(ArgsFault::Refused) => Ok(command_refused(rt.alloc())?),
+        Err(ArgsFault::Refused) => Ok(refuse_command(rt.alloc())?),
         Err(ArgsFault::Memory) => Err(Failure::Memory),
     }
 }
 
 /// That the command line is refused.
-fn command_refused(alloc: Global) -> Result<Answer, AllocError>
+fn refuse_command(alloc: Global) -> Result<Answer, AllocError>
     ensures answer { IfOk result (λ r. r ≡ no_command) }
     ensures blames_none { IfOk result (λ r. r ≢ no_device) }
 {
@@ -105,17 +102,17 @@ pub fn run<X: AllocGlobal + Threads + Wait, S: AsStr, R: Read, W: Write>(
     requires reads { input.old.failures < 2 ^ 64 - 1 }
     requires writes { output.old.failures < 2 ^ 64 - 1 }
     // Where the command line was accepted and no read and no write failed, the answer goes out.
-    ensures answer { (order : Orders) → order_of (map S.text words.now) ≡ Some order → input.new.failures ≡ input.old.failures → output.new.failures ≡ output.old.failures → Answers (IsAnswerFrom order (R.remaining input.old.inner)) (W.contents output.old.inner) (W.contents output.new.inner) result }
+    ensures answer { SaysAnswer S.text words.now R.remaining W.contents input.old input.new output.old output.new result }
     // Where it was refused, that is said, and nothing is read.
-    ensures refused { order_of (map S.text words.now) ≡ None → output.new.failures ≡ output.old.failures → Answers (λ answer. answer ≡ no_command) (W.contents output.old.inner) (W.contents output.new.inner) result }
+    ensures refused { SaysNoCommand S.text words.now W.contents output.old output.new result }
     // The command line is judged before anything is read.
     ensures early { order_of (map S.text words.now) ≡ None → input.new ≡ input.old }
     // A write that failed shows in the status.
     ensures unwritten { output.old.failures < output.new.failures → result ≡ 4 }
     // A read that failed is told.
-    ensures unread { output.new.failures ≡ output.old.failures → input.new.failures ≡ input.old.failures ⊎ Tells no_device (W.contents output.old.inner) (W.contents output.new.inner) result }
+    ensures unread { TellsUnread W.contents input.old input.new output.old output.new result }
     // And it is told only then.
-    ensures blamed { output.new.failures ≡ output.old.failures → input.new.failures ≡ input.old.failures → (a : AnAnswer) × (a ≢ no_device) × Tells a (W.contents output.old.inner) (W.contents output.new.inner) result }
+    ensures blamed { TellsElse W.contents input.old input.new output.old output.new result }
 {
     match answer_for(rt, words, input) {
         Ok(answer) => say(output, answer.text.as_str(), answer.status),
@@ -127,7 +124,7 @@ pub fn run<X: AllocGlobal + Threads + Wait, S: AsStr, R: Read, W: Write>(
 /// Writes a text, and answers this status, or 4 where a write failed.
 fn say<W: Write>(output: &mut Counted<W>, text: &str, status: u8) -> u8
     requires { output.old.failures < 2 ^ 64 - 1 }
-    ensures told { output.new.failures ≡ output.old.failures → Appends (W.contents output.old.inner) (W.contents output.new.inner) text.now × (result ≡ status) }
+    ensures told { Sends W.contents text.now status output.old output.new result }
     ensures unwritten { output.old.failures < output.new.failures → result ≡ 4 }
     ensures same { output.old.failures ≤ output.new.failures }
 {

@@ -93,7 +93,7 @@ impl From<AllocError> for Fault {
 }
 
 /// The number of the first call of the setup that does not end, if there is one. Want of memory is one of the matrix.
-fn unsettled(
+fn find_unsettled(
     alloc: Global,
     component: &Component,
     matrix: &Matrix,
@@ -122,7 +122,7 @@ pub(crate) fn read_texts(
 {
     let component = read_component(alloc, component)?;
     let matrix = read_matrix(alloc, &component, matrix)?;
-    match unsettled(alloc, &component, &matrix)? {
+    match find_unsettled(alloc, &component, &matrix)? {
         Some(call) => Err(Fault::Setup(call)),
         None => Ok((component, matrix)),
     }

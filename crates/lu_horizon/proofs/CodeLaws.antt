@@ -13,7 +13,7 @@ use Rattle.lu_machine.specs.Steps.{choices, is_blocked}
 use Rattle.lu_horizon.specs.declared.outlook.Outlook.{Outlook}
 use Rattle.lu_horizon.specs.Code.{is_there, outlook_at, unless_there}
 use Rattle.lu_horizon.specs.Own.{IsIdle, IsAt}
-use Rattle.lu_horizon.specs.Outlooks.{TellsNoMore, either, no_move, one_before}
+use Rattle.lu_horizon.specs.Outlooks.{IsWeaker, either, no_move, one_before}
 use Rattle.lu_horizon.specs.Sure.{HasOutlook}
 use Rattle.lu_horizon.specs.Tables.{IsCall}
 use Rattle.lu_horizon.proofs.OwnLaws.{MayGoTo, MayEnd, other_at, other_idle, own_goes, own_opens}
@@ -34,11 +34,11 @@ idle_over c matrix t k all =
     (λ s i. rw (i.stands, i.own.matrix_is, le-ltb k (length (calls_of matrix t)) all) refl)
     (λ s m new e i other step. other_idle c matrix t k s m new e step i other)
 
-there_next : (there : Bool) (a b : Outlook) → TellsNoMore (unless_there there a b) a
+there_next : (there : Bool) (a b : Outlook) → IsWeaker (unless_there there a b) a
 there_next true a b = within_itself a
 there_next false a b = either_first a b
 
-not_there_rest : (there : Bool) (a b : Outlook) → there ≡ false → TellsNoMore (unless_there there a b) b
+not_there_rest : (there : Bool) (a b : Outlook) → there ≡ false → IsWeaker (unless_there there a b) b
 not_there_rest true a b not = absurd (cc)
 not_there_rest false a b not = either_second a b
 
@@ -51,7 +51,7 @@ module _ (c : Declarations) (matrix : Matrix) (t k place : ℕ) (rest : Outlook)
       let op : a.frame.op ≡ call.call.op = own.2 ∙ ap (λ (x : Call). x.op) same in
       rw (a.own.component, op, a.place_is) is
 
-  one_more : (instr : Instr) → slice_get code place ≡ Some instr → ((s : State) (f : Frame) → is_blocked s f instr ≡ false) → choices instr ≡ 1 → (o : Outlook) → ((q : ℕ) → MayGoTo instr place q → TellsNoMore o (known q)) → (MayEnd c instr → TellsNoMore o rest) → (s : State) → IsAt c matrix t k place s → HasOutlook s t (one_before o)
+  one_more : (instr : Instr) → slice_get code place ≡ Some instr → ((s : State) (f : Frame) → is_blocked s f instr ≡ false) → choices instr ≡ 1 → (o : Outlook) → ((q : ℕ) → MayGoTo instr place q → IsWeaker o (known q)) → (MayEnd c instr → IsWeaker o rest) → (s : State) → IsAt c matrix t k place s → HasOutlook s t (one_before o)
   one_more instr stands free one o to end =
       before t o (IsAt c matrix t k place)
       (λ s a. rw (a.stands, here s a instr stands, free s a.frame) one)
@@ -61,7 +61,7 @@ module _ (c : Declarations) (matrix : Matrix) (t k place : ℕ) (rest : Outlook)
         | inr ends ↦ outlook_less new t o rest (end ends.0) (call.after new ends.1)
       ])
 
-  to_place : (o : Outlook) (p : ℕ) → TellsNoMore o (known p) → (q : ℕ) → q ≡ p → TellsNoMore o (known q)
+  to_place : (o : Outlook) (p : ℕ) → IsWeaker o (known p) → (q : ℕ) → q ≡ p → IsWeaker o (known q)
   to_place o p within q is = rw is within
 
   -- the outlook at an instruction holds

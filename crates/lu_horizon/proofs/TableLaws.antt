@@ -17,7 +17,7 @@ use Rattle.lu_horizon.specs.Stands.{JumpsTo, place_of, stand_of}
 use Rattle.lu_machine.specs.States.{State, instr_at}
 use Rattle.lu_horizon.specs.Own.{IsAt, IsIdle, IsOwn}
 use Rattle.lu_horizon.specs.declared.outlook.Outlook.{Outlook}
-use Rattle.lu_horizon.specs.Outlooks.{TellsNoMore, no_move, nothing, one_before}
+use Rattle.lu_horizon.specs.Outlooks.{IsWeaker, no_move, nothing, one_before}
 use Rattle.lu_horizon.specs.Sure.{HasOutlook}
 use Rattle.lu_horizon.specs.Tables.{AreCalls, ArePlaces, IsTable, IsThread, Outlooks, outlook_of}
 use Rattle.lu_horizon.proofs.JumpLaws.{jump_before}
@@ -103,7 +103,7 @@ module _ (c : Declarations) (matrix : Matrix) (s : State) (t : ℕ) (calls : Out
       outlooks stand.done place s (record { own = own; frame = o.0; stands = o.1; place_is = o.2 })
 
   -- and that of the place to which it goes
-  pub at_jump : (next : ℕ) → JumpsTo s t next → (o : Outlook) → TellsNoMore o (one_before (outlook_of (get_or calls stand.done []) next)) → HasOutlook s t o
+  pub at_jump : (next : ℕ) → JumpsTo s t next → (o : Outlook) → IsWeaker o (one_before (outlook_of (get_or calls stand.done []) next)) → HasOutlook s t o
   at_jump next jump o within =
       let known = outlook_of (get_or calls stand.done []) next in
       let is : option_map stand_of (Some (at_work jump.done jump.frame)) ≡ Some stand = rw jump.stands at stands in
@@ -115,7 +115,7 @@ module _ (c : Declarations) (matrix : Matrix) (s : State) (t : ℕ) (calls : Out
       (jump_before c matrix t stand.done jump.frame jump.value jump.target there known (λ x a. outlooks stand.done next x (rw (← jump.goes) at a)) s (own, holds))
 
   -- and that before a call
-  pub at_idle : stand.place ≡ None → (o : Outlook) → (stand.done < length calls → TellsNoMore o (one_before (outlook_of (get_or calls stand.done []) 0))) → (length calls ≤ stand.done → o ≡ no_move) → HasOutlook s t o
+  pub at_idle : stand.place ≡ None → (o : Outlook) → (stand.done < length calls → IsWeaker o (one_before (outlook_of (get_or calls stand.done []) 0))) → (length calls ≤ stand.done → o ≡ no_move) → HasOutlook s t o
   at_idle at o call none =
       let i : IsIdle c matrix t stand.done s = record { own = own; stands = stands_idle (slice_get s.threads t) stand stands at } in
       let many = thread.many in

@@ -19,6 +19,6 @@ abbrev pub either : Outlook → Outlook → Outlook
 either a b = record { moves = min a.moves b.moves; over = (a.over && b.over) && (a.moves == b.moves) }
 
 -- a tells no more than b
-pub record TellsNoMore (a b : Outlook) : Type 0 where
+pub record IsWeaker (a b : Outlook) : Type 0 where
   pub moves : a.moves ≤ b.moves
   pub over : a.over ≡ true → (b.over ≡ true) × (a.moves ≡ b.moves)

@@ -3,7 +3,7 @@ use Rattle.std.specs.Prelude.{◌≡◌, ◌+◌, ◌==◌, if◌then◌else◌,
 use Rattle.std.specs.Option.{option_map_or}
 use Rattle.lu_component.specs.Component.{Declarations}
 use Rattle.lu_component.specs.declared.instr.Instr.{Instr}
-use Rattle.lu_component.specs.declared.instr.Instr.TheVariants.{Set, Compute, Jump, JumpIfZero, Return}
+use Rattle.lu_component.specs.declared.instr.Instr.TheVariants.{Set, Compute, Load, Jump, JumpIfZero, Return}
 use Rattle.lu_component.specs.declared.instr.Operand.{Operand}
 use Rattle.lu_machine.specs.Effects.{value_of}
 use Rattle.lu_machine.specs.declared.thread.Frame.{Frame}
@@ -37,6 +37,19 @@ activity_unseen c (Open f) = option_map_or is_unseen (instr_at c f.op f.place) f
 -- thread t is at such an instruction
 abbrev pub is_unseen_at : State → ℕ → Bool
 is_unseen_at s t = option_map_or (λ thread. activity_unseen s.component thread.activity) (slice_get s.threads t) false
+
+-- an instruction that changes its own registers alone, and always goes on or returns; it may read a cell
+abbrev pub only_reads : Instr → Bool
+only_reads (Load to w i) = true
+only_reads instr = is_unseen instr
+
+abbrev pub activity_only_reads : Declarations → Activity → Bool
+activity_only_reads c Idle = false
+activity_only_reads c (Open f) = option_map_or only_reads (instr_at c f.op f.place) false
+
+-- thread t is at such an instruction
+abbrev pub only_reads_at : State → ℕ → Bool
+only_reads_at s t = option_map_or (λ thread. activity_only_reads s.component thread.activity) (slice_get s.threads t) false
 
 -- thread t is at a `jz` of its call number `done`, and goes to `place` from there
 pub record JumpsTo (s : State) (t place : ℕ) : Type 0 where

@@ -2,7 +2,7 @@
 
 ghost use Rattle.std.specs.Prelude.{◌≡◌, ◌<◌};
 ghost use Rattle.lu_horizon.specs.Code.{is_there, outlook_at, unless_there};
-ghost use Rattle.lu_horizon.specs.Outlooks.{TellsNoMore};
+ghost use Rattle.lu_horizon.specs.Outlooks.{IsWeaker};
 ghost use Rattle.lu_horizon.specs.Tables.{outlook_of};
 
 use crate::outlook::Outlook;
@@ -47,7 +47,7 @@ pub(crate) fn certain(
     rest: Outlook,
 ) -> Outlook
     requires { place < 64 }
-    ensures { TellsNoMore result (outlook_at component.now (outlook_of known.now) rest place instr.now) }
+    ensures { IsWeaker result (outlook_at component.now (outlook_of known.now) rest place instr.now) }
 {
     let next = outlook_of(known, place + 1);
     let behind = match *instr {

@@ -2,12 +2,13 @@
 
 ghost use Rattle.std.specs.Prelude.{◌≡◌, ◌<◌, ◌≤◌, ℕ, IfOk, IfSome, [], length, get_or, slice_get};
 ghost use Rattle.lu_machine.specs.States.{instr_at};
-ghost use Rattle.lu_horizon.specs.Outlooks.{TellsNoMore, no_move};
+ghost use Rattle.lu_horizon.specs.Outlooks.{IsWeaker, no_move};
 ghost use Rattle.lu_horizon.specs.Sure.{AreCaps, HasOutlook};
 ghost use Rattle.lu_horizon.specs.Tables.{AreOutlooks, IsThread, Serves, ServesRuns, StayOutlooks, outlook_before, outlook_of};
 
 use crate::certain::{certain, outlook_of};
 use crate::outlook::Outlook;
+use crate::sharers::{Known, Quiet, Sharers};
 use crate::stand::{is_unseen_at, jumps_to, stand_at};
 use arrayvec::ArrayVec;
 use lu_component::{Component, Instr};
@@ -44,6 +45,9 @@ impl Places {
 #[derive(Debug, Drop)]
 struct Calls {
     calls: Vec<Places>,
+
+    /// From which calls on the thread leaves alone what is shared.
+    quiet: Quiet,
 }
 
 impl Model for Calls {
@@ -68,7 +72,7 @@ impl Calls {
 
     /// The outlook before call `k`.
     fn idle(&self, k: u8) -> Outlook
-        ensures call { k < length self.now → TellsNoMore result (outlook_before self.now k) }
+        ensures call { k < length self.now → IsWeaker result (outlook_before self.now k) }
         ensures none { length self.now ≤ k → result ≡ no_move }
     {
         if usize::from(k) >= self.calls.len() {
@@ -99,6 +103,9 @@ pub struct Horizon {
 
     /// Where more moves are left than this, the table need not be read.
     greatest: u16,
+
+    /// How many moves are left where the walk begins.
+    most: u16,
 }
 
 impl Model for Horizon {
@@ -155,7 +162,7 @@ fn of_code(
 
 /// The code of an operation: none where there is no such operation.
 #[tactic(auto, unfolding(lu_machine::specs::States::instr_at))]
-fn code_of(component: &Component, op: u8) -> &[Instr]
+pub(crate) fn code_of(component: &Component, op: u8) -> &[Instr]
     ensures code { (place : ℕ) → instr_at component.now op place ≡ slice_get result.now place }
     ensures few { length result.now ≤ 64 }
 {
@@ -184,7 +191,10 @@ fn of_thread(
         rest = places.at(0).one_before();
         calls.insert(0, places)?;
     }
-    Ok(Calls { calls })
+    Ok(Calls {
+        calls,
+        quiet: Quiet::of_thread(component, matrix, t),
+    })
 }
 
 impl Horizon {
@@ -213,6 +223,7 @@ impl Horizon {
         Ok(Horizon {
             threads,
             greatest: greatest.max(last),
+            most,
         })
     }
 
@@ -235,38 +246,57 @@ impl Horizon {
         }
     }
 
-    /// The thread that is not at an instruction of its own registers alone, or the number of threads where all are: none where
-    /// there are two such threads, a call is left, or the threads can't end within `left` moves. No clause says so: it tells
-    /// where a look ahead may serve.
-    pub fn special(&self, machine: &Machine, left: usize) -> Option<u8> {
-        let threads = machine.threads();
-        let mut special = threads;
+    /// Who touches what is shared in the last moves: none where a call is left, the threads can't end within `left` moves, or a
+    /// look at these moves serves nothing. No clause says so.
+    pub fn last_sharers(&self, machine: &Machine, left: usize) -> Option<Sharers> {
+        let mut known = Known::NOTHING;
         let mut room = left;
-        for t in 0..threads {
+        for t in 0..machine.threads() {
             let stand = stand_at(machine, t)?;
-            let calls = &self.threads.get(usize::from(t))?.calls;
+            let thread = self.threads.get(usize::from(t))?;
             match stand.place {
                 None => {
-                    if usize::from(stand.done) < calls.len() {
+                    if usize::from(stand.done) < thread.calls.len() {
                         return None;
                     }
                 }
                 Some(place) => {
-                    if usize::from(stand.done) + 1 < calls.len() {
+                    if usize::from(stand.done) + 1 < thread.calls.len() {
                         return None;
                     }
-                    let places = calls.get(usize::from(stand.done))?;
+                    let places = thread.calls.get(usize::from(stand.done))?;
                     room = room.checked_sub(usize::from(places.at(place).moves))?;
-                    if !is_unseen_at(machine, t) {
-                        if special < threads {
-                            return None;
-                        }
-                        special = t;
-                    }
+                    let reads = thread.quiet.reads_from <= stand.done;
+                    known = known.and(t, !is_unseen_at(machine, t), reads);
                 }
             }
         }
-        Some(special)
+        known.sharers()
+    }
+
+    /// Who touches what is shared in all calls that are left, where a look at them may serve: where the walk begins, or no
+    /// operation is open, and two threads have calls left. A look that fails mostly fails behind the next move too, so it is not
+    /// made at each node. No clause says so.
+    pub fn sharers(&self, machine: &Machine, left: usize) -> Option<Sharers> {
+        let begins = left == usize::from(self.most);
+        let mut known = Known::NOTHING;
+        let mut callers: u8 = 0;
+        for t in 0..machine.threads() {
+            let stand = stand_at(machine, t)?;
+            if stand.place.is_some() && !begins {
+                return None;
+            }
+            let thread = self.threads.get(usize::from(t))?;
+            let shares = stand.done < thread.quiet.unseen_from;
+            known = known.and(t, shares, thread.quiet.reads_from <= stand.done);
+            if usize::from(stand.done) < thread.calls.len() {
+                callers = callers.saturating_add(1);
+            }
+        }
+        if callers < 2 {
+            return None;
+        }
+        known.sharers()
     }
 
     /// Where no schedule ends within `left` moves, how many of them each thread can make at most, but with no other limit: none

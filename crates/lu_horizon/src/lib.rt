@@ -10,7 +10,9 @@
 mod certain;
 mod horizon;
 mod outlook;
+mod sharers;
 mod stand;
 
 pub use horizon::Horizon;
-pub use stand::{Stand, is_unseen_at, stand_at};
+pub use sharers::Sharers;
+pub use stand::{Stand, is_unseen_at, only_reads_at, stand_at};

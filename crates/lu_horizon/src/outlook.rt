@@ -1,7 +1,7 @@
 //! What is known of the moves ahead of a thread.
 
 ghost use Rattle.std.specs.Prelude.{◌≡◌};
-ghost use Rattle.lu_horizon.specs.Outlooks.{TellsNoMore, either, nothing, one_before};
+ghost use Rattle.lu_horizon.specs.Outlooks.{IsWeaker, either, nothing, one_before};
 
 /// What is known of the moves ahead of a thread, whatever the threads do.
 #[derive(Clone, Copy, Debug)]
@@ -28,7 +28,7 @@ impl Outlook {
 
     /// One move before.
     pub(crate) fn one_before(self) -> Outlook
-        ensures { TellsNoMore result (one_before self) }
+        ensures { IsWeaker result (one_before self) }
     {
         match self.moves.checked_add(1) {
             Some(moves) => Outlook {
@@ -54,7 +54,7 @@ impl Outlook {
 
     /// As far as `most` moves.
     pub(crate) fn up_to(self, most: u16) -> Outlook
-        ensures { TellsNoMore result self }
+        ensures { IsWeaker result self }
     {
         if self.moves <= most {
             return self;

@@ -2,7 +2,7 @@
 
 ghost use Rattle.std.specs.Prelude.{◌≡◌, slice_get, IfSome};
 ghost use Rattle.std.specs.Option.{option_map};
-ghost use Rattle.lu_horizon.specs.Stands.{JumpsTo, is_unseen, is_unseen_at, stand_of};
+ghost use Rattle.lu_horizon.specs.Stands.{JumpsTo, is_unseen, is_unseen_at, only_reads, only_reads_at, stand_of};
 
 use lu_component::Instr;
 use lu_machine::{Activity, Machine};
@@ -54,7 +54,7 @@ pub(crate) fn jumps_to(machine: &Machine, t: u8) -> Option<u8>
 }
 
 /// Whether the instruction reads and writes its own operation's registers alone, and always goes on or returns.
-fn is_unseen(instr: &Instr) -> bool
+pub(crate) fn is_unseen(instr: &Instr) -> bool
     ensures { result ≡ is_unseen instr.now }
 {
     matches!(
@@ -81,6 +81,34 @@ pub fn is_unseen_at(machine: &Machine, t: u8) -> bool
         Activity::Open(frame) => match machine.instr(frame) {
             None => false,
             Some(instr) => is_unseen(instr),
+        },
+    }
+}
+
+/// Whether the instruction changes its own operation's registers alone, and always goes on or returns. It may read a cell.
+pub(crate) fn only_reads(instr: &Instr) -> bool
+    ensures { result ≡ only_reads instr.now }
+{
+    match instr {
+        Instr::Load { .. } => true,
+        _ => is_unseen(instr),
+    }
+}
+
+/// Whether thread `t` is at an instruction that changes nothing that another thread sees: it changes its own operation's
+/// registers alone, and always goes on or returns. It may read a cell, and traps where that is not there.
+#[inline(always)]
+pub fn only_reads_at(machine: &Machine, t: u8) -> bool
+    ensures { result ≡ only_reads_at machine.now t }
+{
+    let Some(standing) = machine.standing(t) else {
+        return false;
+    };
+    match &standing.activity {
+        Activity::Idle => false,
+        Activity::Open(frame) => match machine.instr(frame) {
+            None => false,
+            Some(instr) => only_reads(instr),
         },
     }
 }

@@ -41,17 +41,19 @@ fn line_count(text: &[u8]) -> usize {
     }
 }
 
-/// The text is read and comes back, or is refused on one of its lines or on the one behind it.
+/// The text is read and comes back, or is refused on one of its lines, of which the first `sound` are as they were, or on the
+/// one behind it.
 fn try_text<K: Texts, X: AllocGlobal + Abort>(
     rt: &X,
     texts: &K,
     text: &[u8],
+    sound: usize,
     tally: &mut Tally,
 ) -> Result<(), Fail> {
     match texts.outcome(rt, text)? {
         Outcome::Read => tally.read = tally.read.saturating_add(1),
         Outcome::Refused(line) => {
-            assert!(rt; line >= 1);
+            assert!(rt; line > sound, "{line}");
             assert!(rt; line <= line_count(text).saturating_add(1), "{line}");
             tally.refused = tally.refused.saturating_add(1);
         }
@@ -59,7 +61,8 @@ fn try_text<K: Texts, X: AllocGlobal + Abort>(
     Ok(())
 }
 
-/// Each beginning of the text, the empty one and the whole too.
+/// Each beginning of the text, the empty one and the whole too: only the line that is cut may be wrong, or what is missing
+/// behind it.
 fn try_beginnings<K: Texts, X: AllocGlobal + Abort>(
     rt: &X,
     texts: &K,
@@ -67,9 +70,16 @@ fn try_beginnings<K: Texts, X: AllocGlobal + Abort>(
     tally: &mut Tally,
 ) -> Result<(), Fail> {
     for end in 0..text.len() {
-        try_text(rt, texts, &text[..end], tally)?;
+        let beginning = &text[..end];
+        try_text(
+            rt,
+            texts,
+            beginning,
+            line_count(beginning).saturating_sub(1),
+            tally,
+        )?;
     }
-    try_text(rt, texts, text, tally)
+    try_text(rt, texts, text, line_count(text), tally)
 }
 
 /// The text with each of its bytes replaced by each of [`BYTES`].
@@ -80,13 +90,17 @@ fn try_bytes<K: Texts, X: AllocGlobal + Abort>(
     tally: &mut Tally,
 ) -> Result<(), Fail> {
     let mut bent = Vec::from_slice(rt.alloc(), text)?;
+    let mut sound: usize = 0;
     for i in 0..bent.len() {
         let kept = bent[i];
         for byte in &BYTES {
             bent[i] = *byte;
-            try_text(rt, texts, &bent, tally)?;
+            try_text(rt, texts, &bent, sound, tally)?;
         }
         bent[i] = kept;
+        if kept == b'\n' {
+            sound = sound.saturating_add(1);
+        }
     }
     Ok(())
 }
@@ -99,7 +113,7 @@ fn try_lines<K: Texts, X: AllocGlobal + Abort>(
     tally: &mut Tally,
 ) -> Result<(), Fail> {
     let mut front = 0;
-    for _ in 0..line_count(text) {
+    for sound in 0..line_count(text) {
         let (before, after) = text.split_at(text.len().min(front));
         let (line, rest) = cut_line(after);
         let (next, others) = cut_line(rest);
@@ -112,7 +126,7 @@ fn try_lines<K: Texts, X: AllocGlobal + Abort>(
             for part in parts {
                 torn.extend_from_slice(part)?;
             }
-            try_text(rt, texts, &torn, tally)?;
+            try_text(rt, texts, &torn, sound, tally)?;
         }
         front = front.saturating_add(line.len());
     }

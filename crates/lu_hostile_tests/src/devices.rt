@@ -219,7 +219,7 @@ fn reads_fail<X: AllocGlobal + Abort + Threads + Wait>(rt: &X, failure: Failure)
     }
 }
 
-/// And writes. Nothing is said of how much went out.
+/// And writes: what went out before is as much of the answer as was taken.
 fn writes_of_case_fail<X: AllocGlobal + Abort + Threads + Wait>(
     rt: &X,
     case: &Case<'_>,
@@ -235,6 +235,7 @@ fn writes_of_case_fail<X: AllocGlobal + Abort + Threads + Wait>(
             return;
         }
         assert_eq!(rt; ran.status, 4);
+        assert_eq!(rt; ran.taken.len(), writes as usize);
         assert!(rt; case.output.starts_with(ran.taken.as_slice()));
     }
     panic!(rt; "each run failed")

@@ -6,5 +6,5 @@ use Rattle.lu_lang.specs.ComponentText.{component_text}
 use Rattle.lu_lang.specs.Grammar.{component_grammar}
 
 -- what is written of a component is read as it was
-abbrev pub RoundTrip : Type 0
-RoundTrip = (c : Declarations) → IsComponent c → meaning_of component_grammar (component_text c) ≡ Ok c
+abbrev pub ComponentsReadAgain : Type 0
+ComponentsReadAgain = (c : Declarations) → IsComponent c → meaning_of component_grammar (component_text c) ≡ Ok c

@@ -141,7 +141,7 @@ fn cas_line(draft: &Draft, words: &[&[u8]]) -> Result<Statement, LangFaultKind>
 }
 
 /// The lock of `lock L` and `unlock L`.
-fn locked(draft: &Draft, words: &[&[u8]]) -> Result<u8, LangFaultKind>
+fn read_lock(draft: &Draft, words: &[&[u8]]) -> Result<u8, LangFaultKind>
     ensures { result ≡ spec.locked draft.now (one (texts words.now)) }
 {
     let Some(lock) = one(words) else {
@@ -249,13 +249,13 @@ fn return_line(words: &[&[u8]]) -> Result<Statement, LangFaultKind>
 fn lock_line(draft: &Draft, words: &[&[u8]]) -> Result<Statement, LangFaultKind>
     ensures { result ≡ spec.statement draft.now (Some Keyword.Lock) (texts words.now) }
 {
-    Ok(Statement::Plain(Instr::Lock(locked(draft, words)?)))
+    Ok(Statement::Plain(Instr::Lock(read_lock(draft, words)?)))
 }
 
 fn unlock_line(draft: &Draft, words: &[&[u8]]) -> Result<Statement, LangFaultKind>
     ensures { result ≡ spec.statement draft.now (Some Keyword.Unlock) (texts words.now) }
 {
-    Ok(Statement::Plain(Instr::Unlock(locked(draft, words)?)))
+    Ok(Statement::Plain(Instr::Unlock(read_lock(draft, words)?)))
 }
 
 fn store_line(draft: &Draft, words: &[&[u8]]) -> Result<Statement, LangFaultKind>

@@ -303,7 +303,7 @@ fn instr_line(
 }
 
 /// An instruction behind a label.
-fn labelled(
+fn read_labelled(
     alloc: Global,
     line: usize,
     draft: Draft,
@@ -375,7 +375,7 @@ fn target(labels: &[Label], label: &[u8]) -> u8
 }
 
 /// The instruction, with the place of its label.
-fn resolved(labels: &[Label], statement: &Statement) -> Instr
+fn resolve(labels: &[Label], statement: &Statement) -> Instr
     ensures { result ≡ spec.resolved labels.now statement.now }
 {
     match statement {
@@ -389,7 +389,7 @@ fn resolved(labels: &[Label], statement: &Statement) -> Instr
 }
 
 /// The instructions, with the places of their labels.
-fn all_resolved(
+fn resolve_all(
     alloc: Global,
     labels: &[Label],
     statements: &[Statement],
@@ -398,14 +398,14 @@ fn all_resolved(
 {
     statements
         .iter()
-        .map(|statement| resolved(labels, statement))
+        .map(|statement| resolve(labels, statement))
         .collect(alloc)
 }
 
 fn op_of(alloc: Global, op: OpenOp) -> Result<Op, AllocError>
     ensures { IfOk result (λ done. done ≡ spec.op_of op) }
 {
-    let instrs = all_resolved(alloc, &op.labels, &op.statements)?;
+    let instrs = resolve_all(alloc, &op.labels, &op.statements)?;
     Ok(Op {
         name: op.name,
         args: op.args,
@@ -438,7 +438,7 @@ fn end_line(
 }
 
 /// A line inside an operation.
-fn inside(
+fn read_inside(
     alloc: Global,
     line: usize,
     draft: Draft,
@@ -450,7 +450,7 @@ fn inside(
     ensures { OnLine line result (inside draft op (spec.label_in word.now) word.now (texts words.now)) }
 {
     if let Some(label) = label_in(word) {
-        return labelled(alloc, line, draft, op, label, words);
+        return read_labelled(alloc, line, draft, op, label, words);
     }
     if word == b"end".as_slice() {
         end_line(alloc, line, draft, op, words)
@@ -491,7 +491,7 @@ fn by_state(
     }
     match begun {
         None => declaration(alloc, line, draft, word, words),
-        Some(op) => inside(alloc, line, draft, op, word, words),
+        Some(op) => read_inside(alloc, line, draft, op, word, words),
     }
 }
 
@@ -517,7 +517,7 @@ fn read_line(alloc: Global, line: usize, draft: Draft, text: &[u8]) -> Result<Dr
 
 /// What is declared at the end of the text.
 #[tactic(auto, using(crate::proofs::Drafts::draft_component))]
-fn finished(line: usize, draft: Draft) -> Result<Component, LangFault>
+fn finish(line: usize, draft: Draft) -> Result<Component, LangFault>
     requires { IsSoundDraft draft }
     ensures { OnLine line result (component_grammar.finish draft) }
 {
@@ -532,6 +532,7 @@ fn finished(line: usize, draft: Draft) -> Result<Component, LangFault>
     match (name, begun) {
         (Some(name), None) => Ok(Component::new(
             name,
+            // Without a line `local` each local instruction is a move of its own.
             local.unwrap_or(0),
             arrays,
             locks,
@@ -548,7 +549,7 @@ fn read_lines(alloc: Global, lines: &[&[u8]]) -> Result<Component, LangFault>
     for (before, text) in lines.iter().enumerate() {
         draft = read_line(alloc, before + 1, draft, text)?;
     }
-    finished(lines.len() + 1, draft)
+    finish(lines.len() + 1, draft)
 }
 
 fn component_in(alloc: Global, text: &[u8]) -> Result<Component, LangFault>

@@ -10,7 +10,8 @@ use lu_component::{Array, Component, Instr, Op};
 use lu_text::Name;
 use std::alloc::{AllocError, Global};
 
-/// The name of an array, by its number. No instruction of a component names one that is not there.
+/// The name of an array, by its number. Where there is none it is no word, and no instruction of a component names one
+/// that is not there.
 pub fn array_name(component: &Component, number: u8) -> &str
     ensures { result.now ≡ spec.array_word component.now number }
 {
@@ -20,7 +21,8 @@ pub fn array_name(component: &Component, number: u8) -> &str
     }
 }
 
-/// The name of a lock, by its number. No instruction of a component names one that is not there.
+/// The name of a lock, by its number. Where there is none it is no word, and no instruction of a component names one that
+/// is not there.
 pub fn lock_name(component: &Component, number: u8) -> &str
     ensures { result.now ≡ spec.lock_word component.now number }
 {

@@ -14,3 +14,4 @@ pub mod StepLaws
 pub mod Undoing
 pub mod Unseen
 mod RowLists
+mod SameStates

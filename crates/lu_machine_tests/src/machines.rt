@@ -1,6 +1,6 @@
 //! Runs of small components, with the events that the step language asks for.
 
-ghost use Rattle.std.specs.Prelude.{OnOk};
+ghost use Rattle.std.specs.Prelude.{◌≡◌, OnOk};
 ghost use Rattle.lu_test.specs.Matrix.{IsOf};
 ghost use Rattle.lu_machine.specs.Starts.{CanRun};
 
@@ -167,6 +167,51 @@ fn a_move_is_taken_back(rt: HostRuntime) -> Result<(), Fail> {
     let last = taken_back(&rt, SLOT, b"thread f 1\n", 6)?;
     assert_eq!(rt; last, returned(0, 0, 9));
     Ok(())
+}
+
+/// Makes the moves of these threads, each with pick 0.
+fn make(rt: &impl Abort, machine: &mut Machine<'_>, threads: &[u8])
+    ensures component { machine.new.component ≡ machine.old.component }
+    ensures matrix { machine.new.matrix ≡ machine.old.matrix }
+{
+    for thread in threads {
+        let next = Move {
+            thread: *thread,
+            pick: 0,
+        };
+        assert!(rt; machine.feasible(next));
+        machine.step(next);
+    }
+}
+
+/// The machine is in the state of the other one, which was set to it, until that goes on.
+fn assert_set(
+    rt: &(impl AllocGlobal + Abort),
+    component: &[u8],
+    matrix: &[u8],
+    threads: &[u8],
+) -> Result<(), Fail> {
+    let component = read_component(rt.alloc(), component)?;
+    let matrix = read_matrix(rt.alloc(), &component, matrix)?;
+    assert_settles(rt, &component, &matrix)?;
+    let mut machine = Machine::start(rt.alloc(), &component, &matrix)?;
+    let mut other = Machine::start(rt.alloc(), &component, &matrix)?;
+    assert!(rt; machine.is_same(&other));
+    make(rt, &mut machine, threads);
+    assert!(rt; !machine.is_same(&other));
+    other.set_to(&machine);
+    assert!(rt; machine.is_same(&other));
+    make(rt, &mut other, &[0]);
+    assert!(rt; !machine.is_same(&other));
+    Ok(())
+}
+
+/// Where threads stand, what cells hold and who owns the lock.
+#[test]
+fn a_machine_is_set_to_another(rt: HostRuntime) -> Result<(), Fail> {
+    assert_set(&rt, SLOT, b"thread f 1;f 1\nthread f 1\n", &[1])?;
+    assert_set(&rt, SLOT, b"thread f 1\nthread f 1\n", &[0, 0, 0])?;
+    assert_set(&rt, SLOT, b"thread f 1;f 1\n", &[0, 0, 0, 0, 0, 0])
 }
 
 /// Two registers are set with the call, and one with the load.

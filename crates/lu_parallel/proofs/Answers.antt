@@ -15,7 +15,7 @@ use Rattle.lu_tree.specs.declared.found.Found.TheVariants.{Clean, Bad, Abandoned
 use Rattle.lu_tree.specs.Trees.{Below, IsFound}
 use Rattle.lu_replay.specs.Reports.{IsFinding, IsFindingAgainst}
 use Rattle.lu_replay.proofs.Sets.{first_bad_alike, all_good_alike}
-use Rattle.lu_parallel.specs.declared.parts.Work.{Work}
+use Rattle.lu_parallel.specs.declared.works.Work.{Work}
 use Rattle.lu_parallel.specs.Conclusions.{IsAnswer}
 use Rattle.lu_parallel.specs.Findings.{finding_of}
 

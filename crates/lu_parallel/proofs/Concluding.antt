@@ -28,8 +28,8 @@ use Rattle.lu_board.specs.Close.{clean_by, found_by, skipped_by, given_by, Share
 use Rattle.lu_board.specs.Pieces.{count_of, without, once_below, HasEachOnce}
 use Rattle.lu_board.specs.Seats.{SeatModel}
 use Rattle.lu_board.proofs.Counts.{Has, one_at, one_at-same, count_of-without, count_of-append, count_of-empty, contains-has, has-contains, once_below-suc, once_below-zero, once_below-lt}
-use Rattle.lu_parallel.specs.declared.parts.FoundPiece.{FoundPiece}
-use Rattle.lu_parallel.specs.declared.parts.Work.{Work}
+use Rattle.lu_parallel.specs.declared.works.FoundPiece.{FoundPiece}
+use Rattle.lu_parallel.specs.declared.works.Work.{Work}
 use Rattle.lu_parallel.specs.Works.{piece_at, IsClean, IsWork}
 use Rattle.lu_parallel.specs.Works.{IsFoundPiece as IsFoundPiece}
 use Rattle.lu_parallel.specs.Conclusions.{seats_of, counts_of, founds_of, SkipsAbove}
@@ -264,8 +264,8 @@ module _ (c : Declarations) (matrix : Matrix) (members : List (List SerialOp)) (
         first_of_cover (IsMember members) s bound pieces (piece_at pieces i) u why cover (listed_at pieces i within) earlier right
 
 pub concluded : Concludes
-concluded c matrix members s bound pieces board works (Clean counts) start cover all shares skips conclusion =
-    clean_found c matrix members s bound pieces board start works all cover shares skips conclusion.0 counts conclusion.1.0 conclusion.1.1
-concluded c matrix members s bound pieces board works (Bad u why) start cover all shares skips conclusion =
-    bad_found c matrix members s bound pieces board start works all cover shares skips conclusion.0 conclusion.1.0 u why conclusion.1.1.0 conclusion.1.1.1 conclusion.1.2
-concluded c matrix members s bound pieces board works Abandoned start cover all shares skips conclusion = elim (conclusion.1) [ ]
+concluded members s bound works (Clean counts) over conclusion =
+    clean_found over.component over.matrix members s bound over.pieces over.board over.start works over.each over.cover over.shares over.skips conclusion.0 counts conclusion.1.0 conclusion.1.1
+concluded members s bound works (Bad u why) over conclusion =
+    bad_found over.component over.matrix members s bound over.pieces over.board over.start works over.each over.cover over.shares over.skips conclusion.0 conclusion.1.0 u why conclusion.1.1.0 conclusion.1.1.1 conclusion.1.2
+concluded members s bound works Abandoned over conclusion = elim (conclusion.1) [ ]

@@ -8,8 +8,8 @@ use Rattle.lu_machine.specs.declared.counts.Counts.{Counts}
 use Rattle.lu_machine.specs.Sums.{plus, total}
 use Rattle.lu_board.specs.Close.{found_by}
 use Rattle.lu_board.specs.Seats.{SeatModel, IsSeatOf, IsDone}
-use Rattle.lu_parallel.specs.declared.parts.FoundPiece.{FoundPiece}
-use Rattle.lu_parallel.specs.declared.parts.Work.{Work}
+use Rattle.lu_parallel.specs.declared.works.FoundPiece.{FoundPiece}
+use Rattle.lu_parallel.specs.declared.works.Work.{Work}
 use Rattle.lu_parallel.specs.Works.{found_pieces, IsSpentWork}
 use Rattle.lu_parallel.specs.Conclusions.{seats_of, counts_of, founds_of}
 use Rattle.lu_parallel.proofs.Tallies.{total_push}

@@ -17,7 +17,7 @@ use Rattle.lu_board.specs.declared.view.Kind.TheVariants.{Clean}
 use Rattle.lu_board.specs.Events.{with_settled, with_found}
 use Rattle.lu_board.specs.Pieces.{without}
 use Rattle.lu_board.specs.Views.{pieces_of as seat_pieces}
-use Rattle.lu_parallel.specs.declared.parts.FoundPiece.{FoundPiece}
+use Rattle.lu_parallel.specs.declared.works.FoundPiece.{FoundPiece}
 use Rattle.lu_parallel.specs.Works.{piece_at, IsClean, IsFoundPiece, IsTally}
 
 pub zip_push : {A B : Type 0} (R : A → B → Type 0) (xs : List A) (ys : List B) (x : A) (y : B) → AllZip R xs ys → R x y → AllZip R (xs ++ x ∷ []) (ys ++ y ∷ [])

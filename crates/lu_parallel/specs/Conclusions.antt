@@ -8,8 +8,8 @@ use Rattle.lu_tree.specs.declared.found.Found.TheVariants.{Clean, Bad, Abandoned
 use Rattle.lu_board.specs.Close.{found_by, skipped_by, given_by}
 use Rattle.lu_board.specs.Pieces.{IsLeastPiece}
 use Rattle.lu_board.specs.Seats.{SeatModel}
-use Rattle.lu_parallel.specs.declared.parts.FoundPiece.{FoundPiece}
-use Rattle.lu_parallel.specs.declared.parts.Work.{Work}
+use Rattle.lu_parallel.specs.declared.works.FoundPiece.{FoundPiece}
+use Rattle.lu_parallel.specs.declared.works.Work.{Work}
 
 abbrev pub seats_of : List Work → List SeatModel
 seats_of works = map (λ w. w.seat) works

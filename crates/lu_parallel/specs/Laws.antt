@@ -15,18 +15,28 @@ use Rattle.lu_tree.specs.declared.found.Found.{Found}
 use Rattle.lu_tree.specs.Trees.{IsFound}
 use Rattle.lu_board.specs.Close.{SharesOut}
 use Rattle.lu_replay.specs.Reports.{IsFinding, IsFindingAgainst}
-use Rattle.lu_parallel.specs.declared.parts.Work.{Work}
+use Rattle.lu_parallel.specs.declared.works.Work.{Work}
 use Rattle.lu_parallel.specs.Findings.{finding_of}
 use Rattle.lu_parallel.specs.Works.{IsWork}
 use Rattle.lu_parallel.specs.Conclusions.{IsConclusion, SkipsAbove, seats_of}
 
+-- The works of all seats of a board, over the pieces of a cover from the start s.
+pub record AreWorksOver (members : List (List SerialOp)) (s : State) (bound : ℕ) (works : List Work) : Type 0 where
+  pub component : Declarations
+  pub matrix : Matrix
+  pub start : IsStart component matrix s
+  pub pieces : List (List Move)
+  pub cover : IsCover s bound pieces
+  pub board : TableId
+  pub each : All (IsWork component matrix members bound pieces board) works
+  pub shares : SharesOut (length pieces) (seats_of works)
+  pub skips : SkipsAbove works
+
 -- What the works over a cover conclude is what a search of all schedules finds.
 abbrev pub Concludes : Type 0
 Concludes =
-    (c : Declarations) (matrix : Matrix) (members : List (List SerialOp)) (s : State) (bound : ℕ) (pieces : List (List Move)) (board : TableId) (works : List Work) (found : Found) →
-    IsStart c matrix s → IsCover s bound pieces → All (IsWork c matrix members bound pieces board) works →
-    SharesOut (length pieces) (seats_of works) → SkipsAbove works → IsConclusion works (Some found) →
-    IsFound (IsMember members) s bound Any found
+    (members : List (List SerialOp)) (s : State) (bound : ℕ) (works : List Work) (found : Found) →
+    AreWorksOver members s bound works → IsConclusion works (Some found) → IsFound (IsMember members) s bound Any found
 
 -- What is found over a set is the finding of the report against it.
 abbrev pub IsReportedAgainst : Type 0

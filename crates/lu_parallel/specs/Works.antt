@@ -20,8 +20,8 @@ use Rattle.lu_board.specs.Pieces.{without}
 use Rattle.lu_board.specs.Seats.{BoardModel, SeatModel, IsDone, IsSeatOf}
 use Rattle.lu_board.specs.Views.{pieces_of as seat_pieces}
 use Rattle.lu_report.specs.Limits.{most_moves}
-use Rattle.lu_parallel.specs.declared.parts.FoundPiece.{FoundPiece}
-use Rattle.lu_parallel.specs.declared.parts.Work.{Work}
+use Rattle.lu_parallel.specs.declared.works.FoundPiece.{FoundPiece}
+use Rattle.lu_parallel.specs.declared.works.Work.{Work}
 use Rattle.lu_parallel.specs.declared.worker.Job.{Job}
 use Rattle.lu_parallel.specs.declared.worker.Tally.{Tally}
 

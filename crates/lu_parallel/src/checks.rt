@@ -1,6 +1,7 @@
 //! A check by many workers.
 
-ghost use Rattle.std.specs.Prelude.{◌≡◌, ◌≤◌, ◌<◌, IfOk, IfErr};
+ghost use Rattle.std.specs.Prelude.{◌≡◌, ◌≤◌, ◌<◌, IfOk, IfErr, OnOk};
+ghost use Rattle.lu_test.specs.Matrix.{IsMatrix};
 ghost use Rattle.lu_machine.specs.Starts.{CanRun};
 ghost use Rattle.lu_replay.specs.Reports.{IsReport};
 ghost use Rattle.lu_parallel.specs.Findings.{Finds, FindsAgainst, ReportsAgainst};
@@ -9,7 +10,7 @@ ghost use Rattle.lu_parallel.specs.declared.fault.CheckFault.TheVariants.{Memory
 use crate::conclusion::conclude;
 use crate::fault::CheckFault;
 use crate::gate::Gate;
-use crate::one::{finding_of, search_all};
+use crate::one_thread::{finding_of, search_all};
 use crate::options::Options;
 use crate::threads::run_workers;
 use crate::worker::Job;
@@ -38,7 +39,8 @@ fn search_by_workers<R: Threads + Wait, G: Gate, T: SerialTree + Sync>(
 where
     T::Place: Send + Sync,
     requires of { CanRun component.now matrix.now }
-    ensures { FindsAgainst component.now matrix.now (T.members tree.now) options.bound result }
+    ensures found { FindsAgainst component.now matrix.now (T.members tree.now) options.bound result }
+    ensures limits { OnOk result (IsMatrix matrix.now) }
 {
     let bound = options.bound();
     let pieces = frontier(alloc, component, matrix, bound, options.depth())?;
@@ -72,6 +74,7 @@ where
     T::Place: Send + Sync,
     requires of { CanRun component.now matrix.now }
     ensures found { FindsAgainst component.now matrix.now (T.members tree.now) options.bound result }
+    ensures limits { OnOk result (IsMatrix matrix.now) }
     ensures alone { IfErr result (λ fault. options.workers ≡ 1 → fault ≡ Memory) }
 {
     if options.workers() == 1 {
@@ -111,6 +114,7 @@ fn find<R: Threads + Wait, G: Gate>(
 ) -> Result<Finding, CheckFault>
     requires of { CanRun component.now matrix.now }
     ensures found { Finds component.now matrix.now options.bound options.serial result }
+    ensures limits { OnOk result (IsMatrix matrix.now) }
     ensures alone { IfErr result (λ fault. options.workers ≡ 1 → fault ≡ Memory) }
 {
     match set_or_offence(learn(alloc, alloc, component, matrix, options.serial())?) {
@@ -140,8 +144,6 @@ pub fn check<R: Threads + Wait, G: Gate>(
     ensures report { IfOk result (IsReport component.now matrix.now options.bound options.serial) }
     ensures alone { IfErr result (λ fault. options.workers ≡ 1 → fault ≡ Memory) }
 {
-    // Its clause says that the matrix is within its limits.
-    let _threads = matrix.threads();
     let finding = find(rt, alloc, gate, component, matrix, options)?;
     Ok(Report::new(
         options.bound(),
@@ -173,8 +175,6 @@ where
     ensures report { ReportsAgainst component.now matrix.now (T.members tree.now) options.bound result }
     ensures alone { IfErr result (λ fault. options.workers ≡ 1 → fault ≡ Memory) }
 {
-    // Its clause says that the matrix is within its limits.
-    let _threads = matrix.threads();
     let finding = search_tree(rt, alloc, gate, component, matrix, tree, options)?;
     Ok(Report::against(options.bound(), component.local(), finding))
 }

@@ -6,7 +6,7 @@ ghost use Rattle.lu_board.specs.Close.{SharesOut};
 ghost use Rattle.lu_parallel.specs.Works.{IsSpentWork, found_pieces};
 ghost use Rattle.lu_parallel.specs.Conclusions.{IsConclusion, SkipsAbove, seats_of, counts_of, founds_of};
 
-use crate::parts::{FoundPiece, Work};
+use crate::works::{FoundPiece, Work};
 use lu_board::board::{Board, Seat};
 use lu_machine::Counts;
 use lu_tree::Found;

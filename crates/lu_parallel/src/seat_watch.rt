@@ -80,4 +80,9 @@ impl<'b> Watch for SeatWatch<'b> {
     fn stopped(&self) -> bool {
         self.stopped
     }
+
+    /// One look at the board tells as much as many in a row.
+    fn stop_within(&mut self, times: u64) -> bool {
+        times > 0 && self.stop()
+    }
 }

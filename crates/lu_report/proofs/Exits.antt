@@ -20,7 +20,8 @@ use Rattle.lu_report.specs.declared.reader.Unread.TheVariants.{From, Exhausted}
 use Rattle.lu_report.specs.Parts.{AreLimits, IsJudgement, IsSerialBound, IsThreadOf, parts_of}
 use Rattle.lu_report.specs.Text.{number_line, earlier_line, fail_line, finding_lines, version_of, version_line, serial_lines, local_lines}
 use Rattle.lu_text.specs.Lines.{kept_lines}
-use Rattle.lu_report.specs.Forms.{AreBefore, AreNone, IsEarlierLine, AreBehind, AreBounded, AreConflict, AreCountLines, AreCounts, AreCut, AreEarlier, AreFinding, AreJudgement, AreLocal, AreReport, AreRun, AreStuck, Begins, Cuts, HasNo, IsBehind, IsFirst, IsNumberLine, IsOutcome, IsScheduleLine, IsSound, IsVersionLine, SaysNumber, Spells, Stops, StopsAt}
+use Rattle.lu_history.specs.Serial.{IsOutcome}
+use Rattle.lu_report.specs.Forms.{AreBefore, AreNone, IsEarlierLine, AreBehind, AreBounded, AreConflict, AreCountLines, AreCounts, AreCut, AreEarlier, AreFinding, AreJudgement, AreLocal, AreReport, AreRun, AreStuck, Begins, Cuts, HasNo, IsBehind, IsFirst, IsNumberLine, IsScheduleLine, IsSound, IsVersionLine, SaysNumber, Spells, Stops, StopsAt}
 use Rattle.std.specs.Fmt.{decimal}
 use Rattle.std.proofs.lemmas.Fmt.{decimal_injective}
 use Rattle.std.proofs.lemmas.List.{append_assoc, append_cancel_left, append_cancel_right}

@@ -31,7 +31,8 @@ use Rattle.lu_report.specs.declared.fault.ReportFaultKind.TheVariants.{Form}
 use Rattle.lu_report.specs.Parts.{Parts, AreLimits, IsSerialBound, IsThreadOf, parts_of}
 use Rattle.lu_report.specs.Text.{number_line, earlier_line, fail_line, finding_lines, version_of, version_line, serial_lines, local_lines, report_lines, report_text}
 use Rattle.lu_text.specs.Lines.{kept_lines}
-use Rattle.lu_report.specs.Forms.{IsOutcome, IsSound, IsFault, GivesReport, Spells}
+use Rattle.lu_history.specs.Serial.{IsOutcome}
+use Rattle.lu_report.specs.Forms.{IsSound, IsFault, GivesReport, Spells}
 use Rattle.lu_report.proofs.Exits.{byte_at, clash, fail_byte, same_number, version_same}
 
 -- ---- the lines of a report's text are its lines

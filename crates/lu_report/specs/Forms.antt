@@ -12,6 +12,7 @@ use Rattle.lu_report.specs.declared.report.Finding.TheVariants.{SerialCut, Nonde
 use Rattle.lu_report.specs.declared.report.Report.{Report}
 use Rattle.lu_text.specs.declared.fault.Fault.{Fault}
 use Rattle.lu_report.specs.declared.version.Version.{Version}
+use Rattle.lu_history.specs.Serial.{IsOutcome}
 use Rattle.lu_report.specs.declared.version.Version.TheVariants.{One, Two, Three}
 use Rattle.lu_text.specs.declared.fault.Fault.TheVariants.{At, Memory}
 use Rattle.lu_report.specs.declared.fault.ReportFaultKind.{ReportFaultKind}
@@ -22,12 +23,6 @@ use Rattle.lu_report.specs.Parts.{AreLimits, IsJudgement, IsThreadOf, IsWithin, 
 use Rattle.lu_report.specs.Text.{number_line, earlier_line, fail_line, finding_lines, version_of, version_line, serial_lines, local_lines, report_lines, report_text}
 
 -- ---- reports
-
--- an outcome's number is one of 32 bits
-abbrev pub IsOutcome : SerialOutcome → Type 0
-IsOutcome (serial.Ret n) = n < 2 ^ 32
-IsOutcome serial.Trap = Unit {0}
-IsOutcome serial.Stuck = Unit {0}
 
 -- numbers of 64 bits
 pub record AreCounts (counts : Counts) : Type 0 where

@@ -7,7 +7,8 @@ ghost use Rattle.lu_text.specs.Lines.{kept_lines};
 ghost use Rattle.lu_report.specs.declared.report.Report.{Report};
 ghost use Rattle.lu_report.specs.Text as spec;
 ghost use Rattle.lu_report.specs.Parts.{IsJudgement, most_moves};
-ghost use Rattle.lu_report.specs.Forms.{AreBehind, AreConflict, AreCountLines, AreCountsOf, AreFinding, AreJudgement, AreNone, AreReport, AreRun, Cuts, GivesReport, HasNo, IsBehind, IsConflictOf, IsEarlierLine, IsFault, IsFindingOf, IsNumberLine, IsOutcome, IsScheduleLine, IsVersionLine, SaysNumber, Spells, Stops};
+ghost use Rattle.lu_history.specs.Serial.{IsOutcome};
+ghost use Rattle.lu_report.specs.Forms.{AreBehind, AreConflict, AreCountLines, AreCountsOf, AreFinding, AreJudgement, AreNone, AreReport, AreRun, Cuts, GivesReport, HasNo, IsBehind, IsConflictOf, IsEarlierLine, IsFault, IsFindingOf, IsNumberLine, IsScheduleLine, IsVersionLine, SaysNumber, Spells, Stops};
 
 use crate::bounds::MOST_MOVES;
 use crate::fault::{ReportFault, ReportFaultKind};
@@ -178,7 +179,12 @@ fn finding(alloc: Global, text: &[u8]) -> Result<Finding, Unread<'_>>
 }
 
 /// The report of this version and bound, by what follows the line of its bound.
-fn bounded(alloc: Global, version: Version, bound: u16, text: &[u8]) -> Result<Report, Unread<'_>>
+fn read_behind_bound(
+    alloc: Global,
+    version: Version,
+    bound: u16,
+    text: &[u8],
+) -> Result<Report, Unread<'_>>
     requires { bound ≤ most_moves }
     ensures found { IfOk result (IsBehind version bound text.now) }
     ensures fault { IfErr result (Stops (AreBehind version) text.now) }
@@ -210,7 +216,7 @@ fn report_in(alloc: Global, text: &[u8]) -> Result<Report, Unread<'_>>
 {
     let (version, rest) = version_line(text)?;
     let (bound, rest) = number_line(rest, "bound ", 0, MOST_MOVES as u64)?;
-    bounded(alloc, version, bound as u16, rest)
+    read_behind_bound(alloc, version, bound as u16, rest)
 }
 
 /// How many lines a text has. The last one may lack its LF.

@@ -5,7 +5,8 @@ ghost use Rattle.std.specs.List.{concat};
 ghost use Rattle.lu_test.specs.Schedule.{AreMoves};
 ghost use Rattle.lu_test.specs.ScheduleText.{schedule_text};
 ghost use Rattle.lu_text.specs.Writing.{Writes};
-ghost use Rattle.lu_report.specs.Forms.{HasParts, IsOutcome, Spells};
+ghost use Rattle.lu_history.specs.Serial.{IsOutcome};
+ghost use Rattle.lu_report.specs.Forms.{HasParts, Spells};
 ghost use Rattle.lu_report.specs.Text.{finding_lines, local_lines, serial_lines};
 ghost use Rattle.lu_report.specs.Text as spec;
 
@@ -20,8 +21,6 @@ fn put_schedule(alloc: Global, text: &mut String, schedule: &Schedule) -> Result
     ensures text { Writes result text.old text.new (schedule_text schedule.now) }
     ensures moves { OnOk result (AreMoves schedule.now) }
 {
-    // Its clause says that the moves are those of threads.
-    let _moves = schedule.moves();
     let line = write_schedule(alloc, schedule)?;
     text.push_str(line.as_str())
 }

@@ -1,12 +1,14 @@
 //! Reports written, read and confirmed.
 
 use crate::replays::assert_settles;
+use lu_history::SerialOutcome;
 use lu_lang::read_component;
 use lu_machine::Counts;
-use lu_replay::{confirm, confirm_against};
+use lu_replay::{confirm, confirm_against, set_or_offence};
 use lu_report::{Finding, Report, ReportFaultKind, read_report, write_report};
+use lu_serial::learn;
 use lu_spec::read_spec;
-use lu_test::read_matrix;
+use lu_test::{Schedule, read_matrix, write_schedule};
 use lu_text::Fault;
 use std::alloc::AllocError;
 use std::process::Abort;
@@ -449,4 +451,70 @@ fn the_other_kind_of_check(rt: HostRuntime) -> Result<(), Fail> {
     assert!(rt; !confirmed(&rt, COUNTER, TWICE, LOST_AGAINST)?);
     assert!(rt; !confirmed_against(&rt, COUNTER, RIGHT, LOST)?);
     Ok(())
+}
+
+// ---- serial offences
+
+/// An operation with two outcomes, and one that does not end.
+const OFFENDING: &[u8] = b"component c
+op flip 0
+pick r0 2
+return r0
+end
+op spin 0
+L0: jump L0
+end
+op none 0
+return 0
+end
+";
+
+/// What the serial runs of the matrix come to, with at most four moves after a call: the offence, if there is one.
+fn offence_of(rt: &(impl AllocGlobal + Abort), matrix: &[u8]) -> Result<Option<Finding>, Fail> {
+    let alloc = rt.alloc();
+    let component = read_component(alloc, OFFENDING)?;
+    let matrix = read_matrix(alloc, &component, matrix)?;
+    assert_settles(rt, &component, &matrix)?;
+    match set_or_offence(learn(alloc, alloc, &component, &matrix, 4)?) {
+        Ok(_) => Ok(None),
+        Err(offence) => Ok(Some(offence)),
+    }
+}
+
+/// The schedule, as it is spelled.
+fn assert_spelled(
+    rt: &(impl AllocGlobal + Abort),
+    schedule: &Schedule,
+    text: &str,
+) -> Result<(), Fail> {
+    assert_eq!(rt; write_schedule(rt.alloc(), schedule)?.as_str(), text);
+    Ok(())
+}
+
+#[test]
+fn an_offence_is_what_is_found(rt: HostRuntime) -> Result<(), Fail> {
+    match offence_of(&rt, b"thread flip\n")? {
+        Some(
+            Finding::Nondeterministic {
+                schedule,
+                before,
+                earlier,
+            },
+        ) => {
+            assert_spelled(&rt, &schedule, "schedule 0 0:1 0\n")?;
+            assert_eq!(rt; before, 0);
+            assert_eq!(rt; earlier, SerialOutcome::Ret(0));
+        }
+        _ => panic!(rt; "no conflict"),
+    }
+    match offence_of(&rt, b"thread spin\n")? {
+        Some(Finding::SerialCut(schedule)) => {
+            assert_spelled(&rt, &schedule, "schedule 0 0 0 0 0\n")?;
+        }
+        _ => panic!(rt; "not cut"),
+    }
+    match offence_of(&rt, b"thread none\n")? {
+        None => Ok(()),
+        Some(_) => panic!(rt; "an offence"),
+    }
 }

@@ -93,6 +93,18 @@ fn retries_are_counted(rt: HostRuntime) -> Result<(), Fail> {
     )
 }
 
+/// One thread waits until the other has made four moves: before those it makes one move at most. Whether it waits or not, the
+/// order of two moves makes no difference.
+#[test]
+fn a_thread_that_waits_is_counted(rt: HostRuntime) -> Result<(), Fail> {
+    let set = Trie::new(rt.alloc());
+    let matrix = b"thread put;spin\nthread take;spin\n";
+    assert_counts(&rt, matrix, &set, EMPTY, 3, cut(4))?;
+    assert_counts(&rt, matrix, &set, EMPTY, 20, cut(196_608))?;
+    let many = 216_172_782_113_783_808;
+    assert_counts(&rt, matrix, &set, EMPTY, 60, cut(many))
+}
+
 /// How many schedules are cut below the machine's state.
 fn cut_below(
     horizon: &Horizon,

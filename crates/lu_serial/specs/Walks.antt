@@ -19,6 +19,7 @@ use Rattle.lu_trie.specs.Members.{contains}
 use Rattle.lu_trie.specs.Conflicts.{IsDeterministic}
 use Rattle.lu_serial.specs.declared.node.OpenCall.{OpenCall}
 use Rattle.lu_serial.specs.declared.node.Node.{Node}
+use Rattle.lu_serial.specs.declared.walk.Tour.{Tour}
 use Rattle.lu_serial.specs.declared.walk.Halt.{Halt}
 use Rattle.lu_serial.specs.declared.walk.Halt.TheVariants.{Cut, Stopped}
 use Rattle.lu_machine.specs.Schedules.{BeginsWith}
@@ -138,9 +139,11 @@ Gathers was_shown stops old new node current =
     GathersHistory was_shown stops old new (ended_entries node.entries.items current)
 
 -- a walk that passed leaves path, machine and entries as they were, and one that halted leaves a schedule at the path
-abbrev pub IsHome : {S : Type 0} → List Move → Node → Option (Halt S) → List Move → Node → Type 0
-IsHome path old None after new = (after ≡ path) × (new.machine ≡ old.machine) × (new.entries.items ≡ old.entries.items)
-IsHome path old (Some halt) after new = AreMoves after
+abbrev pub IsHome : {H S : Type 0} → Tour H → Option (Halt S) → Tour H → Type 0
+IsHome old None new =
+    (new.path.items ≡ old.path.items) × (new.node.machine ≡ old.node.machine)
+    × (new.node.entries.items ≡ old.node.entries.items)
+IsHome old (Some halt) new = AreMoves new.path.items
 
 -- the schedule v is smaller than u, or begins with it
 abbrev pub IsUpTo : List Move → List Move → Type 0
@@ -151,9 +154,15 @@ abbrev pub IsReady : State → ℕ → List Move → Node → Option OpenCall �
 IsReady start bound path node current Known =
     IsAt start bound path node.machine node.entries.items current × Shows start bound (λ v. IsSmaller v path) Known
 
+-- the tour's path led here, and all smaller schedules were shown to its harvest, which was once the first
+abbrev pub IsReadyTour : {H : Type 0} → State → ℕ → Tour H → Option OpenCall → (H → H → List (List SerialOp) → Type 0) → H → Type 0
+IsReadyTour start bound tour current was_shown first =
+    IsReady start bound tour.path.items tour.node current (was_shown tour.harvest first)
+
 -- a walk can go on from here
-abbrev pub CanWalk : {H : Type 0} → ℕ → List Move → Node → Option OpenCall → (H → List (List SerialOp) → Type 0) → Type 0
-CanWalk {H} bound path node current Known = (start : State) × (first : H) × IsReady start bound path node current (Known first)
+abbrev pub CanWalk : {H : Type 0} → (H → H → List (List SerialOp) → Type 0) → ℕ → Tour H → Option OpenCall → Type 0
+CanWalk {H} was_shown bound tour current =
+    (start : State) × (first : H) × IsReadyTour start bound tour current was_shown first
 
 -- the schedule u is cut, or ends with a history at which the harvest stops
 abbrev pub HaltsAt : {S : Type 0} → State → ℕ → (List SerialOp → S → Type 0) → Halt S → List Move → Type 0
@@ -167,9 +176,10 @@ Walked s bound before Known Stops (Some halt) after =
     Shows s bound (λ v. IsSmaller v after) Known × HaltsAt s bound Stops halt after
 
 -- what a walk does, whatever start leads here
-abbrev pub Walks : {H S : Type 0} → ℕ → List Move → Node → Option OpenCall → (H → List (List SerialOp) → Type 0) → (H → List (List SerialOp) → Type 0) → (List SerialOp → S → Type 0) → Option (Halt S) → List Move → Type 0
-Walks {H} bound before node current Old New Stops halt after =
-    (start : State) (first : H) → IsReady start bound before node current (Old first) → Walked start bound before (New first) Stops halt after
+abbrev pub Walks : {H S : Type 0} → (H → H → List (List SerialOp) → Type 0) → (H → List SerialOp → S → Type 0) → ℕ → Tour H → Option OpenCall → Tour H → Option (Halt S) → Type 0
+Walks {H} was_shown stops bound old current new halt =
+    (start : State) (first : H) → IsReadyTour start bound old current was_shown first
+    → Walked start bound old.path.items (was_shown new.harvest first) (stops new.harvest) halt new.path.items
 
 -- the members are the histories shown, and none of them conflict
 abbrev pub Learns : List (List SerialOp) → List (List SerialOp) → Type 0

@@ -1,13 +1,15 @@
 //! The serial histories of a matrix, or its least serial offence.
 
 ghost use Rattle.std.specs.Prelude.{◌≤◌, IfOk};
+ghost use Rattle.lu_component.specs.Component.{IsComponent};
+ghost use Rattle.lu_test.specs.Matrix.{IsMatrix};
 ghost use Rattle.lu_machine.specs.Starts.{CanRun, FromEachStart};
 ghost use Rattle.lu_trie.specs.Conflicts.{HasConflict};
 ghost use Rattle.lu_serial.specs.Offences.{IsLearnt};
 ghost use Rattle.lu_serial.specs.Walks.{Learns};
 
-use crate::node::{Node, limits};
-use crate::walk::{Halt, Harvest, walk};
+use crate::node::Node;
+use crate::walk::{Halt, Harvest, Tour, walk};
 use lu_component::Component;
 use lu_history::{SerialOp, SerialOutcome};
 use lu_test::{Matrix, Schedule};
@@ -73,17 +75,22 @@ pub fn learn<A: Allocator + Clone>(
     requires of { CanRun component.now matrix.now }
     requires some { 1 ≤ bound }
     requires few { bound ≤ 256 }
-    ensures { FromEachStart component.now matrix.now (λ s. IfOk result (IsLearnt s bound)) }
+    ensures learnt { FromEachStart component.now matrix.now (λ s. IfOk result (IsLearnt s bound)) }
+    ensures limits { IsComponent component.now × IsMatrix matrix.now }
 {
-    limits(component, matrix);
-    let mut node = Node::start(alloc, component, matrix)?;
-    let mut path = Vec::new(alloc);
-    let mut set = Trie::new(set_alloc);
-    match walk(bound, &mut node, &mut path, &mut set, None)? {
-        None => Ok(Learnt::Set(set)),
-        Some(Halt::Cut) => Ok(Learnt::Cut(Schedule::new(path))),
+    let node = Node::start(alloc, component, matrix)?;
+    let path = Vec::new(alloc);
+    let set = Trie::new(set_alloc);
+    let mut tour = Tour {
+        node,
+        path,
+        harvest: set,
+    };
+    match walk(bound, &mut tour, None)? {
+        None => Ok(Learnt::Set(tour.harvest)),
+        Some(Halt::Cut) => Ok(Learnt::Cut(Schedule::new(tour.path))),
         Some(Halt::Stopped((before, earlier))) => Ok(Learnt::Conflict {
-            schedule: Schedule::new(path),
+            schedule: Schedule::new(tour.path),
             before,
             earlier,
         }),

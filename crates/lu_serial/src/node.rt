@@ -39,6 +39,7 @@ impl<'a> Node<'a> {
         requires { CanRun component.now matrix.now }
         ensures machine { IfOk result (λ node. IsStart component.now matrix.now node.machine) }
         ensures entries { IfOk result (λ node. node.entries.items ≡ []) }
+        ensures limits { IsComponent component.now × IsMatrix matrix.now }
     {
         Ok(Node {
             machine: Machine::start(alloc, component, matrix)?,
@@ -75,15 +76,6 @@ impl<'a> Node<'a> {
         }
         self.machine.undo(undo);
     }
-}
-
-/// The limits of both hold. It does nothing.
-pub(crate) fn limits(component: &Component, matrix: &Matrix)
-    ensures component { IsComponent component.now }
-    ensures matrix { IsMatrix matrix.now }
-{
-    component.operations();
-    matrix.threads();
 }
 
 /// The operation that is open after a move of the thread with this event.

@@ -6,8 +6,8 @@ ghost use Rattle.lu_trie.specs.Members.{contains};
 ghost use Rattle.lu_serial.specs.Offences.{FindsOutside};
 ghost use Rattle.lu_serial.specs.Walks.{Seeks};
 
-use crate::node::{Node, limits};
-use crate::walk::{Halt, Harvest, walk};
+use crate::node::Node;
+use crate::walk::{Halt, Harvest, Tour, walk};
 use lu_component::Component;
 use lu_history::SerialOp;
 use lu_test::{Matrix, Schedule};
@@ -54,12 +54,15 @@ pub fn first_outside<A: Allocator>(
     requires few { bound ≤ 256 }
     ensures { FindsOutside component.now matrix.now bound set.now result }
 {
-    limits(component, matrix);
-    let mut node = Node::start(alloc, component, matrix)?;
-    let mut path = Vec::new(alloc);
-    let mut search = Search { set };
-    match walk(bound, &mut node, &mut path, &mut search, None)? {
-        Some(Halt::Stopped(())) => Ok(Some(Schedule::new(path))),
+    let node = Node::start(alloc, component, matrix)?;
+    let path = Vec::new(alloc);
+    let mut tour = Tour {
+        node,
+        path,
+        harvest: Search { set },
+    };
+    match walk(bound, &mut tour, None)? {
+        Some(Halt::Stopped(())) => Ok(Some(Schedule::new(tour.path))),
         Some(Halt::Cut) => Ok(None),
         None => Ok(None),
     }

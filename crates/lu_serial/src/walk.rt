@@ -22,7 +22,7 @@ pub(crate) trait Harvest {
     /// What holds where it stops at this history.
     ghost stops: { Self → List SerialOp → Self.Stop → Type 0 };
 
-    /// TakesHistory the history of a schedule that ends, or stops the walk there.
+    /// Takes the history of a schedule that ends, or stops the walk there.
     ///
     /// # Errors
     ///
@@ -69,38 +69,44 @@ impl Node<'_> {
     }
 }
 
-/// Walks the serial schedules that begin with the path, which led to this node, in order, and shows those that end to the
-/// harvest. It halts at one that is cut, or where the harvest stops it.
+/// What a walk takes along: the node where it stands, the path that led there, and the harvest.
+#[derive(Drop)]
+pub(crate) struct Tour<'a, H> {
+    pub(crate) node: Node<'a>,
+    pub(crate) path: Vec<Move>,
+    pub(crate) harvest: H,
+}
+
+/// Walks the serial schedules that begin with the tour's path, in order, and shows those that end to its harvest. It halts at
+/// one that is cut, or where the harvest stops it.
 pub(crate) fn walk<H: Harvest>(
     bound: u16,
-    node: &mut Node,
-    path: &mut Vec<Move>,
-    harvest: &mut H,
+    tour: &mut Tour<'_, H>,
     current: Option<OpenCall>,
 ) -> Result<Option<Halt<H::Stop>>, AllocError>
-    requires { CanWalk bound path.old.items node.old current (H.was_shown harvest.old) }
-    ensures home { IfOk result (λ halt. IsHome path.old.items node.old halt path.new.items node.new) }
-    ensures walks { IfOk result (λ halt. Walks bound path.old.items node.old current (H.was_shown harvest.old) (H.was_shown harvest.new) (H.stops harvest.new) halt path.new.items) }
+    requires { CanWalk H.was_shown bound tour.old current }
+    ensures home { IfOk result (λ halt. IsHome tour.old halt tour.new) }
+    ensures walks { IfOk result (Walks H.was_shown H.stops bound tour.old current tour.new) }
 {
-    if !goes_on(&node.machine, current) {
-        let stop = node.end(harvest, current)?;
+    if !goes_on(&tour.node.machine, current) {
+        let stop = tour.node.end(&mut tour.harvest, current)?;
         return Ok(stop.map(Halt::Stopped));
     }
     if is_full(current, bound) {
         return Ok(Some(Halt::Cut));
     }
-    let (first, end) = turns(&node.machine, current);
+    let (first, end) = turns(&tour.node.machine, current);
     for thread in first..end {
-        for pick in 0..node.machine.picks(thread) {
+        for pick in 0..tour.node.machine.picks(thread) {
             let next = Move { thread, pick };
-            let undo = node.enter(next)?;
-            path.push(next)?;
+            let undo = tour.node.enter(next)?;
+            tour.path.push(next)?;
             let below = open_after(current, thread, undo.event());
-            if let Some(halt) = walk(bound, node, path, harvest, below)? {
+            if let Some(halt) = walk(bound, tour, below)? {
                 return Ok(Some(halt));
             }
-            path.pop();
-            node.leave(undo);
+            tour.path.pop();
+            tour.node.leave(undo);
         }
     }
     Ok(None)

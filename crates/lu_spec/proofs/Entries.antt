@@ -11,7 +11,7 @@ use Rattle.lu_text.proofs.WordText.{value_again}
 use Rattle.lu_history.specs.declared.serial.SerialOutcome.{SerialOutcome}
 use Rattle.lu_history.specs.declared.serial.SerialOutcome.TheVariants.{Ret, Trap, Stuck}
 use Rattle.lu_history.specs.declared.serial.SerialOp.{SerialOp}
-use Rattle.lu_spec.specs.Specs.{IsOutcome}
+use Rattle.lu_history.specs.Serial.{IsOutcome}
 use Rattle.lu_spec.specs.SpecText.{IsEntry, entry_text, outcome_text}
 
 -- nothing is there

@@ -14,7 +14,7 @@ use Rattle.lu_text.proofs.Written.{each_weaker, split_joined}
 use Rattle.lu_history.specs.declared.serial.SerialOutcome.{SerialOutcome}
 use Rattle.lu_history.specs.declared.serial.SerialOutcome.TheVariants.{Ret, Trap, Stuck}
 use Rattle.lu_history.specs.declared.serial.SerialOp.{SerialOp}
-use Rattle.lu_spec.specs.Specs.{IsOutcome}
+use Rattle.lu_history.specs.Serial.{IsOutcome}
 use Rattle.lu_spec.specs.SpecText.{IsEntry, IsListable, entry_text, history_line, outcome_text, words_of}
 use Rattle.lu_spec.proofs.Entries.{spelled}
 

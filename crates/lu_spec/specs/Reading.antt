@@ -20,6 +20,10 @@ pub record IsListedDraft (matrix : Matrix) (listed set : List (List SerialOp)) (
   pub closure : IsClosureOf listed set
   pub ends : IsLast listed last
 
+-- nothing is listed, whatever the matrix
+abbrev pub ListsNothing : Draft → Type 0
+ListsNothing draft = (matrix : Matrix) → IsListedDraft matrix [] draft.set draft.last.items
+
 -- there are such histories
 abbrev pub IsSomeDraft : Matrix → List (List SerialOp) → List SerialOp → Type 0
 IsSomeDraft matrix set last = (listed : List (List SerialOp)) × IsListedDraft matrix listed set last

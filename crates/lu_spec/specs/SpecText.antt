@@ -10,13 +10,13 @@ use Rattle.lu_history.specs.declared.serial.SerialOutcome.{SerialOutcome}
 use Rattle.lu_history.specs.declared.serial.SerialOutcome.TheVariants.{Ret, Trap, Stuck}
 use Rattle.lu_history.specs.declared.serial.SerialOp.{SerialOp}
 use Rattle.lu_history.specs.Order.{op_cmp}
-use Rattle.lu_history.specs.Serial.{IsSerial}
+use Rattle.lu_history.specs.Serial.{IsOutcome, IsSerial}
 use Rattle.lu_test.specs.Matrix.{Matrix}
 use Rattle.lu_trie.specs.Conflicts.{IsDeterministic, ConflictAt}
 use Rattle.lu_spec.specs.declared.fault.SpecFaultKind.{SpecFaultKind}
 use Rattle.lu_spec.specs.declared.fault.SpecFaultKind.TheVariants.{Form, Foreign, Nondeterministic}
 use Rattle.lu_spec.specs.Beginnings.{Has, IsClosureOf}
-use Rattle.lu_spec.specs.Specs.{FitsMatrix, IsOutcome}
+use Rattle.lu_spec.specs.Specs.{FitsMatrix}
 
 -- ---- the spelling
 

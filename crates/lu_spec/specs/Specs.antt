@@ -1,19 +1,12 @@
 -- Specifications: deterministic sets of serial histories, closed under beginnings.
 use Rattle.std.specs.Prelude.{ℕ, ◌≤◌, ◌<◌, ◌^◌, List, [], All, length, slice_index_or}
-use Rattle.lu_history.specs.declared.serial.SerialOutcome.{SerialOutcome}
-use Rattle.lu_history.specs.declared.serial.SerialOutcome.TheVariants.{Ret, Trap, Stuck}
 use Rattle.lu_history.specs.declared.serial.SerialOp.{SerialOp}
+use Rattle.lu_history.specs.Serial.{IsOutcome}
 use Rattle.lu_test.specs.Matrix.{Matrix, calls_of}
 use Rattle.lu_trie.specs.Members.{AllSerial}
 use Rattle.lu_trie.specs.Conflicts.{IsDeterministic}
 use Rattle.lu_witness.specs.Witnesses.{entries}
 use Rattle.lu_spec.specs.Beginnings.{Has, IsClosed}
-
--- a returned value is a number of 32 bits
-abbrev pub IsOutcome : SerialOutcome → Type 0
-IsOutcome (Ret n) = n < 2 ^ 32
-IsOutcome Trap = Unit {0}
-IsOutcome Stuck = Unit {0}
 
 -- the operation ended so
 abbrev pub HasOutcome : SerialOp → Type 0

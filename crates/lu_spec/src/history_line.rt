@@ -3,8 +3,7 @@
 ghost use Rattle.std.specs.Prelude.{◌≡◌, ◌↔◌, IsTrue, IfOk, IfSome, IfNone, All};
 ghost use Rattle.lu_text.specs.Lines.{texts};
 ghost use Rattle.lu_history.specs.declared.serial.SerialOp.{SerialOp};
-ghost use Rattle.lu_history.specs.Serial.{IsSerial};
-ghost use Rattle.lu_spec.specs.Specs.{IsOutcome};
+ghost use Rattle.lu_history.specs.Serial.{IsOutcome, IsSerial};
 ghost use Rattle.lu_spec.specs.SpecText.{ComesAfter, IsEntry, IsListable, SayEntries, SayHistory, SayNoEntries, SayNoHistory, SaysHistory, SaysNoHistory, SaysNoOutcome, entry_text, outcome_text};
 
 use lu_history::{SerialOp, SerialOutcome};

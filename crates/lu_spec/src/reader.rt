@@ -5,7 +5,7 @@ ghost use Rattle.lu_text.specs.Lines.{kept_lines};
 ghost use Rattle.lu_test.specs.Matrix.{Matrix as AMatrix};
 ghost use Rattle.lu_history.specs.Serial.{IsSerial};
 ghost use Rattle.lu_spec.specs.Beginnings.{AddsBeginnings};
-ghost use Rattle.lu_spec.specs.Reading.{DraftsNext, FindsNext, IsListedDraft, IsDraftOf, IsRefusalAmong, IsSomeDraft, Refuses};
+ghost use Rattle.lu_spec.specs.Reading.{DraftsNext, FindsNext, IsDraftOf, IsRefusalAmong, IsSomeDraft, ListsNothing, Refuses};
 ghost use Rattle.lu_spec.specs.Specs.{AreOf};
 ghost use Rattle.lu_spec.specs.SpecText.{ComesAfter, IsReadAs, IsSpecFault};
 
@@ -97,7 +97,7 @@ fn read_line(
 
 /// The draft before the first history.
 fn nothing_listed(alloc: Global) -> Result<Draft, AllocError>
-    ensures { (matrix : AMatrix) → IfOk result (λ draft. IsListedDraft matrix [] draft.set draft.last.items) }
+    ensures { IfOk result ListsNothing }
 {
     let mut set = Trie::new(alloc);
     add_beginnings(&mut set, &[])?;

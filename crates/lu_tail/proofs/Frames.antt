@@ -1,4 +1,4 @@
--- What a thread's move needs of the state: where other threads stand does not matter, and for an unseen one cells and locks do not either.
+-- What a thread's move needs of the state: where other threads stand does not matter, and for one that doesn't see cells and locks they do not either.
 use Rattle.std.proofs.Common.{◌≡◌, ℕ, zero, suc, ◌==◌, Bool, true, false, List, Option, Some, None, MatchOption, MatchBool, slice_get, slice_set, refl, sym, ◌∙◌, ap, subst}
 use Rattle.std.proofs.lemmas.Option.{slice_get_within}
 use Rattle.lu_component.specs.declared.instr.Instr.{Instr}
@@ -7,20 +7,20 @@ use Rattle.lu_component.specs.Component.{Declarations}
 use Rattle.lu_test.specs.Matrix.{Matrix}
 use Rattle.lu_test.specs.declared.schedule.Move.{Move}
 use Rattle.lu_machine.specs.declared.event.Event.{Event}
-use Rattle.lu_machine.specs.declared.event.Outcome.{Outcome}
 use Rattle.lu_machine.specs.declared.event.Outcome.TheVariants.{Trap}
-use Rattle.lu_machine.specs.declared.thread.Activity.TheVariants.{Open}
+use Rattle.lu_machine.specs.declared.thread.Activity.TheVariants.{Idle, Open}
+use Rattle.lu_machine.specs.declared.thread.Activity.{Activity}
 use Rattle.lu_machine.specs.declared.thread.Frame.{Frame}
 use Rattle.lu_machine.specs.declared.thread.Thread.{Thread}
-use Rattle.lu_machine.specs.Changes.{at_work}
+use Rattle.lu_machine.specs.Changes.{at_work, idle}
 use Rattle.lu_machine.specs.Effects.{Effect, onward, onward_with, value_of}
 use Rattle.lu_machine.specs.Effects.Effect.{Ends}
-use Rattle.lu_horizon.specs.Stands.{is_unseen}
+use Rattle.lu_horizon.specs.Stands.{is_unseen, only_reads}
 use Rattle.lu_machine.specs.States.{State, cell_at, instr_at, value_at, with_cell, with_owner, with_thread}
-use Rattle.lu_machine.specs.Steps.{Carries, ByActivity, Step, instr_picks, owns, picks_of, thread_after}
+use Rattle.lu_machine.specs.Steps.{Carries, ByActivity, Step, instr_picks, opened, owns, picks_of, thread_after}
 use Rattle.lu_machine.proofs.Keeping.{carries_alike}
 use Rattle.lu_horizon.proofs.OwnLaws.{get_set_same, step_by, whole_step}
-use Rattle.lu_tail.specs.Solo.{IsSame, IsShared, Solo, event_with, move_of}
+use Rattle.lu_tail.specs.Solo.{IsSame, IsShared, LastEvents, Solo, move_of}
 
 -- s with these threads
 abbrev pub with_threads : State → List Thread → State
@@ -74,6 +74,22 @@ carries_unseen s r m f (Jump target) new e is h = (h.0, (refl, h.1))
 carries_unseen s r m f (JumpIfZero v target) new e is h = (h.0, (refl, h.1))
 carries_unseen s r m f (Return v) new e is h = (h.0, (refl, h.1))
 
+-- one that only reads leaves the state
+carries_reads : (s : State) (m : Move) (f : Frame) (instr : Instr) (new : State) (e : Effect) → only_reads instr ≡ true → Carries s m f instr new e → new ≡ s
+carries_reads s m f (Set to v) new e is h = h.0
+carries_reads s m f (Compute by to x y) new e is h = h.0
+carries_reads s m f (Load to w i) new e is h = h.0
+carries_reads s m f (Store w i v) new e is h = absurd (cc)
+carries_reads s m f (Cas to w i x y) new e is h = absurd (cc)
+carries_reads s m f (Lock l) new e is h = absurd (cc)
+carries_reads s m f (Unlock l) new e is h = absurd (cc)
+carries_reads s m f (Await w i v) new e is h = absurd (cc)
+carries_reads s m f (AwaitNot w i v) new e is h = absurd (cc)
+carries_reads s m f (Pick to count) new e is h = absurd (cc)
+carries_reads s m f (Jump target) new e is h = h.0
+carries_reads s m f (JumpIfZero v target) new e is h = h.0
+carries_reads s m f (Return v) new e is h = h.0
+
 -- a state by its parts
 state_is : (s r : State) → r.component ≡ s.component → r.matrix ≡ s.matrix → r.cells ≡ s.cells → r.locks ≡ s.locks → with_threads s r.threads ≡ r
 state_is s r c m a l =
@@ -83,18 +99,23 @@ state_is s r c m a l =
     ∙ ap (λ (x : List (Option ℕ)). let y : State = record { component = r.component; matrix = r.matrix; cells = r.cells; locks = x; threads = r.threads } in y) (sym l)))
 
 -- what a step gives in a state that is the same for its thread
-pub record Framed (unseen : Bool) (t : ℕ) (r next : State) (event : Option Event) : Type 0 where
+pub record Framed (sees keeps : Bool) (t : ℕ) (r next : State) (event : Option Event) : Type 0 where
   pub there : State
   pub step : Step r (move_of t) there event
   pub one : picks_of r t ≡ 1
-  pub quiet : unseen ≡ true → IsShared r there
-  pub same : IsSame unseen t next there
+  pub quiet : keeps ≡ true → IsShared r there
+  pub same : IsSame sees t next there
 
--- the step of an open operation, without a choice; its instruction is unseen, where the thread is to be
-pub record Works (unseen : Bool) (t k : ℕ) (f : Frame) (s next : State) (event : Option Event) : Type 0 where
+-- the instruction of an open operation is unseen where the thread is not to see what is shared, and only reads where it is to keep it
+pub record Touches (sees keeps : Bool) (s : State) (f : Frame) : Type 0 where
+  pub unseen_is : (instr : Instr) → sees ≡ false → instr_at s.component f.op f.place ≡ Some instr → is_unseen instr ≡ true
+  pub reads_is : (instr : Instr) → keeps ≡ true → instr_at s.component f.op f.place ≡ Some instr → only_reads instr ≡ true
+
+-- the only move of a thread that stands so
+pub record Works (sees keeps : Bool) (t k : ℕ) (activity : Activity) (s next : State) (event : Option Event) : Type 0 where
   pub short : s.component.local ≡ 0
-  pub stands : slice_get s.threads t ≡ Some (at_work k f)
-  pub unseen_is : (instr : Instr) → unseen ≡ true → instr_at s.component f.op f.place ≡ Some instr → is_unseen instr ≡ true
+  pub stands : slice_get s.threads t ≡ Some (record { done = k; activity = activity })
+  pub touches : (f : Frame) → activity ≡ Open f → Touches sees keeps s f
   pub one : picks_of s t ≡ 1
   pub step : Step s (move_of t) next event
 
@@ -134,11 +155,11 @@ now_stands new ths t was now stands is = ap (λ (x : List Thread). slice_get x t
 picks_at : (s : State) (t k : ℕ) (f : Frame) (instr : Instr) → slice_get s.threads t ≡ Some (at_work k f) → instr_at s.component f.op f.place ≡ Some instr → picks_of s t ≡ instr_picks s f instr
 picks_at s t k f instr stands at = rw (stands, at) refl
 
-module _ (t k : ℕ) (f : Frame) (s next : State) (event : Option Event) where
-  frame_unseen : Works true t k f s next event → (r : State) → IsSame true t s r → Framed true t r next event
+module _ (keeps : Bool) (t k : ℕ) (f : Frame) (s next : State) (event : Option Event) where
+  frame_unseen : Works false keeps t k (Open f) s next event → (r : State) → IsSame false t s r → Framed false keeps t r next event
   frame_unseen w r same =
       let h : ByActivity s (move_of t) k (Open f) next event = step_by s (move_of t) next event (at_work k f) w.short w.stands w.step in
-      let is = w.unseen_is h.0 refl h.3 in
+      let is = (w.touches f refl).unseen_is h.0 refl h.3 in
       let by = carries_unseen s r (move_of t) f h.0 h.1 h.2 is h.5 in
       let now = thread_after k h.2 in
       let stands : slice_get r.threads t ≡ Some (at_work k f) = same.stands ∙ w.stands in
@@ -161,8 +182,8 @@ module _ (t k : ℕ) (f : Frame) (s next : State) (event : Option Event) where
         };
       }
 
-  frame_alone : Works false t k f s next event → (r : State) → IsSame false t s r → Framed false t r next event
-  frame_alone w r same =
+  frame_seen : Works true keeps t k (Open f) s next event → (r : State) → IsSame true t s r → Framed true keeps t r next event
+  frame_seen w r same =
       let h : ByActivity s (move_of t) k (Open f) next event = step_by s (move_of t) next event (at_work k f) w.short w.stands w.step in
       let shared = same.shared refl in
       let is : with_threads s r.threads ≡ r = state_is s r same.component same.matrix_is shared.0 shared.1 in
@@ -178,7 +199,9 @@ module _ (t k : ℕ) (f : Frame) (s next : State) (event : Option Event) where
         there = there;
         step = whole_step r (move_of t) there event short (at_work k f, stands, (h.0, with_threads h.1 r.threads, h.2, at, h.4, carries, refl, h.7));
         one = picks_at r t k f h.0 stands at ∙ (picks ∙ (sym (picks_at s t k f h.0 w.stands h.3) ∙ w.one));
-        quiet = λ e. absurd (cc);
+        quiet = λ e.
+            (let left : h.1 ≡ s = carries_reads s (move_of t) f h.0 h.1 h.2 ((w.touches f refl).reads_is h.0 e h.3) h.5 in
+            (ap (λ (x : State). x.cells) left ∙ sym shared.0, ap (λ (x : State). x.locks) left ∙ sym shared.1));
         same = record {
           component = sym (ap (λ (x : State). x.component) h.6);
           matrix_is = sym (ap (λ (x : State). x.matrix) h.6);
@@ -189,16 +212,42 @@ module _ (t k : ℕ) (f : Frame) (s next : State) (event : Option Event) where
         };
       }
 
+-- an idle thread opens its next call
+frame_call : (sees keeps : Bool) (t k : ℕ) (s next : State) (event : Option Event) → Works sees keeps t k Idle s next event → (r : State) → IsSame sees t s r → Framed sees keeps t r next event
+frame_call sees keeps t k s next event w r same =
+    let h : ByActivity s (move_of t) k Idle next event = step_by s (move_of t) next event (idle k) w.short w.stands w.step in
+    let now = at_work k (opened h.0) in
+    let stands : slice_get r.threads t ≡ Some (idle k) = same.stands ∙ w.stands in
+    let there = with_thread r t now in
+    let short : r.component.local ≡ 0 = ap (λ (x : Declarations). x.local) same.component ∙ w.short in
+    record {
+      there = there;
+      step = whole_step r (move_of t) there event short (idle k, stands, (h.0, rw same.matrix_is h.1, refl, refl, h.4));
+      one = (let e : picks_of r t ≡ picks_of s t = rw (stands, w.stands, same.matrix_is) refl in e ∙ w.one);
+      quiet = λ e. (refl, refl);
+      same = record {
+        component = same.component ∙ sym (ap (λ (x : State). x.component) h.3);
+        matrix_is = same.matrix_is ∙ sym (ap (λ (x : State). x.matrix) h.3);
+        stands =
+            now_stands there r.threads t (idle k) now stands refl
+            ∙ sym (now_stands next s.threads t (idle k) now w.stands (ap (λ (x : State). x.threads) h.3));
+        shared = λ e.
+            (let shared = same.shared e in
+            (shared.0 ∙ sym (ap (λ (x : State). x.cells) h.3), shared.1 ∙ sym (ap (λ (x : State). x.locks) h.3)));
+      };
+    }
+
 -- a step of a thread is one in each state that is the same for it
-pub frame : (unseen : Bool) (t k : ℕ) (f : Frame) (s next : State) (event : Option Event) → Works unseen t k f s next event → (r : State) → IsSame unseen t s r → Framed unseen t r next event
-frame true t k f s next event = frame_unseen t k f s next event
-frame false t k f s next event = frame_alone t k f s next event
+pub frame : (sees keeps : Bool) (t k : ℕ) (activity : Activity) (s next : State) (event : Option Event) → Works sees keeps t k activity s next event → (r : State) → IsSame sees t s r → Framed sees keeps t r next event
+frame sees keeps t k Idle s next event = frame_call sees keeps t k s next event
+frame false keeps t k (Open f) s next event = frame_unseen keeps t k f s next event
+frame true keeps t k (Open f) s next event = frame_seen keeps t k f s next event
 
-pub same_itself : (unseen : Bool) (t : ℕ) (s : State) → IsSame unseen t s s
-same_itself unseen t s = record { component = refl; matrix_is = refl; stands = refl; shared = λ e. (refl, refl) }
+pub same_itself : (sees : Bool) (t : ℕ) (s : State) → IsSame sees t s s
+same_itself sees t s = record { component = refl; matrix_is = refl; stands = refl; shared = λ e. (refl, refl) }
 
-same_trans : (unseen : Bool) (t : ℕ) (s r x : State) → IsSame unseen t s r → IsSame unseen t r x → IsSame unseen t s x
-same_trans unseen t s r x a b = record {
+same_trans : (sees : Bool) (t : ℕ) (s r x : State) → IsSame sees t s r → IsSame sees t r x → IsSame sees t s x
+same_trans sees t s r x a b = record {
   component = b.component ∙ a.component;
   matrix_is = b.matrix_is ∙ a.matrix_is;
   stands = b.stands ∙ a.stands;
@@ -206,12 +255,12 @@ same_trans unseen t s r x a b = record {
 }
 
 -- what a thread still does by itself, it does in each state that is the same for it
-pub solo_same : (unseen : Bool) (t k : ℕ) (outcome : Outcome) (n : ℕ) (s r : State) → IsSame unseen t s r → Solo unseen t k outcome n s → Solo unseen t k outcome n r
-solo_same unseen t k outcome zero s r same solo = (solo.0, same.stands ∙ solo.1, rw same.matrix_is solo.2)
-solo_same unseen t k outcome (suc n) s r same solo = λ x after. solo x (same_trans unseen t s r x same after)
+pub solo_same : (sees keeps : Bool) (t : ℕ) (event_of : LastEvents) (n : ℕ) (s r : State) → IsSame sees t s r → Solo sees keeps t event_of n s → Solo sees keeps t event_of n r
+solo_same sees keeps t event_of zero s r same solo = (solo.0, same.stands ∙ solo.1, rw same.matrix_is solo.2)
+solo_same sees keeps t event_of (suc n) s r same solo = λ x after. solo x (same_trans sees t s r x same after)
 
 -- one move more
-pub solo_more : (unseen : Bool) (t j k : ℕ) (outcome : Outcome) (n : ℕ) (f : Frame) (s next : State) (event : Option Event) → Works unseen t j f s next event → event ≡ event_with t k outcome n → Solo unseen t k outcome n next → Solo unseen t k outcome (suc n) s
-solo_more unseen t j k outcome n f s next event works is solo = λ r same.
-    (let fr = frame unseen t j f s next event works r same in
-    (fr.there, subst (Step r (move_of t) fr.there) is fr.step, fr.one, fr.quiet, solo_same unseen t k outcome n next fr.there fr.same solo))
+pub solo_more : (sees keeps : Bool) (t k : ℕ) (event_of : LastEvents) (n : ℕ) (activity : Activity) (s next : State) (event : Option Event) → Works sees keeps t k activity s next event → event ≡ event_of n → Solo sees keeps t event_of n next → Solo sees keeps t event_of (suc n) s
+solo_more sees keeps t k event_of n activity s next event works is solo = λ r same.
+    (let fr = frame sees keeps t k activity s next event works r same in
+    (fr.there, subst (Step r (move_of t) fr.there) is fr.step, fr.one, fr.quiet, solo_same sees keeps t event_of n next fr.there fr.same solo))

@@ -3,6 +3,7 @@ pub mod Loop
 pub mod Words
 pub mod RoundTrip
 pub mod Parts
+pub mod CallsSaid
 pub mod Threads
 pub mod SomeComponent
 pub mod FewerCalls

@@ -1,7 +1,7 @@
 -- What is written of a component's matrix is read as it was.
 use Rattle.std.proofs.Common.{◌≡◌, ℕ, ◌+◌, ◌^◌, ◌<◌, ◌≤◌, Bool, true, false, Option, None, List, [], ◌∷◌, ◌++◌, length, Some, Ok, refl, sym, ap, subst, ◌∙◌, append_assoc, inl, inr, arith}
 use Rattle.std.specs.Prelude.{codes, map, ◌==◌, is_some, slice_get, sum_by, nat_lt, All}
-use Rattle.std.specs.List.{flat_map, join_with_byte, list_all, position, slice_split, AllByRecursion}
+use Rattle.std.specs.List.{filter_map, flat_map, join_with_byte, list_all, position, slice_split, AllByRecursion}
 use Rattle.std.specs.Str.{bytes_eq}
 use Rattle.std.specs.Fmt.{decimal}
 use Rattle.std.specs.Option.{unwrap_or}
@@ -22,7 +22,7 @@ use Rattle.lu_component.specs.Component.{Declarations, IsComponent, IsOp}
 use Rattle.lu_component.proofs.Named.{name_has, place_at}
 use Rattle.lu_test.specs.declared.matrix.Call.{Call}
 use Rattle.lu_test.specs.Matrix.{AreArguments, IsMatrix, IsOf, IsCallOf, Matrix}
-use Rattle.lu_test.specs.MatrixText.{Drafted, nothing, matrix_of, has_name, has_operation, has_arguments, has_values, call_of, calls_after, calls_fault, is_full, with_thread, with_setup, by_keyword, by_parts, parts_in, line_of, matrix_grammar, operation_name, arguments_text, call_text, others_text, calls_text, line_text, thread_text, setup_text, matrix_text}
+use Rattle.lu_test.specs.MatrixText.{Drafted, nothing, matrix_of, has_name, has_operation, has_arguments, has_values, call_of, calls_said, calls_after, calls_fault, is_full, with_thread, with_setup, by_keyword, by_parts, parts_in, line_of, matrix_grammar, operation_name, arguments_text, call_text, others_text, calls_text, line_text, thread_text, setup_text, matrix_text}
 
 -- ---- bytes that part no calls
 
@@ -52,13 +52,13 @@ number_part n h = record { text = number_text n h; whole = each_weaker IsDigit (
 -- ---- the words of a call
 
 abbrev call_words : Declarations → Call → List Word
-call_words c call = operation_name c call.op ∷ map decimal call.args
+call_words c call = operation_name c.operations call.op ∷ map decimal call.args
 
 joined : (first : Word) (arguments : List ℕ) → join_with_byte 32 (first ∷ map decimal arguments) ≡ first ++ arguments_text arguments
 joined first [] = sym (append-nil first)
 joined first (n ∷ arguments) = ap (λ (t : List ℕ). first ++ (32 ∷ t)) (joined (decimal n) arguments)
 
-values_again : (arguments : List ℕ) → AllByRecursion (λ n. n < 2 ^ 32) arguments → map (λ word. unwrap_or (value_in word) 0) (map decimal arguments) ≡ arguments
+values_again : (arguments : List ℕ) → AllByRecursion (λ n. n < 2 ^ 32) arguments → filter_map value_in (map decimal arguments) ≡ arguments
 values_again [] h = refl
 values_again (n ∷ arguments) h = rw (value_again n h.0) (ap (λ (ns : List ℕ). n ∷ ns) (values_again arguments h.1))
 
@@ -73,11 +73,11 @@ number_parts (n ∷ arguments) h = (number_part n (omega (arith, h.0)), number_p
 -- the words of a call of the component say it again
 record IsSaid (c : Declarations) (call : Call) : Type 0 where
   parts : AllByRecursion IsPart (call_words c call)
-  joins : join_with_byte 32 (call_words c call) ≡ call_text c call
-  there : has_operation c (call_words c call) ≡ true
-  count : has_arguments c (call_words c call) ≡ true
+  joins : join_with_byte 32 (call_words c call) ≡ call_text c.operations call
+  there : has_operation c.operations (call_words c call) ≡ true
+  count : has_arguments c.operations (call_words c call) ≡ true
   values : has_values (call_words c call) ≡ true
-  again : call_of c (call_words c call) ≡ call
+  again : call_of c.operations (call_words c call) ≡ Some call
 
 op_names : (c : Declarations) → IsComponent c → AllByRecursion (λ o. IsName o.name) c.operations
 op_names c is = each_weaker (IsOp (length c.arrays) (length c.locks)) (λ o. IsName o.name) (λ o h. h.name) c.operations (recursion_from_All (IsOp (length c.arrays) (length c.locks)) c.operations is.operations)
@@ -92,18 +92,18 @@ is_said c is call fits arguments =
     said : (op : Op) → call.op < length c.operations → slice_get c.operations call.op ≡ Some op → IsSaid c call
     said op within at =
         let small = recursion_from_All (λ n. n < 2 ^ 32) call.args arguments.1 in
-        let place : position (λ o. bytes_eq o.name (operation_name c call.op)) c.operations ≡ Some call.op = place_at (λ o. o.name) c.operations call.op within is.operations_apart in
+        let place : position (λ o. bytes_eq o.name (operation_name c.operations call.op)) c.operations ≡ Some call.op = place_at (λ o. o.name) c.operations call.op within is.operations_apart in
         let name = name_has IsName (λ o. o.name) c.operations call.op within (op_names c is) in
         let many : length call.args ≡ op.args = rw at at fits in
         let n : length (map decimal call.args) ≡ length call.args = simp length-map in
         let numbers = values_again call.args small in
         record {
-          parts = (name_part (operation_name c call.op) name.0, number_parts call.args small);
-          joins = joined (operation_name c call.op) call.args;
+          parts = (name_part (operation_name c.operations call.op) name.0, number_parts call.args small);
+          joins = joined (operation_name c.operations call.op) call.args;
           there = rw place refl;
           count = rw (place, at) (eq-eqb op.args (length (map decimal call.args)) (omega (arith, n, many)));
           values = are_values call.args small;
-          again = rw place (ap (λ (ns : List ℕ). record { op = call.op; args = ns }) numbers);
+          again = rw place (ap (λ (ns : List ℕ). let made : Call = record { op = call.op; args = ns } in Some made) numbers);
         }
 
 each_said : (c : Declarations) → IsComponent c → (calls : List Call) → AllByRecursion (IsCallOf c) calls → AllByRecursion (λ call. AreArguments call.args) calls → AllByRecursion (IsSaid c) calls
@@ -120,18 +120,18 @@ line_parts c word (call ∷ calls) = (word ∷ call_words c call) ∷ map (call_
 abbrev part_text : List Word → List ℕ
 part_text words = join_with_byte 32 words
 
-others_joined : (c : Declarations) (first : List ℕ) (calls : List Call) → AllByRecursion (IsSaid c) calls → join_with_byte 59 (first ∷ map part_text (map (call_words c) calls)) ≡ first ++ others_text c calls
+others_joined : (c : Declarations) (first : List ℕ) (calls : List Call) → AllByRecursion (IsSaid c) calls → join_with_byte 59 (first ∷ map part_text (map (call_words c) calls)) ≡ first ++ others_text c.operations calls
 others_joined c first [] h = sym (append-nil first)
 others_joined c first (call ∷ calls) h =
     ap (λ (t : List ℕ). first ++ (59 ∷ join_with_byte 59 (t ∷ map part_text (map (call_words c) calls)))) h.0.joins
-    ∙ ap (λ (t : List ℕ). first ++ (59 ∷ t)) (others_joined c (call_text c call) calls h.1)
+    ∙ ap (λ (t : List ℕ). first ++ (59 ∷ t)) (others_joined c (call_text c.operations call) calls h.1)
 
-line_joined : (c : Declarations) (word : Word) (calls : List Call) → AllByRecursion (IsSaid c) calls → join_with_byte 59 (map part_text (line_parts c word calls)) ≡ word ++ calls_text c calls
+line_joined : (c : Declarations) (word : Word) (calls : List Call) → AllByRecursion (IsSaid c) calls → join_with_byte 59 (map part_text (line_parts c word calls)) ≡ word ++ calls_text c.operations calls
 line_joined c word [] h = sym (append-nil word)
 line_joined c word (call ∷ calls) h =
     ap (λ (t : List ℕ). join_with_byte 59 ((word ++ 32 ∷ t) ∷ map part_text (map (call_words c) calls))) h.0.joins
-    ∙ others_joined c (word ++ 32 ∷ call_text c call) calls h.1
-    ∙ append_assoc word (32 ∷ call_text c call) (others_text c calls)
+    ∙ others_joined c (word ++ 32 ∷ call_text c.operations call) calls h.1
+    ∙ append_assoc word (32 ∷ call_text c.operations call) (others_text c.operations calls)
 
 thread_part : IsPart (codes "thread")
 thread_part = record { text = literal_text (codes "thread") (omega arith) refl; whole = (refl, (refl, (refl, (refl, (refl, (refl, tt)))))) }
@@ -189,9 +189,9 @@ line_parts_again c word part (call ∷ calls) h = parts_again (word ∷ call_wor
 after_some : (words : List Word) (parts : List (List Word)) → 0 < length words → calls_after words parts ≡ words ∷ parts
 after_some words parts some = rw (ne_eqb (length words) 0 (λ e. omega arith)) refl
 
-by_line : (c : Declarations) (draft : Drafted) (word : Word) (calls : List Call) → by_parts c draft (line_parts c word calls) ≡ by_keyword c draft word (map (call_words c) calls)
+by_line : (c : Declarations) (draft : Drafted) (word : Word) (calls : List Call) → by_parts c.operations draft (line_parts c word calls) ≡ by_keyword c.operations draft word (map (call_words c) calls)
 by_line c draft word [] = refl
-by_line c draft word (call ∷ calls) = ap (by_keyword c draft word) (after_some (call_words c call) (map (call_words c) calls) (omega arith))
+by_line c draft word (call ∷ calls) = ap (by_keyword c.operations draft word) (after_some (call_words c call) (map (call_words c) calls) (omega arith))
 
 -- ---- a thread
 
@@ -199,11 +199,11 @@ all_named : (c : Declarations) (calls : List Call) → list_all has_name (map (c
 all_named c [] = refl
 all_named c (call ∷ calls) = rw (ne_eqb (length (call_words c call)) 0 (λ e. omega arith), all_named c calls) refl
 
-all_there : (c : Declarations) (calls : List Call) → AllByRecursion (IsSaid c) calls → list_all (has_operation c) (map (call_words c) calls) ≡ true
+all_there : (c : Declarations) (calls : List Call) → AllByRecursion (IsSaid c) calls → list_all (has_operation c.operations) (map (call_words c) calls) ≡ true
 all_there c [] h = refl
 all_there c (call ∷ calls) h = rw (h.0.there, all_there c calls h.1) refl
 
-all_counted : (c : Declarations) (calls : List Call) → AllByRecursion (IsSaid c) calls → list_all (has_arguments c) (map (call_words c) calls) ≡ true
+all_counted : (c : Declarations) (calls : List Call) → AllByRecursion (IsSaid c) calls → list_all (has_arguments c.operations) (map (call_words c) calls) ≡ true
 all_counted c [] h = refl
 all_counted c (call ∷ calls) h = rw (h.0.count, all_counted c calls h.1) refl
 
@@ -211,35 +211,35 @@ all_values : (c : Declarations) (calls : List Call) → AllByRecursion (IsSaid c
 all_values c [] h = refl
 all_values c (call ∷ calls) h = rw (h.0.values, all_values c calls h.1) refl
 
-calls_again : (c : Declarations) (calls : List Call) → AllByRecursion (IsSaid c) calls → map (call_of c) (map (call_words c) calls) ≡ calls
+calls_again : (c : Declarations) (calls : List Call) → AllByRecursion (IsSaid c) calls → calls_said c.operations (map (call_words c) calls) ≡ calls
 calls_again c [] h = refl
-calls_again c (call ∷ calls) h = let first = h.0.again in let rest = calls_again c calls h.1 in cc
+calls_again c (call ∷ calls) h = rw h.0.again (ap (λ (rest : List Call). call ∷ rest) (calls_again c calls h.1))
 
 -- nothing is wrong with calls for which there is room
-none_wrong : (c : Declarations) (calls : List Call) (full : Bool) → AllByRecursion (IsSaid c) calls → full ≡ false → calls_fault c (map (call_words c) calls) full ≡ None
+none_wrong : (c : Declarations) (calls : List Call) (full : Bool) → AllByRecursion (IsSaid c) calls → full ≡ false → calls_fault c.operations (map (call_words c) calls) full ≡ None
 none_wrong c calls full h room =
     rw (all_named c calls, all_there c calls h, all_counted c calls h, all_values c calls h, room) refl
 
 -- a line that says this of a draft is read so
-line_reads : (c : Declarations) (draft next : Drafted) (word : Word) → IsPart word → (calls : List Call) → AllByRecursion (IsSaid c) calls → by_keyword c draft word (map (call_words c) calls) ≡ Ok next
-    → Reads (matrix_grammar c) draft (line_text c word calls) next
+line_reads : (c : Declarations) (draft next : Drafted) (word : Word) → IsPart word → (calls : List Call) → AllByRecursion (IsSaid c) calls → by_keyword c.operations draft word (map (call_words c) calls) ≡ Ok next
+    → Reads (matrix_grammar c) draft (line_text c.operations word calls) next
 unfolding line_of
 line_reads c draft next word part calls h is =
     let bytes = parts_bytes (line_parts c word calls) (parts_are c word part calls h) in
-    let says : line_of c draft (line_of_parts (line_parts c word calls)) ≡ Ok next =
+    let says : line_of c.operations draft (line_of_parts (line_parts c word calls)) ≡ Ok next =
     rw (allowed_line _ bytes, line_parts_again c word part calls h) (by_line c draft word calls ∙ is) in
-    let whole : line_of_parts (line_parts c word calls) ++ 10 ∷ [] ≡ line_text c word calls =
+    let whole : line_of_parts (line_parts c word calls) ++ 10 ∷ [] ≡ line_text c.operations word calls =
     ap (λ (line : List ℕ). line ++ 10 ∷ []) (line_joined c word calls h) in
     subst (λ (line : List ℕ). Reads (matrix_grammar c) draft line next) whole
     (reads_line (matrix_grammar c) draft next (line_of_parts (line_parts c word calls)) (one_line _ bytes) says)
 
 thread_reads : (c : Declarations) (draft : Drafted) (calls : List Call) → AllByRecursion (IsSaid c) calls → length draft.threads < 8 → length calls ≤ 8 → sum_by length draft.threads + length calls ≤ 16
-    → Reads (matrix_grammar c) draft (thread_text c calls) (record draft { threads = draft.threads ++ calls ∷ [] })
+    → Reads (matrix_grammar c) draft (thread_text c.operations calls) (record draft { threads = draft.threads ++ calls ∷ [] })
 thread_reads c draft calls h room few all =
     let n : length (map (call_words c) calls) ≡ length calls = simp length-map in
     let free : is_full draft.threads (length (map (call_words c) calls)) ≡ false =
     rw (n, lt-leb 8 (length draft.threads) room, le-ltb 8 (length calls) few, le-ltb 16 (sum_by length draft.threads + length calls) all) refl in
-    let says : with_thread c draft (map (call_words c) calls) ≡ Ok (record draft { threads = draft.threads ++ calls ∷ [] }) =
+    let says : with_thread c.operations draft (map (call_words c) calls) ≡ Ok (record draft { threads = draft.threads ++ calls ∷ [] }) =
     rw (none_wrong c calls _ h free, calls_again c calls h) refl in
     line_reads c draft (record draft { threads = draft.threads ++ calls ∷ [] }) (codes "thread") thread_part calls h says
 
@@ -255,19 +255,19 @@ setup_again [] = refl
 setup_again (call ∷ calls) = refl
 
 setup_reads : (c : Declarations) (calls : List Call) → AllByRecursion (IsSaid c) calls → length calls ≤ 8
-    → Reads (matrix_grammar c) nothing (setup_text c calls) (record { setup = setup_of calls; threads = [] })
+    → Reads (matrix_grammar c) nothing (setup_text c.operations calls) (record { setup = setup_of calls; threads = [] })
 setup_reads c [] h few = reads_nothing (matrix_grammar c) nothing
 setup_reads c (call ∷ calls) h few =
     let all : List Call = call ∷ calls in
     let n : length (map (call_words c) all) ≡ length all = simp length-map in
     let free : nat_lt 8 (length (map (call_words c) all)) ≡ false = rw (n, le-ltb 8 (length all) few) refl in
-    let says : with_setup c nothing (map (call_words c) all) ≡ Ok (record { setup = Some all; threads = [] }) =
+    let says : with_setup c.operations nothing (map (call_words c) all) ≡ Ok (record { setup = Some all; threads = [] }) =
     rw (none_wrong c all _ h free, calls_again c all h) refl in
     line_reads c nothing (record { setup = Some all; threads = [] }) (codes "setup") setup_part all h says
 
 threads_read : (c : Declarations) → IsComponent c → (setup : Option (List Call)) (all done rest : List (List Call)) → all ≡ done ++ rest → length all ≤ 8 → sum_by length all ≤ 16
     → AllByRecursion (λ calls. length calls ≤ 8) rest → AllByRecursion (λ calls. All (IsCallOf c) calls) rest → AllByRecursion (λ calls. All (λ call. AreArguments call.args) calls) rest
-    → Reads (matrix_grammar c) (record { setup = setup; threads = done }) (flat_map (thread_text c) rest) (record { setup = setup; threads = all })
+    → Reads (matrix_grammar c) (record { setup = setup; threads = done }) (flat_map (thread_text c.operations) rest) (record { setup = setup; threads = all })
 threads_read c is setup all done [] cut few count each fits arguments =
     let same : all ≡ done = cut ∙ append-nil done in
     rw same (reads_nothing (matrix_grammar c) (record { setup = setup; threads = done }))
@@ -280,7 +280,7 @@ threads_read c is setup all done (calls ∷ rest) cut few count each fits argume
     let first = sum_by-cons length calls rest in
     let fewer : sum_by length done + length calls ≤ 16 = omega arith in
     let said = each_said c is calls (recursion_from_All (IsCallOf c) calls fits.0) (recursion_from_All (λ call. AreArguments call.args) calls arguments.0) in
-    reads_on (matrix_grammar c) (record { setup = setup; threads = done }) (record { setup = setup; threads = done ++ calls ∷ [] }) (record { setup = setup; threads = all }) (thread_text c calls) (flat_map (thread_text c) rest)
+    reads_on (matrix_grammar c) (record { setup = setup; threads = done }) (record { setup = setup; threads = done ++ calls ∷ [] }) (record { setup = setup; threads = all }) (thread_text c.operations calls) (flat_map (thread_text c.operations) rest)
     (thread_reads c (record { setup = setup; threads = done }) calls said room each.0 fewer)
     (threads_read c is setup all (done ++ calls ∷ []) rest (cut ∙ sym (append_assoc done (calls ∷ []) rest)) few count each.1 fits.1 arguments.1)
 
@@ -293,7 +293,7 @@ matrix_again c matrix is m fits =
     (recursion_from_All (λ calls. length calls ≤ 8) matrix.threads m.limits.each)
     (recursion_from_All (λ calls. All (IsCallOf c) calls) matrix.threads fits.1)
     (recursion_from_All (λ calls. All (λ call. AreArguments call.args) calls) matrix.threads m.limits.arguments) in
-    let both = reads_on (matrix_grammar c) nothing (record { setup = setup; threads = [] }) all (setup_text c matrix.setup) (flat_map (thread_text c) matrix.threads) (setup_reads c matrix.setup said m.before.few) read in
+    let both = reads_on (matrix_grammar c) nothing (record { setup = setup; threads = [] }) all (setup_text c.operations matrix.setup) (flat_map (thread_text c.operations) matrix.threads) (setup_reads c matrix.setup said m.before.few) read in
     let some = m.some in
     let whole : matrix_of all ≡ matrix = ap (λ (calls : List Call). let made : Matrix = record { setup = calls; threads = matrix.threads } in made) (setup_again matrix.setup) in
     reads_value (matrix_grammar c) (matrix_text c matrix) all matrix both (rw (ne_eqb (length matrix.threads) 0 (λ e. omega arith), whole) refl)

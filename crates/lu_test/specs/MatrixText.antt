@@ -1,15 +1,16 @@
 -- The text of a matrix: what each line says, or what is wrong with it.
-use Rattle.std.specs.Prelude.{ℕ, ◌+◌, Bool, List, [], ◌∷◌, ◌++◌, length, map, drop, Option, Some, None, is_some, is_none, Result, Ok, Err, codes, ◌==◌, ◌&&◌, ◌||◌, not, nat_le, nat_lt, sum_by, if◌then◌else◌}
-use Rattle.std.specs.List.{list_all, slice_split, flat_map}
+use Rattle.std.specs.Prelude.{ℕ, ◌+◌, ◌≤◌, Bool, false, List, [], ◌∷◌, ◌++◌, length, map, drop, Option, Some, None, is_some, is_none, Result, Ok, Err, codes, ◌==◌, ◌&&◌, ◌||◌, not, nat_le, nat_lt, sum_by, if◌then◌else◌}
+use Rattle.std.specs.List.{list_all, slice_split, filter_map, flat_map}
 use Rattle.std.specs.Str.{bytes_eq}
 use Rattle.std.specs.Fmt.{decimal}
-use Rattle.std.specs.Option.{unwrap_or, option_map}
+use Rattle.std.specs.Option.{unwrap_or, option_map, option_map_or, option_and_then}
 use Rattle.std.specs.Prelude.{slice_get}
 use Rattle.lu_text.specs.Numbers.{value_in}
 use denote.Ref.{Bor}
 use Rattle.lu_text.specs.Lines.{texts, words_of, before_comment, is_allowed}
 use Rattle.lu_text.specs.Words.{Word}
 use Rattle.lu_text.specs.Faults.{Grammar, first_fault, or_else, says}
+use Rattle.lu_component.specs.declared.component.Op.{Op}
 use Rattle.lu_component.specs.Component.{Declarations, operation_place}
 use Rattle.lu_test.specs.declared.matrix.Call.{Call}
 use Rattle.lu_test.specs.declared.matrix_fault.MatrixFaultKind.{MatrixFaultKind}
@@ -18,37 +19,41 @@ use Rattle.lu_test.specs.Matrix.{Matrix, AreThreads, IsSetup}
 
 -- ---- the words of a call: a name and arguments
 
-abbrev pub name_in : List Word → Word
-name_in [] = []
-name_in (name ∷ arguments) = name
+-- the number of the operation that the first word names
+abbrev pub named_operation : List Op → List Word → Option ℕ
+named_operation operations [] = None
+named_operation operations (name ∷ arguments) = operation_place operations name
 
--- the number of arguments of the operation that the words name
-abbrev pub wanted : Declarations → List Word → Option ℕ
-wanted c words =
-    option_map (λ o. o.args) (slice_get c.operations (unwrap_or (operation_place c.operations (name_in words)) 0))
+-- the operation itself
+abbrev pub operation_of : List Op → List Word → Option Op
+operation_of operations words = option_and_then (slice_get operations) (named_operation operations words)
 
 abbrev pub has_name : List Word → Bool
 has_name words = not (length words == 0)
 
-abbrev pub has_operation : Declarations → List Word → Bool
-has_operation c words = is_some (operation_place c.operations (name_in words))
+abbrev pub has_operation : List Op → List Word → Bool
+has_operation operations words = is_some (named_operation operations words)
 
--- as many arguments as the operation has
-abbrev pub has_arguments : Declarations → List Word → Bool
-has_arguments c words = unwrap_or (wanted c words) 0 == length (drop 1 words)
+-- there is the operation, and as many arguments as it has
+abbrev pub has_arguments : List Op → List Word → Bool
+has_arguments operations words =
+    option_map_or (λ op. op.args == length (drop 1 words)) (operation_of operations words) false
 
 abbrev pub has_values : List Word → Bool
 has_values words = list_all (λ word. is_some (value_in word)) (drop 1 words)
 
--- the number that the word is
-abbrev pub argument_in : Word → ℕ
-argument_in word = unwrap_or (value_in word) 0
+-- the numbers that the words behind the first are
+abbrev pub arguments_in : List Word → List ℕ
+arguments_in words = filter_map value_in (drop 1 words)
 
-abbrev pub call_of : Declarations → List Word → Call
-call_of c words = record {
-  op = unwrap_or (operation_place c.operations (name_in words)) 0;
-  args = map argument_in (drop 1 words);
-}
+-- the call that the words say, where they name an operation
+abbrev pub call_of : List Op → List Word → Option Call
+call_of operations words =
+    option_map (λ number. record { op = number; args = arguments_in words }) (named_operation operations words)
+
+-- the calls that the words of each part say
+abbrev pub calls_said : List Op → List (List Word) → List Call
+calls_said operations parts = filter_map (call_of operations) parts
 
 -- ---- lines
 
@@ -73,12 +78,20 @@ matrix_of draft = record { setup = unwrap_or draft.setup []; threads = draft.thr
 abbrev pub IsDraft : Drafted → Type 0
 IsDraft draft = AreThreads draft.threads × IsSetup (matrix_of draft).setup
 
+-- no more operations than a component has
+abbrev pub AreFew : List Op → Type 0
+AreFew operations = length operations ≤ 16
+
+-- the limits hold of the operations and of what is read
+abbrev pub CanRead : List Op → Drafted → Type 0
+CanRead operations draft = AreFew operations × IsDraft draft
+
 -- what is wrong with the calls of a line, for which there is room or not
-abbrev pub calls_fault : Declarations → List (List Word) → Bool → Option MatrixFaultKind
-calls_fault c calls full =
+abbrev pub calls_fault : List Op → List (List Word) → Bool → Option MatrixFaultKind
+calls_fault operations calls full =
     first_fault ((not (list_all has_name calls), Form)
-    ∷ (not (list_all (has_operation c) calls), UnknownOp)
-    ∷ (not (list_all (has_arguments c) calls), Arguments)
+    ∷ (not (list_all (has_operation operations) calls), UnknownOp)
+    ∷ (not (list_all (has_arguments operations) calls), Arguments)
     ∷ (not (list_all has_values calls), Number)
     ∷ (full, Limit) ∷ [])
 
@@ -87,33 +100,33 @@ abbrev pub is_full : List (List Call) → ℕ → Bool
 is_full threads n = nat_le 8 (length threads) || (nat_lt 8 n || nat_lt 16 (sum_by length threads + n))
 
 -- what is wrong with the calls of one more thread; or the draft with it
-abbrev pub with_thread : Declarations → Drafted → List (List Word) → Result Drafted MatrixFaultKind
-with_thread c draft calls =
-    or_else (calls_fault c calls (is_full draft.threads (length calls)))
-    (record draft { threads = draft.threads ++ map (call_of c) calls ∷ [] })
+abbrev pub with_thread : List Op → Drafted → List (List Word) → Result Drafted MatrixFaultKind
+with_thread operations draft calls =
+    or_else (calls_fault operations calls (is_full draft.threads (length calls)))
+    (record draft { threads = draft.threads ++ calls_said operations calls ∷ [] })
 
 -- what is wrong with the calls of the setup; or the draft with them
-abbrev pub with_setup : Declarations → Drafted → List (List Word) → Result Drafted MatrixFaultKind
-with_setup c draft calls =
-    or_else (calls_fault c calls (nat_lt 8 (length calls)))
-    (record draft { setup = Some (map (call_of c) calls) })
+abbrev pub with_setup : List Op → Drafted → List (List Word) → Result Drafted MatrixFaultKind
+with_setup operations draft calls =
+    or_else (calls_fault operations calls (nat_lt 8 (length calls)))
+    (record draft { setup = Some (calls_said operations calls) })
 
 -- behind the first word stands nothing, or calls
 abbrev pub calls_after : List Word → List (List Word) → List (List Word)
 calls_after words parts = if length words == 0 && length parts == 0 then [] else words ∷ parts
 
 -- the first word is `thread`, or, on the first line with words, `setup`
-abbrev pub by_keyword : Declarations → Drafted → Word → List (List Word) → Result Drafted MatrixFaultKind
-by_keyword c draft word calls =
-    if bytes_eq word (codes "thread") then with_thread c draft calls
-    else (if bytes_eq word (codes "setup") && is_nothing draft then with_setup c draft calls else Err Form)
+abbrev pub by_keyword : List Op → Drafted → Word → List (List Word) → Result Drafted MatrixFaultKind
+by_keyword operations draft word calls =
+    if bytes_eq word (codes "thread") then with_thread operations draft calls
+    else (if bytes_eq word (codes "setup") && is_nothing draft then with_setup operations draft calls else Err Form)
 
 -- a line by the words of its parts, between which stands `;`
-abbrev pub by_parts : Declarations → Drafted → List (List Word) → Result Drafted MatrixFaultKind
-by_parts c draft [] = Ok draft
-by_parts c draft ([] ∷ []) = Ok draft
-by_parts c draft ([] ∷ part ∷ parts) = Err Form
-by_parts c draft ((word ∷ words) ∷ parts) = by_keyword c draft word (calls_after words parts)
+abbrev pub by_parts : List Op → Drafted → List (List Word) → Result Drafted MatrixFaultKind
+by_parts operations draft [] = Ok draft
+by_parts operations draft ([] ∷ []) = Ok draft
+by_parts operations draft ([] ∷ part ∷ parts) = Err Form
+by_parts operations draft ((word ∷ words) ∷ parts) = by_keyword operations draft word (calls_after words parts)
 
 -- the words of each of these parts in memory
 abbrev pub words_in : List (Bor (List ℕ)) → List (List Word)
@@ -123,8 +136,8 @@ words_in parts = map words_of (texts parts)
 abbrev pub parts_in : List ℕ → List (List Word)
 parts_in line = map words_of (slice_split (λ b. b == 59) (before_comment line))
 
-unfoldable pub line_of : Declarations → Drafted → List ℕ → Result Drafted MatrixFaultKind
-line_of c draft line = if list_all is_allowed line then by_parts c draft (parts_in line) else Err Byte
+unfoldable pub line_of : List Op → Drafted → List ℕ → Result Drafted MatrixFaultKind
+line_of operations draft line = if list_all is_allowed line then by_parts operations draft (parts_in line) else Err Byte
 
 -- at the end there is a thread
 abbrev pub finished : Drafted → Result Matrix MatrixFaultKind
@@ -132,13 +145,13 @@ finished draft = says ((length draft.threads == 0, Limit) ∷ []) (matrix_of dra
 
 -- the text of a matrix of a component
 abbrev pub matrix_grammar : Declarations → Grammar MatrixFaultKind Drafted Matrix
-matrix_grammar c = record { nothing = nothing; line = line_of c; finish = finished }
+matrix_grammar c = record { nothing = nothing; line = line_of c.operations; finish = finished }
 
 -- ---- the canonical text
 
 -- the name of operation number i
-abbrev pub operation_name : Declarations → ℕ → Word
-operation_name c i = unwrap_or (option_map (λ o. o.name) (slice_get c.operations i)) []
+abbrev pub operation_name : List Op → ℕ → Word
+operation_name operations i = unwrap_or (option_map (λ o. o.name) (slice_get operations i)) []
 
 -- an argument behind a space
 abbrev pub argument_text : ℕ → List ℕ
@@ -148,32 +161,33 @@ abbrev pub arguments_text : List ℕ → List ℕ
 arguments_text arguments = flat_map argument_text arguments
 
 -- a call: the operation's name and the arguments
-abbrev pub call_text : Declarations → Call → List ℕ
-call_text c call = operation_name c call.op ++ arguments_text call.args
+abbrev pub call_text : List Op → Call → List ℕ
+call_text operations call = operation_name operations call.op ++ arguments_text call.args
 
 -- a call behind `;`
-abbrev pub other_text : Declarations → Call → List ℕ
-other_text c call = 59 ∷ call_text c call
+abbrev pub other_text : List Op → Call → List ℕ
+other_text operations call = 59 ∷ call_text operations call
 
-abbrev pub others_text : Declarations → List Call → List ℕ
-others_text c calls = flat_map (other_text c) calls
+abbrev pub others_text : List Op → List Call → List ℕ
+others_text operations calls = flat_map (other_text operations) calls
 
 -- behind the first word nothing, or a space and the calls with `;` between them
-abbrev pub calls_text : Declarations → List Call → List ℕ
-calls_text c [] = []
-calls_text c (call ∷ calls) = 32 ∷ call_text c call ++ others_text c calls
+abbrev pub calls_text : List Op → List Call → List ℕ
+calls_text operations [] = []
+calls_text operations (call ∷ calls) = 32 ∷ call_text operations call ++ others_text operations calls
 
 -- a line of these calls
-abbrev pub line_text : Declarations → Word → List Call → List ℕ
-line_text c word calls = word ++ calls_text c calls ++ 10 ∷ []
+abbrev pub line_text : List Op → Word → List Call → List ℕ
+line_text operations word calls = word ++ calls_text operations calls ++ 10 ∷ []
 
-abbrev pub thread_text : Declarations → List Call → List ℕ
-thread_text c calls = line_text c (codes "thread") calls
+abbrev pub thread_text : List Op → List Call → List ℕ
+thread_text operations calls = line_text operations (codes "thread") calls
 
 -- nothing where there is no setup
-abbrev pub setup_text : Declarations → List Call → List ℕ
-setup_text c [] = []
-setup_text c (call ∷ calls) = line_text c (codes "setup") (call ∷ calls)
+abbrev pub setup_text : List Op → List Call → List ℕ
+setup_text operations [] = []
+setup_text operations (call ∷ calls) = line_text operations (codes "setup") (call ∷ calls)
 
 abbrev pub matrix_text : Declarations → Matrix → List ℕ
-matrix_text c matrix = setup_text c matrix.setup ++ flat_map (thread_text c) matrix.threads
+matrix_text c matrix =
+    setup_text c.operations matrix.setup ++ flat_map (thread_text c.operations) matrix.threads

@@ -7,6 +7,7 @@ use Rattle.lu_test.specs.declared.schedule.Move.{Move}
 use Rattle.lu_test.specs.declared.schedule_fault.ScheduleFault.{ScheduleFault}
 use Rattle.lu_test.specs.declared.schedule_fault.ScheduleFault.TheVariants.{Form, Number, Limit, Memory}
 use Rattle.lu_text.specs.Numbers.{number_in}
+use Rattle.lu_test.specs.Schedule.{AreMoves}
 
 -- ---- the one spelling of a schedule
 
@@ -16,6 +17,10 @@ move_text m = decimal m.thread ++ (if m.pick == 0 then [] else 58 ∷ decimal m.
 
 abbrev pub schedule_text : List Move → List ℕ
 schedule_text moves = codes "schedule" ++ flat_map (λ m. 32 ∷ move_text m) moves ++ 10 ∷ []
+
+-- the text is the one spelling of these moves
+abbrev pub SpellsMoves : List ℕ → List Move → Type 0
+SpellsMoves text moves = AreMoves moves × (text ≡ schedule_text moves)
 
 -- ---- reading, with the first fault from the left
 

@@ -1,8 +1,8 @@
 //! Reading of matrices.
 
 ghost use Rattle.std.specs.Prelude.{◌≡◌, ◌==◌, ◌||◌, ◌+◌, ◌∷◌, ◌^◌, ◌<◌, ◌≤◌, ℕ, [], IfOk, Ok, Some, IsErrOf, length, map, drop, nat_le, nat_lt, sum_by, is_some};
-ghost use Rattle.std.specs.Option.{option_map, unwrap_or};
-ghost use Rattle.std.specs.List.{position, list_all, slice_split};
+ghost use Rattle.std.specs.Option.{option_copied, option_map, unwrap_or};
+ghost use Rattle.std.specs.List.{position, filter_map, list_all, slice_split};
 ghost use Rattle.std.specs.Str.{bytes_eq};
 ghost use Rattle.lu_text.specs.Lines.{texts, words_of};
 ghost use Rattle.lu_text.specs.Numbers.{value_in};
@@ -10,13 +10,13 @@ ghost use Rattle.lu_text.specs.Faults.{Gives, OnLine, TellsFirst, meaning_of, me
 ghost use Rattle.lu_component.specs.Component.{operation_place};
 ghost use Rattle.lu_test.specs.Matrix.{AreThreads, IsMatrix, IsOf, IsOfSome};
 ghost use Rattle.lu_test.specs.MatrixText as spec;
-ghost use Rattle.lu_test.specs.MatrixText.{IsDraft, by_parts, calls_after, matrix_grammar, words_in};
+ghost use Rattle.lu_test.specs.MatrixText.{AreFew, CanRead, IsDraft, by_parts, calls_after, matrix_grammar, words_in};
 
 use crate::matrix::{
     Arguments, Call, Calls, MOST_CALLS, MOST_CALLS_OF_THREAD, MOST_THREADS, Matrix,
 };
 use crate::matrix_fault::{MatrixFault, MatrixFaultKind};
-use lu_component::Component;
+use lu_component::{Component, Op, operation_place};
 use lu_text::{Fault, are_allowed, before_comment, lines_of, parts_of, value_in, words_of};
 use std::alloc::{AllocError, Global};
 use std::marker::Model;
@@ -48,16 +48,6 @@ impl<'a> Part<'a> {
 }
 
 impl Part<'_> {
-    /// The first word, or nothing where there is none.
-    fn name(&self) -> &[u8]
-        ensures { result.now ≡ spec.name_in self.now }
-    {
-        match self.words.as_slice() {
-            [] => b"",
-            [name, ..] => name,
-        }
-    }
-
     /// The words behind the first.
     #[tactic(auto, using(crate::proofs::Parts::rest_texts))]
     fn arguments(&self) -> &[&[u8]]
@@ -74,29 +64,37 @@ impl Part<'_> {
     }
 }
 
-/// The number of the operation that a call's first word names.
-fn operation_place(component: &Component, part: &Part<'_>) -> Option<u8>
-    ensures { result ≡ operation_place component.now.operations (spec.name_in part.now) }
+/// The number of the operation that a part's first word names.
+fn named_operation(operations: &[Op], part: &Part<'_>) -> Option<usize>
+    ensures { result ≡ spec.named_operation operations.now part.now }
 {
-    component.operation_place(part.name())
+    match part.words.as_slice() {
+        [] => None,
+        [name, ..] => operation_place(operations, name),
+    }
 }
 
-fn has_operation(component: &Component, part: &Part<'_>) -> bool
-    ensures { result ≡ spec.has_operation component.now part.now }
+/// The operation that a part's first word names.
+fn operation_of<'a>(operations: &'a [Op], part: &Part<'_>) -> Option<&'a Op>
+    ensures { option_copied result ≡ spec.operation_of operations.now part.now }
 {
-    operation_place(component, part).is_some()
+    operations.get(named_operation(operations, part)?)
+}
+
+fn has_operation(operations: &[Op], part: &Part<'_>) -> bool
+    ensures { result ≡ spec.has_operation operations.now part.now }
+{
+    named_operation(operations, part).is_some()
 }
 
 /// Whether there are as many arguments as the operation has.
-fn has_arguments(component: &Component, part: &Part<'_>) -> bool
-    ensures { result ≡ spec.has_arguments component.now part.now }
+fn has_arguments(operations: &[Op], part: &Part<'_>) -> bool
+    ensures { result ≡ spec.has_arguments operations.now part.now }
 {
-    let place = operation_place(component, part).unwrap_or(0);
-    let wanted = match component.operation(place) {
-        None => 0,
-        Some(op) => op.args,
-    };
-    usize::from(wanted) == part.arguments().len()
+    match operation_of(operations, part) {
+        None => false,
+        Some(op) => usize::from(op.args) == part.arguments().len(),
+    }
 }
 
 fn are_values(words: &[&[u8]]) -> bool
@@ -117,16 +115,16 @@ fn all_have_names(parts: &[Part<'_>]) -> bool
     parts.iter().all(|part| part.has_name())
 }
 
-fn all_have_operations(component: &Component, parts: &[Part<'_>]) -> bool
-    ensures { result ≡ list_all (spec.has_operation component.now) parts.now }
+fn all_have_operations(operations: &[Op], parts: &[Part<'_>]) -> bool
+    ensures { result ≡ list_all (spec.has_operation operations.now) parts.now }
 {
-    parts.iter().all(|part| has_operation(component, part))
+    parts.iter().all(|part| has_operation(operations, part))
 }
 
-fn all_have_arguments(component: &Component, parts: &[Part<'_>]) -> bool
-    ensures { result ≡ list_all (spec.has_arguments component.now) parts.now }
+fn all_have_arguments(operations: &[Op], parts: &[Part<'_>]) -> bool
+    ensures { result ≡ list_all (spec.has_arguments operations.now) parts.now }
 {
-    parts.iter().all(|part| has_arguments(component, part))
+    parts.iter().all(|part| has_arguments(operations, part))
 }
 
 fn all_have_values(parts: &[Part<'_>]) -> bool
@@ -135,41 +133,37 @@ fn all_have_values(parts: &[Part<'_>]) -> bool
     parts.iter().all(has_values)
 }
 
+/// The numbers that the words are.
 fn values_of(alloc: Global, words: &[&[u8]]) -> Result<Vec<u32>, AllocError>
-    ensures { IfOk result (λ numbers. numbers.items ≡ map (λ w. spec.argument_in w.now) words.now) }
+    ensures { IfOk result (λ numbers. numbers.items ≡ filter_map (λ w. value_in w.now) words.now) }
 {
     words
         .iter()
-        .map(|word| value_in(word).unwrap_or(0))
+        .filter_map(|word| value_in(word))
         .collect(alloc)
 }
 
 fn arguments_of(alloc: Global, part: &Part<'_>) -> Result<Arguments, AllocError>
-    ensures { IfOk result (λ args. args ≡ map spec.argument_in (drop 1 part.now)) }
+    ensures { IfOk result (λ arguments. arguments ≡ spec.arguments_in part.now) }
 {
     let numbers = values_of(alloc, part.arguments())?;
     Ok(Arguments::new(numbers))
 }
 
-fn call_of(alloc: Global, component: &Component, part: &Part<'_>) -> Result<Call, AllocError>
-    ensures { IfOk result (λ call. call ≡ spec.call_of component.now part.now) }
-{
-    Ok(Call {
-        op: operation_place(component, part).unwrap_or(0),
-        args: arguments_of(alloc, part)?,
-    })
-}
-
-fn calls_of(
-    alloc: Global,
-    component: &Component,
-    parts: &[Part<'_>],
-) -> Result<Vec<Call>, AllocError>
-    ensures { IfOk result (λ calls. calls.items ≡ map (spec.call_of component.now) parts.now) }
+/// The calls that the parts say.
+fn calls_said(alloc: Global, operations: &[Op], parts: &[Part<'_>]) -> Result<Vec<Call>, AllocError>
+    requires { AreFew operations.now }
+    ensures { IfOk result (λ calls. calls.items ≡ spec.calls_said operations.now parts.now) }
 {
     let mut calls = Vec::with_capacity(alloc, parts.len())?;
     for part in parts {
-        calls.push(call_of(alloc, component, part)?)?;
+        match named_operation(operations, part) {
+            None => {}
+            Some(number) => calls.push(Call {
+                op: number as u8,
+                args: arguments_of(alloc, part)?,
+            })?,
+        }
     }
     Ok(calls)
 }
@@ -217,14 +211,14 @@ fn is_full(threads: &[Calls], calls: usize) -> bool
 }
 
 /// What is wrong with the calls of a line, if anything is. `full`: there is no room for them.
-fn calls_fault(component: &Component, calls: &[Part<'_>], full: bool) -> Option<MatrixFaultKind>
-    ensures { result ≡ spec.calls_fault component.now calls.now full }
+fn calls_fault(operations: &[Op], calls: &[Part<'_>], full: bool) -> Option<MatrixFaultKind>
+    ensures { result ≡ spec.calls_fault operations.now calls.now full }
 {
     if !all_have_names(calls) {
         Some(MatrixFaultKind::Form)
-    } else if !all_have_operations(component, calls) {
+    } else if !all_have_operations(operations, calls) {
         Some(MatrixFaultKind::UnknownOp)
-    } else if !all_have_arguments(component, calls) {
+    } else if !all_have_arguments(operations, calls) {
         Some(MatrixFaultKind::Arguments)
     } else if !all_have_values(calls) {
         Some(MatrixFaultKind::Number)
@@ -239,18 +233,18 @@ fn calls_fault(component: &Component, calls: &[Part<'_>], full: bool) -> Option<
 fn with_thread(
     alloc: Global,
     line: usize,
-    component: &Component,
+    operations: &[Op],
     mut draft: Draft,
     calls: &[Part<'_>],
 ) -> Result<Draft, MatrixFault>
-    requires { IsDraft draft }
-    ensures { OnLine line result (spec.with_thread component.now draft calls.now) }
+    requires { CanRead operations.now draft }
+    ensures { OnLine line result (spec.with_thread operations.now draft calls.now) }
 {
     let full = is_full(&draft.threads, calls.len());
-    match calls_fault(component, calls, full) {
+    match calls_fault(operations, calls, full) {
         Some(kind) => Err(Fault::At(kind, line)),
         None => {
-            let calls = calls_of(alloc, component, calls)?;
+            let calls = calls_said(alloc, operations, calls)?;
             draft.threads.push(Calls::new(calls))?;
             Ok(draft)
         }
@@ -261,17 +255,18 @@ fn with_thread(
 fn with_setup(
     alloc: Global,
     line: usize,
-    component: &Component,
+    operations: &[Op],
     mut draft: Draft,
     calls: &[Part<'_>],
 ) -> Result<Draft, MatrixFault>
-    ensures { OnLine line result (spec.with_setup component.now draft calls.now) }
+    requires { AreFew operations.now }
+    ensures { OnLine line result (spec.with_setup operations.now draft calls.now) }
 {
     let full = calls.len() > MOST_CALLS_OF_THREAD;
-    match calls_fault(component, calls, full) {
+    match calls_fault(operations, calls, full) {
         Some(kind) => Err(Fault::At(kind, line)),
         None => {
-            let calls = calls_of(alloc, component, calls)?;
+            let calls = calls_said(alloc, operations, calls)?;
             draft.setup = Some(Calls::new(calls));
             Ok(draft)
         }
@@ -303,13 +298,13 @@ fn call_parts<'a>(
 fn by_words(
     alloc: Global,
     line: usize,
-    component: &Component,
+    operations: &[Op],
     draft: Draft,
     words: &[&[u8]],
     more: &[&[u8]],
 ) -> Result<Draft, MatrixFault>
-    requires { IsDraft draft }
-    ensures { OnLine line result (by_parts component.now draft (texts words.now ∷ words_in more.now)) }
+    requires { CanRead operations.now draft }
+    ensures { OnLine line result (by_parts operations.now draft (texts words.now ∷ words_in more.now)) }
 {
     match words {
         [] => {
@@ -322,10 +317,10 @@ fn by_words(
         [word, rest @ ..] => {
             if *word == b"thread".as_slice() {
                 let calls = call_parts(alloc, rest, more)?;
-                with_thread(alloc, line, component, draft, &calls)
+                with_thread(alloc, line, operations, draft, &calls)
             } else if *word == b"setup".as_slice() && draft.is_nothing() {
                 let calls = call_parts(alloc, rest, more)?;
-                with_setup(alloc, line, component, draft, &calls)
+                with_setup(alloc, line, operations, draft, &calls)
             } else {
                 Err(Fault::At(MatrixFaultKind::Form, line))
             }
@@ -337,18 +332,18 @@ fn by_words(
 fn by_parts(
     alloc: Global,
     line: usize,
-    component: &Component,
+    operations: &[Op],
     draft: Draft,
     parts: &[&[u8]],
 ) -> Result<Draft, MatrixFault>
-    requires { IsDraft draft }
-    ensures { OnLine line result (spec.by_parts component.now draft (words_in parts.now)) }
+    requires { CanRead operations.now draft }
+    ensures { OnLine line result (spec.by_parts operations.now draft (words_in parts.now)) }
 {
     match parts {
         [] => Ok(draft),
         [first, others @ ..] => {
             let words = words_of(alloc, first)?;
-            by_words(alloc, line, component, draft, &words, others)
+            by_words(alloc, line, operations, draft, &words, others)
         }
     }
 }
@@ -357,18 +352,18 @@ fn by_parts(
 fn read_line(
     alloc: Global,
     line: usize,
-    component: &Component,
+    operations: &[Op],
     draft: Draft,
     text: &[u8],
 ) -> Result<Draft, MatrixFault>
-    requires { IsDraft draft }
-    ensures { OnLine line result (spec.line_of component.now draft text.now) }
+    requires { CanRead operations.now draft }
+    ensures { OnLine line result (spec.line_of operations.now draft text.now) }
 {
     if !are_allowed(text) {
         return Err(Fault::At(MatrixFaultKind::Byte, line));
     }
     let parts = parts_of(alloc, b';', before_comment(text))?;
-    by_parts(alloc, line, component, draft, &parts)
+    by_parts(alloc, line, operations, draft, &parts)
 }
 
 /// The calls of the setup: none where there is no line of it.
@@ -382,7 +377,7 @@ fn setup_of(alloc: Global, setup: Option<Calls>) -> Calls
 }
 
 /// The matrix at the end of the text.
-fn finished(alloc: Global, line: usize, draft: Draft) -> Result<Matrix, MatrixFault>
+fn finish(alloc: Global, line: usize, draft: Draft) -> Result<Matrix, MatrixFault>
     requires limits { IsDraft draft }
     requires of_some { IsOfSome (spec.matrix_of draft) }
     ensures { OnLine line result (spec.finished draft) }
@@ -397,16 +392,15 @@ fn read_lines(alloc: Global, component: &Component, lines: &[&[u8]]) -> Result<M
     ensures exact { Gives result (meaning_of_lines (matrix_grammar component.now) (texts lines.now)) }
     ensures of { IfOk result (λ matrix. IsOf matrix component.now) }
 {
-    // The proof needs that the component obeys its rules.
-    let _operations = component.operations();
+    let operations = component.operations();
     let mut draft = Draft {
         setup: None,
         threads: Vec::new(alloc),
     };
     for (before, text) in lines.iter().enumerate() {
-        draft = read_line(alloc, before + 1, component, draft, text)?;
+        draft = read_line(alloc, before + 1, operations, draft, text)?;
     }
-    finished(alloc, lines.len() + 1, draft)
+    finish(alloc, lines.len() + 1, draft)
 }
 
 fn matrix_in(alloc: Global, component: &Component, text: &[u8]) -> Result<Matrix, MatrixFault>

@@ -7,14 +7,15 @@ ghost use Rattle.lu_test.specs.Matrix.{IsOf};
 ghost use Rattle.lu_test.specs.MatrixText as spec;
 
 use crate::matrix::{Call, Calls, Matrix};
-use lu_component::Component;
+use lu_component::{Component, Op};
 use std::alloc::{AllocError, Global};
 
-/// Adds the name of operation number `number` at the end of a text.
-fn put_name(text: &mut String, component: &Component, number: u8) -> Result<(), AllocError>
-    ensures { Writes result text.old text.new (spec.operation_name component.now number) }
+/// Adds the name of operation number `number` at the end of a text: no name where there is none, as no call of a matrix of
+/// the component has it.
+fn put_name(text: &mut String, operations: &[Op], number: u8) -> Result<(), AllocError>
+    ensures { Writes result text.old text.new (spec.operation_name operations.now number) }
 {
-    match component.operation(number) {
+    match operations.get(usize::from(number)) {
         None => Ok(()),
         Some(op) => text.push_str(op.name.as_str()),
     }
@@ -36,39 +37,39 @@ fn put_arguments(text: &mut String, arguments: &[u32]) -> Result<(), AllocError>
     Ok(())
 }
 
-fn put_call(text: &mut String, component: &Component, call: &Call) -> Result<(), AllocError>
-    ensures { Writes result text.old text.new (spec.call_text component.now call.now) }
+fn put_call(text: &mut String, operations: &[Op], call: &Call) -> Result<(), AllocError>
+    ensures { Writes result text.old text.new (spec.call_text operations.now call.now) }
 {
-    put_name(text, component, call.op)?;
+    put_name(text, operations, call.op)?;
     put_arguments(text, call.args.as_slice())
 }
 
 /// Adds a call behind `;`.
-fn put_other(text: &mut String, component: &Component, call: &Call) -> Result<(), AllocError>
-    ensures { Writes result text.old text.new (spec.other_text component.now call.now) }
+fn put_other(text: &mut String, operations: &[Op], call: &Call) -> Result<(), AllocError>
+    ensures { Writes result text.old text.new (spec.other_text operations.now call.now) }
 {
     text.push(';')?;
-    put_call(text, component, call)
+    put_call(text, operations, call)
 }
 
-fn put_others(text: &mut String, component: &Component, calls: &[Call]) -> Result<(), AllocError>
-    ensures { Writes result text.old text.new (spec.others_text component.now calls.now) }
+fn put_others(text: &mut String, operations: &[Op], calls: &[Call]) -> Result<(), AllocError>
+    ensures { Writes result text.old text.new (spec.others_text operations.now calls.now) }
 {
     for call in calls {
-        put_other(text, component, call)?;
+        put_other(text, operations, call)?;
     }
     Ok(())
 }
 
-fn put_calls(text: &mut String, component: &Component, calls: &[Call]) -> Result<(), AllocError>
-    ensures { Writes result text.old text.new (spec.calls_text component.now calls.now) }
+fn put_calls(text: &mut String, operations: &[Op], calls: &[Call]) -> Result<(), AllocError>
+    ensures { Writes result text.old text.new (spec.calls_text operations.now calls.now) }
 {
     match calls {
         [] => Ok(()),
         [first, others @ ..] => {
             text.push(' ')?;
-            put_call(text, component, first)?;
-            put_others(text, component, others)
+            put_call(text, operations, first)?;
+            put_others(text, operations, others)
         }
     }
 }
@@ -76,37 +77,33 @@ fn put_calls(text: &mut String, component: &Component, calls: &[Call]) -> Result
 /// Adds a line of these calls.
 fn put_line(
     text: &mut String,
-    component: &Component,
+    operations: &[Op],
     word: &str,
     calls: &[Call],
 ) -> Result<(), AllocError>
-    ensures { Writes result text.old text.new (spec.line_text component.now word.now calls.now) }
+    ensures { Writes result text.old text.new (spec.line_text operations.now word.now calls.now) }
 {
     text.push_str(word)?;
-    put_calls(text, component, calls)?;
+    put_calls(text, operations, calls)?;
     text.push('\n')?;
     Ok(())
 }
 
 /// Adds the line of a setup, which is not written where it has no calls.
-fn put_setup(text: &mut String, component: &Component, calls: &[Call]) -> Result<(), AllocError>
-    ensures { Writes result text.old text.new (spec.setup_text component.now calls.now) }
+fn put_setup(text: &mut String, operations: &[Op], calls: &[Call]) -> Result<(), AllocError>
+    ensures { Writes result text.old text.new (spec.setup_text operations.now calls.now) }
 {
     match calls {
         [] => Ok(()),
-        _ => put_line(text, component, "setup", calls),
+        _ => put_line(text, operations, "setup", calls),
     }
 }
 
-fn put_threads(
-    text: &mut String,
-    component: &Component,
-    threads: &[Calls],
-) -> Result<(), AllocError>
-    ensures { Writes result text.old text.new (flat_map (spec.thread_text component.now) threads.now) }
+fn put_threads(text: &mut String, operations: &[Op], threads: &[Calls]) -> Result<(), AllocError>
+    ensures { Writes result text.old text.new (flat_map (spec.thread_text operations.now) threads.now) }
 {
     for calls in threads {
-        put_line(text, component, "thread", calls.as_slice())?;
+        put_line(text, operations, "thread", calls.as_slice())?;
     }
     Ok(())
 }
@@ -127,10 +124,9 @@ pub fn write_matrix(
     ensures text { IfOk result (λ text. string_bytes text ≡ spec.matrix_text component.now matrix.now) }
     ensures again { IfOk result (IsTextOf (spec.matrix_grammar component.now) matrix.now) }
 {
-    // The proof needs that the component obeys its rules.
-    let _operations = component.operations();
+    let operations = component.operations();
     let mut text = String::new(alloc);
-    put_setup(&mut text, component, matrix.setup().as_slice())?;
-    put_threads(&mut text, component, matrix.as_slice())?;
+    put_setup(&mut text, operations, matrix.setup().as_slice())?;
+    put_threads(&mut text, operations, matrix.as_slice())?;
     Ok(text)
 }

@@ -1,13 +1,13 @@
 //! Reading and writing of schedules.
 
-ghost use Rattle.std.specs.Prelude.{◌≡◌, ◌==◌, ◌∷◌, List, IfOk, Ok, not, length, string_bytes};
+ghost use Rattle.std.specs.Prelude.{◌≡◌, ◌==◌, ◌∷◌, List, IfOk, OnOk, Ok, not, length, string_bytes};
 ghost use Rattle.std.specs.Option.{option_map};
 ghost use Rattle.std.specs.List.{position, list_all};
 ghost use Rattle.lu_text.specs.Lines.{texts};
 ghost use Rattle.lu_text.specs.Numbers.{number_in};
 ghost use Rattle.lu_text.specs.Writing.{Writes};
 ghost use Rattle.lu_test.specs.Schedule.{AreMoves};
-ghost use Rattle.lu_test.specs.ScheduleText.{GivesSchedule, schedule_text, move_text, schedule_of, move_of, one_line};
+ghost use Rattle.lu_test.specs.ScheduleText.{GivesSchedule, SpellsMoves, schedule_text, move_text, schedule_of, move_of, one_line};
 ghost use Rattle.lu_test.specs.ScheduleText as spec;
 
 use crate::schedule::{MOST_MOVES, Move, Schedule};
@@ -109,9 +109,9 @@ fn schedule_in(alloc: Global, text: &[u8]) -> Result<Schedule, ScheduleFault>
 /// The fault of the text, or that there is no memory for the schedule.
 pub fn read_schedule(alloc: Global, text: &[u8]) -> Result<Schedule, ScheduleFault>
     // What is read is spelled so.
-    ensures found { IfOk result (λ s. AreMoves s × (text.now ≡ schedule_text s)) }
+    ensures found { IfOk result (SpellsMoves text.now) }
     // What is spelled so is read, unless memory runs out.
-    ensures only { (ms : List Move) → AreMoves ms → text.now ≡ schedule_text ms → GivesSchedule result (Ok ms) }
+    ensures only { (ms : List Move) → SpellsMoves text.now ms → GivesSchedule result (Ok ms) }
     // Which fault it is.
     ensures exact { GivesSchedule result (schedule_of text.now) }
 {
@@ -138,6 +138,7 @@ fn put_move(text: &mut String, next: &Move) -> Result<(), AllocError>
 pub fn write_schedule(alloc: Global, schedule: &Schedule) -> Result<String, AllocError>
     ensures text { IfOk result (λ text. string_bytes text ≡ schedule_text schedule.now) }
     ensures again { IfOk result (λ text. schedule_of (string_bytes text) ≡ Ok schedule.now) }
+    ensures moves { OnOk result (AreMoves schedule.now) }
 {
     let mut text = String::from_str(alloc, "schedule")?;
     for next in schedule.moves() {

@@ -65,7 +65,7 @@ instr_text c f instr =
 
 -- a call as a matrix has it
 abbrev pub call_words : Declarations → Call → List ℕ
-call_words c call = codes "call " ++ call_text c call
+call_words c call = codes "call " ++ call_text c.operations call
 
 -- the next call of thread t, which has made so many
 abbrev pub next_call : State → ℕ → ℕ → List ℕ

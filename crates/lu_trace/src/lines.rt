@@ -91,7 +91,7 @@ pub(crate) fn write_instr_text(
 
 /// Adds the name of an operation, by its number. No call of a component names one that is not there.
 fn write_name(text: &mut String, component: &Component, op: u8) -> Result<(), AllocError>
-    ensures { Writes result text.old text.new (operation_name component.now op) }
+    ensures { Writes result text.old text.new (operation_name component.now.operations op) }
 {
     match component.operation(op) {
         None => Ok(()),

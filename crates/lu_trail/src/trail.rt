@@ -4,11 +4,12 @@ ghost use Rattle.std.specs.Prelude.{◌≡◌, ◌≢◌, ◌∷◌, [], ◌++�
 ghost use Rattle.lu_history.specs.Histories.{Fits, IsWellFormed};
 ghost use Rattle.lu_witness.specs.Caches.{SameButEntries};
 ghost use Rattle.lu_witness.specs.Witnesses.{IsMember, IsVerdict};
+ghost use Rattle.lu_trail.specs.Returned.{returned};
 
 use crate::events::{Events, refill};
 use crate::path::Path;
 use crate::uses::Uses;
-use lu_history::History;
+use lu_history::{History, SerialOp, SerialOutcome};
 use lu_machine::Event;
 use lu_trie::SerialTree;
 use lu_witness::{Cache, Verdict};
@@ -63,6 +64,23 @@ fn verdict_of<'t, T: SerialTree>(
 {
     refill(judged, events)?;
     Ok(uses.verdict(tree, cache, judged))
+}
+
+/// The operations of the events that return, in the order in which they do.
+fn returned(alloc: Global, events: &[Event]) -> Result<Vec<SerialOp>, AllocError>
+    ensures { IfOk result (λ ops. ops.items ≡ returned events.now) }
+{
+    let mut ops = Vec::new(alloc);
+    for event in events {
+        match *event {
+            Event::Call { .. } => {}
+            Event::Return { t, k: _, outcome } => ops.push(SerialOp {
+                thread: t,
+                outcome: SerialOutcome::from(outcome),
+            })?,
+        }
+    }
+    Ok(ops)
 }
 
 impl<'t, T: SerialTree> Trail<'t, T> {
@@ -164,5 +182,22 @@ impl<'t, T: SerialTree> Trail<'t, T> {
             self.path.note_good();
         }
         Ok(verdict)
+    }
+
+    /// The operations that have returned, in the order in which they did.
+    ///
+    /// # Errors
+    ///
+    /// `AllocError` where memory was refused.
+    pub fn returned(&mut self, alloc: Global) -> Result<Vec<SerialOp>, AllocError>
+        ensures same { self.new ≡ self.old }
+        ensures well_formed { IsWellFormed self.old.history }
+        ensures returned { IfOk result (λ ops. ops.items ≡ returned self.old.history) }
+    {
+        if self.is_plain {
+            return returned(alloc, self.events.as_slice());
+        }
+        self.path.write(&mut self.events);
+        returned(alloc, self.events.as_slice())
     }
 }

@@ -7,6 +7,9 @@ mod Walking
 mod Added
 mod CutBelow
 mod TailBelow
+mod ReturnOrders
 mod TailVerdicts
 mod Finishing
+mod OrderSets
 mod NeverStopped
+mod GridLaws

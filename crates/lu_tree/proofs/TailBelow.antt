@@ -3,7 +3,6 @@ use Rattle.std.proofs.Common.{◌≡◌, ℕ, zero, suc, ◌+◌, ◌<◌, ◌�
 use Rattle.std.proofs.lemmas.List.{append-nil}
 use Rattle.lu_test.specs.declared.schedule.Move.{Move}
 use Rattle.lu_machine.specs.declared.event.Event.{Event}
-use Rattle.lu_machine.specs.declared.event.Outcome.{Outcome}
 use Rattle.lu_machine.specs.States.{State}
 use Rattle.lu_machine.specs.Steps.{Step, IsFeasible, picks_of}
 use Rattle.lu_machine.specs.Runs.{Leads, with_event}
@@ -13,7 +12,7 @@ use Rattle.lu_machine.proofs.Ended.{complete_no_move}
 use Rattle.lu_machine.proofs.Paths.{child_leads, with_event-append}
 use Rattle.lu_machine.proofs.StepLaws.{feasible_step}
 use Rattle.lu_tail.specs.Orders.{all_moves, interleavings, led_below, led_by}
-use Rattle.lu_tail.specs.Solo.{IsTail, is_other}
+use Rattle.lu_tail.specs.Solo.{IsTail, LastEvents, Sharing}
 use Rattle.lu_tail.proofs.OrderLaws.{fewer_moves, led_all, led_by_none, led_some}
 use Rattle.lu_tail.proofs.TailLaws.{none_interleavings, none_left, solo_picks, some_left, tail_complete, tail_step}
 use Rattle.lu_history.specs.declared.serial.SerialOp.{SerialOp}
@@ -22,7 +21,7 @@ use Rattle.lu_tree.specs.Trees.{Below}
 use Rattle.lu_tree.specs.Walks.{completes, one_complete}
 use Rattle.lu_tree.proofs.Walking.{GoesOnBelow, kids_all, kids_more, kids_none, kids_turn, complete_counted}
 
-module _ (start : State) (Set : List SerialOp → Type 0) (bound : ℕ) (special : ℕ) (k_of : ℕ → ℕ) (outcome_of : ℕ → Outcome) where
+module _ (start : State) (Set : List SerialOp → Type 0) (bound : ℕ) (sharing : Sharing) (events_of : ℕ → LastEvents) where
   -- each complete schedule from s is good, behind h
   abbrev pub AreEndsGood : State → List Event → Type 0
   AreEndsGood s h = (v : List Move) (end : State) (k : List Event) → Leads s v end k → IsComplete end → IsGoodAt Set end (h ++ k)
@@ -33,7 +32,7 @@ module _ (start : State) (Set : List SerialOp → Type 0) (bound : ℕ) (special
       let e : (h ++ with_event event []) ++ k ≡ h ++ with_event event k = append_assoc h (with_event event []) k ∙ ap (λ x. h ++ x) (with_event-append event [] k) in
       subst (IsGoodAt Set end) (sym e) g
 
-  module _ (u : List Move) (s : State) (h : List Event) (at : Leads start u s h) (ns : List ℕ) (tail : IsTail s ns special k_of outcome_of) (kid : (m : Move) (n : ℕ) → IsFeasible s m → get_or ns m.thread 0 ≡ suc n → AreAllGood Set start bound (Below (u ++ m ∷ [])) (completes (capped (interleavings (slice_set ns m.thread n))))) where
+  module _ (u : List Move) (s : State) (h : List Event) (at : Leads start u s h) (ns : List ℕ) (tail : IsTail s ns sharing events_of) (kid : (m : Move) (n : ℕ) → IsFeasible s m → get_or ns m.thread 0 ≡ suc n → AreAllGood Set start bound (Below (u ++ m ∷ [])) (completes (capped (interleavings (slice_set ns m.thread n))))) where
     Counted : ℕ → ℕ → ℕ → Type 0
     Counted t p many = AreAllGood Set start bound (GoesOnBelow u (record { thread = t; pick = p })) (completes (capped many))
 
@@ -66,7 +65,7 @@ module _ (start : State) (Set : List SerialOp → Type 0) (bound : ℕ) (special
         let lt : t < length s.threads = omega arith in
         let solo = tail.each t lt in
         let before : Counted t 0 (led_below ns t) = by_threads t (omega arith) in
-        let next = turn t (get_or ns t 0) lt refl (solo_picks (is_other special t) t (k_of t) (outcome_of t) (get_or ns t 0) s solo) before in
+        let next = turn t (get_or ns t 0) lt refl (solo_picks (sharing.sees t) (sharing.keeps t) t (events_of t) (get_or ns t 0) s solo) before in
         let e : t + 1 ≡ suc t = omega arith in
         rw (← e) next
 
@@ -77,9 +76,9 @@ module _ (start : State) (Set : List SerialOp → Type 0) (bound : ℕ) (special
         rw (← whole) (kids_all start u s h at Set bound (length s.threads) (omega arith) some room (completes (capped (led_below ns (length s.threads)))) (by_threads (length s.threads) (omega arith)))
 
   -- where each complete schedule is good
-  pub orders_all : (left : ℕ) (u : List Move) (s : State) (h : List Event) → Leads start u s h → (ns : List ℕ) → IsTail s ns special k_of outcome_of → all_moves ns ≡ left → length u + left ≤ bound → AreEndsGood s h → AreAllGood Set start bound (Below u) (completes (capped (interleavings ns)))
+  pub orders_all : (left : ℕ) (u : List Move) (s : State) (h : List Event) → Leads start u s h → (ns : List ℕ) → IsTail s ns sharing events_of → all_moves ns ≡ left → length u + left ≤ bound → AreEndsGood s h → AreAllGood Set start bound (Below u) (completes (capped (interleavings ns)))
   orders_all zero u s h at ns tail none short good =
-      let complete : IsComplete s = tail_complete s ns special k_of outcome_of tail (none_left ns none) in
+      let complete : IsComplete s = tail_complete s ns sharing events_of tail (none_left ns none) in
       let here : IsGoodAt Set s h = subst (IsGoodAt Set s) (append-nil h) (good [] s [] (refl, refl) complete) in
       let one : AreAllGood Set start bound (Below u) one_complete = complete_counted start u s h at Set bound (inl (complete_no_move s complete)) (omega arith) complete here in
       let orders = none_interleavings ns none in
@@ -89,14 +88,14 @@ module _ (start : State) (Set : List SerialOp → Type 0) (bound : ℕ) (special
       let first = some_left ns (omega arith) in
       let many = tail.many in
       let within : first.0 < length s.threads = omega (arith, first.1) in
-      let move : HasMove s = elim (solo_picks (is_other special first.0) first.0 (k_of first.0) (outcome_of first.0) (get_or ns first.0 0) s (tail.each first.0 within)) [
+      let move : HasMove s = elim (solo_picks (sharing.sees first.0) (sharing.keeps first.0) first.0 (events_of first.0) (get_or ns first.0 0) s (tail.each first.0 within)) [
         | inl none ↦ absurd (omega (arith, first.2, none.0))
         | inr one ↦ (first.0, omega (arith, one.1))
       ] in
       by_all u s h at ns tail
       (λ m n f had.
       (let step = feasible_step s m f in
-      let took = tail_step s ns special k_of outcome_of tail m step.0 step.1 step.2 in
+      let took = tail_step s ns sharing events_of tail m step.0 step.1 step.2 in
       let has = took.had in
       let same : took.n ≡ n = omega arith in
       let fewer = fewer_moves ns m.thread n had in

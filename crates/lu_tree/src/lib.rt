@@ -18,16 +18,19 @@
 #![tactic(auto)]
 
 mod ahead;
-mod below;
+mod every_order;
 mod found;
+mod grid;
+mod look;
 mod node;
 mod pieces;
+mod searching;
 mod tail;
 mod tally;
 mod walk;
 mod watch;
 
-pub use below::{search, search_watched};
 pub use found::Found;
 pub use pieces::frontier;
+pub use searching::{search, search_watched};
 pub use watch::{Unwatched, Watch};

@@ -1,6 +1,8 @@
 //! A node of the tree of schedules.
 
 ghost use Rattle.std.specs.Prelude.{◌≡◌, ◌++◌, false, [], IfOk, IsTrue, List};
+ghost use Rattle.lu_component.specs.Component.{IsComponent};
+ghost use Rattle.lu_test.specs.Matrix.{IsMatrix};
 ghost use Rattle.lu_machine.specs.declared.event.Event.{Event};
 ghost use Rattle.lu_machine.specs.Ends.{IsComplete, IsEnded};
 ghost use Rattle.lu_machine.specs.Runs.{with_event};
@@ -41,6 +43,7 @@ impl<'a, 't, T: SerialTree> Node<'a, 't, T> {
         ensures machine { IfOk result (λ node. IsStart component.now matrix.now node.machine) }
         ensures history { IfOk result (λ node. node.trail.history ≡ []) }
         ensures tree { IfOk result (λ node. node.trail.tree ≡ tree.entry.now) }
+        ensures limits { IsComponent component.now × IsMatrix matrix.now }
     {
         Ok(Node {
             machine: Machine::start(alloc, component, matrix)?,

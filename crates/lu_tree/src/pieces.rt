@@ -3,6 +3,7 @@
 ghost use Rattle.std.specs.Prelude.{◌≡◌, ◌+◌, ◌≤◌, ◌++◌, [], ◌∷◌, List, ℕ, min, length, drop, IfOk, IfNone, IfSome, OnOk};
 ghost use Rattle.lu_component.specs.Component.{IsComponent};
 ghost use Rattle.lu_test.specs.declared.schedule.Move.{Move as AMove};
+ghost use Rattle.lu_test.specs.Matrix.{IsMatrix};
 ghost use Rattle.lu_test.specs.Schedule.{IsMove};
 ghost use Rattle.lu_machine.specs.States.{State};
 ghost use Rattle.lu_machine.specs.Schedules.{AreAll, IsCover, IsSchedule, Lists};
@@ -19,7 +20,7 @@ use std::alloc::{AllocError, Global};
 const MOST_PIECES: usize = 65_536;
 
 /// The piece with one more move.
-fn longer(alloc: Global, piece: &Schedule, next: Move) -> Result<Schedule, AllocError>
+fn extend(alloc: Global, piece: &Schedule, next: Move) -> Result<Schedule, AllocError>
     requires short { length piece.now ≤ 256 }
     requires sound { IsMove next }
     ensures { IfOk result (λ longer. longer ≡ piece.now ++ next ∷ []) }
@@ -45,7 +46,7 @@ fn add_kids(
     let before = next.len();
     for thread in 0..machine.threads() {
         for pick in 0..machine.picks(thread) {
-            next.push(longer(alloc, piece, Move { thread, pick })?)?;
+            next.push(extend(alloc, piece, Move { thread, pick })?)?;
         }
     }
     if next.len() == before {
@@ -80,7 +81,7 @@ fn deepen(
 }
 
 /// The pieces one move deeper, or None where there would be more than `MOST_PIECES`.
-fn deeper(
+fn go_deeper(
     alloc: Global,
     machine: &mut Machine,
     pieces: &[Schedule],
@@ -122,12 +123,13 @@ pub fn frontier(
     requires shallow { depth ≤ 8 }
     ensures frontier { IfOk result (λ p. IsFrontierFrom component.now matrix.now bound depth p.items) }
     ensures cover { IfOk result (λ pieces. IsCoverFrom component.now matrix.now bound pieces.items) }
+    ensures limits { IsComponent component.now × IsMatrix matrix.now }
 {
     let mut machine = Machine::start(alloc, component, matrix)?;
     let mut pieces = Vec::new(alloc);
     pieces.push(Schedule::new(Vec::new(alloc)))?;
     for _level in 0..bound.min(u16::from(depth)) {
-        match deeper(alloc, &mut machine, &pieces)? {
+        match go_deeper(alloc, &mut machine, &pieces)? {
             None => return Ok(pieces),
             Some(next) => pieces = next,
         }

@@ -1,19 +1,22 @@
 //! The last moves of a run, in any order.
 
-ghost use Rattle.std.specs.Prelude.{◌≡◌, ◌++◌, ◌+◌, ◌<◌, ◌≤◌, ◌^◌, IfSome, IsTrue, length, get_or, slice_set};
-ghost use Rattle.lu_machine.specs.Ends.{IsComplete};
+ghost use Rattle.std.specs.Prelude.{◌≡◌, ◌≢◌, ◌++◌, ◌+◌, ◌<◌, ◌≤◌, ◌^◌, IfSome, IsTrue, length, get_or, slice_set};
 ghost use Rattle.lu_machine.specs.States.{progress};
 ghost use Rattle.lu_history.specs.Standing.{Agree};
 ghost use Rattle.lu_witness.specs.Caches.{SameButEntries};
 ghost use Rattle.lu_witness.specs.Witnesses.{HasWitness, IsMember};
 ghost use Rattle.lu_horizon.specs.Tables.{Serves};
-ghost use Rattle.lu_tree.specs.Tails.{IsCutBelow, IsGoodTailOf, IsRestOf};
+ghost use Rattle.lu_machine.specs.Ends.{IsFinished};
+ghost use Rattle.lu_tree.specs.declared.look.Judging.TheVariants.{OneVerdict};
+ghost use Rattle.lu_tree.specs.Tails.{StartsBehind, IsCutBelow, IsGoodTailOf, IsJudgedEnd, IsRestOf, MayMove, StaysWithin, sharing_of};
 ghost use Rattle.lu_tree.specs.Walks.{AreBelowNode};
 
 use crate::ahead::Ahead;
+use crate::every_order::has_orders;
+use crate::look::{Judging, Look};
 use crate::node::Node;
-use lu_horizon::{is_unseen_at, stand_at};
-use lu_machine::{Counts, Machine};
+use lu_horizon::{Sharers, is_unseen_at, only_reads_at, stand_at};
+use lu_machine::{Counts, Machine, Status};
 use lu_test::Move;
 use lu_trie::SerialTree;
 use lu_witness::Cache;
@@ -30,13 +33,88 @@ fn one_more(lengths: Vec<usize>, t: u8) -> Vec<usize>
     lengths
 }
 
+/// Whether thread `t` has made all its calls.
+#[inline(always)]
+fn is_over(machine: &Machine<'_>, t: u8) -> bool
+    ensures { IsTrue result → IsFinished machine.now t }
+{
+    match stand_at(machine, t) {
+        None => false,
+        Some(stand) => match stand.place {
+            None => machine.picks(t) == 0,
+            Some(_place) => false,
+        },
+    }
+}
+
+/// Whether what an open operation of thread `t` does next is among what the thread may touch.
+#[inline(always)]
+fn stays_within(sharers: Sharers, machine: &Machine<'_>, t: u8) -> bool
+    ensures { IsTrue result → StaysWithin (sharing_of sharers) machine.now t }
+{
+    match sharers {
+        Sharers::Only(special) => t == special || is_unseen_at(machine, t),
+        Sharers::Readers => only_reads_at(machine, t),
+    }
+}
+
+/// Whether a call may be opened.
+#[inline(always)]
+fn lets_call(judging: Judging) -> bool
+    ensures { IsTrue result → judging ≢ OneVerdict }
+{
+    match judging {
+        Judging::OneVerdict => false,
+        Judging::EveryOrder(_) => true,
+    }
+}
+
+/// Whether thread `t` has one move, and it is one of those that are looked for.
+#[inline(always)]
+fn may_move(look: Look, machine: &Machine<'_>, t: u8) -> bool
+    ensures { IsTrue result → MayMove look machine.now t }
+{
+    if machine.picks(t) != 1 {
+        return false;
+    }
+    match stand_at(machine, t) {
+        None => false,
+        Some(stand) => match stand.place {
+            None => lets_call(look.judging),
+            Some(_place) => stays_within(look.sharers, machine, t),
+        },
+    }
+}
+
+/// Whether a schedule is complete here and its history is judged so.
+fn is_judged_end<'t, T: SerialTree>(
+    alloc: Global,
+    cache: &mut Cache<'t, T>,
+    judging: Judging,
+    node: &mut Node<'_, 't, T>,
+) -> bool
+    requires agree { Agree (progress node.old.machine) node.old.trail.history }
+    requires tree { cache.old.tree ≡ node.old.trail.tree }
+    ensures cache { SameButEntries cache.old cache.new }
+    ensures same { node.new ≡ node.old }
+    ensures judged { IsTrue result → IsJudgedEnd T.members judging node.old }
+{
+    match judging {
+        Judging::OneVerdict => node.ends_well(cache),
+        Judging::EveryOrder(first) => match node.machine.status() {
+            Status::Complete => has_orders(alloc, cache.tree(), first, &mut node.trail),
+            Status::Running | Status::Stuck => false,
+        },
+    }
+}
+
 /// Runs thread `t` and those behind it to their ends, one after the other, and takes it back. Where that is all that the
 /// order of their moves could change, and the end is good, it answers how many moves each thread makes: none where it is
-/// not certain, or takes more than `left` moves. All threads but the special one are asked to touch their own registers alone.
+/// not certain, or takes more than `left` moves, or a thread touches more than it may.
 fn finish<'t, T: SerialTree>(
     alloc: Global,
     cache: &mut Cache<'t, T>,
-    special: u8,
+    look: Look,
     t: u8,
     left: usize,
     node: &mut Node<'_, 't, T>,
@@ -49,11 +127,11 @@ fn finish<'t, T: SerialTree>(
     ensures tree { node.new.trail.tree ≡ node.old.trail.tree }
     ensures machine { node.new.machine ≡ node.old.machine }
     ensures history { node.new.trail.history ≡ node.old.trail.history }
-    ensures rest { IfSome result (λ ns. IsRestOf T.members node.old special t left ns.items) }
+    ensures rest { IfSome result (λ ns. IsRestOf T.members node.old look t left ns.items) }
 {
     let threads = node.machine.threads();
     if t == threads {
-        if !node.ends_well(cache) {
+        if !is_judged_end(alloc, cache, look.judging, node) {
             return None;
         }
         return match vec![in alloc; 0; usize::from(threads)] {
@@ -61,28 +139,43 @@ fn finish<'t, T: SerialTree>(
             Err(_) => None,
         };
     }
-    let picks = node.machine.picks(t);
-    let Some(stand) = stand_at(&node.machine, t) else {
-        return None;
-    };
-    let Some(_place) = stand.place else {
-        if picks > 0 {
-            return None;
-        }
-        return finish(alloc, cache, special, t + 1, left, node);
-    };
-    if left == 0 || picks != 1 {
-        return None;
+    if is_over(&node.machine, t) {
+        return finish(alloc, cache, look, t + 1, left, node);
     }
-    if t != special && !is_unseen_at(&node.machine, t) {
+    if left == 0 || !may_move(look, &node.machine, t) {
         return None;
     }
     let undo = node.enter::<false>(Move { thread: t, pick: 0 });
-    let found = finish(alloc, cache, special, t, left - 1, node);
+    let found = finish(alloc, cache, look, t, left - 1, node);
     node.leave(undo);
     match found {
         None => None,
         Some(lengths) => Some(one_more(lengths, t)),
+    }
+}
+
+/// What to look for below the node, where a look may serve.
+fn look_at<'t, T: SerialTree>(
+    ahead: &Ahead,
+    left: usize,
+    node: &mut Node<'_, 't, T>,
+) -> Option<Look>
+    ensures same { node.new ≡ node.old }
+    ensures behind { IfSome result (λ look. StartsBehind look.judging node.old.trail.history) }
+{
+    if let Some(sharers) = ahead.horizon.last_sharers(&node.machine, left) {
+        return Some(Look {
+            sharers,
+            judging: Judging::OneVerdict,
+        });
+    }
+    let sharers = ahead.horizon.sharers(&node.machine, left)?;
+    match node.trail.returned(ahead.alloc) {
+        Err(_) => None,
+        Ok(ops) => Some(Look {
+            sharers,
+            judging: Judging::EveryOrder(ops.len()),
+        }),
     }
 }
 
@@ -103,8 +196,8 @@ fn complete_below<'t, T: SerialTree>(
     ensures history { node.new.trail.history ≡ node.old.trail.history }
     ensures tail { IfSome result (IsGoodTailOf T.members node.old left) }
 {
-    let special = ahead.horizon.special(&node.machine, left)?;
-    let lengths = finish(ahead.alloc, cache, special, 0, left, node)?;
+    let look = look_at(ahead, left, node)?;
+    let lengths = finish(ahead.alloc, cache, look, 0, left, node)?;
     ahead.orders.interleavings(&lengths)
 }
 

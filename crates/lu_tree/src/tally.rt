@@ -74,14 +74,11 @@ impl Tally {
             .complete
             .saturating_add(passed.stuck)
             .saturating_add(passed.cut);
-        let mut unasked = number.saturating_add(u64::from(self.unasked));
-        while unasked >= u64::from(UNASKED) {
-            if watch.stop() {
-                return false;
-            }
-            unasked -= u64::from(UNASKED);
+        let unasked = number.saturating_add(u64::from(self.unasked));
+        if watch.stop_within(unasked / u64::from(UNASKED)) {
+            return false;
         }
-        self.unasked = unasked as u8;
+        self.unasked = (unasked % u64::from(UNASKED)) as u8;
         self.counts = self.counts.plus(passed);
         true
     }

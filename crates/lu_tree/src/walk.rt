@@ -1,15 +1,17 @@
 //! The walk over the schedules below a node.
 
-ghost use Rattle.std.specs.Prelude.{◌≡◌, ◌≤◌, true, false, length, vec_capacity};
+ghost use Rattle.std.specs.Prelude.{◌≡◌, ◌≤◌, true, false, length, vec_capacity, IfSome};
 ghost use Rattle.lu_machine.specs.States.{progress};
 ghost use Rattle.lu_machine.specs.Ends.{IsEnded};
 ghost use Rattle.lu_horizon.specs.Tables.{Serves};
 ghost use Rattle.lu_history.specs.Standing.{Agree};
 ghost use Rattle.lu_witness.specs.Caches.{SameButEntries};
 ghost use Rattle.lu_witness.specs.Witnesses.{IsMember};
-ghost use Rattle.lu_tree.specs.Walks.{HasPassed, IsCounted, IsReady, Stopped};
+ghost use Rattle.lu_tree.specs.Grids.{AreBeside};
+ghost use Rattle.lu_tree.specs.Walks.{AreBelowNode, HasPassed, IsCounted, IsReady, Stopped};
 
 use crate::ahead::Ahead;
+use crate::grid::Grid;
 use crate::node::Node;
 use crate::tail::counted_below;
 use crate::tally::Tally;
@@ -64,14 +66,66 @@ fn end<'t, T: SerialTree, W: Watch>(
     }
 }
 
+/// How many schedules are cut below the node, where the grid of two threads says so.
+#[inline(always)]
+fn cut_in_grid<'a, 't, const LONG: bool, T: SerialTree>(
+    grid: &mut Grid<'a>,
+    left: u16,
+    node: &mut Node<'a, 't, T>,
+) -> Option<Counts>
+    requires one { LONG ≡ false → node.old.machine.component.local ≡ 0 }
+    requires beside { AreBeside node.old.machine grid.old.other }
+    ensures tree { node.new.trail ≡ node.old.trail }
+    ensures machine { node.new.machine ≡ node.old.machine }
+    ensures beside { AreBeside node.old.machine grid.new.other }
+    ensures below { IfSome result (AreBelowNode T.members node.old left) }
+{
+    let cut = grid.cut_below::<LONG>(&mut node.machine, left)?;
+    Some(Counts {
+        cut,
+        ..Counts::NONE
+    })
+}
+
+/// How many schedules there are below the node, where that is known without a walk. The grid is asked last, since it makes moves.
+#[inline(always)]
+fn known_below<'a, 't, const LONG: bool, T: SerialTree>(
+    cache: &mut Cache<'t, T>,
+    ahead: &Ahead,
+    grid: &mut Grid<'a>,
+    left: u16,
+    node: &mut Node<'a, 't, T>,
+) -> Option<Counts>
+    requires one { LONG ≡ false → node.old.machine.component.local ≡ 0 }
+    requires serves { LONG ≡ false → Serves ahead.now.horizon node.old.machine }
+    requires agree { Agree (progress node.old.machine) node.old.trail.history }
+    requires tree { cache.old.tree ≡ node.old.trail.tree }
+    requires beside { AreBeside node.old.machine grid.old.other }
+    ensures cache { SameButEntries cache.old cache.new }
+    ensures tree { node.new.trail.tree ≡ node.old.trail.tree }
+    ensures machine { node.new.machine ≡ node.old.machine }
+    ensures history { node.new.trail.history ≡ node.old.trail.history }
+    ensures beside { AreBeside node.old.machine grid.new.other }
+    ensures below { IfSome result (AreBelowNode T.members node.old left) }
+{
+    if LONG {
+        return cut_in_grid::<LONG, T>(grid, left, node);
+    }
+    match counted_below(cache, ahead, left, node) {
+        Some(below) => Some(below),
+        None => cut_in_grid::<LONG, T>(grid, left, node),
+    }
+}
+
 /// Walks the schedules below the node, of no more than `left` moves, in order. Answers whether all of them were passed: the walk
 /// stops at the first that is not found good, and where the watch stops it. It is then still there.
-pub(crate) fn walk<'t, T: SerialTree, W: Watch>(
+pub(crate) fn walk<'a, 't, T: SerialTree, W: Watch>(
     cache: &mut Cache<'t, T>,
     watch: &mut W,
     ahead: &Ahead,
+    grid: &mut Grid<'a>,
     left: u16,
-    node: &mut Node<'_, 't, T>,
+    node: &mut Node<'a, 't, T>,
     tally: &mut Tally,
 ) -> bool
     requires few { left ≤ 256 }
@@ -80,6 +134,7 @@ pub(crate) fn walk<'t, T: SerialTree, W: Watch>(
     requires tree { cache.old.tree ≡ node.old.trail.tree }
     requires running { W.is_stopped watch.old ≡ false }
     requires ready { IsReady tally.old }
+    requires beside { AreBeside node.old.machine grid.old.other }
     ensures cache { SameButEntries cache.old cache.new }
     ensures base { W.base watch.new ≡ W.base watch.old }
     ensures tree { node.new.trail.tree ≡ node.old.trail.tree }
@@ -94,19 +149,20 @@ pub(crate) fn walk<'t, T: SerialTree, W: Watch>(
     ensures stops { Stopped T.members node.old left result (W.is_stopped watch.new) tally.new node.new }
 {
     if node.machine.local() == 0 {
-        walk_as::<false, T, W>(cache, watch, ahead, left, node, tally)
+        walk_as::<false, T, W>(cache, watch, ahead, grid, left, node, tally)
     } else {
-        walk_as::<true, T, W>(cache, watch, ahead, left, node, tally)
+        walk_as::<true, T, W>(cache, watch, ahead, grid, left, node, tally)
     }
 }
 
 /// Walks as [`walk`] does. With `LONG` false no local instructions run with a move.
-fn walk_as<'t, const LONG: bool, T: SerialTree, W: Watch>(
+fn walk_as<'a, 't, const LONG: bool, T: SerialTree, W: Watch>(
     cache: &mut Cache<'t, T>,
     watch: &mut W,
     ahead: &Ahead,
+    grid: &mut Grid<'a>,
     left: u16,
-    node: &mut Node<'_, 't, T>,
+    node: &mut Node<'a, 't, T>,
     tally: &mut Tally,
 ) -> bool
     requires few { left ≤ 256 }
@@ -116,6 +172,7 @@ fn walk_as<'t, const LONG: bool, T: SerialTree, W: Watch>(
     requires tree { cache.old.tree ≡ node.old.trail.tree }
     requires running { W.is_stopped watch.old ≡ false }
     requires ready { IsReady tally.old }
+    requires beside { AreBeside node.old.machine grid.old.other }
     ensures cache { SameButEntries cache.old cache.new }
     ensures base { W.base watch.new ≡ W.base watch.old }
     ensures tree { node.new.trail.tree ≡ node.old.trail.tree }
@@ -127,15 +184,14 @@ fn walk_as<'t, const LONG: bool, T: SerialTree, W: Watch>(
     ensures passes { result ≡ true → HasPassed T.members node.old left tally.old tally.new }
     ensures room { 256 ≤ vec_capacity tally.new.path }
     ensures path { length tally.new.path.items ≤ left }
+    ensures beside { result ≡ true → AreBeside node.old.machine grid.new.other }
     ensures stops { Stopped T.members node.old left result (W.is_stopped watch.new) tally.new node.new }
 {
     if left == 0 {
         return end(cache, watch, node, tally);
     }
-    if !LONG {
-        if let Some(below) = counted_below(cache, ahead, left, node) {
-            return tally.pass_many(below, watch);
-        }
+    if let Some(below) = known_below::<LONG, T>(cache, ahead, grid, left, node) {
+        return tally.pass_many(below, watch);
     }
     let mut is_ended = true;
     for thread in 0..node.machine.threads() {
@@ -143,7 +199,7 @@ fn walk_as<'t, const LONG: bool, T: SerialTree, W: Watch>(
             is_ended = false;
             let next = Move { thread, pick };
             let undo = node.enter::<LONG>(next);
-            if !walk_as::<LONG, T, W>(cache, watch, ahead, left - 1, node, tally) {
+            if !walk_as::<LONG, T, W>(cache, watch, ahead, grid, left - 1, node, tally) {
                 tally.path.push_reserved(next);
                 return false;
             }

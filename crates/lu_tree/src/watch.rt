@@ -20,6 +20,21 @@ pub trait Watch {
     /// Whether the watch has stopped.
     fn stopped(&self) -> bool
         ensures { result ≡ is_stopped self.now };
+
+    /// Whether the search is to stop, asked so many times in a row, until it is. A watch that gives one answer all the
+    /// while may be asked once.
+    fn stop_within(&mut self, times: u64) -> bool
+        requires { is_stopped self.old ≡ false }
+        ensures base { base self.new ≡ base self.old }
+        ensures stopped { is_stopped self.new ≡ result }
+    {
+        for _ in 0..times {
+            if self.stop() {
+                return true;
+            }
+        }
+        false
+    }
 }
 
 /// A watch that never stops.
@@ -41,6 +56,11 @@ impl Watch for Unwatched {
     }
 
     fn stopped(&self) -> bool {
+        false
+    }
+
+    #[inline(always)]
+    fn stop_within(&mut self, _times: u64) -> bool {
         false
     }
 }

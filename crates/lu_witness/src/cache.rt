@@ -5,8 +5,8 @@ ghost use Rattle.lru.specs.LruCache.{lru_cache};
 ghost use Rattle.lu_witness.specs.Caches.{LooksUp, IsPut, SameButEntries, has_entry};
 ghost use Rattle.lu_witness.specs.Witnesses.{IsMember, IsVerdict};
 
-use crate::judge::verdict;
 use crate::judgement::Verdict;
+use crate::judging::verdict;
 use lru::LruCache;
 use lu_history::History;
 use lu_machine::Event;

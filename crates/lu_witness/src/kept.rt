@@ -37,7 +37,7 @@ impl<'a> Kept<'a> {
         ensures events { result ≡ history.now }
         ensures well_formed { IsWellFormed result }
     {
-        // Its clause says that the history is well-formed.
+        // A history's own rule is told by its calls, and no other call comes before a search.
         let _events = history.events();
         Kept {
             history,
@@ -47,11 +47,10 @@ impl<'a> Kept<'a> {
 
     /// The history without the pending calls of threads other than `t`.
     pub(crate) fn alone(history: &'a History, t: u8) -> Kept<'a>
+        requires { IsWellFormed history.now }
         ensures events { result ≡ keep_pending t history.now }
         ensures well_formed { IsWellFormed result }
     {
-        // Its clause says that the history is well-formed.
-        let _events = history.events();
         Kept {
             history,
             alone: Some(t),

@@ -15,12 +15,12 @@
 #![tactic(auto)]
 
 mod cache;
-mod judge;
 mod judgement;
+mod judging;
 mod kept;
 mod search;
 
 pub use cache::Cache;
-pub use judge::verdict;
 pub use judgement::{Verdict, Why};
+pub use judging::verdict;
 pub use search::has_witness;

@@ -1,4 +1,5 @@
 ghost use Rattle.std.specs.Prelude.{◌≡◌, [], ◌∷◌};
+ghost use Rattle.lu_worker_tests.specs.Boards.{HoldsNone, IsSpentSeat};
 
 use lu_board::board::{Board, Close, Seat};
 use lu_board::board_core::{Core, CoreEvent, CoreFault, run};
@@ -11,8 +12,8 @@ use std::thread::Threads;
 
 /// A worker claims pieces until none is left, and finds one of them bad.
 fn work(board: &Board, mut seat: Seat, bad: u64) -> Seat
-    requires { (seat.board ≡ board.now.board) × (seat.view.held ≡ []) }
-    ensures { (result.board ≡ board.now.board) × (result.view.spent ≡ 1) × (result.view.held ≡ []) }
+    requires { HoldsNone board.now.board seat }
+    ensures { IsSpentSeat board.now.board result }
 {
     while let Some(piece) = board.claim(&mut seat) {
         match board.look(&mut seat, piece) {
@@ -36,20 +37,20 @@ fn work_in_threads<R: Threads + Sync>(
     first: Seat,
     second: Seat,
 ) -> (Seat, Seat)
-    requires first { (first.board ≡ board.now.board) × (first.view.held ≡ []) }
-    requires second { (second.board ≡ board.now.board) × (second.view.held ≡ []) }
-    ensures first { (result.0.board ≡ board.now.board) × (result.0.view.spent ≡ 1) × (result.0.view.held ≡ []) }
-    ensures second { (result.1.board ≡ board.now.board) × (result.1.view.spent ≡ 1) × (result.1.view.held ≡ []) }
+    requires first { HoldsNone board.now.board first }
+    requires second { HoldsNone board.now.board second }
+    ensures first { IsSpentSeat board.now.board result.0 }
+    ensures second { IsSpentSeat board.now.board result.1 }
 {
     thread::join(
         rt,
         move || -> Seat
-            requires { (first.board ≡ board.now.board) × (first.view.held ≡ []) }
-            ensures { (result.board ≡ board.entry.now.board) × (result.view.spent ≡ 1) × (result.view.held ≡ []) }
+            requires { HoldsNone board.now.board first }
+            ensures { IsSpentSeat board.entry.now.board result }
         { work(board, first, 5) },
         move || -> Seat
-            requires { (second.board ≡ board.now.board) × (second.view.held ≡ []) }
-            ensures { (result.board ≡ board.entry.now.board) × (result.view.spent ≡ 1) × (result.view.held ≡ []) }
+            requires { HoldsNone board.now.board second }
+            ensures { IsSpentSeat board.entry.now.board result }
         { work(board, second, 5) },
     )
 }

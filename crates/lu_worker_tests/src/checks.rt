@@ -2,16 +2,14 @@
 
 ghost use Rattle.std.specs.Prelude.{◌≡◌, ◌≤◌, IfOk, IfSome, OnOk, All, length, vec_len};
 ghost use Rattle.lu_test.specs.Matrix.{IsOf};
-ghost use Rattle.lu_machine.specs.States.{State};
-ghost use Rattle.lu_machine.specs.Starts.{CanRun, IsStart};
-ghost use Rattle.lu_parallel.specs.Works.{IsFresh, IsSpentWork, IsPiece};
+ghost use Rattle.lu_machine.specs.Starts.{CanRun};
+ghost use Rattle.lu_parallel.specs.Works.{ArePieces, IsFresh, IsSpentWork};
 
 use lu_board::board::{Board, Seat};
 use lu_board::view::Kind;
 use lu_examples::ROWS;
 use lu_lang::{Component, read_component};
 use lu_machine::{Counts, settles};
-use lu_parallel::laws::{cover_sums, found_is_reported, works_conclude};
 use lu_parallel::{
     CheckFault, Gate, OpenGate, Options, Work, check, check_against, check_one, check_one_against,
     conclude, work,
@@ -407,7 +405,7 @@ fn four_moves(
 ) -> Result<Vec<Schedule>, Fail>
     requires { CanRun component.now matrix.now }
     ensures few { IfOk result (λ pieces. vec_len pieces ≤ 65536) }
-    ensures pieces { (s : State) → IsStart component.now matrix.now s → IfOk result (λ pieces. All (IsPiece s 40) pieces.items) }
+    ensures pieces { IfOk result (λ pieces. ArePieces component.now matrix.now 40 pieces.items) }
 {
     Ok(frontier(rt.alloc(), component, matrix, 40, 4)?)
 }
@@ -423,7 +421,7 @@ fn work_in_turn<R: AllocGlobal, T: SerialTree>(
     seats: Vec<Seat>,
 ) -> Result<Vec<Work>, Fail>
     requires of { CanRun component.now matrix.now }
-    requires pieces { (s : State) → IsStart component.now matrix.now s → All (IsPiece s 40) pieces.now }
+    requires pieces { ArePieces component.now matrix.now 40 pieces.now }
     requires board { board.now.pieces ≡ length pieces.now }
     requires fresh { All (IsFresh board.now.board) seats.items }
     ensures all { IfOk result (λ works. length works.items ≡ length seats.items) }
@@ -480,7 +478,7 @@ fn works_above<R: AllocGlobal + Abort, T: SerialTree>(
 ) -> Result<Vec<Work>, Fail>
     requires of { CanRun component.now matrix.now }
     requires few { length pieces.now ≤ 65536 }
-    requires pieces { (s : State) → IsStart component.now matrix.now s → All (IsPiece s 40) pieces.now }
+    requires pieces { ArePieces component.now matrix.now 40 pieces.now }
 {
     let (board, mut seats) = Board::new(rt.alloc(), pieces.len() as u64, 2)?;
     match take_seat(&mut seats, &board) {
@@ -500,7 +498,7 @@ fn concluded_in_turn<R: AllocGlobal, T: SerialTree>(
 ) -> Result<Option<Found>, Fail>
     requires of { CanRun component.now matrix.now }
     requires few { length pieces.now ≤ 65536 }
-    requires pieces { (s : State) → IsStart component.now matrix.now s → All (IsPiece s 40) pieces.now }
+    requires pieces { ArePieces component.now matrix.now 40 pieces.now }
 {
     let (board, seats) = Board::new(rt.alloc(), pieces.len() as u64, 2)?;
     let works = work_in_turn(rt, component, matrix, tree, pieces, &board, seats)?;
@@ -547,7 +545,7 @@ fn assert_worked_in_turn<R: AllocGlobal + Abort>(
 ) -> Result<(), Fail>
     requires of { CanRun component.now matrix.now }
     requires few { length pieces.now ≤ 65536 }
-    requires pieces { (s : State) → IsStart component.now matrix.now s → All (IsPiece s 40) pieces.now }
+    requires pieces { ArePieces component.now matrix.now 40 pieces.now }
 {
     assert_eq!(rt; pieces.len(), 16);
     let above = works_above(rt, component, matrix, &set, pieces)?;
@@ -580,7 +578,7 @@ fn concluded_over<R: AllocGlobal>(
 ) -> Result<Option<Found>, Fail>
     requires of { CanRun component.now matrix.now }
     requires few { length pieces.now ≤ 65536 }
-    requires pieces { (s : State) → IsStart component.now matrix.now s → All (IsPiece s 40) pieces.now }
+    requires pieces { ArePieces component.now matrix.now 40 pieces.now }
 {
     concluded_in_turn(rt, component, matrix, &set, pieces)
 }
@@ -617,12 +615,4 @@ fn workers_take_turns(rt: HostRuntime) -> Result<(), Fail> {
     let matrix = read_matrix(rt.alloc(), &component, TWO_INCREMENTS)?;
     assert_settles(&rt, &component, &matrix)?;
     assert_turns(&rt, &component, &matrix)
-}
-
-/// The laws can be called.
-#[test]
-fn laws_are_called() {
-    cover_sums();
-    works_conclude();
-    found_is_reported();
 }

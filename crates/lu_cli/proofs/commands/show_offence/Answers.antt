@@ -10,7 +10,7 @@ use Rattle.lu_cli.proofs.commands.show_offence.Goals as goal
 pub new-requires-clause-within : goal.new-requires-clause-within
 new-requires-clause-within c =
     let there = start_there c.args.component.now c.args.matrix.now c.requires.of.settles in
-    finding_within c.args.component.now c.args.matrix.now there.0 c.threads-threads.ensures.sound there.1 c.args.bounds.bound c.args.bounds.serial c.args.finding (c.requires.found there.0 there.1)
+    finding_within c.args.component.now c.args.matrix.now there.0 c.requires.limits there.1 c.args.bounds.bound c.args.bounds.serial c.args.finding (c.requires.found there.0 there.1)
 
 pub returns : goal.returns
 returns c =

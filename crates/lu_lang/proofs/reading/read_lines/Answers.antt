@@ -23,4 +23,4 @@ loop-before-preserved c =
     }
 
 pub returns : goal.returns
-returns c = is_done component_grammar _ _ c.loop-before.draft _ _ (omega arith) c.finished.ensures (rw (texts_end c.args.lines.now c.loop-before.before (omega arith)) at c.loop-before.invariant.read)
+returns c = is_done component_grammar _ _ c.loop-before.draft _ _ (omega arith) c.finish.ensures (rw (texts_end c.args.lines.now c.loop-before.before (omega arith)) at c.loop-before.invariant.read)

@@ -10,7 +10,7 @@ pub new-requires-clause-within : goal.new-requires-clause-within
 new-requires-clause-within g c =
     let there = start_there c.args.component.now c.args.matrix.now c.requires.of.settles in
     let start = there.0 in
-    finding_within c.args.component.now c.args.matrix.now start c.threads-threads.ensures.sound there.1 c.args.options.bound c.args.options.serial c.in_ok-finding.finding (c.in_ok-finding.ensures.found start there.1)
+    finding_within c.args.component.now c.args.matrix.now start c.in_ok-finding.ensures.limits there.1 c.args.options.bound c.args.options.serial c.in_ok-finding.finding (c.in_ok-finding.ensures.found start there.1)
 
 pub returns-clause-report : goal.returns-clause-report
 returns-clause-report g c = (

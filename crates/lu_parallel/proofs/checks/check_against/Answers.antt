@@ -11,13 +11,13 @@ pub against-requires-clause-within : goal.against-requires-clause-within
 against-requires-clause-within g c =
     let there = start_there c.args.component.now c.args.matrix.now c.requires.of.settles in
     let start = there.0 in
-    (against_within c.args.component.now c.args.matrix.now start c.threads-threads.ensures.sound there.1 (IsMember (g.T.SerialTree.members c.args.tree.now)) c.args.options.bound c.in_ok-finding.finding (c.in_ok-finding.ensures.found start there.1)).0
+    (against_within c.args.component.now c.args.matrix.now start c.in_ok-finding.ensures.limits there.1 (IsMember (g.T.SerialTree.members c.args.tree.now)) c.args.options.bound c.in_ok-finding.finding (c.in_ok-finding.ensures.found start there.1)).0
 
 pub against-requires-clause-judged : goal.against-requires-clause-judged
 against-requires-clause-judged g c =
     let there = start_there c.args.component.now c.args.matrix.now c.requires.of.settles in
     let start = there.0 in
-    (against_within c.args.component.now c.args.matrix.now start c.threads-threads.ensures.sound there.1 (IsMember (g.T.SerialTree.members c.args.tree.now)) c.args.options.bound c.in_ok-finding.finding (c.in_ok-finding.ensures.found start there.1)).1
+    (against_within c.args.component.now c.args.matrix.now start c.in_ok-finding.ensures.limits there.1 (IsMember (g.T.SerialTree.members c.args.tree.now)) c.args.options.bound c.in_ok-finding.finding (c.in_ok-finding.ensures.found start there.1)).1
 
 pub returns-clause-report : goal.returns-clause-report
 returns-clause-report g c = (

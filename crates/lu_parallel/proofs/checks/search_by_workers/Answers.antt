@@ -8,6 +8,7 @@ use Rattle.lu_replay.specs.Reports.{IsFindingAgainst}
 use Rattle.lu_parallel.specs.Findings.{finding_of}
 use Rattle.lu_parallel.specs.Works.{IsPiece}
 use Rattle.lu_parallel.specs.Conclusions.{seats_of, IsConclusion}
+use Rattle.lu_parallel.specs.Laws.{AreWorksOver}
 use Rattle.lu_parallel.proofs.Answers.{concluded_finding, found_against, same_finding}
 use Rattle.lu_parallel.proofs.Concluding.{concluded}
 use Rattle.lu_parallel.proofs.Frontiers.{frontier_pieces}
@@ -36,8 +37,8 @@ finding_of-requires g c =
     let conclusion : IsConclusion c.in_ok-works.works.items (Some c.in-Some.found) = rw c.in-Some.is at c.in_ok-found.ensures.conclusion in
     concluded_finding c.in_ok-works.works.items c.in-Some.found conclusion.1
 
-pub returns-in-Some : goal.returns-in-Some
-returns-in-Some g c = λ s is.
+pub returns-in-Some-clause-found : goal.returns-in-Some-clause-found
+returns-in-Some-clause-found g c = λ s is.
     let members = g.T.SerialTree.members c.args.tree.now in
     let bound = c.bound-bound.result in
     let pieces = c.deref.result.now in
@@ -47,6 +48,17 @@ returns-in-Some g c = λ s is.
     let long : c.in_ok-board.board.pieces ≡ length pieces = c.in_ok-board.ensures.board.0 ∙ (c.len.ensures ∙ sym c.deref.ensures.len) in
     let shares = subst (λ n. SharesOut n (seats_of works)) long c.in_ok-found.ensures.pieces in
     let conclusion : IsConclusion works (Some found) = rw c.in-Some.is at c.in_ok-found.ensures.conclusion in
-    let all = concluded c.args.component.now c.args.matrix.now members s bound pieces c.in_ok-board.board.board works found is cover c.in_ok-works.ensures.each shares c.in_ok-found.ensures.skipped conclusion in
+    let over : AreWorksOver members s bound works = record {
+      component = c.args.component.now;
+      matrix = c.args.matrix.now;
+      start = is;
+      pieces = pieces;
+      cover = cover;
+      board = c.in_ok-board.board.board;
+      each = c.in_ok-works.ensures.each;
+      shares = shares;
+      skips = c.in_ok-found.ensures.skipped;
+    } in
+    let all = concluded members s bound works found over conclusion in
     subst (λ n. IsFindingAgainst (IsMember members) s n c.finding_of.result) c.bound-bound.ensures.bound
     (same_finding (IsFindingAgainst (IsMember members) s bound) (finding_of found) c.finding_of.result c.finding_of.ensures (found_against (IsMember members) s bound found all))

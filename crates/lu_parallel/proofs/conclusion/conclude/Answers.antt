@@ -3,7 +3,7 @@ use Rattle.lu_board.specs.Close.{found_by, given_by}
 use Rattle.lu_board.specs.Pieces.{IsLeastPiece}
 use Rattle.lu_board.specs.Seats.{SeatModel, IsSeatOf, IsDone}
 use Rattle.std.proofs.Common.{All, Some}
-use Rattle.lu_parallel.specs.declared.parts.FoundPiece.{FoundPiece}
+use Rattle.lu_parallel.specs.declared.works.FoundPiece.{FoundPiece}
 use Rattle.lu_parallel.specs.Works.{found_pieces}
 use Rattle.lu_parallel.specs.Conclusions.{founds_of}
 use Rattle.lu_parallel.proofs.Ends.{seats_own, seats_done, founds_pieces, none_given}

@@ -1,6 +1,6 @@
 use Rattle.std.proofs.Common.{rules, ◌≡◌, ◌∷◌, List, Contains, sym, subst}
 use Rattle.std.specs.Vec.Iter.{into_iter_items}
-use Rattle.lu_parallel.specs.declared.parts.FoundPiece.{FoundPiece}
+use Rattle.lu_parallel.specs.declared.works.FoundPiece.{FoundPiece}
 use Rattle.lu_parallel.specs.Works.{found_pieces}
 use Rattle.lu_parallel.proofs.Ends.{has_later, has_tail}
 use Rattle.lu_parallel.proofs.conclusion.entry_of.Goals as goal

@@ -1,6 +1,6 @@
 use Rattle.std.proofs.Common.{Contains}
 use Rattle.std.specs.Vec.Iter.{into_iter_items}
-use Rattle.lu_parallel.specs.declared.parts.FoundPiece.{FoundPiece}
+use Rattle.lu_parallel.specs.declared.works.FoundPiece.{FoundPiece}
 use Rattle.lu_parallel.specs.Works.{found_pieces}
 use Rattle.lu_parallel.proofs.conclusion.entry_of.Given as goal
 

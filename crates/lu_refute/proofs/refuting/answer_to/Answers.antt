@@ -17,12 +17,12 @@ from_outside-requires-clause-outside c =
     let inside : IsFirstOutside s c.args.serial c.args.spec.now None = subst (λ (x : List (List SerialOp)). IsFirstOutside s c.args.serial x None) c.tree-set.ensures.set none in
     some_outside c.args.component.now c.args.matrix.now s is c.args.spec.now c.tree-set.ensures.sound c.requires.spec c.args.report.now.bound c.args.serial c.args.report.now.finding c.requires.failure (c.requires.shown s is) not_own inside
 
-pub returns-in_ok-copy_of-in-Some : goal.returns-in_ok-copy_of-in-Some
-returns-in_ok-copy_of-in-Some c =
+pub returns-in_ok-copy_matrix-in-Some : goal.returns-in_ok-copy_matrix-in-Some
+returns-in_ok-copy_matrix-in-Some c =
     λ (s : State) (is : IsStart c.args.component.now c.args.matrix.now s).
-    own_answer s c.args.serial c.args.spec.now c.args.report.now.finding c.in-Some.schedule c.in_ok-copy_of-in-Some.field-0
+    own_answer s c.args.serial c.args.spec.now c.args.report.now.finding c.in-Some.schedule c.in_ok-copy_matrix-in-Some.field-0
     (own_found c.args.component.now c.args.matrix.now s is c.tree-set.result.now c.args.spec.now c.tree-set.ensures.set c.finding.result.now c.args.report.now.finding c.finding.ensures.finding c.in_ok-schedule.field-0 c.in-Some.schedule c.in-Some.is c.in_ok-schedule.ensures)
-    (c.in_ok-copy_of-in-Some.ensures ∙ sym (start_matrix c.args.component.now c.args.matrix.now s is))
+    (c.in_ok-copy_matrix-in-Some.ensures ∙ sym (start_matrix c.args.component.now c.args.matrix.now s is))
 
 pub returns-in-None : goal.returns-in-None
 returns-in-None c =

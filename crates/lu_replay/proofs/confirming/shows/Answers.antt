@@ -13,7 +13,7 @@ pub returns : goal.returns
 returns c =
     let there = start_there c.args.component.now c.args.matrix.now c.requires.of.settles in
     let start : State = there.0 in
-    let h = c.is_shown.ensures start c.args.serial there.1 (c.in_ok-learnt.ensures start there.1) in
+    let h = c.is_shown.ensures start c.args.serial there.1 (c.in_ok-learnt.ensures.learnt start there.1) in
     IfOk-weaker c.is_shown.result
     (λ answer. IsTrue answer ↔ IsShown start c.bound-bound.result c.args.serial c.finding-2.result.now)
     (λ answer. IsTrue answer ↔ IsShownWith c.args.component.now c.args.matrix.now c.args.report.now c.args.serial)

@@ -19,12 +19,12 @@ pub returns-clause-found : goal.returns-clause-found
 returns-clause-found c =
     let v = c.in_ok-version in
     let b = c.in_ok-bound in
-    ok_weaker c.bounded.result (IsBehind v.version b.bound b.rest.now) (Spells c.args.text.now)
-    (λ r is. spelt v.version b.bound c.args.text.now v.rest.now b.rest.now r v.ensures.found b.ensures.found is) c.bounded.ensures.found
+    ok_weaker c.read_behind_bound.result (IsBehind v.version b.bound b.rest.now) (Spells c.args.text.now)
+    (λ r is. spelt v.version b.bound c.args.text.now v.rest.now b.rest.now r v.ensures.found b.ensures.found is) c.read_behind_bound.ensures.found
 
 pub returns-clause-fault : goal.returns-clause-fault
 returns-clause-fault c =
     let v = c.in_ok-version in
     let b = c.in_ok-bound in
-    err_weaker c.bounded.result (Stops (AreBehind v.version) b.rest.now) (Stops AreReport c.args.text.now)
-    (λ e s. report_behind c.args.text.now e v.version v.rest.now v.ensures.found b.bound b.rest.now b.ensures.found s) c.bounded.ensures.fault
+    err_weaker c.read_behind_bound.result (Stops (AreBehind v.version) b.rest.now) (Stops AreReport c.args.text.now)
+    (λ e s. report_behind c.args.text.now e v.version v.rest.now v.ensures.found b.bound b.rest.now b.ensures.found s) c.read_behind_bound.ensures.fault

@@ -4,4 +4,4 @@ use Rattle.lu_test.specs.MatrixText.{others_text}
 use Rattle.lu_test.proofs.matrix_writer.put_others.Given as goal
 
 abbrev pub invariant-loop-call : goal.invariant-loop-call
-invariant-loop-call l = string_bytes l.text ≡ string_bytes l.initial.text ++ others_text l.component (take l.call-index l.calls)
+invariant-loop-call l = string_bytes l.text ≡ string_bytes l.initial.text ++ others_text l.operations (take l.call-index l.calls)

@@ -5,4 +5,4 @@ use Rattle.lu_test.specs.MatrixText.{thread_text}
 use Rattle.lu_test.proofs.matrix_writer.put_threads.Given as goal
 
 abbrev pub invariant-loop-calls : goal.invariant-loop-calls
-invariant-loop-calls l = string_bytes l.text ≡ string_bytes l.initial.text ++ flat_map (thread_text l.component) (take l.calls-index l.threads)
+invariant-loop-calls l = string_bytes l.text ≡ string_bytes l.initial.text ++ flat_map (thread_text l.operations) (take l.calls-index l.threads)

@@ -7,4 +7,4 @@ pub returns-clause-found : goal.returns-clause-found
 returns-clause-found c = is_found c.args.text.now c.schedule_in.result c.schedule_in.ensures
 
 pub returns-clause-only : goal.returns-clause-only
-returns-clause-only c = λ ms fits e. subst (GivesSchedule c.schedule_in.result) (ap schedule_of e ∙ schedule_again ms fits) c.schedule_in.ensures
+returns-clause-only c = λ ms (fits, e). subst (GivesSchedule c.schedule_in.result) (ap schedule_of e ∙ schedule_again ms fits) c.schedule_in.ensures

@@ -9,8 +9,8 @@ use Rattle.lu_tree.proofs.pieces.add_kids.Goals as goal
 pub loop-thread-init : goal.loop-thread-init
 loop-thread-init c = kids_none c.args.machine.now c.args.piece.now c.args.next.now.items
 
-pub longer-requires-clause-sound : goal.longer-requires-clause-sound
-longer-requires-clause-sound c =
+pub extend-requires-clause-sound : goal.extend-requires-clause-sound
+extend-requires-clause-sound c =
     let next : Move = record { thread = c.loop-thread.thread; pick = c.loop-pick.pick } in
     let able : IsFeasible c.args.machine.now next = rw (← c.picks-pick-end.ensures) (c.loop-pick-test.true) in
     let is : IsMove next = feasible_is_move c.args.machine.now c.requires.sound c.threads-thread-end.ensures.few next able in
@@ -20,7 +20,7 @@ pub loop-pick-preserved : goal.loop-pick-preserved
 loop-pick-preserved c =
     let next : Move = record { thread = c.loop-thread.thread; pick = c.loop-pick.pick } in
     let able : IsFeasible c.args.machine.now next = rw (← c.picks-pick-end.ensures) (c.loop-pick-test.true) in
-    let pushed : c.push.new.self.items ≡ c.loop-pick.next.items ++ (c.args.piece.now ++ next ∷ []) ∷ [] = c.in_ok-push.ensures.items ∙ ap (λ x. c.loop-pick.next.items ++ x ∷ []) c.in_ok-longer.ensures in
+    let pushed : c.push.new.self.items ≡ c.loop-pick.next.items ++ (c.args.piece.now ++ next ∷ []) ∷ [] = c.in_ok-push.ensures.items ∙ ap (λ x. c.loop-pick.next.items ++ x ∷ []) c.in_ok-extend.ensures in
     kids_push c.args.machine.now c.args.piece.now c.args.next.now.items c.loop-pick.next.items c.push.new.self.items c.loop-thread.thread c.loop-pick.pick able pushed c.loop-pick.invariant
 
 pub loop-thread-preserved : goal.loop-thread-preserved

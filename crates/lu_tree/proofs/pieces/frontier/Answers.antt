@@ -16,13 +16,13 @@ loop-level-init c =
       all = rw one (level_start c.in_ok-machine.machine);
     }
 
-pub deeper-requires-clause-leads : goal.deeper-requires-clause-leads
-deeper-requires-clause-leads c = λ u l. piece_schedule c.loop-level.machine c.loop-level._level u (c.loop-level.invariant.all.only u (rw c.deref.ensures.value at l))
+pub go_deeper-requires-clause-leads : goal.go_deeper-requires-clause-leads
+go_deeper-requires-clause-leads c = λ u l. piece_schedule c.loop-level.machine c.loop-level._level u (c.loop-level.invariant.all.only u (rw c.deref.ensures.value at l))
 
 pub returns-in-None-clause-frontier : goal.returns-in-None-clause-frontier
 returns-in-None-clause-frontier c = λ s is.
     (let same : c.loop-level.machine ≡ s = start_same c.args.component.now c.args.matrix.now c.loop-level.machine s c.loop-level.invariant.start is in
-    let many : TooMany c.loop-level.machine c.loop-level.pieces.items = rw c.deref.ensures.value at (rw c.in-None.is at c.in_ok-deeper.ensures.none) in
+    let many : TooMany c.loop-level.machine c.loop-level.pieces.items = rw c.deref.ensures.value at (rw c.in-None.is at c.in_ok-go_deeper.ensures.none) in
     let frontier : IsFrontier c.loop-level.machine (min c.args.bound c.args.depth) c.loop-level.pieces.items = record {
       depth = c.loop-level._level;
       within = omega arith;
@@ -40,10 +40,10 @@ returns-in-None-clause-cover c = λ s is.
 
 pub loop-level-preserved : goal.loop-level-preserved
 loop-level-preserved c =
-    let home : c.deeper.new.machine ≡ c.loop-level.machine = c.in_ok-deeper.ensures.home in
+    let home : c.go_deeper.new.machine ≡ c.loop-level.machine = c.in_ok-go_deeper.ensures.home in
     let all : AreAll (IsPieceAt c.loop-level.machine c.loop-level._level) c.deref.result.now = rw c.deref.ensures.value c.loop-level.invariant.all in
-    let few : length c.in-Some.next.items ≤ 65536 = rw c.in-Some.is at c.in_ok-deeper.ensures.few in
-    let some = rw c.in-Some.is at c.in_ok-deeper.ensures.some in
+    let few : length c.in-Some.next.items ≤ 65536 = rw c.in-Some.is at c.in_ok-go_deeper.ensures.few in
+    let some = rw c.in-Some.is at c.in_ok-go_deeper.ensures.some in
     let deeper : AreAll (IsPieceAt c.loop-level.machine (c.loop-level._level + 1)) c.in-Some.next.items = some c.loop-level._level all in
     record {
       start = subst (IsStart c.args.component.now c.args.matrix.now) (sym home) c.loop-level.invariant.start;

@@ -2,7 +2,7 @@ use Rattle.std.proofs.Common.{◌≡◌, IfSome}
 use Rattle.lu_machine.specs.Sums.{capped}
 use Rattle.lu_tail.specs.Orders.{interleavings}
 use Rattle.lu_witness.specs.Witnesses.{IsMember}
-use Rattle.lu_tree.specs.Tails.{IsGoodTail}
+use Rattle.lu_tree.specs.Tails.{IsGoodTail, IsRest}
 use Rattle.lu_tree.proofs.Finishing.{rest_all, some_more}
 use Rattle.lu_tree.proofs.tail.complete_below.Goals as goal
 
@@ -13,6 +13,7 @@ returns-clause-tail g c =
     let h = c.args.node.now.trail.history in
     let lengths = c.in_ok-lengths.lengths.items in
     let numbers : IfSome c.interleavings.result (λ n. n ≡ capped (interleavings lengths)) = rw c.deref.ensures.value at c.interleavings.ensures in
+    let rest : IsRest Set c.in_ok-look.look s h 0 c.args.left lengths = rw c.look_at.ensures.same at c.in_ok-lengths.ensures.rest in
     some_more (λ n. n ≡ capped (interleavings lengths)) (IsGoodTail Set s h c.args.left) c.interleavings.result
-    (λ n is. rest_all Set s h c.in_ok-special.special c.args.left n lengths c.in_ok-lengths.ensures.rest is)
+    (λ n is. rest_all Set c.in_ok-look.look s h c.args.left n lengths c.in_ok-look.ensures.behind rest is)
     numbers

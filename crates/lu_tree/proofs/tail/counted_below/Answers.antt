@@ -19,4 +19,4 @@ returns-clause-below g c = λ start u leads.
     let Set = IsMember (g.T.SerialTree.members c.args.node.now.trail.tree) in
     let n = c.in_ok-complete.complete in
     let tail : IsGoodTail Set s h c.args.left n = subst (λ left. IsGoodTail Set s h left n) c.from-left.ensures c.in_ok-complete.ensures.tail in
-    tail_all start Set (length u + c.args.left) c.args.left n u s h leads refl tail)
+    tail_all start Set (length u + c.args.left) c.args.left n u s h c.requires.agree leads refl tail)

@@ -1,17 +1,17 @@
-use Rattle.std.proofs.Common.{rules, arith, ◌≡◌, ◌<◌, ◌≤◌, ◌++◌, ◌-◌, [], ◌∷◌, true, false, length, refl, inl, inr, ◌∙◌, ap, subst, sym}
+use Rattle.std.proofs.Common.{rules, arith, ◌≡◌, ◌<◌, ◌≤◌, ◌++◌, ◌-◌, [], ◌∷◌, true, false, length, refl, inl, inr, ◌∙◌, ap, subst}
 use Rattle.lu_test.specs.declared.schedule.Move.{Move}
 use Rattle.lu_machine.specs.Ends.{HasMove, HasNoMove, IsEnded}
 use Rattle.lu_machine.specs.Runs.{with_event}
 use Rattle.lu_machine.specs.States.{State}
 use Rattle.lu_machine.specs.Steps.{IsFeasible, Step, picks_of}
 use Rattle.lu_machine.specs.Undoes.{restored}
-use Rattle.lu_witness.specs.Caches.{SameButEntries}
 use Rattle.lu_witness.specs.Witnesses.{IsMember}
 use Rattle.lu_tree.specs.Walks.{Counted, Passes, StopsAt}
 use Rattle.lu_tree.proofs.Added.{added_all, added_more, added_none, added_turn, end_passes, end_stops, stops_more, stops_there}
 use Rattle.lu_tree.proofs.CutBelow.{still_serves}
+use Rattle.lu_tree.specs.Grids.{AreBeside}
+use Rattle.lu_tree.proofs.GridLaws.{beside_back, beside_moved}
 use Rattle.lu_tree.proofs.Walking.{ended_all, ended_first, ended_picked, ended_turn}
-use Rattle.lu_tree.proofs.walk.+walk_as.Goals.{then-not-this+in_default, else-not-this}
 use Rattle.lu_tree.proofs.walk.+walk_as.Goals as goal
 
 pub returns-then-left-eq0-clause-passes : goal.returns-then-left-eq0-clause-passes
@@ -30,25 +30,14 @@ returns-then-left-eq0-clause-stops g t c = λ is running.
 
 pub loop-thread-init : goal.loop-thread-init
 loop-thread-init g t c = record {
-  machine = elim c.if-not-this.branch [
-    | then-not-this+in_default w ↦ ap (λ n. n.machine) w.node-is ∙ w.counted_below.ensures.machine
-    | else-not-this w ↦ ap (λ n. n.machine) w.node-is
-  ];
-  history = elim c.if-not-this.branch [
-    | then-not-this+in_default w ↦ ap (λ n. n.trail.history) w.node-is ∙ w.counted_below.ensures.history
-    | else-not-this w ↦ ap (λ n. n.trail.history) w.node-is
-  ];
-  tree = elim c.if-not-this.branch [
-    | then-not-this+in_default w ↦ ap (λ n. n.trail.tree) w.node-is ∙ w.counted_below.ensures.tree
-    | else-not-this w ↦ ap (λ n. n.trail.tree) w.node-is
-  ];
-  cache = elim c.if-not-this.branch [
-    | then-not-this+in_default w ↦ subst (SameButEntries c.args.cache.now) (sym w.cache-is) w.counted_below.ensures.cache
-    | else-not-this w ↦ subst (SameButEntries c.args.cache.now) (sym w.cache-is) (record { tree_is = refl; capacity = refl })
-  ];
+  machine = c.known_below.ensures.machine;
+  history = c.known_below.ensures.history;
+  tree = c.known_below.ensures.tree;
+  cache = c.known_below.ensures.cache;
   base = refl;
   running = c.requires.running;
   ready = c.requires.ready;
+  beside = c.known_below.ensures.beside;
   ended = ended_first c.args.node.now.machine;
   still = λ _. refl;
   counted = added_none (IsMember (g.T.SerialTree.members c.args.node.now.trail.tree)) c.args.node.now.machine c.args.node.now.trail.history c.args.left c.args.tally.now.counts c.requires.ready.capped;
@@ -59,7 +48,8 @@ walk_as-requires g t c =
     let next : Move = record { thread = c.loop-thread.thread; pick = c.loop-pick.pick } in
     let step : Step c.args.node.now.machine next c.enter-undo.new.self.machine c.enter-undo.result.event = subst (λ x. Step x next c.enter-undo.new.self.machine c.enter-undo.result.event) c.loop-pick.invariant.machine c.enter-undo.ensures.step in
     let serves = still_serves _ c.args.ahead.now.horizon c.args.node.now.machine next c.enter-undo.new.self.machine c.enter-undo.result.event c.requires.serves step in
-    search (rules, serves)
+    let beside : AreBeside c.enter-undo.new.self.machine c.loop-pick.grid.other = beside_moved c.args.node.now.machine c.loop-pick.grid.other c.enter-undo.new.self.machine next c.enter-undo.result.event c.loop-pick.invariant.beside step in
+    search (rules, serves, beside)
 
 pub returns-then-not-walk_as-clause-stops : goal.returns-then-not-walk_as-clause-stops
 returns-then-not-walk_as-clause-stops g t c = λ _ running.
@@ -112,6 +102,7 @@ loop-pick-preserved g t c =
       base = c.walk_as.ensures.base ∙ i.base;
       running = c.walk_as.ensures.running passed;
       ready = c.walk_as.ensures.ready passed;
+      beside = beside_back s c.walk_as.new.grid.other r next event step (c.walk_as.ensures.beside passed);
       ended = ended_picked s next able;
       still = λ e. absurd (cc);
       counted = added_more Set s h c.args.left thread pick r event k step grown some c.args.tally.now.counts c.loop-pick.tally.counts c.walk_as.new.tally.counts i.counted below;
@@ -130,6 +121,7 @@ loop-thread-preserved g t c =
       base = i.base;
       running = i.running;
       ready = i.ready;
+      beside = i.beside;
       ended = ended_turn c.args.node.now.machine c.loop-thread.thread c.loop-pick.pick all c.loop-pick.is_ended i.ended;
       still = i.still;
       counted = added_turn (IsMember (g.T.SerialTree.members c.args.node.now.trail.tree)) c.args.node.now.machine c.args.node.now.trail.history c.args.left c.loop-thread.thread c.loop-pick.pick all c.args.tally.now.counts c.loop-pick.tally.counts i.counted;
@@ -141,10 +133,7 @@ returns-then-is_ended-clause-passes g t c = λ is.
     let s = c.args.node.now.machine in
     let h = c.args.node.now.trail.history in
     let i = c.loop-thread.invariant in
-    let home : c.if-not-this.node.machine ≡ c.args.node.now.machine = elim c.if-not-this.branch [
-      | then-not-this+in_default w ↦ ap (λ n. n.machine) w.node-is ∙ w.counted_below.ensures.machine
-      | else-not-this w ↦ ap (λ n. n.machine) w.node-is
-    ] in
+    let home : c.known_below.new.node.machine ≡ c.args.node.now.machine = c.known_below.ensures.machine in
     let past : length s.threads ≤ c.loop-thread.thread = omega (arith, c.threads-thread-end.ensures.value, ap (λ (x : State). length x.threads) home) in
     let all : c.loop-thread.is_ended ≡ true = search rules in
     let none : HasNoMove s = ended_all s c.loop-thread.thread past (rw all at i.ended) in
@@ -157,10 +146,7 @@ returns-then-is_ended-clause-stops g t c = λ is running.
     let s = c.args.node.now.machine in
     let h = c.args.node.now.trail.history in
     let i = c.loop-thread.invariant in
-    let home : c.if-not-this.node.machine ≡ c.args.node.now.machine = elim c.if-not-this.branch [
-      | then-not-this+in_default w ↦ ap (λ n. n.machine) w.node-is ∙ w.counted_below.ensures.machine
-      | else-not-this w ↦ ap (λ n. n.machine) w.node-is
-    ] in
+    let home : c.known_below.new.node.machine ≡ c.args.node.now.machine = c.known_below.ensures.machine in
     let past : length s.threads ≤ c.loop-thread.thread = omega (arith, c.threads-thread-end.ensures.value, ap (λ (x : State). length x.threads) home) in
     let all : c.loop-thread.is_ended ≡ true = search rules in
     let none : HasNoMove s = ended_all s c.loop-thread.thread past (rw all at i.ended) in
@@ -174,10 +160,7 @@ returns-then-is_ended-clause-stops g t c = λ is running.
 pub returns-clause-passes : goal.returns-clause-passes
 returns-clause-passes g t c = λ _.
     (let Set = IsMember (g.T.SerialTree.members c.args.node.now.trail.tree) in
-    let home : c.if-not-this.node.machine ≡ c.args.node.now.machine = elim c.if-not-this.branch [
-      | then-not-this+in_default w ↦ ap (λ n. n.machine) w.node-is ∙ w.counted_below.ensures.machine
-      | else-not-this w ↦ ap (λ n. n.machine) w.node-is
-    ] in
+    let home : c.known_below.new.node.machine ≡ c.args.node.now.machine = c.known_below.ensures.machine in
     let past : length c.args.node.now.machine.threads ≤ c.loop-thread.thread = omega (arith, c.threads-thread-end.ensures.value, ap (λ (x : State). length x.threads) home) in
     let is : c.loop-thread.is_ended ≡ false = search rules in
     let some : HasMove c.args.node.now.machine = rw is at c.loop-thread.invariant.ended in

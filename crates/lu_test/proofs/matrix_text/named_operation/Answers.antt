@@ -1,0 +1,14 @@
+use Rattle.std.proofs.Common.{◌∙◌, ap, arith}
+use Rattle.std.proofs.Common.{get_or}
+use Rattle.lu_text.specs.Lines.{texts}
+use Rattle.lu_component.specs.Component.{operation_place}
+use Rattle.lu_test.specs.MatrixText.{named_operation}
+use Rattle.lu_test.proofs.Parts.{first_named}
+use Rattle.lu_test.proofs.matrix_text.named_operation.Goals as goal
+
+pub returns-in-len1-up : goal.returns-in-len1-up
+returns-in-len1-up c =
+    let operations = c.args.operations.now in
+    let e = c.operation_place.ensures in
+    let same = c.as_slice.ensures.value in
+    e ∙ (first_named operations c.as_slice.result.now _ c.in-len1-up.len_at_least ∙ (ap (λ ws. named_operation operations (texts ws)) same ∙ ap (named_operation operations) c.part.view_is))

@@ -1,0 +1,139 @@
+//! The search below a schedule.
+
+ghost use Rattle.std.specs.Prelude.{◌≡◌, ◌≤◌, ◌+◌, ◌++◌, false, length, reverse, vec_capacity, IfOk, OnOk};
+ghost use Rattle.lu_component.specs.Component.{IsComponent};
+ghost use Rattle.lu_test.specs.Matrix.{IsMatrix};
+ghost use Rattle.lu_machine.specs.States.{State, progress};
+ghost use Rattle.lu_machine.specs.Runs.{Leads};
+ghost use Rattle.lu_machine.specs.Schedules.{IsSchedule};
+ghost use Rattle.lu_machine.specs.Starts.{CanRun, IsStart};
+ghost use Rattle.lu_history.specs.Standing.{Agree};
+ghost use Rattle.lu_witness.specs.Caches.{SameButEntries};
+ghost use Rattle.lu_witness.specs.Witnesses.{IsMember};
+ghost use Rattle.lu_tree.specs.Trees.{Finds, MayFind, is_abandoned};
+ghost use Rattle.lu_tree.specs.Walks.{LeadsToNode};
+
+use crate::ahead::Ahead;
+use crate::found::Found;
+use crate::grid::Grid;
+use crate::node::Node;
+use crate::tally::Tally;
+use crate::walk::walk;
+use crate::watch::{Unwatched, Watch};
+use lu_component::Component;
+use lu_test::{Matrix, Move, Schedule};
+use lu_trie::SerialTree;
+use lu_witness::Cache;
+use std::alloc::{AllocError, Global};
+
+/// How many verdicts a search remembers beside those of its own histories.
+const REMEMBERED: usize = 1024;
+
+/// The node to which the schedule leads.
+fn node_after<'a, 't, T: SerialTree>(
+    alloc: Global,
+    component: &'a Component,
+    matrix: &'a Matrix,
+    tree: &'t T,
+    schedule: &[Move],
+) -> Result<Node<'a, 't, T>, AllocError>
+    requires of { CanRun component.now matrix.now }
+    requires leads { (s : State) → IsStart component.now matrix.now s → IsSchedule s schedule.now }
+    ensures leads { IfOk result (LeadsToNode component.now matrix.now schedule.now) }
+    ensures agree { IfOk result (λ node. Agree (progress node.machine) node.trail.history) }
+    ensures tree { IfOk result (λ node. node.trail.tree ≡ tree.entry.now) }
+    ensures limits { IsComponent component.now × IsMatrix matrix.now }
+{
+    let mut node = Node::start(alloc, component, matrix, tree)?;
+    for next in schedule {
+        node.enter::<true>(*next);
+    }
+    Ok(node)
+}
+
+/// The schedule of these moves, and then of those of the path, the last one of which comes first.
+fn join(from: &[Move], path: Vec<Move>) -> Vec<Move>
+    requires { length from.now + length path.items ≤ vec_capacity path }
+    ensures { result.items ≡ from.now ++ reverse path.items }
+{
+    let mut moves = path;
+    for next in from.iter().rev() {
+        moves.push_reserved(*next);
+    }
+    moves.reverse();
+    moves
+}
+
+/// Searches as [`search`] does, over the tree of the cache, until the watch stops it. The watch is asked after each 64 further
+/// schedules that were judged good, or that are cut.
+///
+/// # Errors
+///
+/// `AllocError` where memory was refused.
+pub fn search_watched<'a, 't, T: SerialTree, W: Watch>(
+    alloc: Global,
+    component: &'a Component,
+    matrix: &'a Matrix,
+    cache: &mut Cache<'t, T>,
+    from: &Schedule,
+    bound: u16,
+    watch: &mut W,
+) -> Result<Found, AllocError>
+    requires of { CanRun component.now matrix.now }
+    requires few { bound ≤ 256 }
+    requires short { length from.now ≤ bound }
+    requires leads { (s : State) → IsStart component.now matrix.now s → IsSchedule s from.now }
+    requires running { W.is_stopped watch.old ≡ false }
+    ensures found { MayFind component.now matrix.now (T.members cache.old.tree) from.now bound result }
+    ensures base { W.base watch.new ≡ W.base watch.old }
+    ensures cache { SameButEntries cache.old cache.new }
+    ensures stopped { W.is_stopped watch.new ≡ is_abandoned result }
+    ensures limits { IsComponent component.now × IsMatrix matrix.now }
+{
+    let moves = from.moves();
+    let mut node = node_after(alloc, component, matrix, cache.tree(), moves)?;
+    let mut tally = Tally::new(alloc)?;
+    let left = bound - moves.len() as u16;
+    let ahead = Ahead::new(alloc, component, matrix, left)?;
+    let mut grid = Grid::new(alloc, component, matrix)?;
+    if walk(cache, watch, &ahead, &mut grid, left, &mut node, &mut tally) {
+        return Ok(Found::Clean(tally.counts));
+    }
+    if watch.stopped() {
+        return Ok(Found::Abandoned);
+    }
+    let why = node.why_bad(cache)?;
+    Ok(Found::Bad {
+        schedule: Schedule::new(join(moves, tally.path)),
+        why,
+    })
+}
+
+/// Searches the schedules that begin with `from`: answers the least one that is ended within the bound, 0 to 256 moves, and
+/// not good for the set of the tree, and why it is not good; or, where all are good, how many are complete, stuck and cut.
+/// The matrix has to be one of the component (`Matrix::of`), and `from` has to be feasible and to have at most `bound` moves.
+///
+/// # Errors
+///
+/// `AllocError` where memory was refused.
+pub fn search<T: SerialTree>(
+    alloc: Global,
+    component: &Component,
+    matrix: &Matrix,
+    tree: &T,
+    from: &Schedule,
+    bound: u16,
+) -> Result<Found, AllocError>
+    requires of { CanRun component.now matrix.now }
+    requires few { bound ≤ 256 }
+    requires short { length from.now ≤ bound }
+    requires leads { (s : State) → IsStart component.now matrix.now s → IsSchedule s from.now }
+    ensures found { Finds component.now matrix.now (T.members tree.now) from.now bound result }
+    ensures limits { OnOk result (IsComponent component.now × IsMatrix matrix.now) }
+{
+    let mut cache = Cache::new(alloc, tree, REMEMBERED)?;
+    let mut watch = Unwatched;
+    search_watched(
+        alloc, component, matrix, &mut cache, from, bound, &mut watch,
+    )
+}
