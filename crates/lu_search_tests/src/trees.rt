@@ -225,6 +225,8 @@ fn gets_below(rt: HostRuntime) -> Result<(), Fail> {
     assert_counts(&rt, GETS, &set, whole, 6, complete(1))
 }
 
+const THREE_GETS: &[u8] = b"thread get\nthread get\nthread get\n";
+
 /// Three gets that return 0, in every order but that of the threads.
 fn three_gets(rt: &(impl AllocGlobal + Abort)) -> Result<Trie<Global>, Fail> {
     let mut set = Trie::new(rt.alloc());
@@ -241,20 +243,19 @@ fn three_gets(rt: &(impl AllocGlobal + Abort)) -> Result<Trie<Global>, Fail> {
 fn readers(rt: HostRuntime) -> Result<(), Fail> {
     let mut set = three_gets(&rt)?;
     insert_three(&mut set, (0, 0), (1, 0), ret(2, 0))?;
-    let matrix = b"thread get\nthread get\nthread get\n";
-    assert_counts(&rt, matrix, &set, EMPTY, 40, complete(1680))?;
-    assert_counts(&rt, matrix, &set, EMPTY, 9, complete(1680))?;
-    assert_counts(&rt, matrix, &set, EMPTY, 8, cut(1680))?;
-    assert_counts(&rt, matrix, &set, b"schedule 0 1 1 1\n", 40, complete(10))
+    assert_counts(&rt, THREE_GETS, &set, EMPTY, 40, complete(1680))?;
+    assert_counts(&rt, THREE_GETS, &set, EMPTY, 9, complete(1680))?;
+    assert_counts(&rt, THREE_GETS, &set, EMPTY, 8, cut(1680))?;
+    let from = b"schedule 0 1 1 1\n";
+    assert_counts(&rt, THREE_GETS, &set, from, 40, complete(10))
 }
 
 /// The order of the threads is not in the set, so the schedule in which they come one after the other is bad.
 #[test]
 fn readers_in_an_order_too_many(rt: HostRuntime) -> Result<(), Fail> {
     let set = three_gets(&rt)?;
-    let matrix = b"thread get\nthread get\nthread get\n";
     let least = "schedule 0 0 0 1 1 1 2 2 2\n";
-    assert_bad(&rt, matrix, &set, EMPTY, least, Why::Complete)
+    assert_bad(&rt, THREE_GETS, &set, EMPTY, least, Why::Complete)
 }
 
 /// Both read the counter before either writes it.
