@@ -20,6 +20,8 @@ skipped_by seats = flat_map (λ s. s.view.skipped) seats
 abbrev pub given_by : List SeatModel → List ℕ
 given_by seats = flat_map (λ s. s.view.given) seats
 
--- each piece below n is exactly once among the seats' clean, found, skipped and given pieces, and no other is there
+-- each piece below n is exactly once among the seats' clean, found, skipped and given pieces, and
+-- no other is there
 abbrev pub SharesOut : ℕ → List SeatModel → Type 0
-SharesOut n seats = HasEachOnce n (clean_by seats ++ found_by seats ++ skipped_by seats ++ given_by seats)
+SharesOut n seats =
+    HasEachOnce n (clean_by seats ++ found_by seats ++ skipped_by seats ++ given_by seats)

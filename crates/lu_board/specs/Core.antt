@@ -14,7 +14,8 @@ use Rattle.lu_board.specs.Views.{newcomer, blank, IsOver}
 use Rattle.lu_board.specs.Events.{with_found, with_settled, after_claim, after_look}
 use Rattle.lu_board.specs.Fit.{FitsBoard}
 
--- a state: the number of pieces, which of them are bad, the next piece, the best one, and each worker's view
+-- a state: the number of pieces, which of them are bad, the next piece, the best one, and each
+-- worker's view
 pub record CoreState : Type 0 where
   pub pieces : ℕ
   pub bad : List Bool
@@ -24,7 +25,8 @@ pub record CoreState : Type 0 where
 
 -- the state of a new board of n pieces
 abbrev pub start : ℕ → ℕ → List Bool → CoreState
-start n workers bad = record { pieces = n; bad = bad; next = 0; best = n; views = replicate workers (newcomer n 1) }
+start n workers bad =
+    record { pieces = n; bad = bad; next = 0; best = n; views = replicate workers (newcomer n 1) }
 
 -- the view of worker w
 abbrev pub view_at : CoreState → ℕ → View
@@ -52,10 +54,16 @@ is_legal m (Settle w i kind) = worker_holds m w i && may_settle kind (is_bad m.b
 
 -- the state after an event, which changes the view of its worker
 abbrev pub after_event : CoreState → CoreEvent → CoreState
-after_event m (Claim w) = record m { next = m.next + 1; views = slice_set m.views w (after_claim m.pieces m.next (view_at m w)) }
-after_event m (Look w i) = record m { views = slice_set m.views w (after_look i m.best (view_at m w)) }
-after_event m (Lower w i) = record m { best = min m.best i; views = slice_set m.views w (with_found i (min m.best i) (view_at m w)) }
-after_event m (Settle w i kind) = record m { views = slice_set m.views w (with_settled i kind (view_at m w)) }
+after_event m (Claim w) =
+    record m
+    { next = m.next + 1; views = slice_set m.views w (after_claim m.pieces m.next (view_at m w)) }
+after_event m (Look w i) =
+    record m { views = slice_set m.views w (after_look i m.best (view_at m w)) }
+after_event m (Lower w i) =
+    record m
+    { best = min m.best i; views = slice_set m.views w (with_found i (min m.best i) (view_at m w)) }
+after_event m (Settle w i kind) =
+    record m { views = slice_set m.views w (with_settled i kind (view_at m w)) }
 
 -- the state after all events, one after the other
 abbrev pub after_events : List CoreEvent → CoreState → CoreState
@@ -71,7 +79,8 @@ all_legal (e ∷ es) m = is_legal m e && all_legal es (after_event m e)
 pub record IsFirstIllegal (k : ℕ) (events : List CoreEvent) (m : CoreState) : Type 0 where
   pub within : k < length events
   pub before : all_legal (take k events) m ≡ true
-  pub here : (e : CoreEvent) → is_legal (after_events (take k events) m) (slice_index_or events k e) ≡ false
+  pub here : (e : CoreEvent)
+      → is_legal (after_events (take k events) m) (slice_index_or events k e) ≡ false
 
 -- why a run stopped
 abbrev pub IsCoreFault : CoreFault → List CoreEvent → CoreState → Type 0
@@ -95,7 +104,8 @@ abbrev pub IsLeastBad : List Bool → Option ℕ → Type 0
 IsLeastBad bad None = (i : ℕ) → is_bad bad i ≡ false
 IsLeastBad bad (Some b) = (is_bad bad b ≡ true) × ((i : ℕ) → is_bad bad i ≡ true → b ≤ i)
 
--- a worker's view, of weight 1, agrees with `bad`: its found pieces are bad, and its clean ones are not
+-- a worker's view, of weight 1, agrees with `bad`: its found pieces are bad, and its clean ones are
+-- not
 pub record AgreesWith (bad : List Bool) (v : View) : Type 0 where
   pub weight : v.weight ≡ 1
   pub found : All (λ i. is_bad bad i ≡ true) v.found
@@ -108,9 +118,11 @@ pub record CoreInvariant (m : CoreState) : Type 0 where
   pub covers : length m.bad ≡ m.pieces
   pub small : (m.pieces ≤ MAX_PIECES) × (0 < length m.views) × (length m.views ≤ MAX_WORKERS)
 
--- the answer says whether the event is legal in the old state, and where it is, the new state is the one after it
+-- the answer says whether the event is legal in the old state, and where it is, the new state is
+-- the one after it
 abbrev pub StepsIfLegal : CoreEvent → CoreState → Bool → CoreState → Type 0
-StepsIfLegal event old answer new = (answer ≡ is_legal old event) × (answer ≡ true → new ≡ after_event old event)
+StepsIfLegal event old answer new =
+    (answer ≡ is_legal old event) × (answer ≡ true → new ≡ after_event old event)
 
 -- once all is done and nothing was given up, it is the least bad piece
 abbrev pub IsLeastBadOnceDone : CoreState → Option ℕ → Type 0

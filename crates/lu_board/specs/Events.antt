@@ -1,4 +1,5 @@
--- What each event does to the view of its seat. The running board and the pure machine both go by these.
+-- What each event does to the view of its seat. The running board and the pure machine both go by
+-- these.
 use Rattle.std.specs.Prelude.{ℕ, ◌+◌, nat_lt, if◌then◌else◌, [], ◌∷◌, ◌++◌}
 use Rattle.lu_board.specs.declared.view.View.{View}
 use Rattle.lu_board.specs.declared.view.Kind.{Kind}
@@ -19,7 +20,8 @@ with_seen best v = record v { seen = best }
 
 -- piece i, which was held, is skipped, since this best piece was seen
 abbrev pub with_skipped : ℕ → ℕ → View → View
-with_skipped i best v = record v { seen = best; held = without i v.held; skipped = v.skipped ++ i ∷ [] }
+with_skipped i best v =
+    record v { seen = best; held = without i v.held; skipped = v.skipped ++ i ∷ [] }
 
 -- piece i, which was held, is found bad, and this is the best piece now
 abbrev pub with_found : ℕ → ℕ → View → View

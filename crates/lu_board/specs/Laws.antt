@@ -17,10 +17,12 @@ pub record IsReached (n workers : ℕ) (bad : List Bool) (m : CoreState) : Type 
 abbrev pub LegalEventsFit : Type 0
 LegalEventsFit =
     (n workers : ℕ) (bad : List Bool) (m : CoreState) →
-    IsReached n workers bad m → FitsBoard n workers m.next m.best m.views × All (AgreesWith bad) m.views
+    IsReached n workers bad m
+    → FitsBoard n workers m.next m.best m.views × All (AgreesWith bad) m.views
 
 -- Where all is done there, and nothing was given up, the best piece is the least bad one.
 abbrev pub DoneIsLeastBad : Type 0
 DoneIsLeastBad =
     (n workers : ℕ) (bad : List Bool) (m : CoreState) →
-    IsReached n workers bad m → AllDone m.views → given_in m.views ≡ [] → IsLeastBad bad (best_piece m)
+    IsReached n workers bad m → AllDone m.views → given_in m.views ≡ []
+    → IsLeastBad bad (best_piece m)

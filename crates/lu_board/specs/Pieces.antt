@@ -1,4 +1,5 @@
--- Lists of pieces that stand for sets: how often a piece is in one, the least of one, and one without a piece.
+-- Lists of pieces that stand for sets: how often a piece is in one, the least of one, and one
+-- without a piece.
 use Rattle.std.specs.Prelude.{◌≡◌, ℕ, ◌+◌, ◌<◌, ◌≤◌, nat_eq, nat_lt, Bool, if◌then◌else◌, List, [], ◌∷◌, Option, Some, None, All, Contains}
 use Rattle.std.specs.List.{list_any}
 

@@ -2,9 +2,22 @@
 use Rattle.std.specs.Prelude.{◌≡◌, ℕ, ◌+◌, ◌-◌, min, max, List, [], ◌++◌}
 use Rattle.lu_board.specs.declared.view.View.{View}
 
--- the view of a seat that has done nothing yet, on a board of n pieces. Its weight is the number of workers it stands for
+-- the view of a seat that has done nothing yet, on a board of n pieces. Its weight is the number of
+-- workers it stands for
 abbrev pub newcomer : ℕ → ℕ → View
-newcomer n weight = record { pieces = n; weight = weight; spent = 0; seen = n; past = 0; held = []; clean = []; found = []; skipped = []; given = [] }
+newcomer n weight =
+    record {
+      pieces = n;
+      weight = weight;
+      spent = 0;
+      seen = n;
+      past = 0;
+      held = [];
+      clean = [];
+      found = [];
+      skipped = [];
+      given = [];
+    }
 
 -- what is left of a view that another one took in: no pieces, and no weight
 abbrev pub blank : View

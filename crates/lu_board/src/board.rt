@@ -36,9 +36,14 @@ impl Model for Board {
 
     ghost Value = { BoardModel };
 
-    ghost view = { λ b. let t = b.table.shared in record { board = t.table_id; pieces = t.key.pieces; workers = t.key.workers } };
+    ghost view = { λ b. record {
+      board = b.table.shared.table_id;
+      pieces = b.table.shared.key.pieces;
+      workers = b.table.shared.key.workers;
+    } };
 
-    ghost invariant = { λ b. let t = b.table.shared in (t.table_id.words ≡ 4) × (t.table_id.slots ≡ 0) × (0 < t.key.workers) };
+    ghost invariant = { λ b. let t = b.table.shared in
+        (t.table_id.words ≡ 4) × (t.table_id.slots ≡ 0) × (0 < t.key.workers) };
 }
 
 /// A worker's right to claim pieces of one board. Contracts see what it knows as its [`View`].
@@ -65,7 +70,8 @@ impl Model for Seat {
 
     ghost view = { λ s. record { board = s.token.table_id; view = s.token.me.0 } };
 
-    ghost invariant = { λ s. FieldsTell s.pieces s.spent s.gave_up s.token.me.0 × (s.token.me.1 ≡ []) };
+    ghost invariant = { λ s.
+        FieldsTell s.pieces s.spent s.gave_up s.token.me.0 × (s.token.me.1 ≡ []) };
 }
 
 /// What came of a board.
@@ -129,7 +135,8 @@ impl Board {
         requires pieces { pieces ≤ MAX_PIECES }
         requires workers { (0 < workers) × (workers ≤ MAX_WORKERS) }
         ensures board { IfOk result (λ r. (r.0.pieces ≡ pieces) × (r.0.workers ≡ workers)) }
-        ensures seats { IfOk result (λ r. r.1.items ≡ replicate workers (unused_seat r.0.board pieces)) }
+        ensures seats { IfOk result (λ r.
+            r.1.items ≡ replicate workers (unused_seat r.0.board pieces)) }
     {
         let size = Size { pieces, workers };
         let (table, mut rest) = Table::of_words(alloc, &[0, pieces, pieces, workers], &size)?;
@@ -183,9 +190,9 @@ impl Board {
         }
     }
 
-    /// Looks whether a piece that the seat holds is still worth its work. The piece is skipped where
-    /// a lesser one was found bad, and else still held. The best piece that the answer tells is at
-    /// most any that this seat saw or lowered before.
+    /// Looks whether a piece that the seat holds is still worth its work. The piece is skipped
+    /// where a lesser one was found bad, and else still held. The best piece that the answer tells
+    /// is at most any that this seat saw or lowered before.
     ///
     /// The step is one atomic load of one word. It waits for nobody and takes no memory.
     pub fn look(&self, seat: &mut Seat, piece: u64) -> Look
@@ -214,8 +221,8 @@ impl Board {
         }
     }
 
-    /// Says that a piece that the seat holds was found bad. The seat has then seen a best piece that
-    /// is at most this one, and at most what it saw before.
+    /// Says that a piece that the seat holds was found bad. The seat has then seen a best piece
+    /// that is at most this one, and at most what it saw before.
     ///
     /// The step is one atomic `fetch_min` on one word. It waits for nobody and takes no memory.
     pub fn lower(&self, seat: &mut Seat, piece: u64)
@@ -232,8 +239,8 @@ impl Board {
 
     /// Says that a piece that the seat holds is clean, or is given up.
     ///
-    /// The step is one atomic load of one word, since what the seat knows changes at steps alone. It
-    /// waits for nobody and takes no memory.
+    /// The step is one atomic load of one word, since what the seat knows changes at steps alone.
+    /// It waits for nobody and takes no memory.
     pub fn settle(&self, seat: &mut Seat, piece: u64, kind: Kind)
         requires board { seat.old.board ≡ self.now.board }
         requires held { Contains seat.old.view.held piece }

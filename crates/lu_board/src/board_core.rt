@@ -119,7 +119,8 @@ impl Worker {
     fn claim(&mut self, next: u64, pieces: u64) -> Result<bool, AllocError>
         requires { next < 2 ^ 63 }
         ensures legal { IfOk result (λ ok. ok ≡ nat_eq self.old.spent 0) }
-        ensures after { IfOk result (λ ok. ok ≡ true → self.new ≡ after_claim pieces next self.old) }
+        ensures after { IfOk result (λ ok.
+            ok ≡ true → self.new ≡ after_claim pieces next self.old) }
     {
         if self.spent {
             return Ok(false);
@@ -166,7 +167,8 @@ impl Worker {
 
     fn settle(&mut self, piece: u64, kind: Kind) -> Result<bool, AllocError>
         ensures legal { IfOk result (λ ok. ok ≡ is_in piece self.old.held) }
-        ensures after { IfOk result (λ ok. ok ≡ true → self.new ≡ with_settled piece kind self.old) }
+        ensures after { IfOk result (λ ok.
+            ok ≡ true → self.new ≡ with_settled piece kind self.old) }
     {
         if !take_out(&mut self.held, piece) {
             return Ok(false);
@@ -194,7 +196,13 @@ impl Model for State {
 
     ghost Value = { CoreState };
 
-    ghost view = { λ c. record { pieces = c.pieces; bad = c.bad.items; next = c.next; best = c.best; views = c.workers.items } };
+    ghost view = { λ c. record {
+      pieces = c.pieces;
+      bad = c.bad.items;
+      next = c.next;
+      best = c.best;
+      views = c.workers.items;
+    } };
 }
 
 /// The state of a board after legal events.
@@ -213,8 +221,9 @@ impl Model for Core {
     ghost invariant = { λ c. CoreInvariant c.state };
 }
 
-/// Runs the events on a new board of at most [`MAX_PIECES`](crate::view::MAX_PIECES) pieces and 1 to
-/// [`MAX_WORKERS`](crate::view::MAX_WORKERS) workers. `bad` says of each piece whether it is bad.
+/// Runs the events on a new board of at most [`MAX_PIECES`](crate::view::MAX_PIECES) pieces and 1
+/// to [`MAX_WORKERS`](crate::view::MAX_WORKERS) workers. `bad` says of each piece whether it is
+/// bad.
 ///
 /// # Errors
 ///

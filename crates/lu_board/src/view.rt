@@ -20,8 +20,8 @@ pub struct Size {
 
 /// What a seat knows. No value of it is made: it is what contracts say of a seat.
 ///
-/// The five lists stand for sets, in the order in which the pieces came: each piece that was claimed
-/// is in exactly one set of exactly one seat of its board, and there only once.
+/// The five lists stand for sets, in the order in which the pieces came: each piece that was
+/// claimed is in exactly one set of exactly one seat of its board, and there only once.
 pub struct View {
     /// The number of pieces of the board.
     pub pieces: u64,

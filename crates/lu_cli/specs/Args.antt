@@ -48,7 +48,9 @@ flag name = record (new_rule name) { long = Some name; action = Some SetTrue }
 
 abbrev pub check_command : App
 check_command =
-    with_rule (with_rule (with_rule (bounded (codes "check")) (number_option (codes "workers") 1 16 (codes "1")))
+    with_rule
+    (with_rule
+    (with_rule (bounded (codes "check")) (number_option (codes "workers") 1 16 (codes "1")))
     (number_option (codes "depth") 0 8 (codes "4")))
     (flag (codes "spec"))
 
@@ -60,12 +62,17 @@ shrink_command = bounded (codes "shrink")
 
 abbrev pub campaign_command : App
 campaign_command =
-    with_rule (with_rule (bounded (codes "campaign")) (number_option (codes "threads") 1 8 (codes "2")))
+    with_rule
+    (with_rule (bounded (codes "campaign")) (number_option (codes "threads") 1 8 (codes "2")))
     (number_option (codes "calls") 1 8 (codes "1"))
 
 -- the program, which takes the words behind its name, and wants a command
 abbrev pub program : App
-program = record (new_app (codes "lineup")) { top = record ((new_app (codes "lineup")).top) { no_binary_name = true; subcommand_required = true } }
+program =
+    record (new_app (codes "lineup")) {
+      top = record ((new_app (codes "lineup")).top)
+          { no_binary_name = true; subcommand_required = true };
+    }
 
 -- the program with the commands that play a schedule
 abbrev pub schedule_commands : App
@@ -73,11 +80,13 @@ schedule_commands = with_subcommand (with_subcommand program replay_command.top)
 
 -- the program with the commands that look at one matrix
 abbrev pub single_commands : App
-single_commands = with_subcommand (with_subcommand schedule_commands serial_command.top) check_command.top
+single_commands =
+    with_subcommand (with_subcommand schedule_commands serial_command.top) check_command.top
 
 abbrev pub lineup : App
 lineup =
-    with_subcommand (with_subcommand (with_subcommand single_commands refute_command.top) shrink_command.top)
+    with_subcommand
+    (with_subcommand (with_subcommand single_commands refute_command.top) shrink_command.top)
     campaign_command.top
 
 -- ---- what words ask for
@@ -85,7 +94,9 @@ lineup =
 -- the number of 16 bits that a word says, where it says one
 abbrev pub number_by : Text → Option ℕ
 number_by digits =
-    if nat_lt 0 (length digits) && (list_all (λ d. nat_lt (digit_value d) 10) digits && nat_lt (digits_value 10 digits) (2 ^ 16))
+    if nat_lt 0 (length digits) &&
+    (list_all (λ d. nat_lt (digit_value d) 10) digits && nat_lt (digits_value 10 digits)
+    (2 ^ 16))
     then Some (digits_value 10 digits)
     else None
 
@@ -118,7 +129,8 @@ choice_with _ _ _ _ = None
 
 abbrev pub choice_in : List Row → Option Choice
 choice_in rows =
-    choice_with (number_in (codes "bound") rows) (number_in (codes "serial") rows) (number_in (codes "workers") rows)
+    choice_with (number_in (codes "bound") rows) (number_in (codes "serial") rows)
+    (number_in (codes "workers") rows)
     (number_in (codes "depth") rows)
 
 -- a check against the serial runs, or one against a specification
@@ -130,11 +142,14 @@ check_in rows = option_map (check_order (flag_in (codes "spec") rows)) (choice_i
 
 abbrev pub campaign_with : Option Limits → Option ℕ → Option ℕ → Option CampaignOptions
 campaign_with (Some limits) (Some threads) (Some calls) =
-    if nat_lt threads 256 && nat_lt calls 256 then Some (record { bounds = limits; threads = threads; calls = calls }) else None
+    if nat_lt threads 256 && nat_lt calls 256 then Some
+    (record { bounds = limits; threads = threads; calls = calls }) else None
 campaign_with _ _ _ = None
 
 abbrev pub campaign_in : List Row → Option CampaignOptions
-campaign_in rows = campaign_with (limits_in rows) (number_in (codes "threads") rows) (number_in (codes "calls") rows)
+campaign_in rows =
+    campaign_with (limits_in rows) (number_in (codes "threads") rows)
+    (number_in (codes "calls") rows)
 
 abbrev pub order_by : Text → List Row → Option Order
 order_by name rows =
@@ -144,7 +159,8 @@ order_by name rows =
     else (if bytes_eq name (codes "check") then check_in rows
     else (if bytes_eq name (codes "refute") then Some Refute
     else (if bytes_eq name (codes "shrink") then option_map Shrink (limits_in rows)
-    else (if bytes_eq name (codes "campaign") then option_map Campaign (campaign_in rows) else None))))))
+    else (if bytes_eq name (codes "campaign") then option_map Campaign (campaign_in rows)
+    else None))))))
 
 abbrev pub order_in : Option (Text × List Row) → Option Order
 order_in entered = option_and_then (λ e. order_by e.0 e.1) entered

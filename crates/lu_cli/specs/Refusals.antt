@@ -49,7 +49,8 @@ texts_answer (Setup k) = Some (unsettled k)
 texts_answer (Spec fault) = line_answer spec_code_of fault
 texts_answer (Check fault) = worker_answer fault
 
--- the line of a refusal, and its status; none for want of memory, of which the program tells in one place
+-- the line of a refusal, and its status; none for want of memory, of which the program tells in one
+-- place
 abbrev pub refusal_answer : Refusal → Option Answer
 refusal_answer refusal.Parts = Some (refused (codes "B1"))
 refusal_answer (refusal.Texts fault) = texts_answer fault

@@ -62,12 +62,14 @@ use Rattle.lu_report.specs.Limits.{Limits}
 pub use Rattle.lu_cli.specs.Outcomes.{Answer, refused, refused_on_line, infeasible, no_memory, no_command, no_device, no_worker, unsettled}
 
 -- the answer to a text: its refusal, by a code and a line, or what is answered to its value
-abbrev pub ToValue : {Kind A : Type 0} → (Kind → List ℕ) → Result A (Fault Kind) → (A → Answer → Type 0) → Answer → Type 0
+abbrev pub ToValue : {Kind A : Type 0} → (Kind → List ℕ) → Result A (Fault Kind)
+    → (A → Answer → Type 0) → Answer → Type 0
 ToValue code (Ok x) IsAnswer answer = IsAnswer x answer
 ToValue code (Err (At kind n)) IsAnswer answer = answer ≡ refused_on_line (code kind) n
 ToValue code (Err Memory) IsAnswer answer = ⊥
 
-abbrev pub ToSchedule : Result (List Move) ScheduleFault → (List Move → Answer → Type 0) → Answer → Type 0
+abbrev pub ToSchedule : Result (List Move) ScheduleFault → (List Move → Answer → Type 0) → Answer
+    → Type 0
 ToSchedule (Ok u) IsAnswer answer = IsAnswer u answer
 ToSchedule (Err fault) IsAnswer answer = answer ≡ refused (schedule_code_of fault)
 
@@ -109,7 +111,8 @@ listed_as listed = record { text = spec_text listed; status = 0 }
 
 -- the text of the specification with these members, by those that begin no other
 abbrev pub IsListed : List (List SerialOp) → Answer → Type 0
-IsListed members answer = (listed : List (List SerialOp)) × IsListing members listed × (answer ≡ listed_as listed)
+IsListed members answer =
+    (listed : List (List SerialOp)) × IsListing members listed × (answer ≡ listed_as listed)
 
 -- these are the serial histories from s
 abbrev pub AreSerial : State → List (List SerialOp) → Type 0
@@ -123,17 +126,21 @@ ListsSerial s answer =
 
 -- the finding of a check with these bounds
 abbrev pub IsFoundWithin : Declarations → Matrix → Limits → Finding → Type 0
-IsFoundWithin c matrix limits f = FromEachStart c matrix (λ s. IsFinding s limits.bound limits.serial f)
+IsFoundWithin c matrix limits f =
+    FromEachStart c matrix (λ s. IsFinding s limits.bound limits.serial f)
 
--- where there is no serial offence, the specification of the serial histories; else the report of the least offence
+-- where there is no serial offence, the specification of the serial histories; else the report of
+-- the least offence
 abbrev pub IsRunSerially : Declarations → Matrix → Limits → Answer → Type 0
 IsRunSerially c matrix limits answer =
     ((s : State) × IsStart c matrix s × NoOffence s limits.serial × ListsSerial s answer)
-    ⊎ ((r : Parts) × IsReport c matrix limits.bound limits.serial r × IsOfOffence r.finding × (answer ≡ reported r))
+    ⊎ ((r : Parts) × IsReport c matrix limits.bound limits.serial r × IsOfOffence r.finding
+    × (answer ≡ reported r))
 
 -- ---- `check`
 
--- the report, whatever the number of workers and the depth; or, with more than one worker, that a thread could not start
+-- the report, whatever the number of workers and the depth; or, with more than one worker, that a
+-- thread could not start
 abbrev pub IsChecked : Declarations → Matrix → Choice → Answer → Type 0
 IsChecked c matrix choice answer =
     ((r : Parts) × IsReport c matrix choice.bound choice.serial r × (answer ≡ reported r))
@@ -141,25 +148,32 @@ IsChecked c matrix choice answer =
 
 -- ---- `check --spec`
 
--- the report against the set of these members, whatever the number of workers and the depth; or, with more than one worker, that
--- a thread could not start
-abbrev pub IsCheckedAgainst : Declarations → Matrix → Choice → List (List SerialOp) → Answer → Type 0
+-- the report against the set of these members, whatever the number of workers and the depth; or,
+-- with more than one worker, that a thread could not start
+abbrev pub IsCheckedAgainst : Declarations → Matrix → Choice → List (List SerialOp) → Answer
+    → Type 0
 IsCheckedAgainst c matrix choice members answer =
-    ((r : Parts) × IsReportAgainst (IsMember members) c matrix choice.bound r × (answer ≡ reported r))
+    ((r : Parts) × IsReportAgainst (IsMember members) c matrix choice.bound r
+    × (answer ≡ reported r))
     ⊎ ((choice.workers ≢ 1) × (answer ≡ no_worker))
 
 -- ---- `shrink`
 
 -- a matrix and its report, and the report's status
 abbrev pub with_matrix : Declarations → Matrix → Parts → Answer
-with_matrix c matrix r = record { text = matrix_text c matrix ++ codes "---\n" ++ report_text r; status = status_of r.finding }
+with_matrix c matrix r = record {
+  text = matrix_text c matrix ++ codes "---\n" ++ report_text r;
+  status = status_of r.finding;
+}
 
--- the last matrix of the chain of removals, with its report; or the report of a matrix that does not fail
+-- the last matrix of the chain of removals, with its report; or the report of a matrix that does
+-- not fail
 abbrev pub IsShrinkAnswer : Declarations → Matrix → Limits → Answer → Type 0
 IsShrinkAnswer c matrix limits answer =
     ((smaller : Matrix) × (r : Parts) × IsShrunk c matrix limits.bound limits.serial (smaller, r)
     × (answer ≡ with_matrix c smaller r))
-    ⊎ ((r : Parts) × IsReport c matrix limits.bound limits.serial r × (IsFailure r.finding → ⊥) × (answer ≡ reported r))
+    ⊎ ((r : Parts) × IsReport c matrix limits.bound limits.serial r × (IsFailure r.finding → ⊥)
+    × (answer ≡ reported r))
 
 -- ---- `refute`
 
@@ -170,24 +184,29 @@ with_schedule c example = record {
   status = 1;
 }
 
--- a schedule that the specification does not explain; or F2, where no run confirms that the report is a failure or nondeterministic
+-- a schedule that the specification does not explain; or F2, where no run confirms that the report
+-- is a failure or nondeterministic
 abbrev pub IsRefuted : Declarations → Matrix → Parts → List (List SerialOp) → Answer → Type 0
 IsRefuted c matrix r members answer =
     (IsConfirmedFailure c matrix r
-    × ((example : Matrix × List Move) × IsRefutation c matrix r members example × (answer ≡ with_schedule c example)))
+    × ((example : Matrix × List Move) × IsRefutation c matrix r members example
+    × (answer ≡ with_schedule c example)))
     ⊎ ((IsConfirmedFailure c matrix r → ⊥) × (answer ≡ refused (codes "F2")))
 
 -- the answer to the text of a report: the fault with its line, or what is answered to the report
 abbrev pub ToReport : List ℕ → (Parts → Answer → Type 0) → Answer → Type 0
 ToReport text IsAnswer answer =
     ((r : Parts) × Spells text r × IsAnswer r answer)
-    ⊎ ((kind : ReportFaultKind) × (n : ℕ) × IsFault text (At kind n) × (answer ≡ refused_on_line (report_code_of kind) n))
+    ⊎ ((kind : ReportFaultKind) × (n : ℕ) × IsFault text (At kind n)
+    × (answer ≡ refused_on_line (report_code_of kind) n))
 
--- the answer to the text of a specification of the matrix: the fault with its line, or what is answered to its members
+-- the answer to the text of a specification of the matrix: the fault with its line, or what is
+-- answered to its members
 abbrev pub ToSpec : Matrix → List ℕ → (List (List SerialOp) → Answer → Type 0) → Answer → Type 0
 ToSpec matrix text IsAnswer answer =
     ((members : List (List SerialOp)) × IsReadAs matrix text members × IsAnswer members answer)
-    ⊎ ((kind : SpecFaultKind) × (n : ℕ) × IsSpecFault matrix text (At kind n) × (answer ≡ refused_on_line (spec_code_of kind) n))
+    ⊎ ((kind : SpecFaultKind) × (n : ℕ) × IsSpecFault matrix text (At kind n)
+    × (answer ≡ refused_on_line (spec_code_of kind) n))
 
 -- the specification is read, and then the matrix is checked against it
 abbrev pub IsCheckAgainstFrom : Declarations → Matrix → Choice → List ℕ → Answer → Type 0
@@ -209,13 +228,17 @@ found_answer c (AllPass count) = all_pass count
 found_answer c (First matrix r) = with_matrix c matrix r
 
 abbrev pub options_of : Declarations → List Call → List Call → CampaignOptions → Campaigned
-options_of c setup candidates o = campaigned c setup candidates o.threads o.calls o.bounds.bound o.bounds.serial
+options_of c setup candidates o =
+    campaigned c setup candidates o.threads o.calls o.bounds.bound o.bounds.serial
 
 -- what the campaign over these calls finds, with this setup, or why there is none
-abbrev pub IsCampaignAnswer : Declarations → List Call → List Call → CampaignOptions → Answer → Type 0
+abbrev pub IsCampaignAnswer : Declarations → List Call → List Call → CampaignOptions → Answer
+    → Type 0
 IsCampaignAnswer c setup candidates o answer =
-    ((found : Campaign) × IsFound (options_of c setup candidates o) found × (answer ≡ found_answer c found))
-    ⊎ ((fault : CampaignFault) × (fault ≢ NoMemory) × IsLimitFault (length candidates) o.threads o.calls fault
+    ((found : Campaign) × IsFound (options_of c setup candidates o) found
+    × (answer ≡ found_answer c found))
+    ⊎ ((fault : CampaignFault) × (fault ≢ NoMemory)
+    × IsLimitFault (length candidates) o.threads o.calls fault
     × (answer ≡ refused (campaign_code_of fault)))
 
 -- the calls of the one thread are the candidates
@@ -225,7 +248,8 @@ ToCandidates threads IsAnswer answer = answer ≡ refused (codes "G2")
 
 -- what the campaign over the calls of the matrix's one thread finds, with the matrix's setup
 abbrev pub IsCampaignFrom : Declarations → CampaignOptions → Matrix → Answer → Type 0
-IsCampaignFrom c options matrix = ToCandidates matrix.threads (λ candidates. IsCampaignAnswer c matrix.setup candidates options)
+IsCampaignFrom c options matrix =
+    ToCandidates matrix.threads (λ candidates. IsCampaignAnswer c matrix.setup candidates options)
 
 -- ---- texts of components and matrices
 
@@ -236,12 +260,14 @@ ToMatrix c matrix IsAnswer = ToValue matrix_code_of (meaning_of (matrix_grammar 
 -- the answer where the setup settles; else the number of its first call that does not end
 abbrev pub ToSettled : Declarations → Matrix → (Answer → Type 0) → Answer → Type 0
 ToSettled c matrix IsAnswer answer =
-    (Settles c matrix × IsAnswer answer) ⊎ ((k : ℕ) × IsUnsettledAt c matrix k × (answer ≡ unsettled k))
+    (Settles c matrix × IsAnswer answer)
+    ⊎ ((k : ℕ) × IsUnsettledAt c matrix k × (answer ≡ unsettled k))
 
 -- the component is read first, and then the matrix, whose setup is run
 abbrev pub ToTexts : List ℕ → List ℕ → (Declarations → Matrix → Answer → Type 0) → Answer → Type 0
 ToTexts component matrix IsAnswer =
-    ToValue code_of (meaning_of component_grammar component) (λ c. ToMatrix c matrix (λ m. ToSettled c m (IsAnswer c m)))
+    ToValue code_of (meaning_of component_grammar component)
+    (λ c. ToMatrix c matrix (λ m. ToSettled c m (IsAnswer c m)))
 
 -- ---- the whole program
 
@@ -251,22 +277,29 @@ ToParts None IsAnswer answer = answer ≡ refused (codes "B1")
 ToParts (Some parts) IsAnswer answer = IsAnswer parts answer
 
 abbrev pub IsReplayOf : List (List ℕ) → Answer → Type 0
-IsReplayOf parts = ToParts (three parts) (λ p. ToTexts p.0 p.1 (λ c m. ToSchedule (schedule_of p.2) (IsReplayed c m)))
+IsReplayOf parts =
+    ToParts (three parts)
+    (λ p. ToTexts p.0 p.1 (λ c m. ToSchedule (schedule_of p.2) (IsReplayed c m)))
 
 abbrev pub IsTraceOf : List (List ℕ) → Answer → Type 0
-IsTraceOf parts = ToParts (three parts) (λ p. ToTexts p.0 p.1 (λ c m. ToSchedule (schedule_of p.2) (IsTraced c m)))
+IsTraceOf parts =
+    ToParts (three parts)
+    (λ p. ToTexts p.0 p.1 (λ c m. ToSchedule (schedule_of p.2) (IsTraced c m)))
 
 abbrev pub IsSerialOf : Limits → List (List ℕ) → Answer → Type 0
-IsSerialOf limits parts = ToParts (two parts) (λ p. ToTexts p.0 p.1 (λ c m. IsRunSerially c m limits))
+IsSerialOf limits parts =
+    ToParts (two parts) (λ p. ToTexts p.0 p.1 (λ c m. IsRunSerially c m limits))
 
 abbrev pub IsCheckOf : Choice → List (List ℕ) → Answer → Type 0
 IsCheckOf choice parts = ToParts (two parts) (λ p. ToTexts p.0 p.1 (λ c m. IsChecked c m choice))
 
 abbrev pub IsCheckAgainstOf : Choice → List (List ℕ) → Answer → Type 0
-IsCheckAgainstOf choice parts = ToParts (three parts) (λ p. ToTexts p.0 p.1 (λ c m. IsCheckAgainstFrom c m choice p.2))
+IsCheckAgainstOf choice parts =
+    ToParts (three parts) (λ p. ToTexts p.0 p.1 (λ c m. IsCheckAgainstFrom c m choice p.2))
 
 abbrev pub IsShrinkOf : Limits → List (List ℕ) → Answer → Type 0
-IsShrinkOf limits parts = ToParts (two parts) (λ p. ToTexts p.0 p.1 (λ c m. IsShrinkAnswer c m limits))
+IsShrinkOf limits parts =
+    ToParts (two parts) (λ p. ToTexts p.0 p.1 (λ c m. IsShrinkAnswer c m limits))
 
 abbrev pub IsRefuteOf : List (List ℕ) → Answer → Type 0
 IsRefuteOf parts = ToParts (four parts) (λ p. ToTexts p.0 p.1 (λ c m. IsRefutedBy c m p.2 p.3))
@@ -289,15 +322,18 @@ IsAnswerTo (Campaigning options) parts = IsCampaignOf options parts
 -- the answer to an order and the whole input
 abbrev pub IsAnswerOf : Order → List ℕ → Answer → Type 0
 IsAnswerOf order input answer =
-    MatchBool (nat_lt most_bytes (length input)) (answer ≡ refused (codes "B2")) (IsAnswerTo order (bundle_parts input) answer)
+    MatchBool (nat_lt most_bytes (length input)) (answer ≡ refused (codes "B2"))
+    (IsAnswerTo order (bundle_parts input) answer)
 
 -- the answer to an order and what was read: the whole input where it is known, and else some bytes
 abbrev pub IsAnswerFrom : Order → Option (List ℕ) → Answer → Type 0
-IsAnswerFrom order known answer = (input : List ℕ) × IfSome known (λ all. input ≡ all) × IsAnswerOf order input answer
+IsAnswerFrom order known answer =
+    (input : List ℕ) × IfSome known (λ all. input ≡ all) × IsAnswerOf order input answer
 
 -- the answer to what these words ask for, where they ask for something, and to what was read
 abbrev pub IsAnswerFor : List (List ℕ) → Option (List ℕ) → Answer → Type 0
-IsAnswerFor words known answer = (order : Order) → order_of words ≡ Some order → IsAnswerFrom order known answer
+IsAnswerFor words known answer =
+    (order : Order) → order_of words ≡ Some order → IsAnswerFrom order known answer
 
 -- the answer went out, and the status is the answer's
 abbrev pub Tells : Answer → Option (List ℕ) → Option (List ℕ) → ℕ → Type 0
@@ -306,7 +342,8 @@ Tells answer old new status = Appends old new answer.text × (status ≡ answer.
 -- this answer went out or, where memory ran out, that
 abbrev pub Answers : (Answer → Type 0) → Option (List ℕ) → Option (List ℕ) → ℕ → Type 0
 Answers IsAnswer old new status =
-    ((answer : Answer) × IsAnswer answer × Tells answer old new status) ⊎ Tells no_memory old new status
+    ((answer : Answer) × IsAnswer answer × Tells answer old new status)
+    ⊎ Tells no_memory old new status
 
 -- ---- what a run does to its reader and its writer, whose bytes `remaining` and `contents` give
 
@@ -315,38 +352,48 @@ abbrev pub IsUnfailed : {D : Type 0} → Counted D → Counted D → Type 0
 IsUnfailed old new = new.failures ≡ old.failures
 
 -- where no write failed, the text went out, and the status is this one
-abbrev pub Sends : {W : Type 0} → (W → Option (List ℕ)) → List ℕ → ℕ → Counted W → Counted W → ℕ → Type 0
+abbrev pub Sends : {W : Type 0} → (W → Option (List ℕ)) → List ℕ → ℕ → Counted W → Counted W → ℕ
+    → Type 0
 Sends contents text status old new result =
     IsUnfailed old new → Appends (contents old.inner) (contents new.inner) text × (result ≡ status)
 
 -- such an answer went out or, where memory ran out, that
-abbrev pub Says : {W : Type 0} → (W → Option (List ℕ)) → (Answer → Type 0) → Counted W → Counted W → ℕ → Type 0
-Says contents IsAnswer old new status = Answers IsAnswer (contents old.inner) (contents new.inner) status
+abbrev pub Says : {W : Type 0} → (W → Option (List ℕ)) → (Answer → Type 0) → Counted W → Counted W
+    → ℕ → Type 0
+Says contents IsAnswer old new status =
+    Answers IsAnswer (contents old.inner) (contents new.inner) status
 
--- where the words ask for something and no read and no write failed, the answer to what was read goes out
-abbrev pub SaysAnswer : {S R W : Type 0} → (S → List ℕ) → List S → (R → Option (List ℕ)) → (W → Option (List ℕ)) → Counted R → Counted R → Counted W → Counted W → ℕ → Type 0
+-- where the words ask for something and no read and no write failed, the answer to what was read
+-- goes out
+abbrev pub SaysAnswer : {S R W : Type 0} → (S → List ℕ) → List S → (R → Option (List ℕ))
+    → (W → Option (List ℕ)) → Counted R → Counted R → Counted W → Counted W → ℕ → Type 0
 SaysAnswer text words remaining contents read_old read_new old new status =
     (order : Order) → order_of (map text words) ≡ Some order
     → IsUnfailed read_old read_new → IsUnfailed old new
     → Says contents (IsAnswerFrom order (remaining read_old.inner)) old new status
 
 -- where they ask for nothing and no write failed, that is said
-abbrev pub SaysNoCommand : {S W : Type 0} → (S → List ℕ) → List S → (W → Option (List ℕ)) → Counted W → Counted W → ℕ → Type 0
+abbrev pub SaysNoCommand : {S W : Type 0} → (S → List ℕ) → List S → (W → Option (List ℕ))
+    → Counted W → Counted W → ℕ → Type 0
 SaysNoCommand text words contents old new status =
     order_of (map text words) ≡ None → IsUnfailed old new
     → Says contents (λ answer. answer ≡ no_command) old new status
 
 -- this went out
-abbrev pub TellsOf : {W : Type 0} → Answer → (W → Option (List ℕ)) → Counted W → Counted W → ℕ → Type 0
-TellsOf answer contents old new status = Tells answer (contents old.inner) (contents new.inner) status
+abbrev pub TellsOf : {W : Type 0} → Answer → (W → Option (List ℕ)) → Counted W → Counted W → ℕ
+    → Type 0
+TellsOf answer contents old new status =
+    Tells answer (contents old.inner) (contents new.inner) status
 
 -- where no write failed, a read that failed is told
-abbrev pub TellsUnread : {R W : Type 0} → (W → Option (List ℕ)) → Counted R → Counted R → Counted W → Counted W → ℕ → Type 0
+abbrev pub TellsUnread : {R W : Type 0} → (W → Option (List ℕ)) → Counted R → Counted R → Counted W
+    → Counted W → ℕ → Type 0
 TellsUnread contents read_old read_new old new status =
     IsUnfailed old new → IsUnfailed read_old read_new ⊎ TellsOf no_device contents old new status
 
 -- where no write and no read failed, something else is told
-abbrev pub TellsElse : {R W : Type 0} → (W → Option (List ℕ)) → Counted R → Counted R → Counted W → Counted W → ℕ → Type 0
+abbrev pub TellsElse : {R W : Type 0} → (W → Option (List ℕ)) → Counted R → Counted R → Counted W
+    → Counted W → ℕ → Type 0
 TellsElse contents read_old read_new old new status =
     IsUnfailed old new → IsUnfailed read_old read_new
     → (a : Answer) × (a ≢ no_device) × TellsOf a contents old new status

@@ -37,59 +37,76 @@ abbrev pub IsReportOf : List ℕ → List ℕ → Choice → List ℕ → Type 0
 IsReportOf component matrix choice text =
     (r : Parts) × IsReportOfTexts component matrix choice r × (text ≡ report_text r)
 
--- the fault of the first text that has one; or the number of the first call of the setup that does not end
+-- the fault of the first text that has one; or the number of the first call of the setup that does
+-- not end
 abbrev pub IsFaultOfTexts : List ℕ → List ℕ → TextsFault → Type 0
-IsFaultOfTexts component matrix (Component fault) = IsUnlessMemory fault (meaning_of component_grammar component)
+IsFaultOfTexts component matrix (Component fault) =
+    IsUnlessMemory fault (meaning_of component_grammar component)
 IsFaultOfTexts component matrix (Matrix fault) =
-    (c : Declarations) × (meaning_of component_grammar component ≡ Ok c) × IsUnlessMemory fault (meaning_of (matrix_grammar c) matrix)
+    (c : Declarations) × (meaning_of component_grammar component ≡ Ok c)
+    × IsUnlessMemory fault (meaning_of (matrix_grammar c) matrix)
 IsFaultOfTexts component matrix (Setup k) =
     (c : Declarations) × (m : AMatrix) × AreTexts component matrix c m × IsUnsettledAt c m k
 IsFaultOfTexts component matrix (Spec fault) = ⊥
 IsFaultOfTexts component matrix (Check fault) = ⊥
 
--- the fault of the texts or of the setup; of the check, want of memory, or a thread that could not start
+-- the fault of the texts or of the setup; of the check, want of memory, or a thread that could not
+-- start
 abbrev pub IsCheckFault : List ℕ → List ℕ → Choice → TextsFault → Type 0
-IsCheckFault component matrix choice (Component fault) = IsFaultOfTexts component matrix (Component fault)
+IsCheckFault component matrix choice (Component fault) =
+    IsFaultOfTexts component matrix (Component fault)
 IsCheckFault component matrix choice (Matrix fault) = IsFaultOfTexts component matrix (Matrix fault)
 IsCheckFault component matrix choice (Setup k) = IsFaultOfTexts component matrix (Setup k)
 IsCheckFault component matrix choice (Spec fault) = ⊥
 IsCheckFault component matrix choice (Check fault) =
-    (c : Declarations) × (m : AMatrix) × AreSettled component matrix c m × (choice.workers ≡ 1 → fault ≡ Memory)
+    (c : Declarations) × (m : AMatrix) × AreSettled component matrix c m
+    × (choice.workers ≡ 1 → fault ≡ Memory)
 
 -- ---- against a specification
 
 -- the text lists histories of the matrix, and r is the one report against their set
 abbrev pub IsReportRead : Declarations → AMatrix → List ℕ → Choice → Parts → Type 0
 IsReportRead c m spec choice r =
-    (members : List (List SerialOp)) × IsReadAs m spec members × IsReportAgainst (IsMember members) c m choice.bound r
+    (members : List (List SerialOp)) × IsReadAs m spec members
+    × IsReportAgainst (IsMember members) c m choice.bound r
 
--- the fault of the specification's text; of the check, want of memory, or a thread that could not start
+-- the fault of the specification's text; of the check, want of memory, or a thread that could not
+-- start
 abbrev pub IsFaultAgainst : Declarations → AMatrix → List ℕ → Choice → TextsFault → Type 0
 IsFaultAgainst c m spec choice (Component fault) = ⊥
 IsFaultAgainst c m spec choice (Matrix fault) = ⊥
 IsFaultAgainst c m spec choice (Setup k) = ⊥
 IsFaultAgainst c m spec choice (Spec fault) = IsSpecFault m spec fault
 IsFaultAgainst c m spec choice (Check fault) =
-    (members : List (List SerialOp)) × IsReadAs m spec members × (choice.workers ≡ 1 → fault ≡ Memory)
+    (members : List (List SerialOp)) × IsReadAs m spec members
+    × (choice.workers ≡ 1 → fault ≡ Memory)
 
--- the text of the one report of the component and the matrix of two texts against the specification of a third
+-- the text of the one report of the component and the matrix of two texts against the specification
+-- of a third
 abbrev pub IsReportReadOf : List ℕ → List ℕ → List ℕ → Choice → List ℕ → Type 0
 IsReportReadOf component matrix spec choice text =
     (c : Declarations) × (m : AMatrix) × AreSettled component matrix c m
     × ((r : Parts) × IsReportRead c m spec choice r × (text ≡ report_text r))
 
 abbrev pub IsReportIn : {Z : Type 0} → List ℕ → List ℕ → List ℕ → Choice → String Z → Type 0
-IsReportIn component matrix spec choice text = IsReportReadOf component matrix spec choice (string_bytes text)
+IsReportIn component matrix spec choice text =
+    IsReportReadOf component matrix spec choice (string_bytes text)
 
--- where the first two texts are those of a component and a matrix whose setup settles, this is the fault
+-- where the first two texts are those of a component and a matrix whose setup settles, this is the
+-- fault
 abbrev pub IsFaultBehind : List ℕ → List ℕ → List ℕ → Choice → TextsFault → Type 0
 IsFaultBehind component matrix spec choice fault =
-    (c : Declarations) × (m : AMatrix) × AreSettled component matrix c m × IsFaultAgainst c m spec choice fault
+    (c : Declarations) × (m : AMatrix) × AreSettled component matrix c m
+    × IsFaultAgainst c m spec choice fault
 
 -- the fault of the first text that has one, or of the setup; or that of the check
 abbrev pub IsFaultOfThree : List ℕ → List ℕ → List ℕ → Choice → TextsFault → Type 0
-IsFaultOfThree component matrix spec choice (Component fault) = IsFaultOfTexts component matrix (Component fault)
-IsFaultOfThree component matrix spec choice (Matrix fault) = IsFaultOfTexts component matrix (Matrix fault)
+IsFaultOfThree component matrix spec choice (Component fault) =
+    IsFaultOfTexts component matrix (Component fault)
+IsFaultOfThree component matrix spec choice (Matrix fault) =
+    IsFaultOfTexts component matrix (Matrix fault)
 IsFaultOfThree component matrix spec choice (Setup k) = IsFaultOfTexts component matrix (Setup k)
-IsFaultOfThree component matrix spec choice (Spec fault) = IsFaultBehind component matrix spec choice (Spec fault)
-IsFaultOfThree component matrix spec choice (Check fault) = IsFaultBehind component matrix spec choice (Check fault)
+IsFaultOfThree component matrix spec choice (Spec fault) =
+    IsFaultBehind component matrix spec choice (Spec fault)
+IsFaultOfThree component matrix spec choice (Check fault) =
+    IsFaultBehind component matrix spec choice (Check fault)

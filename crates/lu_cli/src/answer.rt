@@ -95,7 +95,8 @@ pub fn show_matrix(
     report: &Report,
 ) -> Result<Answer, AllocError>
     requires { IsOf matrix.now component.now }
-    ensures { IfOk result (λ answer. answer ≡ spec.with_matrix component.now matrix.now report.now) }
+    ensures { IfOk result (λ answer.
+        answer ≡ spec.with_matrix component.now matrix.now report.now) }
 {
     let mut text = write_matrix(alloc, component, matrix)?;
     text.push_str("---\n")?;

@@ -216,11 +216,12 @@ fn order_in(matches: &ArgMatches<'_>) -> Option<Order>
     None
 }
 
-/// What the words behind the program's name ask for. The definitions of the command line are those of
-/// `clap`.
+/// What the words behind the program's name ask for. The definitions of the command line are those
+/// of `clap`.
 pub fn read_order<'a, S: AsStr>(alloc: Global, words: &'a [S]) -> Result<Order, ArgsFault>
     ensures found { IfOk result (λ order. order_of (map S.text words.entry.now) ≡ Some order) }
-    ensures refused { IsErrOf result ArgsFault.Refused → order_of (map S.text words.entry.now) ≡ None }
+    ensures refused { IsErrOf result ArgsFault.Refused →
+        order_of (map S.text words.entry.now) ≡ None }
 {
     let Ok(command) = lineup_command(alloc) else {
         return Err(ArgsFault::Memory);

@@ -176,7 +176,8 @@ fn answer_check_against<X: AllocGlobal + Threads + Wait>(
     check_against_text(rt, &component, &matrix, specification, options)
 }
 
-/// A schedule that the specification does not explain, where a run confirms that the report is a failure or nondeterministic.
+/// A schedule that the specification does not explain, where a run confirms that the report is a
+/// failure or nondeterministic.
 fn refute_spec(
     alloc: Global,
     component: &Component,
@@ -186,7 +187,8 @@ fn refute_spec(
 ) -> Result<Answer, Refusal>
     requires component { CanRun component.now matrix.now }
     requires spec { AreOf matrix.now specification.now }
-    ensures { Answered (spec.IsRefuted component.now matrix.now report.now specification.now) result }
+    ensures { Answered
+        (spec.IsRefuted component.now matrix.now report.now specification.now) result }
 {
     let (smaller, schedule) = refute(alloc, component, matrix, report, specification)?;
     Ok(show_schedule(alloc, component, &smaller, &schedule)?)
@@ -201,7 +203,8 @@ fn refute_texts(
     specification: &[u8],
 ) -> Result<Answer, Refusal>
     requires { CanRun component.now matrix.now }
-    ensures { Answered (spec.IsRefutedBy component.now matrix.now report.now specification.now) result }
+    ensures { Answered
+        (spec.IsRefutedBy component.now matrix.now report.now specification.now) result }
 {
     let report = read_report(alloc, report)?;
     let specification = read_spec(alloc, matrix, specification)?;
@@ -217,7 +220,8 @@ fn answer_refute(alloc: Global, parts: &[&[u8]]) -> Result<Answer, Refusal>
     refute_texts(alloc, &component, &matrix, report, specification)
 }
 
-/// The last matrix of the chain of removals, with its report; or the report of a matrix that does not fail.
+/// The last matrix of the chain of removals, with its report; or the report of a matrix that does
+/// not fail.
 fn shrink_matrix(
     alloc: Global,
     component: &Component,
@@ -256,7 +260,8 @@ fn try_matrices(
     requires settles { AllEnd component.now setup.now }
     requires of { AreCallsOf component.now candidates.now }
     requires arguments { HaveArguments candidates.now }
-    ensures { Answered (spec.IsCampaignAnswer component.now setup.now candidates.now options) result }
+    ensures { Answered
+        (spec.IsCampaignAnswer component.now setup.now candidates.now options) result }
 {
     let bounds = options.bounds;
     let found = campaign(

@@ -44,7 +44,8 @@ impl<R: Read> Read for Counted<R> {
 
     fn read(&mut self, buf: &mut [u8]) -> io::Result<usize>
         ensures bound { ReadsAtMost result buf.new }
-        ensures bytes { Consumes (R.remaining self.old.inner) (R.remaining self.new.inner) result buf.new }
+        ensures bytes { Consumes (R.remaining self.old.inner)
+            (R.remaining self.new.inner) result buf.new }
         ensures counted { self.new.failures ≡ counts (is_err result) self.old.failures }
     {
         let result = self.inner.read(buf);
@@ -60,8 +61,10 @@ impl<W: Write> Write for Counted<W> {
 
     fn write(&mut self, buf: &[u8]) -> io::Result<usize>
         ensures bound { WritesAtMost result buf.now }
-        ensures bytes { Adds (W.contents self.old.inner) (W.contents self.new.inner) result buf.now }
-        ensures counted { self.new.failures ≡ after_write result (length buf.now) self.old.failures }
+        ensures bytes { Adds (W.contents self.old.inner)
+            (W.contents self.new.inner) result buf.now }
+        ensures counted { self.new.failures ≡
+            after_write result (length buf.now) self.old.failures }
     {
         let result = self.inner.write(buf);
         let failed = match &result {

@@ -34,7 +34,8 @@ pub fn read_input<R: Read>(alloc: Global, input: &mut Counted<R>) -> Result<Vec<
     ensures short { IfOk result (λ bytes. length bytes.items ≤ most_bytes) }
     ensures long { IsErrOf result InputFault.TooLong → IsTooLong (R.remaining input.old.inner) }
     ensures device { IsErrOf result InputFault.Device → input.old.failures < input.new.failures }
-    ensures unfailed { IsErrOf result InputFault.Device ⊎ (input.new.failures ≡ input.old.failures) }
+    ensures unfailed { IsErrOf result InputFault.Device ⊎
+        (input.new.failures ≡ input.old.failures) }
 {
     let mut bytes = Vec::new(alloc);
     let mut piece = [0; 4096];

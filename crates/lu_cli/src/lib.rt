@@ -1,4 +1,5 @@
-//! The program `lineup`, over any reader and writer: from words and bytes to bytes and an exit status.
+//! The program `lineup`, over any reader and writer: from words and bytes to bytes and an exit
+//! status.
 #![tactic(auto)]
 
 mod answer;

@@ -30,7 +30,8 @@ pub enum Order {
     /// `lineup check`: report the first fault of a component and a matrix.
     Check(Options),
 
-    /// `lineup check --spec`: report the first fault of a component and a matrix against a specification.
+    /// `lineup check --spec`: report the first fault of a component and a matrix against a
+    /// specification.
     CheckAgainst(Options),
 
     /// `lineup refute`: show where a component that fails does not meet a specification.

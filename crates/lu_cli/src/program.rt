@@ -67,7 +67,8 @@ fn answer_for<X: AllocGlobal + Threads + Wait, S: AsStr, R: Read>(
     input: &mut Counted<R>,
 ) -> Result<Answer, Failure>
     requires { input.old.failures < 2 ^ 64 - 1 }
-    ensures answer { IfOk result (IsAnswerFor (map S.text words.now) (R.remaining input.old.inner)) }
+    ensures answer { IfOk result
+        (IsAnswerFor (map S.text words.now) (R.remaining input.old.inner)) }
     ensures refused { IfOk result (λ r. order_of (map S.text words.now) ≡ None → r ≡ no_command) }
     ensures blames_none { IfOk result (λ r. r ≢ no_device) }
     ensures early { order_of (map S.text words.now) ≡ None → input.new ≡ input.old }
@@ -89,10 +90,11 @@ fn refuse_command(alloc: Global) -> Result<Answer, AllocError>
     refused(alloc, "command line")
 }
 
-/// Runs the program on the words behind its name, and answers its exit status: 0 where all is well, 1 for a failure, for
-/// nondeterminism and for an infeasible schedule, 2 for a refusal, 3 for a serial cut, and 4 where memory, the start of a
-/// worker's thread or a device failed. No call of the reader or the writer that failed is tried again; both counts of
-/// failures have to be below 2^64 - 1. A check with two workers or more waits for them.
+/// Runs the program on the words behind its name, and answers its exit status: 0 where all is well,
+/// 1 for a failure, for nondeterminism and for an infeasible schedule, 2 for a refusal, 3 for a
+/// serial cut, and 4 where memory, the start of a worker's thread or a device failed. No call of
+/// the reader or the writer that failed is tried again; both counts of failures have to be below
+/// 2^64 - 1. A check with two workers or more waits for them.
 pub fn run<X: AllocGlobal + Threads + Wait, S: AsStr, R: Read, W: Write>(
     rt: &X,
     words: &[S],
@@ -102,7 +104,8 @@ pub fn run<X: AllocGlobal + Threads + Wait, S: AsStr, R: Read, W: Write>(
     requires reads { input.old.failures < 2 ^ 64 - 1 }
     requires writes { output.old.failures < 2 ^ 64 - 1 }
     // Where the command line was accepted and no read and no write failed, the answer goes out.
-    ensures answer { SaysAnswer S.text words.now R.remaining W.contents input.old input.new output.old output.new result }
+    ensures answer { SaysAnswer S.text words.now R.remaining W.contents input.old input.new
+        output.old output.new result }
     // Where it was refused, that is said, and nothing is read.
     ensures refused { SaysNoCommand S.text words.now W.contents output.old output.new result }
     // The command line is judged before anything is read.

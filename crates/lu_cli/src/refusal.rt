@@ -17,7 +17,8 @@ pub(crate) enum Refusal {
     /// `B1`: the bundle has another number of parts.
     Parts,
 
-    /// What is wrong with the text of the component, the matrix or the specification, or with the setup, or a worker's thread that could not start.
+    /// What is wrong with the text of the component, the matrix or the specification, or with the
+    /// setup, or a worker's thread that could not start.
     Texts(Fault),
 
     /// What is wrong with the text of the schedule.

@@ -28,7 +28,8 @@ pub enum Fault {
     #[error("{0}")]
     Matrix(MatrixFault),
 
-    /// Both are read, and this call of the setup, from 0, is the first that does not end within 256 moves after it.
+    /// Both are read, and this call of the setup, from 0, is the first that does not end within 256
+    /// moves after it.
     #[error("U1 call {0}")]
     Setup(u8),
 
@@ -92,7 +93,8 @@ impl From<AllocError> for Fault {
     }
 }
 
-/// The number of the first call of the setup that does not end, if there is one. Want of memory is one of the matrix.
+/// The number of the first call of the setup that does not end, if there is one. Want of memory is
+/// one of the matrix.
 fn find_unsettled(
     alloc: Global,
     component: &Component,
@@ -105,12 +107,13 @@ fn find_unsettled(
     Ok(settles(alloc, component, matrix)?)
 }
 
-/// The component and the matrix of two texts. The component's text is read first, and the matrix's setup is run last.
+/// The component and the matrix of two texts. The component's text is read first, and the matrix's
+/// setup is run last.
 ///
 /// # Errors
 ///
-/// [`Fault::Component`] or [`Fault::Matrix`] with the fault of the first text that has one. [`Fault::Setup`] where both are read,
-/// and the setup does not settle.
+/// [`Fault::Component`] or [`Fault::Matrix`] with the fault of the first text that has one.
+/// [`Fault::Setup`] where both are read, and the setup does not settle.
 pub(crate) fn read_texts(
     alloc: Global,
     component: &[u8],
@@ -148,13 +151,15 @@ pub(crate) fn report_of<X: Threads + Wait>(
     Ok(report)
 }
 
-/// Checks the component and the matrix of two texts: answers the text of their report, which is the same for any number of
-/// workers and any depth. The component's text is read first. With two workers or more the call waits for them.
+/// Checks the component and the matrix of two texts: answers the text of their report, which is the
+/// same for any number of workers and any depth. The component's text is read first. With two
+/// workers or more the call waits for them.
 ///
 /// # Errors
 ///
-/// [`Fault::Component`] or [`Fault::Matrix`] with the fault of the first text that has one. [`Fault::Setup`] where both are read,
-/// and the setup does not settle. [`Fault::Check`] where it does, and memory was refused, or the start of a worker's thread, which one worker doesn't need.
+/// [`Fault::Component`] or [`Fault::Matrix`] with the fault of the first text that has one.
+/// [`Fault::Setup`] where both are read, and the setup does not settle. [`Fault::Check`] where it
+/// does, and memory was refused, or the start of a worker's thread, which one worker doesn't need.
 pub fn check_texts<X: Threads + Wait>(
     rt: &X,
     alloc: Global,
@@ -162,7 +167,8 @@ pub fn check_texts<X: Threads + Wait>(
     matrix: &[u8],
     options: Options,
 ) -> Result<String, Fault>
-    ensures report { IfOk result (λ t. IsReportOf component.now matrix.now options (string_bytes t)) }
+    ensures report { IfOk result (λ t.
+        IsReportOf component.now matrix.now options (string_bytes t)) }
     ensures fault { IfErr result (IsCheckFault component.now matrix.now options) }
 {
     let report = report_of(rt, alloc, component, matrix, options)?;
@@ -184,7 +190,8 @@ pub(crate) fn report_against<X: Threads + Wait>(
 ) -> Result<Report, Fault>
     requires { CanRun component.now matrix.now }
     ensures report { IfOk result (IsReportRead component.now matrix.now specification.now options) }
-    ensures fault { IfErr result (IsFaultAgainst component.now matrix.now specification.now options) }
+    ensures fault { IfErr result
+        (IsFaultAgainst component.now matrix.now specification.now options) }
 {
     let specification = read_spec(alloc, matrix, specification)?;
     let tree = specification.tree();
@@ -192,14 +199,17 @@ pub(crate) fn report_against<X: Threads + Wait>(
     Ok(report)
 }
 
-/// Checks the component and the matrix of two texts against the specification of a third: answers the text of their report, which
-/// is the same for any number of workers and any depth. The component's text is read first, and then the matrix's. No serial run
-/// is made. With two workers or more the call waits for them.
+/// Checks the component and the matrix of two texts against the specification of a third: answers
+/// the text of their report, which is the same for any number of workers and any depth. The
+/// component's text is read first, and then the matrix's. No serial run is made. With two workers
+/// or more the call waits for them.
 ///
 /// # Errors
 ///
-/// [`Fault::Component`], [`Fault::Matrix`] or [`Fault::Spec`] with the fault of the first text that has one. [`Fault::Setup`] where
-/// the first two are read, and the setup does not settle. [`Fault::Check`] where all are read, and memory was refused, or the start of a worker's thread, which one worker doesn't need.
+/// [`Fault::Component`], [`Fault::Matrix`] or [`Fault::Spec`] with the fault of the first text that
+/// has one. [`Fault::Setup`] where the first two are read, and the setup does not settle.
+/// [`Fault::Check`] where all are read, and memory was refused, or the start of a worker's thread,
+/// which one worker doesn't need.
 pub fn check_texts_against<X: Threads + Wait>(
     rt: &X,
     alloc: Global,
@@ -209,7 +219,8 @@ pub fn check_texts_against<X: Threads + Wait>(
     options: Options,
 ) -> Result<String, Fault>
     ensures report { IfOk result (IsReportIn component.now matrix.now specification.now options) }
-    ensures fault { IfErr result (IsFaultOfThree component.now matrix.now specification.now options) }
+    ensures fault { IfErr result
+        (IsFaultOfThree component.now matrix.now specification.now options) }
 {
     let (component, matrix) = read_texts(alloc, component, matrix)?;
     let report = report_against(rt, alloc, &component, &matrix, specification, options)?;

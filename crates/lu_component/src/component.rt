@@ -110,16 +110,18 @@ impl Model for Component {
 
     ghost Value = { Declarations };
 
-    ghost view = { λ c. declarations c.name c.local c.arrays.items c.locks.items c.operations.items };
+    ghost view = { λ c.
+        declarations c.name c.local c.arrays.items c.locks.items c.operations.items };
 
-    ghost invariant = { λ c. IsComponent (declarations c.name c.local c.arrays.items c.locks.items c.operations.items) };
+    ghost invariant = { λ c.
+        IsComponent (declarations c.name c.local c.arrays.items c.locks.items c.operations.items) };
 }
 
 impl Component {
     /// The component that declares these, for readers of its text.
     ///
-    /// Asks for what each component obeys: the limits of its arrays, locks and operations hold, names
-    /// are distinct within their kind, and what an instruction names is there.
+    /// Asks for what each component obeys: the limits of its arrays, locks and operations hold,
+    /// names are distinct within their kind, and what an instruction names is there.
     pub fn new(
         name: Name,
         local: u8,
@@ -146,8 +148,8 @@ impl Component {
         &self.name
     }
 
-    /// How many local instructions run with one move at most, 0 to 16: those that read and write registers
-    /// alone, or jump. With 0 each is a move of its own.
+    /// How many local instructions run with one move at most, 0 to 16: those that read and write
+    /// registers alone, or jump. With 0 each is a move of its own.
     pub fn local(&self) -> u8
         ensures local { result ≡ self.now.local }
         ensures few { result ≤ 16 }

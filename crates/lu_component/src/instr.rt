@@ -118,7 +118,8 @@ pub enum Instr {
         value: Operand,
     },
 
-    /// `awaitne W i v`: goes on where cell `index` of the array differs from the value, else blocked.
+    /// `awaitne W i v`: goes on where cell `index` of the array differs from the value, else
+    /// blocked.
     AwaitNot {
         array: u8,
         index: Operand,

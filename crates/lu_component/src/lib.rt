@@ -1,4 +1,5 @@
-//! Components: small concurrent programs in a step language. Their text is read and written by lu_lang.
+//! Components: small concurrent programs in a step language. Their text is read and written by
+//! lu_lang.
 #![tactic(auto)]
 
 mod component;

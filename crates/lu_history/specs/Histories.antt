@@ -48,7 +48,8 @@ IsWellFormed h = (i : ℕ) (e : Event) → slice_get h i ≡ Some e → Fits (ta
 
 -- how many operations of each thread return before the call of b
 abbrev pub AreBefore : List Event → OpId → List ℕ → Type 0
-AreBefore h b counts = (j u : ℕ) → IsCallAt h j b → get_or counts u 0 ≡ length (outcomes u (take j h))
+AreBefore h b counts =
+    (j u : ℕ) → IsCallAt h j b → get_or counts u 0 ≡ length (outcomes u (take j h))
 
 -- the thread of an event
 abbrev pub thread_of : Event → ℕ

@@ -19,7 +19,8 @@ value_of Trap = 0
 value_of Stuck = 0
 
 abbrev pub outcome_cmp : SerialOutcome → SerialOutcome → Ordering
-outcome_cmp a b = ordering_then (nat_cmp (kind_of a) (kind_of b)) (nat_cmp (value_of a) (value_of b))
+outcome_cmp a b =
+    ordering_then (nat_cmp (kind_of a) (kind_of b)) (nat_cmp (value_of a) (value_of b))
 
 -- by thread, and then by outcome
 abbrev pub op_cmp : SerialOp → SerialOp → Ordering

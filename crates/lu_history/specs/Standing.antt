@@ -13,4 +13,5 @@ standing_of threads t = get_or threads t (0, false)
 -- each thread has returned from what it has done, and called that and what is open
 pub record Agree (threads : List Standing) (h : List Event) : Type 0 where
   pub done : (t : ℕ) → length (outcomes t h) ≡ (standing_of threads t).0
-  pub called : (t : ℕ) → calls t h ≡ (standing_of threads t).0 + (if (standing_of threads t).1 then 1 else 0)
+  pub called : (t : ℕ)
+      → calls t h ≡ (standing_of threads t).0 + (if (standing_of threads t).1 then 1 else 0)

@@ -18,7 +18,8 @@ operation_text t k = decimal t ++ codes " " ++ decimal k
 -- an event's line
 abbrev pub event_text : Event → List ℕ
 event_text (Call t k) = codes "call " ++ operation_text t k ++ codes "\n"
-event_text (Return t k outcome) = codes "return " ++ operation_text t k ++ codes " " ++ outcome_text outcome ++ codes "\n"
+event_text (Return t k outcome) =
+    codes "return " ++ operation_text t k ++ codes " " ++ outcome_text outcome ++ codes "\n"
 
 -- a line for each event
 abbrev pub history_text : List Event → List ℕ

@@ -17,12 +17,13 @@ use std::marker::Model;
 /// The number of operations that a history can have.
 const PLACES: usize = MOST_THREADS * MOST_CALLS_OF_THREAD;
 
-/// The calls and returns of up to 8 threads with up to 8 calls each, in the order in which they happened. In clauses it is
-/// the list of its events.
+/// The calls and returns of up to 8 threads with up to 8 calls each, in the order in which they
+/// happened. In clauses it is the list of its events.
 ///
-/// A walk over schedules extends, shortens and asks its history at every step. So the numbers of calls and returns, the
-/// outcomes and what had returned at each call stand beside the events in tables of fixed size. What the tables have past the
-/// numbers is never read, and nothing needs to be cleared.
+/// A walk over schedules extends, shortens and asks its history at every step. So the numbers of
+/// calls and returns, the outcomes and what had returned at each call stand beside the events in
+/// tables of fixed size. What the tables have past the numbers is never read, and nothing needs to
+/// be cleared.
 #[derive(Drop)]
 pub struct History {
     events: Vec<Event>,
@@ -75,8 +76,8 @@ impl History {
         self.events.as_slice()
     }
 
-    /// How thread `t`'s operations returned, in order: the outcomes of the thread's part of the history
-    /// (Herlihy and Wing, 1990). A pending one has no place here.
+    /// How thread `t`'s operations returned, in order: the outcomes of the thread's part of the
+    /// history (Herlihy and Wing, 1990). A pending one has no place here.
     pub fn outcomes(&self, t: u8) -> &[Outcome]
         requires { t < 8 }
         ensures { result.now ≡ outcomes t self.now }
@@ -96,7 +97,8 @@ impl History {
         self.returned[t] < self.called[t]
     }
 
-    /// The number of thread `t`'s calls. A search for a serial witness is done with a thread when it has taken as many.
+    /// The number of thread `t`'s calls. A search for a serial witness is done with a thread when
+    /// it has taken as many.
     pub fn calls(&self, t: u8) -> u8
         requires { t < 8 }
         ensures { result ≡ calls t self.now }
@@ -105,8 +107,8 @@ impl History {
         self.called[t]
     }
 
-    /// How the operation ended: as it returned, `Stuck` where it is pending, `None` where it is not called. It is what a
-    /// serial witness has at that operation.
+    /// How the operation ended: as it returned, `Stuck` where it is pending, `None` where it is not
+    /// called. It is what a serial witness has at that operation.
     pub fn ended(&self, a: OpId) -> Option<SerialOutcome>
         requires { a.t < 8 }
         ensures ended { result ≡ slice_get (part a.t self.now) a.k }
@@ -122,8 +124,9 @@ impl History {
         }
     }
 
-    /// How many operations of each thread return before `b` is called, which is all that a search for a serial witness needs to
-    /// know of precedence. Where `b` is not called the numbers mean nothing.
+    /// How many operations of each thread return before `b` is called, which is all that a search
+    /// for a serial witness needs to know of precedence. Where `b` is not called the numbers mean
+    /// nothing.
     pub fn before(&self, b: OpId) -> &[u8; 8]
         requires thread { b.t < 8 }
         requires call { b.k < 8 }
@@ -132,7 +135,8 @@ impl History {
         &self.before[b.place()]
     }
 
-    /// Whether `a` returns before `b` is called (Herlihy and Wing, 1990). It is false where `a` has no return or `b` no call.
+    /// Whether `a` returns before `b` is called (Herlihy and Wing, 1990). It is false where `a` has
+    /// no return or `b` no call.
     pub fn precedes(&self, a: OpId, b: OpId) -> bool
         requires a { (a.t < 8) × (a.k < 8) }
         requires b { (b.t < 8) × (b.k < 8) }
@@ -141,7 +145,8 @@ impl History {
         b.k < self.called[usize::from(b.t)] && a.k < self.before(b)[usize::from(a.t)]
     }
 
-    /// Whether the event may come next: it is the next call of a thread without a pending one, or the return of its pending one.
+    /// Whether the event may come next: it is the next call of a thread without a pending one, or
+    /// the return of its pending one.
     pub fn fits(&self, event: Event) -> bool
         ensures { IsTrue result ↔ Fits self.now event }
     {
@@ -230,9 +235,9 @@ impl History {
         }
     }
 
-    /// The history without the pending calls of threads other than `t`: where `t` has a pending call, the history with that
-    /// one alone, for which a stuck history has to have a witness (Burckhardt, Dern, Musuvathi and Tan, 2010). Where `t` has
-    /// no pending call, it has none.
+    /// The history without the pending calls of threads other than `t`: where `t` has a pending
+    /// call, the history with that one alone, for which a stuck history has to have a witness
+    /// (Burckhardt, Dern, Musuvathi and Tan, 2010). Where `t` has no pending call, it has none.
     ///
     /// # Errors
     ///

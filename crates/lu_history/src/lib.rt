@@ -1,9 +1,10 @@
 //! Histories of concurrent operations.
 //!
-//! A [`History`] is the list of the calls and returns of up to 8 threads with up to 8 calls each, in the order in which they
-//! happened. An operation precedes another one in it where it returns before the other is called
-//! (Herlihy and Wing, 1990). A serial history, a list of [`SerialOp`], is what the same threads did one operation at a time;
-//! its last operation may be stuck (Burckhardt, Dern, Musuvathi and Tan, 2010).
+//! A [`History`] is the list of the calls and returns of up to 8 threads with up to 8 calls each,
+//! in the order in which they happened. An operation precedes another one in it where it returns
+//! before the other is called (Herlihy and Wing, 1990). A serial history, a list of [`SerialOp`],
+//! is what the same threads did one operation at a time; its last operation may be stuck
+//! (Burckhardt, Dern, Musuvathi and Tan, 2010).
 //!
 //! ```text
 //! let mut history = History::new(alloc);

@@ -5,7 +5,8 @@ ghost use Rattle.lu_history.specs.Parts.{as_serial};
 
 use lu_machine::Outcome;
 
-/// How an operation of a serial history ended. Returned values come first, by number, then `Trap`, then `Stuck`.
+/// How an operation of a serial history ended. Returned values come first, by number, then `Trap`,
+/// then `Stuck`.
 #[derive(Clone, Copy, Debug, PartialEq, Eq, PartialOrd, Ord)]
 pub enum SerialOutcome {
     /// It returned this value.
@@ -18,8 +19,8 @@ pub enum SerialOutcome {
     Stuck,
 }
 
-/// An operation of a serial history: its thread, from 0, and how it ended. The k-th one of a thread is the thread's call
-/// number k. Operations are ordered by thread, and then by outcome.
+/// An operation of a serial history: its thread, from 0, and how it ended. The k-th one of a thread
+/// is the thread's call number k. Operations are ordered by thread, and then by outcome.
 #[derive(Clone, Copy, Debug, PartialEq, Eq, PartialOrd, Ord)]
 pub struct SerialOp {
     pub thread: u8,

@@ -28,8 +28,8 @@ fn write_event(text: &mut String, event: Event) -> Result<(), AllocError>
     Ok(())
 }
 
-/// The text of a history: a line for each event, as `call 0 1`, `return 0 1 ret 5` or `return 0 1 trap`, with the thread and
-/// the number of its call, both from 0. Each line ends with LF.
+/// The text of a history: a line for each event, as `call 0 1`, `return 0 1 ret 5` or `return 0 1
+/// trap`, with the thread and the number of its call, both from 0. Each line ends with LF.
 ///
 /// # Errors
 ///

@@ -18,18 +18,23 @@ is_there c w (Num n) = is_some (cell_of c w n)
 abbrev pub unless_there : Bool → Outlook → Outlook → Outlook
 unless_there there next rest = if there then next else either next rest
 
--- the outlook at this instruction and place, where `known` has those of other places, and `rest` is that once the operation has ended
+-- the outlook at this instruction and place, where `known` has those of other places, and `rest` is
+-- that once the operation has ended
 abbrev pub outlook_at : Declarations → (ℕ → Outlook) → Outlook → ℕ → Instr → Outlook
 outlook_at c known rest place (Set to v) = one_before (known (place + 1))
 outlook_at c known rest place (Compute by to a b) = one_before (known (place + 1))
-outlook_at c known rest place (Load to w i) = one_before (unless_there (is_there c w i) (known (place + 1)) rest)
-outlook_at c known rest place (Store w i v) = one_before (unless_there (is_there c w i) (known (place + 1)) rest)
-outlook_at c known rest place (Cas to w i expected desired) = one_before (unless_there (is_there c w i) (known (place + 1)) rest)
+outlook_at c known rest place (Load to w i) =
+    one_before (unless_there (is_there c w i) (known (place + 1)) rest)
+outlook_at c known rest place (Store w i v) =
+    one_before (unless_there (is_there c w i) (known (place + 1)) rest)
+outlook_at c known rest place (Cas to w i expected desired) =
+    one_before (unless_there (is_there c w i) (known (place + 1)) rest)
 outlook_at c known rest place (Lock l) = nothing
 outlook_at c known rest place (Unlock l) = one_before (either (known (place + 1)) rest)
 outlook_at c known rest place (Await w i v) = nothing
 outlook_at c known rest place (AwaitNot w i v) = nothing
 outlook_at c known rest place (Pick to count) = nothing
 outlook_at c known rest place (Jump target) = one_before (known target)
-outlook_at c known rest place (JumpIfZero v target) = one_before (either (known target) (known (place + 1)))
+outlook_at c known rest place (JumpIfZero v target) =
+    one_before (either (known target) (known (place + 1)))
 outlook_at c known rest place (Return v) = one_before rest

@@ -16,7 +16,8 @@ one_before o = record { moves = o.moves + 1; over = o.over }
 
 -- where either may come
 abbrev pub either : Outlook → Outlook → Outlook
-either a b = record { moves = min a.moves b.moves; over = (a.over && b.over) && (a.moves == b.moves) }
+either a b =
+    record { moves = min a.moves b.moves; over = (a.over && b.over) && (a.moves == b.moves) }
 
 -- a tells no more than b
 pub record IsWeaker (a b : Outlook) : Type 0 where

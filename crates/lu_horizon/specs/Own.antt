@@ -7,13 +7,15 @@ use Rattle.lu_machine.specs.declared.thread.Activity.TheVariants.{Idle, Open}
 use Rattle.lu_machine.specs.declared.thread.Frame.{Frame}
 use Rattle.lu_machine.specs.States.{State}
 
--- a state of the component and the matrix, in which what is open is the thread's call of that number; no local
--- instructions run with a move
+-- a state of the component and the matrix, in which what is open is the thread's call of that
+-- number; no local instructions run with a move
 pub record IsOwn (c : Declarations) (matrix : Matrix) (s : State) : Type 0 where
   pub component : s.component ≡ c
   pub short : c.local ≡ 0
   pub matrix_is : s.matrix ≡ matrix
-  pub own : (t k : ℕ) (f : Frame) → slice_get s.threads t ≡ Some (record { done = k; activity = Open f }) → (call : Call) × (slice_get (calls_of matrix t) k ≡ Some call) × (f.op ≡ call.op)
+  pub own : (t k : ℕ) (f : Frame)
+      → slice_get s.threads t ≡ Some (record { done = k; activity = Open f })
+      → (call : Call) × (slice_get (calls_of matrix t) k ≡ Some call) × (f.op ≡ call.op)
 
 -- thread t is idle, after k calls
 pub record IsIdle (c : Declarations) (matrix : Matrix) (t k : ℕ) (s : State) : Type 0 where

@@ -36,9 +36,12 @@ activity_unseen c (Open f) = option_map_or is_unseen (instr_at c f.op f.place) f
 
 -- thread t is at such an instruction
 abbrev pub is_unseen_at : State → ℕ → Bool
-is_unseen_at s t = option_map_or (λ thread. activity_unseen s.component thread.activity) (slice_get s.threads t) false
+is_unseen_at s t =
+    option_map_or (λ thread. activity_unseen s.component thread.activity)
+    (slice_get s.threads t) false
 
--- an instruction that changes its own registers alone, and always goes on or returns; it may read a cell
+-- an instruction that changes its own registers alone, and always goes on or returns; it may read a
+-- cell
 abbrev pub only_reads : Instr → Bool
 only_reads (Load to w i) = true
 only_reads instr = is_unseen instr
@@ -49,7 +52,9 @@ activity_only_reads c (Open f) = option_map_or only_reads (instr_at c f.op f.pla
 
 -- thread t is at such an instruction
 abbrev pub only_reads_at : State → ℕ → Bool
-only_reads_at s t = option_map_or (λ thread. activity_only_reads s.component thread.activity) (slice_get s.threads t) false
+only_reads_at s t =
+    option_map_or (λ thread. activity_only_reads s.component thread.activity)
+    (slice_get s.threads t) false
 
 -- thread t is at a `jz` of its call number `done`, and goes to `place` from there
 pub record JumpsTo (s : State) (t place : ℕ) : Type 0 where

@@ -20,7 +20,8 @@ abbrev pub outlook_of : List Outlook → ℕ → Outlook
 outlook_of places place = get_or places place nothing
 
 -- call number k of thread t runs this code, and behind it there is `rest`
-pub record IsCall (c : Declarations) (matrix : Matrix) (t k : ℕ) (code : List Instr) (rest : Outlook) : Type 0 where
+pub record IsCall (c : Declarations) (matrix : Matrix) (t k : ℕ) (code : List Instr)
+    (rest : Outlook) : Type 0 where
   pub call : Call
   pub called : slice_get (calls_of matrix t) k ≡ Some call
   pub code_is : (place : ℕ) → instr_at c call.op place ≡ slice_get code place
@@ -28,16 +29,19 @@ pub record IsCall (c : Declarations) (matrix : Matrix) (t k : ℕ) (code : List 
 
 -- the outlooks at the places of call number k of thread t
 abbrev pub ArePlaces : Declarations → Matrix → ℕ → ℕ → List Outlook → Type 0
-ArePlaces c matrix t k places = (place : ℕ) (s : State) → IsAt c matrix t k place s → HasOutlook s t (outlook_of places place)
+ArePlaces c matrix t k places =
+    (place : ℕ) (s : State) → IsAt c matrix t k place s → HasOutlook s t (outlook_of places place)
 
 -- the outlooks at the places of each call that runs this code
 abbrev pub AreOutlooks : Declarations → List Instr → Outlook → List Outlook → Type 0
-AreOutlooks c code rest places = (matrix : Matrix) (t k : ℕ) → IsCall c matrix t k code rest → ArePlaces c matrix t k places
+AreOutlooks c code rest places =
+    (matrix : Matrix) (t k : ℕ) → IsCall c matrix t k code rest → ArePlaces c matrix t k places
 
 -- they stay so
 abbrev pub StayOutlooks : Declarations → List Instr → Outlook → List Outlook → List Outlook → Type 0
 StayOutlooks c code rest old new =
-    (matrix : Matrix) (t k : ℕ) → IsCall c matrix t k code rest → ArePlaces c matrix t k old → ArePlaces c matrix t k new
+    (matrix : Matrix) (t k : ℕ) → IsCall c matrix t k code rest → ArePlaces c matrix t k old
+    → ArePlaces c matrix t k new
 
 -- the outlook before call number k
 abbrev pub outlook_before : Outlooks → ℕ → Outlook
@@ -46,7 +50,8 @@ outlook_before calls k = one_before (outlook_of (get_or calls k []) 0)
 -- those of the calls of thread t, from number k on
 abbrev pub AreCalls : Declarations → Matrix → ℕ → ℕ → Outlooks → Type 0
 AreCalls c matrix t k [] = Unit {0}
-AreCalls c matrix t k (places ∷ calls) = ArePlaces c matrix t k places × AreCalls c matrix t (k + 1) calls
+AreCalls c matrix t k (places ∷ calls) =
+    ArePlaces c matrix t k places × AreCalls c matrix t (k + 1) calls
 
 -- those of all calls of thread t
 pub record IsThread (c : Declarations) (matrix : Matrix) (t : ℕ) (calls : Outlooks) : Type 0 where
@@ -55,13 +60,15 @@ pub record IsThread (c : Declarations) (matrix : Matrix) (t : ℕ) (calls : Outl
 
 -- the table's outlooks are those of the component and the matrix
 abbrev pub IsTable : Declarations → Matrix → List Outlooks → Type 0
-IsTable c matrix table = (t : ℕ) (calls : Outlooks) → slice_get table t ≡ Some calls → IsThread c matrix t calls
+IsTable c matrix table =
+    (t : ℕ) (calls : Outlooks) → slice_get table t ≡ Some calls → IsThread c matrix t calls
 
 -- the table is that of the run whose state is s
 pub record Serves (table : List Outlooks) (s : State) : Type 0 where
   pub numbers : IsTable s.component s.matrix table
   pub own : IsOwn s.component s.matrix s
 
--- the table is that of the runs of the component and the matrix, where no local instructions run with a move
+-- the table is that of the runs of the component and the matrix, where no local instructions run
+-- with a move
 abbrev pub ServesRuns : Declarations → Matrix → List Outlooks → Type 0
 ServesRuns c matrix table = (s : State) → c.local ≡ 0 → IsStart c matrix s → Serves table s

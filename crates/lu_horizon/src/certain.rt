@@ -37,8 +37,8 @@ fn behind(component: &Component, array: u8, index: Operand, next: Outlook, rest:
     }
 }
 
-/// What is ahead at the instruction at this place, from what is known at other places, and `rest` once the operation has ended:
-/// no more than that.
+/// What is ahead at the instruction at this place, from what is known at other places, and `rest`
+/// once the operation has ended: no more than that.
 pub(crate) fn certain(
     component: &Component,
     instr: &Instr,
@@ -47,7 +47,8 @@ pub(crate) fn certain(
     rest: Outlook,
 ) -> Outlook
     requires { place < 64 }
-    ensures { IsWeaker result (outlook_at component.now (outlook_of known.now) rest place instr.now) }
+    ensures { IsWeaker result
+        (outlook_at component.now (outlook_of known.now) rest place instr.now) }
 {
     let next = outlook_of(known, place + 1);
     let behind = match *instr {

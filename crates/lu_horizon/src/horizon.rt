@@ -81,8 +81,8 @@ impl Calls {
         self.open(k, 0).one_before()
     }
 
-    /// The greatest number of moves of those outlooks at whose end the thread is over, or else of the others. No clause says
-    /// so: it only saves time.
+    /// The greatest number of moves of those outlooks at whose end the thread is over, or else of
+    /// the others. No clause says so: it only saves time.
     fn greatest(&self, over: bool) -> u16 {
         let mut greatest = 0;
         for places in &self.calls {
@@ -117,7 +117,8 @@ impl Model for Horizon {
     ghost view = { λ h. h.threads.items };
 }
 
-/// Looks one move further ahead from each place, up to `most` moves, and says whether that told more.
+/// Looks one move further ahead from each place, up to `most` moves, and says whether that told
+/// more.
 fn look(
     component: &Component,
     code: &[Instr],
@@ -140,7 +141,8 @@ fn look(
     more
 }
 
-/// The outlooks at the places of a call that runs this code, up to `most` moves, where there is `rest` behind it.
+/// The outlooks at the places of a call that runs this code, up to `most` moves, where there is
+/// `rest` behind it.
 fn of_code(
     alloc: Global,
     component: &Component,
@@ -246,8 +248,8 @@ impl Horizon {
         }
     }
 
-    /// Who touches what is shared in the last moves: none where a call is left, the threads can't end within `left` moves, or a
-    /// look at these moves serves nothing. No clause says so.
+    /// Who touches what is shared in the last moves: none where a call is left, the threads can't
+    /// end within `left` moves, or a look at these moves serves nothing. No clause says so.
     pub fn last_sharers(&self, machine: &Machine, left: usize) -> Option<Sharers> {
         let mut known = Known::NOTHING;
         let mut room = left;
@@ -274,9 +276,9 @@ impl Horizon {
         known.sharers()
     }
 
-    /// Who touches what is shared in all calls that are left, where a look at them may serve: where the walk begins, or no
-    /// operation is open, and two threads have calls left. A look that fails mostly fails behind the next move too, so it is not
-    /// made at each node. No clause says so.
+    /// Who touches what is shared in all calls that are left, where a look at them may serve: where
+    /// the walk begins, or no operation is open, and two threads have calls left. A look that fails
+    /// mostly fails behind the next move too, so it is not made at each node. No clause says so.
     pub fn sharers(&self, machine: &Machine, left: usize) -> Option<Sharers> {
         let begins = left == usize::from(self.most);
         let mut known = Known::NOTHING;
@@ -299,10 +301,12 @@ impl Horizon {
         known.sharers()
     }
 
-    /// Where no schedule ends within `left` moves, how many of them each thread can make at most, but with no other limit: none
-    /// where that is not certain. The table has to be that of the machine's component and matrix.
+    /// Where no schedule ends within `left` moves, how many of them each thread can make at most,
+    /// but with no other limit: none where that is not certain. The table has to be that of the
+    /// machine's component and matrix.
     pub fn caps(&self, machine: &Machine, left: usize) -> Option<ArrayVec<u16, 8>>
-        ensures { Serves self.now machine.now → IfSome result (λ c. AreCaps machine.now left c.items) }
+        ensures { Serves self.now machine.now →
+            IfSome result (λ c. AreCaps machine.now left c.items) }
     {
         if left > usize::from(self.greatest) {
             return None;

@@ -33,7 +33,8 @@ pub fn stand_at(machine: &Machine, t: u8) -> Option<Stand>
     })
 }
 
-/// The place to which thread `t` goes next, where its registers alone tell: none where its next instruction is no `jz`.
+/// The place to which thread `t` goes next, where its registers alone tell: none where its next
+/// instruction is no `jz`.
 pub(crate) fn jumps_to(machine: &Machine, t: u8) -> Option<u8>
     ensures { IfSome result (JumpsTo machine.now t) }
 {
@@ -53,7 +54,8 @@ pub(crate) fn jumps_to(machine: &Machine, t: u8) -> Option<u8>
     }
 }
 
-/// Whether the instruction reads and writes its own operation's registers alone, and always goes on or returns.
+/// Whether the instruction reads and writes its own operation's registers alone, and always goes on
+/// or returns.
 pub(crate) fn is_unseen(instr: &Instr) -> bool
     ensures { result ≡ is_unseen instr.now }
 {
@@ -67,8 +69,8 @@ pub(crate) fn is_unseen(instr: &Instr) -> bool
     )
 }
 
-/// Whether thread `t` is at an instruction that no other thread sees: it reads and writes its own operation's registers alone,
-/// and always goes on or returns.
+/// Whether thread `t` is at an instruction that no other thread sees: it reads and writes its own
+/// operation's registers alone, and always goes on or returns.
 #[inline(always)]
 pub fn is_unseen_at(machine: &Machine, t: u8) -> bool
     ensures { result ≡ is_unseen_at machine.now t }
@@ -85,7 +87,8 @@ pub fn is_unseen_at(machine: &Machine, t: u8) -> bool
     }
 }
 
-/// Whether the instruction changes its own operation's registers alone, and always goes on or returns. It may read a cell.
+/// Whether the instruction changes its own operation's registers alone, and always goes on or
+/// returns. It may read a cell.
 pub(crate) fn only_reads(instr: &Instr) -> bool
     ensures { result ≡ only_reads instr.now }
 {
@@ -95,8 +98,9 @@ pub(crate) fn only_reads(instr: &Instr) -> bool
     }
 }
 
-/// Whether thread `t` is at an instruction that changes nothing that another thread sees: it changes its own operation's
-/// registers alone, and always goes on or returns. It may read a cell, and traps where that is not there.
+/// Whether thread `t` is at an instruction that changes nothing that another thread sees: it
+/// changes its own operation's registers alone, and always goes on or returns. It may read a cell,
+/// and traps where that is not there.
 #[inline(always)]
 pub fn only_reads_at(machine: &Machine, t: u8) -> bool
     ensures { result ≡ only_reads_at machine.now t }

@@ -4,8 +4,8 @@ use lu_text::cut_line;
 use std::process::Abort;
 use std::test::Fail;
 
-/// The bytes that stand in place of each other one: ends of lines and of words, what begins a comment, a sign or a number, what
-/// parts calls and moves, a letter, and what no text may have.
+/// The bytes that stand in place of each other one: ends of lines and of words, what begins a
+/// comment, a sign or a number, what parts calls and moves, a letter, and what no text may have.
 const BYTES: [u8; 14] = [0, 9, 10, 13, 32, 35, 45, 48, 58, 59, 61, 127, 128, 255];
 
 /// What came of a text.
@@ -41,8 +41,8 @@ fn line_count(text: &[u8]) -> usize {
     }
 }
 
-/// The text is read and comes back, or is refused on one of its lines, of which the first `sound` are as they were, or on the
-/// one behind it.
+/// The text is read and comes back, or is refused on one of its lines, of which the first `sound`
+/// are as they were, or on the one behind it.
 fn try_text<K: Texts, X: AllocGlobal + Abort>(
     rt: &X,
     texts: &K,
@@ -61,8 +61,8 @@ fn try_text<K: Texts, X: AllocGlobal + Abort>(
     Ok(())
 }
 
-/// Each beginning of the text, the empty one and the whole too: only the line that is cut may be wrong, or what is missing
-/// behind it.
+/// Each beginning of the text, the empty one and the whole too: only the line that is cut may be
+/// wrong, or what is missing behind it.
 fn try_beginnings<K: Texts, X: AllocGlobal + Abort>(
     rt: &X,
     texts: &K,

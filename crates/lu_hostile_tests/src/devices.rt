@@ -192,8 +192,8 @@ fn run_case<X: AllocGlobal + Abort + Threads + Wait>(
 /// More reads and writes than a run makes.
 const MANY: u32 = 10_000;
 
-/// Reads fail at the first, the second and so on, until a run meets no failure. There is one for each byte, and one that sees
-/// the end.
+/// Reads fail at the first, the second and so on, until a run meets no failure. There is one for
+/// each byte, and one that sees the end.
 fn reads_of_case_fail<X: AllocGlobal + Abort + Threads + Wait>(
     rt: &X,
     case: &Case<'_>,

@@ -106,7 +106,8 @@ impl Texts for Specs {
     }
 }
 
-/// A component with what the one of the worked examples doesn't have: comments, an empty line, more blanks, `local`.
+/// A component with what the one of the worked examples doesn't have: comments, an empty line, more
+/// blanks, `local`.
 const LOCAL: &[u8] =
     b"# two\n component  small\nlocal 16\n\nword x 1 0\t# a cell\nlock m\nop f 1\nagain: lock m\nset r1 4294967295\n\
 awaitne x r0 r1 # others\njz r0 again\nunlock m\nreturn r1\nend\n";

@@ -1,5 +1,5 @@
--- The canonical text of a component: no comments, no empty lines, one space between words, and labels
--- only where a jump leads.
+-- The canonical text of a component: no comments, no empty lines, one space between words, and
+-- labels only where a jump leads.
 use Rattle.std.specs.Prelude.{ℕ, List, [], ◌∷◌, ◌++◌, Bool, false, slice_get, codes, ◌==◌, if◌then◌else◌}
 use Rattle.std.specs.List.{flat_map, join_with_byte, list_any, enumerate_from}
 use Rattle.std.specs.Option.{unwrap_or, option_map}
@@ -68,14 +68,16 @@ line_text words = join_with_byte 32 words ++ 10 ∷ []
 
 -- a label and a space, where some jump leads to the place
 abbrev pub label_text : List Instr → ℕ → List ℕ
-label_text code place = if list_any (leads_to place) code then label_word place ++ codes ": " else []
+label_text code place =
+    if list_any (leads_to place) code then label_word place ++ codes ": " else []
 
 -- where local instructions run with a move
 abbrev pub local_text : ℕ → List ℕ
 local_text local = if local == 0 then [] else line_text (codes "local" ∷ decimal local ∷ [])
 
 abbrev pub array_text : Array → List ℕ
-array_text array = line_text (codes "word" ∷ array.name ∷ decimal array.len ∷ decimal array.init ∷ [])
+array_text array =
+    line_text (codes "word" ∷ array.name ∷ decimal array.len ∷ decimal array.init ∷ [])
 
 abbrev pub lock_text : List ℕ → List ℕ
 lock_text name = line_text (codes "lock" ∷ name ∷ [])

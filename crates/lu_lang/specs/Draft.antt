@@ -24,7 +24,8 @@ pub record Drafted : Type 0 where
   pub begun : Option Begun
 
 abbrev pub nothing : Drafted
-nothing = record { name = None; local = None; arrays = []; locks = []; operations = []; begun = None }
+nothing =
+    record { name = None; local = None; arrays = []; locks = []; operations = []; begun = None }
 
 -- what is declared, under this name; without a line `local` no local instruction runs with a move
 abbrev pub named : Drafted → List ℕ → Declarations

@@ -88,9 +88,14 @@ array_line d None = Err Form
 array_line d (Some (name, len, init)) =
     says ((not (has_name_form name), Form)
     ∷ (not (is_value len) || not (is_value init), Number)
-    ∷ (is_long name || (nat_le 16 (length d.arrays) || (nat_lt (value len) 1 || nat_lt 64 (value len))), Limit)
+    ∷ (
+      is_long name ||
+          (nat_le 16 (length d.arrays) || (nat_lt (value len) 1 || nat_lt 64 (value len))),
+      Limit,
+    )
     ∷ (is_some (array_place d name), Name) ∷ [])
-    (record d { arrays = d.arrays ++ record { name = name; len = value len; init = value init } ∷ [] })
+    (record d
+    { arrays = d.arrays ++ record { name = name; len = value len; init = value init } ∷ [] })
 
 -- `lock NAME`
 abbrev pub lock_line : Drafted → Option Word → Result Drafted LangFaultKind
@@ -109,7 +114,8 @@ op_line d (Some (name, args)) =
     ∷ (not (is_value args), Number)
     ∷ (is_long name || (nat_le 16 (length d.operations) || nat_lt 4 (value args)), Limit)
     ∷ (is_some (operation_place d.operations name), Name) ∷ [])
-    (record d { begun = Some (record { name = name; args = value args; statements = []; labels = [] }) })
+    (record d
+    { begun = Some (record { name = name; args = value args; statements = []; labels = [] }) })
 
 abbrev pub declaration : Drafted → Word → List Word → Result Drafted LangFaultKind
 declaration d word words =
@@ -138,7 +144,8 @@ compute_line arithmetic (Some (dst, a, b)) =
 -- the number of a declared array, or what is wrong with its name
 abbrev pub declared_array : Drafted → Word → Result ℕ LangFaultKind
 declared_array d name =
-    says ((is_long name, Limit) ∷ (not (is_some (array_place d name)), Name) ∷ []) (array_number d name)
+    says ((is_long name, Limit) ∷ (not (is_some (array_place d name)), Name) ∷ [])
+    (array_number d name)
 
 -- `load rD W i`
 abbrev pub load_line : Drafted → Option (Word × Word × Word) → Result Statement LangFaultKind
@@ -151,16 +158,19 @@ load_line d (Some (dst, array, i)) =
     (Plain (instr.Load (register dst) (array_number d array) (operand i)))
 
 -- `cas rD W i old new`
-abbrev pub cas_line : Drafted → Option (Word × Word × Word × Word × Word) → Result Statement LangFaultKind
+abbrev pub cas_line : Drafted → Option (Word × Word × Word × Word × Word)
+    → Result Statement LangFaultKind
 cas_line d None = Err Form
 cas_line d (Some (dst, array, i, old, new)) =
     says ((not (is_register dst) || not (has_name_form array), Form)
     ∷ (not (is_operand i) || (not (is_operand old) || not (is_operand new)), Number)
     ∷ (is_long array, Limit)
     ∷ (not (is_some (array_place d array)), Name) ∷ [])
-    (Plain (instr.Cas (register dst) (array_number d array) (operand i) (operand old) (operand new)))
+    (Plain
+    (instr.Cas (register dst) (array_number d array) (operand i) (operand old) (operand new)))
 
-abbrev pub as_plain : {A : Type 0} → (A → Instr) → Result A LangFaultKind → Result Statement LangFaultKind
+abbrev pub as_plain : {A : Type 0} → (A → Instr) → Result A LangFaultKind
+    → Result Statement LangFaultKind
 as_plain instruction (Ok x) = Ok (Plain (instruction x))
 as_plain instruction (Err kind) = Err kind
 
@@ -204,7 +214,8 @@ jump_line (Some label) =
 abbrev pub jump_if_zero_line : Option (Word × Word) → Result Statement LangFaultKind
 jump_if_zero_line None = Err Form
 jump_if_zero_line (Some (v, label)) =
-    says ((not (has_name_form label), Form) ∷ (not (is_operand v), Number) ∷ (is_long label, Limit) ∷ [])
+    says ((not (has_name_form label), Form) ∷ (not (is_operand v), Number) ∷
+    (is_long label, Limit) ∷ [])
     (JumpIfZero (operand v) label)
 
 -- `return v`
@@ -222,7 +233,8 @@ statement d (Some keyword.Store) words =
     as_plain (λ (array, i, v). instr.Store array i v) (cell_and_value d (three words))
 statement d (Some keyword.Cas) words = cas_line d (five words)
 statement d (Some keyword.Lock) words = as_plain (λ lock. instr.Lock lock) (locked d (one words))
-statement d (Some keyword.Unlock) words = as_plain (λ lock. instr.Unlock lock) (locked d (one words))
+statement d (Some keyword.Unlock) words =
+    as_plain (λ lock. instr.Unlock lock) (locked d (one words))
 statement d (Some keyword.Await) words =
     as_plain (λ (array, i, v). instr.Await array i v) (cell_and_value d (three words))
 statement d (Some keyword.AwaitNot) words =
@@ -264,15 +276,18 @@ with_label b (Some label) = b.labels ++ record { name = label; place = length b.
 
 -- the open operation with this label and instruction
 abbrev pub with_statement : Begun → Option Word → Statement → Begun
-with_statement b label s = record b { statements = b.statements ++ s ∷ []; labels = with_label b label }
+with_statement b label s =
+    record b { statements = b.statements ++ s ∷ []; labels = with_label b label }
 
-abbrev pub placed : Drafted → Begun → Option Word → Option LangFaultKind → Result Statement LangFaultKind
+abbrev pub placed : Drafted → Begun → Option Word → Option LangFaultKind
+    → Result Statement LangFaultKind
     → Result Drafted LangFaultKind
 placed d b label fault (Ok s) = or_else fault (record d { begun = Some (with_statement b label s) })
 placed d b label fault (Err kind) = or_else (sooner fault (Some kind)) d
 
 -- the label's fault or the instruction's, that which is looked for first; or one instruction more
-abbrev pub instr_line : Drafted → Begun → Option Word → Word → List Word → Result Drafted LangFaultKind
+abbrev pub instr_line : Drafted → Begun → Option Word → Word → List Word
+    → Result Drafted LangFaultKind
 instr_line d b label word words =
     placed d b label (place_fault b label) (statement d (keyword_in word) words)
 
@@ -307,7 +322,8 @@ ends_well b = is_last (slice_get b.statements (length b.statements - 1))
 
 -- the place of a label
 abbrev pub target : List Label → Word → ℕ
-target labels label = unwrap_or (option_map (λ l. l.place) (find (λ l. bytes_eq l.name label) labels)) 0
+target labels label =
+    unwrap_or (option_map (λ l. l.place) (find (λ l. bytes_eq l.name label) labels)) 0
 
 -- the instruction, with the place of its label
 abbrev pub resolved : List Label → Statement → Instr
@@ -335,9 +351,10 @@ abbrev pub component_first : Drafted → Word → List Word → Result Drafted L
 component_first d word words =
     if bytes_eq word (codes "component") then component_line d (one words) else Err Missing
 
--- The first line with words is the `component` line. Then come declarations, and in an open operation
--- instructions.
-abbrev pub by_state : Drafted → Option Word → Option Begun → Word → List Word → Result Drafted LangFaultKind
+-- The first line with words is the `component` line. Then come declarations, and in an open
+-- operation instructions.
+abbrev pub by_state : Drafted → Option Word → Option Begun → Word → List Word
+    → Result Drafted LangFaultKind
 by_state d None begun word words = component_first d word words
 by_state d (Some name) None word words = declaration d word words
 by_state d (Some name) (Some b) word words = inside d b (label_in word) word words

@@ -1,4 +1,5 @@
--- The kinds of fault in a component's text: their codes, and the order in which they are looked for.
+-- The kinds of fault in a component's text: their codes, and the order in which they are looked
+-- for.
 use Rattle.std.specs.Prelude.{ℕ, List, codes}
 use Rattle.lu_lang.specs.declared.fault.LangFaultKind.{LangFaultKind}
 use Rattle.lu_lang.specs.declared.fault.LangFaultKind.TheVariants.{Byte, Missing, Form, Number, Limit, Flow, Name}

@@ -7,4 +7,5 @@ use Rattle.lu_lang.specs.Grammar.{component_grammar}
 
 -- what is written of a component is read as it was
 abbrev pub ComponentsReadAgain : Type 0
-ComponentsReadAgain = (c : Declarations) → IsComponent c → meaning_of component_grammar (component_text c) ≡ Ok c
+ComponentsReadAgain =
+    (c : Declarations) → IsComponent c → meaning_of component_grammar (component_text c) ≡ Ok c

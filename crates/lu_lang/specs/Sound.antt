@@ -13,8 +13,8 @@ IsStatement arrays locks (Plain i) = (places : ℕ) → IsInstr arrays locks pla
 IsStatement arrays locks (Jump label) = Unit {0}
 IsStatement arrays locks (JumpIfZero v label) = IsOperand v
 
--- Beside so many arrays and locks, and these operations: the open operation obeys the rules so far, and
--- is not declared twice.
+-- Beside so many arrays and locks, and these operations: the open operation obeys the rules so far,
+-- and is not declared twice.
 pub record IsBegun (arrays locks : ℕ) (operations : List Op) (b : Begun) : Type 0 where
   pub room : length operations < 16
   pub apart : is_some (operation_place operations b.name) ≡ false

@@ -39,7 +39,12 @@ impl Model for OpenOp {
 
     ghost Value = { Begun };
 
-    ghost view = { λ o. record { name = o.name; args = o.args; statements = o.statements.items; labels = o.labels.items } };
+    ghost view = { λ o. record {
+      name = o.name;
+      args = o.args;
+      statements = o.statements.items;
+      labels = o.labels.items;
+    } };
 }
 
 /// A component of which not all lines are read.
@@ -61,7 +66,14 @@ impl Model for Draft {
 
     ghost Value = { Drafted };
 
-    ghost view = { λ d. record { name = d.name; local = d.local; arrays = d.arrays.items; locks = d.locks.items; operations = d.operations.items; begun = d.begun } };
+    ghost view = { λ d. record {
+      name = d.name;
+      local = d.local;
+      arrays = d.arrays.items;
+      locks = d.locks.items;
+      operations = d.operations.items;
+      begun = d.begun;
+    } };
 
     ghost invariant = { λ d. (length d.arrays.items ≤ 16) × (length d.locks.items ≤ 8) };
 }

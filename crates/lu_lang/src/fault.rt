@@ -28,8 +28,8 @@ pub enum LangFaultKind {
     /// neither that nor a register.
     Number,
 
-    /// `L5`: a limit is passed: of a number, of a name's length, or by one array, lock, operation or
-    /// instruction too many.
+    /// `L5`: a limit is passed: of a number, of a name's length, or by one array, lock, operation
+    /// or instruction too many.
     Limit,
 
     /// `L6`, on an `end` line: no instruction, or the last is neither `return` nor `jump`.
@@ -72,5 +72,6 @@ impl LangFaultKind {
     }
 }
 
-/// Why a text is no component: the first fault by line, or want of memory, which is shown as `memory`.
+/// Why a text is no component: the first fault by line, or want of memory, which is shown as
+/// `memory`.
 pub type LangFault = Fault<LangFaultKind>;

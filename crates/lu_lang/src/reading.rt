@@ -287,7 +287,8 @@ fn instr_line(
     word: &[u8],
     rest: &[&[u8]],
 ) -> Result<Draft, LangFault>
-    ensures { OnLine line result (instr_line draft op (text_if label.entry) word.now (texts rest.now)) }
+    ensures { OnLine line result
+        (instr_line draft op (text_if label.entry) word.now (texts rest.now)) }
 {
     let fault = place_fault(&op, label);
     match statement(alloc, &draft, keyword_in(word), rest)? {
@@ -447,7 +448,8 @@ fn read_inside(
     words: &[&[u8]],
 ) -> Result<Draft, LangFault>
     requires { draft.begun ≡ None }
-    ensures { OnLine line result (inside draft op (spec.label_in word.now) word.now (texts words.now)) }
+    ensures { OnLine line result
+        (inside draft op (spec.label_in word.now) word.now (texts words.now)) }
 {
     if let Some(label) = label_in(word) {
         return read_labelled(alloc, line, draft, op, label, words);
@@ -561,8 +563,8 @@ fn component_in(alloc: Global, text: &[u8]) -> Result<Component, LangFault>
 
 /// Reads a component from its text.
 ///
-/// A fault is the first one of the text: by line, and on a line by the order of [`LangFaultKind`]. One
-/// at the end of the text carries the number of lines plus one.
+/// A fault is the first one of the text: by line, and on a line by the order of [`LangFaultKind`].
+/// One at the end of the text carries the number of lines plus one.
 ///
 /// # Errors
 ///

@@ -10,8 +10,8 @@ use lu_component::{Array, Component, Instr, Op};
 use lu_text::Name;
 use std::alloc::{AllocError, Global};
 
-/// The name of an array, by its number. Where there is none it is no word, and no instruction of a component names one
-/// that is not there.
+/// The name of an array, by its number. Where there is none it is no word, and no instruction of a
+/// component names one that is not there.
 pub fn array_name(component: &Component, number: u8) -> &str
     ensures { result.now ≡ spec.array_word component.now number }
 {
@@ -21,8 +21,8 @@ pub fn array_name(component: &Component, number: u8) -> &str
     }
 }
 
-/// The name of a lock, by its number. Where there is none it is no word, and no instruction of a component names one that
-/// is not there.
+/// The name of a lock, by its number. Where there is none it is no word, and no instruction of a
+/// component names one that is not there.
 pub fn lock_name(component: &Component, number: u8) -> &str
     ensures { result.now ≡ spec.lock_word component.now number }
 {
@@ -32,8 +32,8 @@ pub fn lock_name(component: &Component, number: u8) -> &str
     }
 }
 
-/// Adds an instruction's words at the end of a text, with one space between them, as they stand in the
-/// component's canonical text.
+/// Adds an instruction's words at the end of a text, with one space between them, as they stand in
+/// the component's canonical text.
 ///
 /// # Errors
 ///
@@ -117,7 +117,8 @@ fn has_label(code: &[Instr], place: usize) -> bool
     code.iter().any(|instr| leads_to(place, *instr))
 }
 
-/// Adds the label of a place at the end of a text, where some jump leads to the place: `Lk: ` for place k.
+/// Adds the label of a place at the end of a text, where some jump leads to the place: `Lk: ` for
+/// place k.
 ///
 /// # Errors
 ///
@@ -139,7 +140,8 @@ fn write_line(
     place: usize,
     instr: Instr,
 ) -> Result<(), AllocError>
-    ensures { Writes result text.old text.new (spec.instr_line component.now code.now (place, instr)) }
+    ensures { Writes result text.old text.new
+        (spec.instr_line component.now code.now (place, instr)) }
 {
     write_label(text, code, place)?;
     write_instr(text, component, instr)?;
@@ -157,7 +159,8 @@ fn write_code(text: &mut String, component: &Component, code: &[Instr]) -> Resul
     Ok(())
 }
 
-/// Adds the line of the local instructions that run with a move at the end of a text, where there are some.
+/// Adds the line of the local instructions that run with a move at the end of a text, where there
+/// are some.
 fn write_local(text: &mut String, local: u8) -> Result<(), AllocError>
     ensures { Writes result text.old text.new (spec.local_text local) }
 {
@@ -218,10 +221,10 @@ fn write_operations(text: &mut String, component: &Component) -> Result<(), Allo
 
 /// The canonical text of a component.
 ///
-/// It has no comments and no empty lines. The line `component` comes first, then `local` where it is not 0,
-/// and then arrays, locks and operations, each kind in its order. One space stands between two words, and a label `Lk:` exactly at
-/// the places k, from 0, that some jump of the operation leads to. Each line ends with LF. Read again it
-/// is the same component.
+/// It has no comments and no empty lines. The line `component` comes first, then `local` where it
+/// is not 0, and then arrays, locks and operations, each kind in its order. One space stands
+/// between two words, and a label `Lk:` exactly at the places k, from 0, that some jump of the
+/// operation leads to. Each line ends with LF. Read again it is the same component.
 ///
 /// # Errors
 ///

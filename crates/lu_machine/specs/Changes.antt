@@ -39,24 +39,28 @@ at_work done f = record { done = done; activity = Open f }
 abbrev pub whole_frame : Was → Frame
 whole_frame was = record { registers = was.registers; op = was.op; place = was.place }
 
--- the operation that was open, from what it has become: whole, or with its place and one register put back
+-- the operation that was open, from what it has become: whole, or with its place and one register
+-- put back
 abbrev pub frame_before : Bool → Was → Frame → Frame
 frame_before true was f = whole_frame was
-frame_before false was f = record f { place = was.place; registers = slice_set f.registers was.register was.value }
+frame_before false was f =
+    record f { place = was.place; registers = slice_set f.registers was.register was.value }
 
 -- what a thread was at whose operation went on
 abbrev pub activity_before : Bool → Was → Activity → Activity
 activity_before whole was Idle = Idle
 activity_before whole was (Open f) = Open (frame_before whole was f)
 
--- Where a thread stood before a move with this event or none, from where it stands after it: an operation that was called is
--- not open, one that returned is open again, and one that went on goes back.
+-- Where a thread stood before a move with this event or none, from where it stands after it: an
+-- operation that was called is not open, one that returned is open again, and one that went on goes
+-- back.
 abbrev pub before : Bool → Option Event → Was → Thread → Thread
 before whole (Some (Called t k)) was now = record now { activity = Idle }
 before whole (Some (Returned t k outcome)) was now = at_work k (whole_frame was)
 before whole None was now = record now { activity = activity_before whole was now.activity }
 
--- what was kept puts back where a thread stood whose operation was changed: whole where all registers were kept
+-- what was kept puts back where a thread stood whose operation was changed: whole where all
+-- registers were kept
 abbrev pub PutsBack : Bool → Thread → Change → Was → Thread → Type 0
 PutsBack kept standing change was now =
     (f : Frame) → standing.activity ≡ Open f → (t : ℕ) (whole : Bool) → (whole ≡ true → kept ≡ true)
@@ -68,7 +72,8 @@ IsThreadAfter standing change now =
     (f : Frame) → standing.activity ≡ Open f → now ≡ thread_after standing.done (effect_of f change)
 
 -- thread t stood so in s; it is changed in `new`, and `was` tells how to put it back
-pub record IsChanged (s : State) (t : ℕ) (standing : Thread) (change : Change) (kept : Bool) (new : State) (was : Was) : Type 0 where
+pub record IsChanged (s : State) (t : ℕ) (standing : Thread) (change : Change) (kept : Bool)
+    (new : State) (was : Was) : Type 0 where
   pub now : Thread
   pub moved : new ≡ with_thread s t now
   pub after : IsThreadAfter standing change now

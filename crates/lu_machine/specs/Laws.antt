@@ -12,19 +12,25 @@ use Rattle.lu_machine.specs.Ends.{HasMove, HasStatus, HasNoMove, IsComplete}
 
 -- a component and a matrix start in at most one state
 abbrev pub OneStart : Type 0
-OneStart = (c : Declarations) (matrix : Matrix) (a b : State) → IsStart c matrix a → IsStart c matrix b → a ≡ b
+OneStart =
+    (c : Declarations) (matrix : Matrix) (a b : State) → IsStart c matrix a → IsStart c matrix b
+    → a ≡ b
 
 -- they start somewhere exactly where the setup settles
 abbrev pub StartsWhereSettled : Type 0
-StartsWhereSettled = (c : Declarations) (matrix : Matrix) → Settles c matrix ↔ ((s : State) × IsStart c matrix s)
+StartsWhereSettled =
+    (c : Declarations) (matrix : Matrix) → Settles c matrix ↔ ((s : State) × IsStart c matrix s)
 
 -- where a call of the setup does not end, the setup does not settle
 abbrev pub NeverBoth : Type 0
-NeverBoth = (c : Declarations) (matrix : Matrix) (k : ℕ) → IsUnsettledAt c matrix k → Settles c matrix → ⊥
+NeverBoth =
+    (c : Declarations) (matrix : Matrix) (k : ℕ) → IsUnsettledAt c matrix k → Settles c matrix → ⊥
 
 -- at most one call of the setup is the first that does not end
 abbrev pub OneUnsettled : Type 0
-OneUnsettled = (c : Declarations) (matrix : Matrix) (i j : ℕ) → IsUnsettledAt c matrix i → IsUnsettledAt c matrix j → i ≡ j
+OneUnsettled =
+    (c : Declarations) (matrix : Matrix) (i j : ℕ) → IsUnsettledAt c matrix i
+    → IsUnsettledAt c matrix j → i ≡ j
 
 -- of two matrices with one setup, the cells and locks are the same at the start
 abbrev pub SetupsAlike : Type 0
@@ -35,15 +41,20 @@ SetupsAlike =
 -- a move leads to at most one state, with one event or none
 abbrev pub OneOutcome : Type 0
 OneOutcome =
-    (s : State) (m : Move) (a b : State) (e f : Option Event) → Step s m a e → Step s m b f → (a ≡ b) × (e ≡ f)
+    (s : State) (m : Move) (a b : State) (e f : Option Event) → Step s m a e → Step s m b f
+    → (a ≡ b) × (e ≡ f)
 
 -- only a feasible move leads anywhere
 abbrev pub FeasibleOnly : Type 0
-FeasibleOnly = (s : State) (m : Move) (new : State) (event : Option Event) → Step s m new event → IsFeasible s m
+FeasibleOnly =
+    (s : State) (m : Move) (new : State) (event : Option Event) → Step s m new event
+    → IsFeasible s m
 
 -- a feasible move leads somewhere
 abbrev pub AllFeasible : Type 0
-AllFeasible = (s : State) (m : Move) → IsFeasible s m → (new : State) × (event : Option Event) × Step s m new event
+AllFeasible =
+    (s : State) (m : Move) → IsFeasible s m
+    → (new : State) × (event : Option Event) × Step s m new event
 
 -- where no local instructions run with a move, it is one call or instruction
 abbrev pub OneWithoutLocal : Type 0

@@ -18,7 +18,8 @@ use Rattle.lu_machine.specs.Tasks.{agenda_of, rows_of}
 -- where the cells of the arrays stand, behind so many others
 abbrev pub spans_of : ℕ → List Array → List Span
 spans_of before [] = []
-spans_of before (a ∷ arrays) = record { first = before; len = a.len } ∷ spans_of (before + a.len) arrays
+spans_of before (a ∷ arrays) =
+    record { first = before; len = a.len } ∷ spans_of (before + a.len) arrays
 
 -- an open operation is one of the eight calls that a thread makes at most
 abbrev pub HasRoom : ℕ → Activity → Type 0
@@ -53,9 +54,10 @@ ThreadStoodIn s t was =
     (standing : Thread) (f : Frame) → slice_get s.threads t ≡ Some standing
     → standing.activity ≡ Open f → WasIn s.component was
 
--- a span for each array, a row of tasks for each operation, each thread's calls as they are opened, and as many cells, locks and
--- threads as the component and the matrix have
-pub record IsLaidOut (c : Declarations) (matrix : Matrix) (spans : List Span) (rows : List (List Task)) (agendas : List Agenda)
+-- a span for each array, a row of tasks for each operation, each thread's calls as they are opened,
+-- and as many cells, locks and threads as the component and the matrix have
+pub record IsLaidOut (c : Declarations) (matrix : Matrix) (spans : List Span)
+    (rows : List (List Task)) (agendas : List Agenda)
     (cells : List ℕ) (locks : List (Option ℕ)) (threads : List Thread) : Type 0 where
   pub component : IsComponent c
   pub matrix_is : IsMatrix matrix

@@ -1,4 +1,5 @@
--- The order of schedules: the first place where they differ decides, and a proper beginning is smaller.
+-- The order of schedules: the first place where they differ decides, and a proper beginning is
+-- smaller.
 use Rattle.std.specs.Prelude.{◌≡◌, ◌<◌, ◌⊎◌, List, [], ◌∷◌}
 use Rattle.lu_test.specs.declared.schedule.Move.{Move}
 

@@ -17,4 +17,5 @@ Plays c matrix u end history = (start : State) × IsStart c matrix start × Lead
 abbrev pub IsInfeasibleAt : Declarations → Matrix → List Move → ℕ → Type 0
 IsInfeasibleAt c matrix u i =
     (end : State) × (history : List Event) × (move : Move)
-    × Plays c matrix (take i u) end history × (slice_get u i ≡ Some move) × (IsFeasible end move → ⊥)
+    × Plays c matrix (take i u) end history × (slice_get u i ≡ Some move)
+    × (IsFeasible end move → ⊥)

@@ -65,21 +65,27 @@ pub record AreAll (Kind : List Move → Type 0) (list : List (List Move)) : Type
   pub only : (u : List Move) → Lists list u → Kind u
   pub each : (u : List Move) → Kind u → Lists list u
 
--- n is the number of the schedules of this kind: the length of that list, 2^64 - 1 standing for that or more
+-- n is the number of the schedules of this kind: the length of that list, 2^64 - 1 standing for
+-- that or more
 pub record IsNumber (Kind : List Move → Type 0) (n : ℕ) : Type 0 where
   pub list : List (List Move)
   pub all : AreAll Kind list
   pub number : n ≡ capped (length list)
 
--- the numbers of the schedules of the part that are complete within the bound, stuck within it, and cut at it
-pub record AreNumbers (s : State) (bound : ℕ) (Part : List Move → Type 0) (counts : Counts) : Type 0 where
+-- the numbers of the schedules of the part that are complete within the bound, stuck within it, and
+-- cut at it
+pub record AreNumbers (s : State) (bound : ℕ) (Part : List Move → Type 0)
+    (counts : Counts) : Type 0 where
   pub complete : IsNumber (λ u. Part u × IsCompleteWithin s bound u) counts.complete
   pub stuck : IsNumber (λ u. Part u × IsStuckWithin s bound u) counts.stuck
   pub cut : IsNumber (λ u. Part u × IsCutAt s bound u) counts.cut
 
--- Sorted, none a beginning of another, and each schedule that is ended within the bound or cut at it begins with exactly one.
--- That a piece is a schedule is not asked: `IsSchedule s` of each piece says it, where it is wanted.
+-- Sorted, none a beginning of another, and each schedule that is ended within the bound or cut at
+-- it begins with exactly one. That a piece is a schedule is not asked: `IsSchedule s` of each piece
+-- says it, where it is wanted.
 pub record IsCover (s : State) (bound : ℕ) (pieces : List (List Move)) : Type 0 where
   pub rising : IsRising pieces
   pub apart : (p q : List Move) → Lists pieces p → Lists pieces q → BeginsWith q p → p ≡ q
-  pub covers : (u : List Move) → IsCounted s bound u → (p : List Move) × Lists pieces p × BeginsWith u p × ((q : List Move) → Lists pieces q → BeginsWith u q → q ≡ p)
+  pub covers : (u : List Move) → IsCounted s bound u
+      → (p : List Move) × Lists pieces p × BeginsWith u p
+      × ((q : List Move) → Lists pieces q → BeginsWith u q → q ≡ p)

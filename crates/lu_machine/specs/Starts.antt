@@ -37,7 +37,8 @@ empty_state c matrix = at_rest c matrix (initial_cells c.arrays) (replicate (len
 abbrev pub first_move : Move
 first_move = record { thread = 0; pick = 0 }
 
--- From s thread 0 makes call k, which ends within 256 moves after the call, each pick 0: in the state `end`.
+-- From s thread 0 makes call k, which ends within 256 moves after the call, each pick 0: in the
+-- state `end`.
 pub record Makes (s : State) (k : ℕ) (end : State) : Type 0 where
   pub moves : ℕ
   pub few : moves ≤ 256
@@ -54,7 +55,8 @@ MakesAll c calls (suc k) end = (before : State) × MakesAll c calls k before × 
 abbrev pub SetsUp : Declarations → Matrix → State → Type 0
 SetsUp c matrix end = MakesAll c matrix.setup (length matrix.setup) end
 
--- A run of the component and the matrix starts in the state s: the setup leaves its cells and locks.
+-- A run of the component and the matrix starts in the state s: the setup leaves its cells and
+-- locks.
 pub record IsStart (c : Declarations) (matrix : Matrix) (s : State) : Type 0 where
   pub end : State
   pub made : SetsUp c matrix end
@@ -76,7 +78,8 @@ pub record IsFirstOpen (c : Declarations) (calls : List Call) (k : ℕ) : Type 0
   pub made : MakesAll c calls k before
   pub open_still : (end : State) → Makes before k end → ⊥
 
--- none where all these calls were made, which leads to the state `end`; else the first that does not end
+-- none where all these calls were made, which leads to the state `end`; else the first that does
+-- not end
 abbrev pub IsMaking : Declarations → List Call → Option ℕ → State → Type 0
 IsMaking c calls unsettled end =
     MatchOption unsettled (MakesAll c calls (length calls) end) (IsFirstOpen c calls)

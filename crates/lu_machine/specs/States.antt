@@ -28,7 +28,8 @@ first_cell arrays w = sum_by (λ a. a.len) (take w arrays)
 -- where cell i of array w stands among all cells: nowhere at or past the array's length
 unfoldable pub cell_of : Declarations → ℕ → ℕ → Option ℕ
 cell_of c w i =
-    option_and_then (λ a. if nat_lt i a.len then Some (first_cell c.arrays w + i) else None) (slice_get c.arrays w)
+    option_and_then (λ a. if nat_lt i a.len then Some (first_cell c.arrays w + i) else None)
+    (slice_get c.arrays w)
 
 -- the instruction at this place of the operation
 unfoldable pub instr_at : Declarations → ℕ → ℕ → Option Instr

@@ -35,8 +35,8 @@ is_local (JumpIfZero v target) = true
 is_local _ = false
 
 -- The move m carries out the instruction of the operation f: the state becomes `new`, but for the
--- thread itself, and the operation does as `effect` says. An index at or past the array's length traps.
--- Where the instruction is blocked there is no case.
+-- thread itself, and the operation does as `effect` says. An index at or past the array's length
+-- traps. Where the instruction is blocked there is no case.
 abbrev pub Carries : State → Move → Frame → Instr → State → Effect → Type 0
 Carries s m f (Set to v) new effect = (new ≡ s) × (effect ≡ onward_with f to (value_of f v))
 Carries s m f (Compute by to a b) new effect =
@@ -107,8 +107,8 @@ ByActivity s m done (Open f) new event =
     × (new ≡ with_thread mid m.thread (thread_after done effect))
     × (event ≡ event_after m.thread done effect)
 
--- By the move m the state s becomes `new`, with this event or none: the thread of m makes one call or
--- carries out one instruction.
+-- By the move m the state s becomes `new`, with this event or none: the thread of m makes one call
+-- or carries out one instruction.
 abbrev pub OneStep : State → Move → State → Option Event → Type 0
 OneStep s m new event =
     (thread : Thread) × (slice_get s.threads m.thread ≡ Some thread)
@@ -121,7 +121,8 @@ activity_is_local s (Open f) = option_map_or is_local (instr_at s.component f.op
 
 -- whether the next instruction of thread t is local: not where no operation of t is open
 abbrev pub is_at_local : State → ℕ → Bool
-is_at_local s t = option_map_or (λ thread. activity_is_local s thread.activity) (slice_get s.threads t) false
+is_at_local s t =
+    option_map_or (λ thread. activity_is_local s thread.activity) (slice_get s.threads t) false
 
 -- Thread t runs on from the state s to the state `end` by at most n local instructions: by all that
 -- come, up to n.
@@ -132,13 +133,13 @@ RunsOn (suc n) s t end =
     ((next : State) × OneStep s (record { thread = t; pick = 0 }) next None × RunsOn n next t end)
     (end ≡ s)
 
--- how many local instructions may follow the first step of a move of thread t: as many as the component
--- says, that first step counted where it is local
+-- how many local instructions may follow the first step of a move of thread t: as many as the
+-- component says, that first step counted where it is local
 abbrev pub more_local : State → ℕ → ℕ
 more_local s t = s.component.local - (if is_at_local s t then 1 else 0)
 
--- The move m leads from the state s to the state `new`, with this event or none: its thread makes one
--- call or carries out one instruction, and then runs on by local instructions.
+-- The move m leads from the state s to the state `new`, with this event or none: its thread makes
+-- one call or carries out one instruction, and then runs on by local instructions.
 abbrev pub Step : State → Move → State → Option Event → Type 0
 Step s m new event =
     (mid : State) × OneStep s m mid event × RunsOn (more_local s m.thread) mid m.thread new
@@ -159,12 +160,14 @@ instr_picks s f instr = if is_blocked s f instr then 0 else choices instr
 -- how many picks a thread has that stands so: none where it has made all its calls
 abbrev pub activity_picks : State → ℕ → ℕ → Activity → ℕ
 activity_picks s t done Idle = if nat_lt done (call_count s t) then 1 else 0
-activity_picks s t done (Open f) = option_map_or (instr_picks s f) (instr_at s.component f.op f.place) 0
+activity_picks s t done (Open f) =
+    option_map_or (instr_picks s f) (instr_at s.component f.op f.place) 0
 
 -- how many picks thread t has: none where there is no such thread
 abbrev pub picks_of : State → ℕ → ℕ
 picks_of s t =
-    option_map_or (λ thread. activity_picks s t thread.done thread.activity) (slice_get s.threads t) 0
+    option_map_or (λ thread. activity_picks s t thread.done thread.activity)
+    (slice_get s.threads t) 0
 
 -- thread t has a pick
 abbrev pub IsEnabled : State → ℕ → Type 0

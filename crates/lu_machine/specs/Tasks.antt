@@ -44,13 +44,16 @@ task_at c f = option_map_or task_of (instr_at c f.op f.place) no_task
 
 -- whether the cell has the operand's value: none where its array has no such cell
 abbrev pub equals : State → Frame → ℕ → Operand → Operand → Option Bool
-equals s f array index value = option_map (λ p. value_at s p == value_of f value) (cell_at s f array index)
+equals s f array index value =
+    option_map (λ p. value_at s p == value_of f value) (cell_at s f array index)
 
 -- whether the operation f has to wait
 abbrev pub waits : State → Frame → Wait → Bool
 waits s f (Unowned l) = is_some (owner_of s l)
-waits s f (Equal w i v) = option_map_or (λ p. not (value_at s p == value_of f v)) (cell_at s f w i) false
-waits s f (Differs w i v) = option_map_or (λ p. value_at s p == value_of f v) (cell_at s f w i) false
+waits s f (Equal w i v) =
+    option_map_or (λ p. not (value_at s p == value_of f v)) (cell_at s f w i) false
+waits s f (Differs w i v) =
+    option_map_or (λ p. value_at s p == value_of f v) (cell_at s f w i) false
 
 -- how many picks a task of the operation f has: none where it waits
 abbrev pub task_picks : State → Frame → Task → ℕ

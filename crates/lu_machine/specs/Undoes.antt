@@ -23,13 +23,15 @@ has_local s = nat_lt 0 s.component.local
 
 -- s with thread t put back so, where there is such a thread
 abbrev pub with_thread_back : State → ℕ → (Thread → Thread) → State
-with_thread_back s t back = option_map_or (λ thread. with_thread s t (back thread)) (slice_get s.threads t) s
+with_thread_back s t back =
+    option_map_or (λ thread. with_thread s t (back thread)) (slice_get s.threads t) s
 
--- The state before the move, from the state after it. Of an operation that went on all is put back where local instructions run
--- with moves, and else its place and one register.
+-- The state before the move, from the state after it. Of an operation that went on all is put back
+-- where local instructions run with moves, and else its place and one register.
 abbrev pub restored : Undo → State → State
 restored undo s =
-    with_thread_back (with_shared s undo.overwritten) undo.thread (before (has_local s) undo.event undo.was)
+    with_thread_back (with_shared s undo.overwritten) undo.thread
+    (before (has_local s) undo.event undo.was)
 
 -- s has the cell or the lock
 abbrev pub IsThere : State → Shared → Type 0
@@ -45,7 +47,7 @@ pub record CanTake (s : State) (undo : Undo) : Type 0 where
   pub event : IfSome undo.event IsEventInRange
   pub overwritten : IsThere s undo.overwritten
 
--- The undo leads from `new` back to s. With `whole` false it has one register of an operation that went on, which is enough
--- where no local instructions run with moves.
+-- The undo leads from `new` back to s. With `whole` false it has one register of an operation that
+-- went on, which is enough where no local instructions run with moves.
 abbrev pub LeadsBack : Bool → State → Undo → State → Type 0
 LeadsBack whole s undo new = (whole ≡ false → s.component.local ≡ 0) → restored undo new ≡ s

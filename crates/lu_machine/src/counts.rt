@@ -3,7 +3,8 @@
 ghost use Rattle.std.specs.Prelude.{◌≡◌};
 ghost use Rattle.lu_machine.specs.Sums.{plus};
 
-/// How many schedules are complete, stuck and cut: each number up to 2^64 - 1, which stands for that or more.
+/// How many schedules are complete, stuck and cut: each number up to 2^64 - 1, which stands for
+/// that or more.
 #[derive(Clone, Copy, Debug, PartialEq, Eq)]
 pub struct Counts {
     /// How many end in a complete state.

@@ -209,7 +209,8 @@ impl Machine<'_> {
         desired: Operand,
     ) -> Act
         requires { IsSound self.now frame.now (Instr.Cas to array index expected desired) }
-        ensures carries { Acts self.now frame.now (Instr.Cas to array index expected desired) result }
+        ensures carries { Acts self.now frame.now
+            (Instr.Cas to array index expected desired) result }
         ensures there { IsThere self.now result.shared }
         ensures sound { IsChange result.change }
     {

@@ -2,10 +2,11 @@
 
 ghost use Rattle.lu_machine.specs.Laws.{OneStart, StartsWhereSettled, NeverBoth, OneUnsettled, SetupsAlike, OneOutcome, FeasibleOnly, AllFeasible, OneWithoutLocal, LocalUnseen, CompleteIsOver, CompleteOrNot, MoveOrNot, OneStatus};
 
-/// What holds of every run: it has one start, and one exactly where the setup settles, of which either all
-/// calls end or one is the first that does not; the start's cells and locks are the setup's alone; a move has at most one outcome, and one exactly where it
-/// is feasible; no thread of a complete state is enabled; and a state has one status, which is decided.
-/// The function does nothing.
+/// What holds of every run: it has one start, and one exactly where the setup settles, of which
+/// either all calls end or one is the first that does not; the start's cells and locks are the
+/// setup's alone; a move has at most one outcome, and one exactly where it is feasible; no thread
+/// of a complete state is enabled; and a state has one status, which is decided. The function does
+/// nothing.
 pub fn step_laws()
     ensures one_start { OneStart }
     ensures starts { StartsWhereSettled }
@@ -21,8 +22,8 @@ pub fn step_laws()
     ensures one_status { OneStatus }
 {}
 
-/// What `local L` changes: without it each call and each instruction is a move, and no other thread could
-/// see the local instructions with which a move goes on. The function does nothing.
+/// What `local L` changes: without it each call and each instruction is a move, and no other thread
+/// could see the local instructions with which a move goes on. The function does nothing.
 pub fn local_laws()
     ensures one_without { OneWithoutLocal }
     ensures unseen { LocalUnseen }

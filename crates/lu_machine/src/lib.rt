@@ -1,18 +1,20 @@
 //! The step machine of a component and a matrix.
 //!
-//! A [`Machine`] runs the calls of a matrix's threads on the arrays and locks of a component, one move
-//! at a time. A move of an idle thread opens its next call; any other move carries out one instruction
-//! of the thread's open operation, and takes one of its picks. How many picks a thread has says whether
-//! it is enabled; a list of feasible moves is a schedule. Calls and returns show as an [`Event`] each.
+//! A [`Machine`] runs the calls of a matrix's threads on the arrays and locks of a component, one
+//! move at a time. A move of an idle thread opens its next call; any other move carries out one
+//! instruction of the thread's open operation, and takes one of its picks. How many picks a thread
+//! has says whether it is enabled; a list of feasible moves is a schedule. Calls and returns show
+//! as an [`Event`] each.
 //!
-//! What a machine does can be looked at step by step: [`Machine::standing`] says where a thread stands,
-//! [`Machine::instr`] which instruction comes next, and [`Machine::step_once`] carries out that one alone.
+//! What a machine does can be looked at step by step: [`Machine::standing`] says where a thread
+//! stands, [`Machine::instr`] which instruction comes next, and [`Machine::step_once`] carries out
+//! that one alone.
 //!
-//! A run starts after the calls of the matrix's setup, which thread 0 makes alone, each pick 0. [`settles`]
-//! says whether each of them ends.
+//! A run starts after the calls of the matrix's setup, which thread 0 makes alone, each pick 0.
+//! [`settles`] says whether each of them ends.
 //!
-//! A search makes a move by [`Machine::apply`] and takes it back by [`Machine::undo`]. None of the calls
-//! but [`Machine::start`] and [`settles`] takes memory.
+//! A search makes a move by [`Machine::apply`] and takes it back by [`Machine::undo`]. None of the
+//! calls but [`Machine::start`] and [`settles`] takes memory.
 //!
 //! ```text
 //! let mut machine = Machine::start(alloc, &component, &matrix)?;

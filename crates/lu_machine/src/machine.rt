@@ -53,15 +53,22 @@ impl<'a> Model for Machine<'a> {
 
     ghost Value = { State };
 
-    ghost view = { λ m. record { component = m.component.now; matrix = m.matrix.now; cells = m.cells.items; locks = m.locks.items; threads = m.threads.items } };
+    ghost view = { λ m. record {
+      component = m.component.now;
+      matrix = m.matrix.now;
+      cells = m.cells.items;
+      locks = m.locks.items;
+      threads = m.threads.items;
+    } };
 
-    ghost invariant = { λ m. IsLaidOut m.component.now m.matrix.now m.spans.items m.rows.items m.agendas.items m.cells.items m.locks.items m.threads.items };
+    ghost invariant = { λ m. IsLaidOut m.component.now m.matrix.now m.spans.items m.rows.items
+        m.agendas.items m.cells.items m.locks.items m.threads.items };
 }
 
 impl<'a> Machine<'a> {
-    /// The machine of the component and the matrix, at the start of a run: after the calls of the setup, which
-    /// thread 0 makes alone. The matrix is asked to be one of the component ([`Matrix::of`]), and its setup to
-    /// settle ([`settles`](crate::settles)).
+    /// The machine of the component and the matrix, at the start of a run: after the calls of the
+    /// setup, which thread 0 makes alone. The matrix is asked to be one of the component
+    /// ([`Matrix::of`]), and its setup to settle ([`settles`](crate::settles)).
     ///
     /// # Errors
     ///
@@ -112,8 +119,9 @@ impl<'a> Machine<'a> {
         })
     }
 
-    /// Thread 0 makes all its calls, one after the other, each pick 0: the number of the first that does not
-    /// end within 256 moves after its call, if there is one. Asks for a machine before any call, of one thread.
+    /// Thread 0 makes all its calls, one after the other, each pick 0: the number of the first that
+    /// does not end within 256 moves after its call, if there is one. Asks for a machine before any
+    /// call, of one thread.
     pub(crate) fn make_all(&mut self) -> Option<u8>
         requires { self.old ≡ empty_state self.old.component (alone (calls_of self.old.matrix 0)) }
         ensures { IsMaking self.old.component (calls_of self.old.matrix 0) result self.new }
@@ -126,8 +134,8 @@ impl<'a> Machine<'a> {
         None
     }
 
-    /// Thread 0 makes its next call, number `k`, and moves on, each pick 0: whether the call ends within 256
-    /// moves after it. Asks for a machine of one thread.
+    /// Thread 0 makes its next call, number `k`, and moves on, each pick 0: whether the call ends
+    /// within 256 moves after it. Asks for a machine of one thread.
     fn make(&mut self, k: u8) -> bool
         requires stands { progress self.old ≡ (k, false) ∷ [] }
         requires left { k < call_count self.old 0 }
@@ -188,15 +196,16 @@ impl<'a> Machine<'a> {
     #[tactic(auto, unfolding(crate::specs::States::instr_at))]
     #[inline(always)]
     pub fn instr(&self, frame: &Frame) -> Option<&Instr>
-        ensures value { option_copied result ≡ instr_at self.now.component frame.now.op frame.now.place }
+        ensures value { option_copied result ≡
+            instr_at self.now.component frame.now.op frame.now.place }
         ensures sound { IfSome result (λ instr. IsSound self.now frame.now instr.now) }
     {
         let op = self.component.operations().get(usize::from(frame.op))?;
         op.code.instrs().get(usize::from(frame.place))
     }
 
-    /// The task at the operation's place. The operation is asked to be one of the component's, and its place one of its code or
-    /// right behind.
+    /// The task at the operation's place. The operation is asked to be one of the component's, and
+    /// its place one of its code or right behind.
     #[inline(always)]
     fn task(&self, frame: &Frame) -> &Task
         requires op { frame.now.op < length self.now.component.operations }
@@ -219,8 +228,8 @@ impl<'a> Machine<'a> {
         &self.agendas[usize::from(thread)].frames[usize::from(k)]
     }
 
-    /// The place of cell `index` of the array among all cells: none at or past the array's length. The
-    /// array is asked to be one of the component's.
+    /// The place of cell `index` of the array among all cells: none at or past the array's length.
+    /// The array is asked to be one of the component's.
     #[inline(always)]
     pub fn cell(&self, array: u8, index: u32) -> Option<usize>
         requires { array < length self.now.component.arrays }
@@ -311,7 +320,8 @@ impl<'a> Machine<'a> {
         self.threads[usize::from(thread)] = standing;
     }
 
-    /// Changes the open operation of the thread, and says what that overwrote. With `WHOLE` true all registers are kept.
+    /// Changes the open operation of the thread, and says what that overwrote. With `WHOLE` true
+    /// all registers are kept.
     #[inline(always)]
     fn change<const WHOLE: bool>(&mut self, thread: u8, change: Change) -> Was
         requires there { thread < length self.old.threads }
@@ -329,14 +339,15 @@ impl<'a> Machine<'a> {
         requires register { IsRegister was.register }
         requires code { WasIn self.old.component was }
         requires event { IfSome event IsEventInRange }
-        ensures { self.new ≡ with_thread_back self.old thread (before (has_local self.old) event was) }
+        ensures { self.new ≡
+            with_thread_back self.old thread (before (has_local self.old) event was) }
     {
         let whole = self.component.local() > 0;
         self.threads[usize::from(thread)].put_back(event, was, whole);
     }
 
-    /// How many picks thread `t` has: 0 where there is no such thread, no call is left or the instruction is
-    /// blocked; K at `pick rD K`; else 1.
+    /// How many picks thread `t` has: 0 where there is no such thread, no call is left or the
+    /// instruction is blocked; K at `pick rD K`; else 1.
     #[inline(always)]
     pub fn picks(&self, t: u8) -> u8
         ensures { result ≡ picks_of self.now t }
@@ -421,8 +432,9 @@ impl<'a> Machine<'a> {
         self.apply_as::<true>(next)
     }
 
-    /// Makes the move as [`Machine::apply`] does. With `LONG` false the component is asked to have no local
-    /// instructions run with a move: who makes many moves asks that once, and each of them is the faster.
+    /// Makes the move as [`Machine::apply`] does. With `LONG` false the component is asked to have
+    /// no local instructions run with a move: who makes many moves asks that once, and each of them
+    /// is the faster.
     #[inline(always)]
     pub fn apply_as<const LONG: bool>(&mut self, next: Move) -> Undo
         requires feasible { IsFeasible self.old next }
@@ -483,8 +495,9 @@ impl<'a> Machine<'a> {
         }
     }
 
-    /// Opens the thread's next call or carries out its next instruction, and says how to take it back. With `WHOLE` true all
-    /// registers are kept, as is needed where local instructions run with a move.
+    /// Opens the thread's next call or carries out its next instruction, and says how to take it
+    /// back. With `WHOLE` true all registers are kept, as is needed where local instructions run
+    /// with a move.
     #[inline(always)]
     fn one_step<const WHOLE: bool>(&mut self, next: Move) -> Undo
         requires { IsFeasible self.old next }
@@ -539,17 +552,20 @@ impl<'a> Machine<'a> {
         }
     }
 
-    /// Carries out what an instruction does in the open operation of a thread, which is number `done`.
+    /// Carries out what an instruction does in the open operation of a thread, which is number
+    /// `done`.
     #[inline(always)]
     fn go_on<const WHOLE: bool>(&mut self, thread: u8, done: u8, act: Act) -> Undo
         requires few { thread < 8 }
         requires counted { done < 8 }
-        requires stands { (f : AFrame) × (slice_get self.old.threads thread ≡ Some (at_work done f)) }
+        requires stands { (f : AFrame) ×
+            (slice_get self.old.threads thread ≡ Some (at_work done f)) }
         requires there { IsThere self.old act.shared }
         requires sound { IsChange act.change }
         ensures after { GoesOn self.old thread done act self.new }
         ensures thread { result.thread ≡ thread }
-        ensures event { (f : AFrame) → result.event ≡ event_after thread done (effect_of f act.change) }
+        ensures event { (f : AFrame) →
+            result.event ≡ event_after thread done (effect_of f act.change) }
         ensures range { IfSome result.event IsEventInRange }
         ensures back { LeadsBack WHOLE self.old result self.new }
         ensures fits { CanTake self.new result }
@@ -564,8 +580,8 @@ impl<'a> Machine<'a> {
         }
     }
 
-    /// Takes back the move that was made last. The state is asked to have what is put back, as the one has
-    /// that its `apply` left: the thread, and the cell or the lock.
+    /// Takes back the move that was made last. The state is asked to have what is put back, as the
+    /// one has that its `apply` left: the thread, and the cell or the lock.
     #[inline(always)]
     pub fn undo(&mut self, undo: Undo)
         requires { CanTake self.old undo }
@@ -579,7 +595,8 @@ impl<'a> Machine<'a> {
         self.put_back(undo.thread, undo.event, undo.was);
     }
 
-    /// Takes on the state of the other machine, which is asked to be one of the same component and matrix.
+    /// Takes on the state of the other machine, which is asked to be one of the same component and
+    /// matrix.
     pub fn set_to(&mut self, other: &Machine<'a>)
         requires component { self.old.component ≡ other.now.component }
         requires matrix { self.old.matrix ≡ other.now.matrix }
@@ -590,8 +607,8 @@ impl<'a> Machine<'a> {
         self.threads.copy_from_slice(&other.threads);
     }
 
-    /// Whether the machine is in the state of the other one, which is asked to be one of the same component and
-    /// matrix.
+    /// Whether the machine is in the state of the other one, which is asked to be one of the same
+    /// component and matrix.
     pub fn is_same(&self, other: &Machine<'a>) -> bool
         requires component { self.now.component ≡ other.now.component }
         requires matrix { self.now.matrix ≡ other.now.matrix }
@@ -614,9 +631,9 @@ impl<'a> Machine<'a> {
         self.matrix
     }
 
-    /// Makes the first step of a move alone, the local instructions behind it left out: the thread opens its
-    /// next call or carries out one instruction. Answers the event, if it has one. The move is asked to be
-    /// feasible ([`Machine::feasible`]).
+    /// Makes the first step of a move alone, the local instructions behind it left out: the thread
+    /// opens its next call or carries out one instruction. Answers the event, if it has one. The
+    /// move is asked to be feasible ([`Machine::feasible`]).
     pub fn step_once(&mut self, next: Move) -> Option<Event>
         requires { IsFeasible self.old next }
         ensures { OneStep self.old next self.new result }

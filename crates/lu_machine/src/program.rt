@@ -35,8 +35,8 @@ pub(crate) enum Wait {
     },
 }
 
-/// An instruction, and what says how many picks it has. That is asked of each thread at each move: most instructions wait for
-/// nothing, so a test guesses better than a jump by the instruction.
+/// An instruction, and what says how many picks it has. That is asked of each thread at each move:
+/// most instructions wait for nothing, so a test guesses better than a jump by the instruction.
 #[derive(Clone, Copy, Debug)]
 pub(crate) struct Task {
     /// How many picks it has where it does not wait.

@@ -9,9 +9,9 @@ use lu_component::Component;
 use lu_test::{Matrix, setup_alone};
 use std::alloc::{AllocError, Global};
 
-/// Whether the setup settles: each of its calls, made alone by thread 0 with pick 0, ends within 256 moves
-/// after the call. None where it does, else the number of the first call that does not end, from 0. The
-/// matrix is asked to be one of the component ([`Matrix::of`]).
+/// Whether the setup settles: each of its calls, made alone by thread 0 with pick 0, ends within
+/// 256 moves after the call. None where it does, else the number of the first call that does not
+/// end, from 0. The matrix is asked to be one of the component ([`Matrix::of`]).
 ///
 /// # Errors
 ///

@@ -17,7 +17,8 @@ pub(crate) struct Span {
     pub(crate) len: usize,
 }
 
-/// The cells of all arrays as they are at the start, one array after the other, and where they stand.
+/// The cells of all arrays as they are at the start, one array after the other, and where they
+/// stand.
 pub(crate) fn lay_out(alloc: Global, arrays: &[Array]) -> Result<(Vec<Span>, Vec<u32>), AllocError>
     ensures spans { IfOk result (λ p. p.0.items ≡ spans_of 0 arrays.now) }
     ensures cells { IfOk result (λ p. p.1.items ≡ initial_cells arrays.now) }

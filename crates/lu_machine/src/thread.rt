@@ -60,15 +60,16 @@ pub(crate) enum Change {
     Ends(Outcome),
 }
 
-/// What a move overwrote of the operation that was open, or is. All parts are small values, and none an enum of large ones: so they
-/// stay in registers from the move to its undo.
+/// What a move overwrote of the operation that was open, or is. All parts are small values, and
+/// none an enum of large ones: so they stay in registers from the move to its undo.
 #[derive(Clone, Copy, Debug)]
 pub(crate) struct Was {
     /// The number of the operation in its component, and the place of its next instruction.
     pub(crate) op: u8,
     pub(crate) place: u8,
 
-    /// The register that was written, and its value: where none was, one with the value that it has.
+    /// The register that was written, and its value: where none was, one with the value that it
+    /// has.
     pub(crate) register: u8,
     pub(crate) value: u32,
 
@@ -140,7 +141,8 @@ impl Frame {
 }
 
 impl Thread {
-    /// Changes its open operation, and says what that overwrote. With `WHOLE` true all registers are kept.
+    /// Changes its open operation, and says what that overwrote. With `WHOLE` true all registers
+    /// are kept.
     #[inline(always)]
     pub(crate) fn change<const WHOLE: bool>(&mut self, change: Change) -> Was
         requires stands { IsStanding self.old }
@@ -188,14 +190,16 @@ impl Thread {
         was
     }
 
-    /// Puts back where it stood before a move with this event, or none. With `whole` true all registers were kept.
+    /// Puts back where it stood before a move with this event, or none. With `whole` true all
+    /// registers were kept.
     #[inline(always)]
     pub(crate) fn put_back(&mut self, event: Option<Event>, was: Was, whole: bool)
         requires register { IsRegister was.register }
         requires event { IfSome event IsEventInRange }
         ensures before { self.new ≡ before whole event was self.old }
         ensures stands { IsStanding self.old → IsStanding self.new }
-        ensures in_code { (c : Declarations) → WasIn c was → StandsIn c self.old → StandsIn c self.new }
+        ensures in_code { (c : Declarations) → WasIn c was →
+            StandsIn c self.old → StandsIn c self.new }
     {
         match event {
             None => {

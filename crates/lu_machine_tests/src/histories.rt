@@ -1,4 +1,5 @@
-//! What no clause says: that calls succeed, the printed forms, and that the definitions mean what was meant.
+//! What no clause says: that calls succeed, the printed forms, and that the definitions mean what
+//! was meant.
 
 ghost use Rattle.std.specs.Prelude.{◌≡◌};
 

@@ -26,8 +26,8 @@ fn assert_settles(
     }
 }
 
-/// Makes the moves of these threads from the start, each with pick 0, and answers the last event and
-/// how the state then stands.
+/// Makes the moves of these threads from the start, each with pick 0, and answers the last event
+/// and how the state then stands.
 fn played(
     rt: &(impl AllocGlobal + Abort),
     component: &[u8],

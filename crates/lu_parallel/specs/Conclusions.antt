@@ -21,9 +21,11 @@ counts_of works = map (λ w. w.counts) works
 abbrev pub founds_of : List Work → List FoundPiece
 founds_of works = flat_map (λ w. w.found.items) works
 
--- the sums of the numbers, where no piece is found; else the schedule of the least found piece, and why it is bad
+-- the sums of the numbers, where no piece is found; else the schedule of the least found piece, and
+-- why it is bad
 abbrev pub IsAnswer : List Work → Found → Type 0
-IsAnswer works (Clean counts) = IsLeastPiece (found_by (seats_of works)) None × (counts ≡ total (counts_of works))
+IsAnswer works (Clean counts) =
+    IsLeastPiece (found_by (seats_of works)) None × (counts ≡ total (counts_of works))
 IsAnswer works (Bad schedule why) =
     (i : ℕ) × IsLeastPiece (found_by (seats_of works)) (Some i)
     × Contains (founds_of works) (record { piece = i; schedule = schedule; why = why })
@@ -36,4 +38,6 @@ IsConclusion works (Some found) = (given_by (seats_of works) ≡ []) × IsAnswer
 
 -- for each skipped piece a lesser one is found
 abbrev pub SkipsAbove : List Work → Type 0
-SkipsAbove works = (i : ℕ) → Contains (skipped_by (seats_of works)) i → (j : ℕ) × (j < i) × Contains (found_by (seats_of works)) j
+SkipsAbove works =
+    (i : ℕ) → Contains (skipped_by (seats_of works)) i
+    → (j : ℕ) × (j < i) × Contains (found_by (seats_of works)) j

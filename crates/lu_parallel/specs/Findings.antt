@@ -12,7 +12,8 @@ use Rattle.lu_report.specs.declared.report.Finding.TheVariants.{Pass, Fail}
 use Rattle.lu_tree.specs.declared.found.Found.{Found}
 use Rattle.lu_tree.specs.declared.found.Found.TheVariants.{Clean, Bad, Abandoned}
 
--- the finding of a check in which no serial run offends or none is made; none of a search that was abandoned
+-- the finding of a check in which no serial run offends or none is made; none of a search that was
+-- abandoned
 abbrev pub finding_of : Found → Option Finding
 finding_of (Clean counts) = Some (Pass counts)
 finding_of (Bad schedule why) = Some (Fail schedule why)
@@ -22,13 +23,17 @@ finding_of Abandoned = None
 
 -- what is found with these bounds, from each start
 abbrev pub Finds : {E : Type 0} → Declarations → Matrix → ℕ → ℕ → Result Finding E → Type 0
-Finds c matrix bound serial result = FromEachStart c matrix (λ s. IfOk result (IsFinding s bound serial))
+Finds c matrix bound serial result =
+    FromEachStart c matrix (λ s. IfOk result (IsFinding s bound serial))
 
 -- what is found against the set with these members
-abbrev pub FindsAgainst : {E : Type 0} → Declarations → Matrix → List (List SerialOp) → ℕ → Result Finding E → Type 0
+abbrev pub FindsAgainst : {E : Type 0} → Declarations → Matrix → List (List SerialOp) → ℕ
+    → Result Finding E → Type 0
 FindsAgainst c matrix members bound result =
     FromEachStart c matrix (λ s. IfOk result (IsFindingAgainst (IsMember members) s bound))
 
 -- the report against the set with these members
-abbrev pub ReportsAgainst : {E : Type 0} → Declarations → Matrix → List (List SerialOp) → ℕ → Result Report E → Type 0
-ReportsAgainst c matrix members bound result = IfOk result (IsReportAgainst (IsMember members) c matrix bound)
+abbrev pub ReportsAgainst : {E : Type 0} → Declarations → Matrix → List (List SerialOp) → ℕ
+    → Result Report E → Type 0
+ReportsAgainst c matrix members bound result =
+    IfOk result (IsReportAgainst (IsMember members) c matrix bound)

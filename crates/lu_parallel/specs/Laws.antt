@@ -21,7 +21,8 @@ use Rattle.lu_parallel.specs.Works.{IsWork}
 use Rattle.lu_parallel.specs.Conclusions.{IsConclusion, SkipsAbove, seats_of}
 
 -- The works of all seats of a board, over the pieces of a cover from the start s.
-pub record AreWorksOver (members : List (List SerialOp)) (s : State) (bound : ℕ) (works : List Work) : Type 0 where
+pub record AreWorksOver (members : List (List SerialOp)) (s : State) (bound : ℕ)
+    (works : List Work) : Type 0 where
   pub component : Declarations
   pub matrix : Matrix
   pub start : IsStart component matrix s
@@ -36,16 +37,19 @@ pub record AreWorksOver (members : List (List SerialOp)) (s : State) (bound : �
 abbrev pub Concludes : Type 0
 Concludes =
     (members : List (List SerialOp)) (s : State) (bound : ℕ) (works : List Work) (found : Found) →
-    AreWorksOver members s bound works → IsConclusion works (Some found) → IsFound (IsMember members) s bound Any found
+    AreWorksOver members s bound works → IsConclusion works (Some found)
+    → IsFound (IsMember members) s bound Any found
 
 -- What is found over a set is the finding of the report against it.
 abbrev pub IsReportedAgainst : Type 0
 IsReportedAgainst =
     (s : State) (bound : ℕ) (members : List (List SerialOp)) (found : Found) →
-    IsFound (IsMember members) s bound Any found → IsSomeAnd (finding_of found) (IsFindingAgainst (IsMember members) s bound)
+    IsFound (IsMember members) s bound Any found
+    → IsSomeAnd (finding_of found) (IsFindingAgainst (IsMember members) s bound)
 
 -- What is found over the set of all serial histories is the finding of the report.
 abbrev pub IsReported : Type 0
 IsReported =
     (s : State) (bound serial : ℕ) (members : List (List SerialOp)) (found : Found) →
-    IsSetOf s serial members → IsFound (IsMember members) s bound Any found → IsSomeAnd (finding_of found) (IsFinding s bound serial)
+    IsSetOf s serial members → IsFound (IsMember members) s bound Any found
+    → IsSomeAnd (finding_of found) (IsFinding s bound serial)

@@ -10,7 +10,8 @@ pub record Choice : Type 0 where
   pub depth : ℕ
 
 abbrev pub choice : ℕ → ℕ → ℕ → ℕ → Choice
-choice bound serial workers depth = record { bound = bound; serial = serial; workers = workers; depth = depth }
+choice bound serial workers depth =
+    record { bound = bound; serial = serial; workers = workers; depth = depth }
 
 -- each number is within its range
 pub record IsInRange (c : Choice) : Type 0 where

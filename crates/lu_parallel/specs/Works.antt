@@ -41,7 +41,8 @@ abbrev pub IsFresh : TableId → SeatModel → Type 0
 IsFresh board seat = (seat.board ≡ board) × (seat.view.spent ≡ 0) × (seat_pieces seat.view ≡ [])
 
 -- what workers are lent: a matrix of the component, and as many pieces as the board has
-pub record IsJob (c : Declarations) (matrix : Matrix) (bound : ℕ) (pieces : List (List Move)) (board : BoardModel) : Type 0 where
+pub record IsJob (c : Declarations) (matrix : Matrix) (bound : ℕ) (pieces : List (List Move))
+    (board : BoardModel) : Type 0 where
   pub of : CanRun c matrix
   pub few : bound ≤ most_moves
   pub schedules : ArePieces c matrix bound pieces
@@ -52,34 +53,43 @@ abbrev pub IsClean : (List SerialOp → Type 0) → State → ℕ → List (List
 IsClean Set s bound pieces i counts = AreAllGood Set s bound (Below (piece_at pieces i)) counts
 
 -- the schedule is the least bad one of the piece, and why it is bad
-abbrev pub IsFoundPiece : (List SerialOp → Type 0) → State → ℕ → List (List Move) → FoundPiece → Type 0
-IsFoundPiece Set s bound pieces f = IsFirstBad Set s bound (Below (piece_at pieces f.piece)) f.schedule f.why
+abbrev pub IsFoundPiece : (List SerialOp → Type 0) → State → ℕ → List (List Move) → FoundPiece
+    → Type 0
+IsFoundPiece Set s bound pieces f =
+    IsFirstBad Set s bound (Below (piece_at pieces f.piece)) f.schedule f.why
 
 -- the pieces that are found
 abbrev pub found_pieces : List FoundPiece → List ℕ
 found_pieces found = map (λ f. f.piece) found
 
--- The clean pieces of a seat are clean, the counts are the sums of their numbers, and its found pieces are these.
-pub record IsTally (Set : List SerialOp → Type 0) (s : State) (bound : ℕ) (pieces : List (List Move)) (v : View) (counts : Counts) (found : List FoundPiece) : Type 0 where
+-- The clean pieces of a seat are clean, the counts are the sums of their numbers, and its found
+-- pieces are these.
+pub record IsTally (Set : List SerialOp → Type 0) (s : State) (bound : ℕ)
+    (pieces : List (List Move)) (v : View) (counts : Counts) (found : List FoundPiece) :
+    Type 0 where
   pub numbers : List Counts
   pub clean : AllZip (IsClean Set s bound pieces) v.clean numbers
   pub sums : counts ≡ total numbers
   pub listed : found_pieces found ≡ v.found
   pub right : All (IsFoundPiece Set s bound pieces) found
 
--- the seat is one of this board, spent and without held pieces, and its found pieces are those of the work
+-- the seat is one of this board, spent and without held pieces, and its found pieces are those of
+-- the work
 pub record IsSpentWork (board : TableId) (w : Work) : Type 0 where
   pub board_is : IsSeatOf board w.seat
   pub done : IsDone w.seat
   pub listed : found_pieces w.found.items ≡ w.seat.view.found
 
 -- a work that is over, and the clean and found pieces of its seat have their answers
-pub record IsWork (c : Declarations) (matrix : Matrix) (members : List (List SerialOp)) (bound : ℕ) (pieces : List (List Move)) (board : TableId) (w : Work) : Type 0 where
+pub record IsWork (c : Declarations) (matrix : Matrix) (members : List (List SerialOp)) (bound : ℕ)
+    (pieces : List (List Move)) (board : TableId) (w : Work) : Type 0 where
   pub over : IsSpentWork board w
-  pub holds : FromEachStart c matrix (λ s. IsTally (IsMember members) s bound pieces w.seat.view w.counts w.found.items)
+  pub holds : FromEachStart c matrix
+      (λ s. IsTally (IsMember members) s bound pieces w.seat.view w.counts w.found.items)
 
 -- the same of this board
-abbrev pub IsWorkOn : Declarations → Matrix → List (List SerialOp) → ℕ → List (List Move) → BoardModel → Work → Type 0
+abbrev pub IsWorkOn : Declarations → Matrix → List (List SerialOp) → ℕ → List (List Move)
+    → BoardModel → Work → Type 0
 IsWorkOn c matrix members bound pieces board w = IsWork c matrix members bound pieces board.board w
 
 -- ---- what a worker is lent
@@ -89,16 +99,19 @@ IsLent job = IsJob job.component.now job.matrix.now job.bound job.pieces.now job
 
 -- a work for what is lent, with the set of these members
 abbrev pub IsWorkFor : Job → List (List SerialOp) → Work → Type 0
-IsWorkFor job members w = IsWorkOn job.component.now job.matrix.now members job.bound job.pieces.now job.board.now w
+IsWorkFor job members w =
+    IsWorkOn job.component.now job.matrix.now members job.bound job.pieces.now job.board.now w
 
-abbrev pub AreWorksFor : {E Z : Type 0} → Job → List (List SerialOp) → Result (Vec Work Z) E → Type 0
+abbrev pub AreWorksFor : {E Z : Type 0} → Job → List (List SerialOp) → Result (Vec Work Z) E
+    → Type 0
 AreWorksFor job members result = IfOk result (λ works. All (IsWorkFor job members) works.items)
 
 -- what was found in this piece, unless it was abandoned
 abbrev pub IsFoundIn : {E : Type 0} → Job → List (List SerialOp) → ℕ → Result Found E → Type 0
 IsFoundIn job members piece result =
     FromEachStart job.component.now job.matrix.now
-    (λ s. IfOk result (IsFoundWatched (IsMember members) s job.bound (Below (piece_at job.pieces.now piece))))
+    (λ s. IfOk result
+    (IsFoundWatched (IsMember members) s job.bound (Below (piece_at job.pieces.now piece))))
 
 -- what is a tally of the one view and is kept on is one of the other
 abbrev pub Tallied : Job → List (List SerialOp) → View → Tally → View → Tally → Type 0

@@ -39,7 +39,8 @@ fn search_by_workers<R: Threads + Wait, G: Gate, T: SerialTree + Sync>(
 where
     T::Place: Send + Sync,
     requires of { CanRun component.now matrix.now }
-    ensures found { FindsAgainst component.now matrix.now (T.members tree.now) options.bound result }
+    ensures found { FindsAgainst component.now matrix.now (T.members tree.now)
+        options.bound result }
     ensures limits { OnOk result (IsMatrix matrix.now) }
 {
     let bound = options.bound();
@@ -60,7 +61,8 @@ where
     }
 }
 
-/// What is found against the set of a tree. One worker searches all schedules on the calling thread.
+/// What is found against the set of a tree. One worker searches all schedules on the calling
+/// thread.
 fn search_tree<R: Threads + Wait, G: Gate, T: SerialTree + Sync>(
     rt: &R,
     alloc: Global,
@@ -73,7 +75,8 @@ fn search_tree<R: Threads + Wait, G: Gate, T: SerialTree + Sync>(
 where
     T::Place: Send + Sync,
     requires of { CanRun component.now matrix.now }
-    ensures found { FindsAgainst component.now matrix.now (T.members tree.now) options.bound result }
+    ensures found { FindsAgainst component.now matrix.now (T.members tree.now)
+        options.bound result }
     ensures limits { OnOk result (IsMatrix matrix.now) }
     ensures alone { IfErr result (λ fault. options.workers ≡ 1 → fault ≡ Memory) }
 {
@@ -123,15 +126,16 @@ fn find<R: Threads + Wait, G: Gate>(
     }
 }
 
-/// The report of a component and a matrix (Burckhardt, Dern, Musuvathi and Tan, 2010), by as many workers as the options say.
-/// It is the same for any number of workers and any depth. One worker searches on the calling thread, and no thread is started
-/// and the gate is not called. More of them each have a thread, where they claim pieces: the schedules of `depth` moves, and the
-/// ended ones of fewer. The calling thread waits until they are done.
+/// The report of a component and a matrix (Burckhardt, Dern, Musuvathi and Tan, 2010), by as many
+/// workers as the options say. It is the same for any number of workers and any depth. One worker
+/// searches on the calling thread, and no thread is started and the gate is not called. More of
+/// them each have a thread, where they claim pieces: the schedules of `depth` moves, and the ended
+/// ones of fewer. The calling thread waits until they are done.
 ///
 /// # Errors
 ///
-/// [`CheckFault::Memory`] where memory was refused. [`CheckFault::Worker`] where the start of a thread was refused, and never
-/// with one worker.
+/// [`CheckFault::Memory`] where memory was refused. [`CheckFault::Worker`] where the start of a
+/// thread was refused, and never with one worker.
 pub fn check<R: Threads + Wait, G: Gate>(
     rt: &R,
     alloc: Global,
@@ -153,9 +157,10 @@ pub fn check<R: Threads + Wait, G: Gate>(
     ))
 }
 
-/// The report of a component and a matrix against the set of a tree, as a specification lends it, by as many workers as the options
-/// say. No serial run is made, and the options' bound of serial runs has no effect. Else it is as [`check`]: the report is the same
-/// for any number of workers and any depth. The calling thread waits until the workers are done.
+/// The report of a component and a matrix against the set of a tree, as a specification lends it,
+/// by as many workers as the options say. No serial run is made, and the options' bound of serial
+/// runs has no effect. Else it is as [`check`]: the report is the same for any number of workers
+/// and any depth. The calling thread waits until the workers are done.
 ///
 /// # Errors
 ///
@@ -172,7 +177,8 @@ pub fn check_against<R: Threads + Wait, G: Gate, T: SerialTree + Sync>(
 where
     T::Place: Send + Sync,
     requires of { CanRun component.now matrix.now }
-    ensures report { ReportsAgainst component.now matrix.now (T.members tree.now) options.bound result }
+    ensures report { ReportsAgainst component.now matrix.now (T.members tree.now)
+        options.bound result }
     ensures alone { IfErr result (λ fault. options.workers ≡ 1 → fault ≡ Memory) }
 {
     let finding = search_tree(rt, alloc, gate, component, matrix, tree, options)?;

@@ -59,8 +59,9 @@ fn entry_of(found: Vec<FoundPiece>, piece: u64) -> FoundPiece
     unreachable!()
 }
 
-/// What all workers found together, from the works of all seats of the board: the schedule of the least bad piece, and why it
-/// is bad; or, where no piece is bad, how many schedules are complete, stuck and cut. `None` where a piece was given up.
+/// What all workers found together, from the works of all seats of the board: the schedule of the
+/// least bad piece, and why it is bad; or, where no piece is bad, how many schedules are complete,
+/// stuck and cut. `None` where a piece was given up.
 ///
 /// # Errors
 ///

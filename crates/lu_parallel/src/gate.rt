@@ -1,7 +1,7 @@
 //! Gates that workers pass.
 
-/// What a worker tells as it goes from piece to piece. Workers and pieces are numbered from 0. A worker that was refused memory
-/// tells nothing of the pieces that it claims later.
+/// What a worker tells as it goes from piece to piece. Workers and pieces are numbered from 0. A
+/// worker that was refused memory tells nothing of the pieces that it claims later.
 pub trait Gate: Sync {
     /// The worker has claimed the piece, and goes on when the call returns.
     fn pass(&self, worker: u8, piece: u64);

@@ -67,9 +67,10 @@ fn find<A: Allocator + Clone>(
     }
 }
 
-/// The report of a component and a matrix (Burckhardt, Dern, Musuvathi and Tan, 2010), on the calling thread. Schedules have
-/// up to `bound` moves, 0 to 256, and an operation that is run serially takes up to `serial` moves after its call, 1 to 256.
-/// The memory of the set of serial histories is taken from `set_alloc`, and all else from `alloc`.
+/// The report of a component and a matrix (Burckhardt, Dern, Musuvathi and Tan, 2010), on the
+/// calling thread. Schedules have up to `bound` moves, 0 to 256, and an operation that is run
+/// serially takes up to `serial` moves after its call, 1 to 256. The memory of the set of serial
+/// histories is taken from `set_alloc`, and all else from `alloc`.
 ///
 /// # Errors
 ///
@@ -91,9 +92,9 @@ pub fn check_one<A: Allocator + Clone>(
     Ok(Report::new(bound, serial, component.local(), finding))
 }
 
-/// The report of a component and a matrix against the set of a tree, as a specification lends it, on the calling thread. No serial
-/// run is made: the schedules of up to `bound` moves, 0 to 256, have their witnesses in that set or not (Burckhardt, Dern,
-/// Musuvathi and Tan, 2010).
+/// The report of a component and a matrix against the set of a tree, as a specification lends it,
+/// on the calling thread. No serial run is made: the schedules of up to `bound` moves, 0 to 256,
+/// have their witnesses in that set or not (Burckhardt, Dern, Musuvathi and Tan, 2010).
 ///
 /// # Errors
 ///

@@ -26,14 +26,19 @@ impl Model for Options {
 
     ghost view = { λ o. choice o.bounds.bound o.bounds.serial o.workers o.depth };
 
-    ghost inverse = { λ c. record { bounds = record { bound = c.bound; serial = c.serial }; workers = c.workers; depth = c.depth } };
+    ghost inverse = { λ c. record {
+      bounds = record { bound = c.bound; serial = c.serial };
+      workers = c.workers;
+      depth = c.depth;
+    } };
 
     ghost invariant = { λ o. IsInRange (choice o.bounds.bound o.bounds.serial o.workers o.depth) };
 }
 
 impl Options {
-    /// These options: the most moves of a schedule, 0 to 256; the most moves of an operation after its call in a serial run,
-    /// 1 to 256; the number of workers, 1 to 16; and the most moves of a piece, 0 to 8. `None` where one is outside.
+    /// These options: the most moves of a schedule, 0 to 256; the most moves of an operation after
+    /// its call in a serial run, 1 to 256; the number of workers, 1 to 16; and the most moves of a
+    /// piece, 0 to 8. `None` where one is outside.
     pub fn new(bound: u16, serial: u16, workers: u8, depth: u8) -> Option<Options>
         ensures range { IsSome result ↔ IsInRange (choice bound serial workers depth) }
         ensures choice { IfSome result (λ o. o ≡ choice bound serial workers depth) }

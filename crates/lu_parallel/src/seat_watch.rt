@@ -8,15 +8,17 @@ use lu_board::board::{Board, Seat};
 use lu_board::view::{Look, View};
 use lu_tree::Watch;
 
-/// What a watch leaves as it is: the board, the piece, and what the seat knows of other pieces. No value of it is made.
+/// What a watch leaves as it is: the board, the piece, and what the seat knows of other pieces. No
+/// value of it is made.
 pub(crate) struct SeatBase {
     pub(crate) board: Board,
     pub(crate) piece: u64,
     pub(crate) rest: View,
 }
 
-/// A worker's watch over the search of a piece, which stops where the piece is beaten: a lesser one was found bad. It owns the
-/// worker's seat meanwhile, which holds the piece, or has skipped it where the watch has stopped.
+/// A worker's watch over the search of a piece, which stops where the piece is beaten: a lesser one
+/// was found bad. It owns the worker's seat meanwhile, which holds the piece, or has skipped it
+/// where the watch has stopped.
 #[derive(Drop)]
 pub(crate) struct SeatWatch<'b> {
     pub(crate) board: &'b Board,
@@ -63,7 +65,11 @@ impl<'b> SeatWatch<'b> {
 impl<'b> Watch for SeatWatch<'b> {
     type Base = SeatBase;
 
-    ghost base = { λ w. record { board = w.board.now; piece = w.piece; rest = rest_of w.piece w.seat.view } };
+    ghost base = { λ w. record {
+      board = w.board.now;
+      piece = w.piece;
+      rest = rest_of w.piece w.seat.view;
+    } };
 
     ghost is_stopped = { λ w. w.stopped };
 

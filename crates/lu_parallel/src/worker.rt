@@ -53,7 +53,8 @@ struct Searched {
     seat: Seat,
 }
 
-/// Searches a piece that the seat holds, until a lesser piece was found bad, and then the piece is skipped.
+/// Searches a piece that the seat holds, until a lesser piece was found bad, and then the piece is
+/// skipped.
 fn search_held<'t, T: SerialTree>(
     job: &Job<'_>,
     cache: &mut Cache<'t, T>,
@@ -113,7 +114,8 @@ impl Tally {
         ensures cache { SameButEntries cache.old cache.new }
         ensures board { result.board ≡ seat.board }
         ensures away { PutsAway piece seat.view result.view }
-        ensures holds { Tallied job.now (T.members cache.old.tree) seat.view self.old result.view self.new }
+        ensures holds { Tallied job.now (T.members cache.old.tree) seat.view self.old
+            result.view self.new }
     {
         let Searched { found, mut seat } = search_held(job, cache, seat, piece);
         match found {
@@ -145,7 +147,8 @@ impl Tally {
         }
     }
 
-    /// Goes with a piece that the seat holds from the gate to the end: it is skipped, found bad, found clean or given up.
+    /// Goes with a piece that the seat holds from the gate to the end: it is skipped, found bad,
+    /// found clean or given up.
     fn serve<'t, T: SerialTree, G: Gate>(
         &mut self,
         job: &Job<'_>,
@@ -162,7 +165,8 @@ impl Tally {
         ensures cache { SameButEntries cache.old cache.new }
         ensures board { result.board ≡ seat.board }
         ensures away { PutsAway piece seat.view result.view }
-        ensures holds { Tallied job.now (T.members cache.old.tree) seat.view self.old result.view self.new }
+        ensures holds { Tallied job.now (T.members cache.old.tree) seat.view self.old
+            result.view self.new }
     {
         let mut seat = seat;
         if self.starved {
@@ -223,11 +227,13 @@ fn give_up_all(job: &Job<'_>, mut seat: Seat) -> Work
     }
 }
 
-/// The life of one worker, on the calling thread: it claims pieces with its seat until none is left. It passes the gate with
-/// each, looks whether the piece is still worth its work, and searches it for bad schedules, those that end within `bound`
-/// moves, 0 to 256, and are not good for the set of the tree (Burckhardt, Dern, Musuvathi and Tan, 2010). Pieces are schedules of
-/// no more moves than that. The search of a piece stops where a lesser one was found bad meanwhile. A piece is given up where
-/// memory is refused, and from then on each that is claimed, without gate and search.
+/// The life of one worker, on the calling thread: it claims pieces with its seat until none is
+/// left. It passes the gate with each, looks whether the piece is still worth its work, and
+/// searches it for bad schedules, those that end within `bound` moves, 0 to 256, and are not good
+/// for the set of the tree (Burckhardt, Dern, Musuvathi and Tan, 2010). Pieces are schedules of no
+/// more moves than that. The search of a piece stops where a lesser one was found bad meanwhile. A
+/// piece is given up where memory is refused, and from then on each that is claimed, without gate
+/// and search.
 pub fn work<T: SerialTree, G: Gate>(
     alloc: Global,
     component: &Component,
@@ -245,7 +251,8 @@ pub fn work<T: SerialTree, G: Gate>(
     requires pieces { ArePieces component.now matrix.now bound pieces.now }
     requires board { board.now.pieces ≡ length pieces.now }
     requires fresh { IsFresh board.now.board seat }
-    ensures { IsWorkOn component.now matrix.now (T.members tree.now) bound pieces.now board.now result }
+    ensures { IsWorkOn component.now matrix.now (T.members tree.now) bound
+        pieces.now board.now result }
 {
     let job = Job {
         alloc,

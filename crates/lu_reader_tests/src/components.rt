@@ -556,8 +556,8 @@ fn shows_faults(rt: HostRuntime) -> Result<(), Fail> {
     Ok(())
 }
 
-/// Passes too where any one allocation fails (`rt try --test --fail-alloc N`): then memory is wanted,
-/// and nothing else is answered.
+/// Passes too where any one allocation fails (`rt try --test --fail-alloc N`): then memory is
+/// wanted, and nothing else is answered.
 #[test]
 fn answers_or_wants_memory(rt: HostRuntime) {
     match read(rt.alloc(), ROWS) {
@@ -598,7 +598,8 @@ fn writes_local_instructions(rt: HostRuntime) -> Result<(), Fail> {
     Ok(())
 }
 
-/// What reads the same is written the same: declarations go to the front, labels go by their places.
+/// What reads the same is written the same: declarations go to the front, labels go by their
+/// places.
 #[test]
 fn writes_the_canonical_text(rt: HostRuntime) -> Result<(), Fail> {
     let text =

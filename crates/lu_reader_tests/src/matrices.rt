@@ -347,7 +347,8 @@ fn matrices_are_written(rt: HostRuntime) -> Result<(), Fail> {
     Ok(())
 }
 
-/// Each call gives its answer, or want of memory: also where one of its allocations is made to fail.
+/// Each call gives its answer, or want of memory: also where one of its allocations is made to
+/// fail.
 #[test]
 fn want_of_memory_is_told(rt: HostRuntime) {
     let component = match read_component(rt.alloc(), COMPONENT) {

@@ -63,20 +63,23 @@ matrix_of asked choice = filled_matrix asked.setup asked.candidates asked.thread
 
 -- r is the report of the matrix that the choice fills
 abbrev pub IsReportAt : Campaigned → List ℕ → Report → Type 0
-IsReportAt asked choice r = IsReport asked.component (matrix_of asked choice) asked.bound asked.serial r
+IsReportAt asked choice r =
+    IsReport asked.component (matrix_of asked choice) asked.bound asked.serial r
 
 -- the matrix that the choice fills passes
 abbrev pub PassesAt : Campaigned → List ℕ → Type 0
 PassesAt asked choice = (r : Report) × IsReportAt asked choice r × IsPass r.finding
 
--- the choice's matrix, with its report, which is no pass; the matrices of all choices before it pass
+-- the choice's matrix, with its report, which is no pass; the matrices of all choices before it
+-- pass
 pub record IsFirst (asked : Campaigned) (matrix : Matrix) (r : Report) : Type 0 where
   pub choice : List ℕ
   pub chosen : IsChoiceOf asked choice
   pub is : matrix ≡ matrix_of asked choice
   pub report : IsReportAt asked choice r
   pub no_pass : IsPass r.finding → ⊥
-  pub before : (other : List ℕ) → IsChoiceOf asked other → IsBefore other choice → PassesAt asked other
+  pub before : (other : List ℕ) → IsChoiceOf asked other → IsBefore other choice
+      → PassesAt asked other
 
 -- all matrices pass, and this is their number; or the first one that does not
 abbrev pub IsCampaign : Campaigned → Campaign → Type 0
@@ -87,10 +90,12 @@ IsCampaign asked (First matrix r) = IsFirst asked matrix r
 
 -- the limits hold, and this is found
 abbrev pub IsCampaignAnswer : Campaigned → Campaign → Type 0
-IsCampaignAnswer asked found = AreEnough (length asked.candidates) × IsGrid asked.threads asked.calls × IsCampaign asked found
+IsCampaignAnswer asked found =
+    AreEnough (length asked.candidates) × IsGrid asked.threads asked.calls × IsCampaign asked found
 
 -- what a campaign answers that is asked for this, but for faults
-abbrev pub Chooses : Declarations → List Call → List Call → ℕ → ℕ → ℕ → ℕ → Result Campaign CampaignFault → Type 0
+abbrev pub Chooses : Declarations → List Call → List Call → ℕ → ℕ → ℕ → ℕ
+    → Result Campaign CampaignFault → Type 0
 Chooses c setup candidates threads calls bound serial result =
     IfOk result (IsCampaignAnswer (campaigned c setup candidates threads calls bound serial))
 

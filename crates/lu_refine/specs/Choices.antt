@@ -6,7 +6,8 @@ use Rattle.lu_test.specs.Matrix.{Matrix}
 
 -- the number of a candidate for each position
 abbrev pub IsChoice : ℕ → ℕ → List ℕ → Type 0
-IsChoice candidates positions choice = (length choice ≡ positions) × All (λ n. n < candidates) choice
+IsChoice candidates positions choice =
+    (length choice ≡ positions) × All (λ n. n < candidates) choice
 
 -- lexicographic order: the first place where they differ decides
 abbrev pub IsBefore : List ℕ → List ℕ → Type 0
@@ -18,9 +19,11 @@ IsBefore (m ∷ u) (n ∷ v) = (m < n) ⊎ (m ≡ n) × IsBefore u v
 abbrev pub candidate_at : List Call → ℕ → Call
 candidate_at candidates n = slice_index_or candidates n (record { op = 0; args = [] })
 
--- the calls of so many threads, so many of each: the candidates with these numbers, thread 0's calls first
+-- the calls of so many threads, so many of each: the candidates with these numbers, thread 0's
+-- calls first
 abbrev pub filled : List Call → ℕ → ℕ → List ℕ → List (List Call)
-filled candidates threads calls choice = map (λ row. map (candidate_at candidates) row) (first_chunks calls threads choice)
+filled candidates threads calls choice =
+    map (λ row. map (candidate_at candidates) row) (first_chunks calls threads choice)
 
 -- the matrix of these threads, with the setup
 abbrev pub filled_matrix : List Call → List Call → ℕ → ℕ → List ℕ → Matrix

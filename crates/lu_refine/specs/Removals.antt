@@ -10,7 +10,8 @@ use Rattle.lu_refine.specs.declared.shrink_fault.ShrinkFault.TheVariants.{NotFai
 
 -- the report of the matrix is a failure or nondeterministic
 abbrev pub IsFailing : Declarations → ℕ → ℕ → Matrix → Type 0
-IsFailing c bound serial matrix = (r : Report) × IsReport c matrix bound serial r × IsFailure r.finding
+IsFailing c bound serial matrix =
+    (r : Report) × IsReport c matrix bound serial r × IsFailure r.finding
 
 -- thread t has a call number k
 abbrev pub HasCall : Matrix → ℕ → ℕ → Type 0
@@ -20,23 +21,27 @@ HasCall matrix t k = k < length (calls_of matrix t)
 abbrev pub ComesBefore : ℕ → ℕ → ℕ → ℕ → Type 0
 ComesBefore t k u l = (t < u) ⊎ (t ≡ u) × (k < l)
 
--- `next` is the matrix without one call, and fails; without an earlier call the matrix does not fail
+-- `next` is the matrix without one call, and fails; without an earlier call the matrix does not
+-- fail
 pub record IsLeastRemoval (Fails : Matrix → Type 0) (matrix next : Matrix) : Type 0 where
   pub thread : ℕ
   pub call : ℕ
   pub there : HasCall matrix thread call
   pub removed : next ≡ without matrix thread call
   pub fails : Fails next
-  pub least : (t k : ℕ) → ComesBefore t k thread call → HasCall matrix t k → Fails (without matrix t k) → ⊥
+  pub least : (t k : ℕ) → ComesBefore t k thread call → HasCall matrix t k
+      → Fails (without matrix t k) → ⊥
 
 -- the matrix without any one of its calls does not fail
 abbrev pub IsMinimal : (Matrix → Type 0) → Matrix → Type 0
 IsMinimal Fails matrix = (t k : ℕ) → HasCall matrix t k → Fails (without matrix t k) → ⊥
 
--- From the first matrix to the last: each one fails, and comes from the one before by the least removal; the last is minimal.
+-- From the first matrix to the last: each one fails, and comes from the one before by the least
+-- removal; the last is minimal.
 abbrev pub IsChain : (Matrix → Type 0) → Matrix → List Matrix → Matrix → Type 0
 IsChain Fails matrix [] last = (last ≡ matrix) × Fails matrix × IsMinimal Fails matrix
-IsChain Fails matrix (next ∷ rest) last = Fails matrix × IsLeastRemoval Fails matrix next × IsChain Fails next rest last
+IsChain Fails matrix (next ∷ rest) last =
+    Fails matrix × IsLeastRemoval Fails matrix next × IsChain Fails next rest last
 
 -- the chain of removals from the matrix ends with `last`
 abbrev pub ShrinksTo : (Matrix → Type 0) → Matrix → Matrix → Type 0
@@ -51,15 +56,18 @@ IsShrunk c matrix bound serial shrunk =
 abbrev pub IsRound : Declarations → Matrix → ℕ → ℕ → Option (Matrix × Report) → Type 0
 IsRound c matrix bound serial None = IsMinimal (IsFailing c bound serial) matrix
 IsRound c matrix bound serial (Some smaller) =
-    IsLeastRemoval (IsFailing c bound serial) matrix smaller.0 × IsReport c smaller.0 bound serial smaller.1
+    IsLeastRemoval (IsFailing c bound serial) matrix smaller.0
+    × IsReport c smaller.0 bound serial smaller.1
 
 -- the matrix does not fail, and this is its report; or memory was refused
 abbrev pub IsShrinkFault : Declarations → Matrix → ℕ → ℕ → ShrinkFault → Type 0
-IsShrinkFault c matrix bound serial (NotFailing r) = IsReport c matrix bound serial r × (IsFailure r.finding → ⊥)
+IsShrinkFault c matrix bound serial (NotFailing r) =
+    IsReport c matrix bound serial r × (IsFailure r.finding → ⊥)
 IsShrinkFault c matrix bound serial Memory = Unit {0}
 
 -- A chain of removals has one end.
 abbrev pub OneShrunk : Type 0
 OneShrunk =
     (c : Declarations) (matrix a b : Matrix) (bound serial : ℕ) →
-    ShrinksTo (IsFailing c bound serial) matrix a → ShrinksTo (IsFailing c bound serial) matrix b → a ≡ b
+    ShrinksTo (IsFailing c bound serial) matrix a → ShrinksTo (IsFailing c bound serial) matrix b
+    → a ≡ b

@@ -11,7 +11,8 @@ use lu_report::Report;
 use lu_test::Matrix;
 use std::alloc::{AllocError, Global};
 
-/// The report of the matrix. The set of its serial histories lies in an arena, which is given up with them.
+/// The report of the matrix. The set of its serial histories lies in an arena, which is given up
+/// with them.
 pub(crate) fn check_in_arena(
     alloc: Global,
     component: &Component,

@@ -51,17 +51,20 @@ fn positions_of(candidates: usize, threads: u8, calls: u8) -> Result<u32, Campai
     Ok(positions)
 }
 
-/// Checks all matrices of `threads` threads with `calls` calls each, filled from the candidates, in lexicographic order of the
-/// numbers of the candidates, thread 0's calls first; each begins with the setup. A candidate that is listed twice counts twice. The answer is the first
-/// matrix whose report is no pass, with that report, or the number of matrices. `bound` is 0 to 256 moves of a schedule, and
-/// `serial` 1 to 256 moves of an operation after its call that is run serially. Asks for candidates that are calls of the
-/// component, each with at most 4 arguments, and for a setup of at most 8 such calls, each of which ends within 256 moves after it,
-/// where they are made alone.
+/// Checks all matrices of `threads` threads with `calls` calls each, filled from the candidates, in
+/// lexicographic order of the numbers of the candidates, thread 0's calls first; each begins with
+/// the setup. A candidate that is listed twice counts twice. The answer is the first matrix whose
+/// report is no pass, with that report, or the number of matrices. `bound` is 0 to 256 moves of a
+/// schedule, and `serial` 1 to 256 moves of an operation after its call that is run serially. Asks
+/// for candidates that are calls of the component, each with at most 4 arguments, and for a setup
+/// of at most 8 such calls, each of which ends within 256 moves after it, where they are made
+/// alone.
 ///
 /// # Errors
 ///
-/// [`CampaignFault::Candidates`] where there are not 1 to 8 candidates. [`CampaignFault::Limit`] where there are, and not 1 to 8
-/// threads of 1 to 8 calls with at most 16 positions. [`CampaignFault::Memory`] where memory was refused.
+/// [`CampaignFault::Candidates`] where there are not 1 to 8 candidates. [`CampaignFault::Limit`]
+/// where there are, and not 1 to 8 threads of 1 to 8 calls with at most 16 positions.
+/// [`CampaignFault::Memory`] where memory was refused.
 pub fn campaign(
     alloc: Global,
     component: &Component,
@@ -79,7 +82,8 @@ pub fn campaign(
     requires arguments { HaveArguments candidates.now }
     requires bound { bound ≤ 256 }
     requires serial { (1 ≤ serial) × (serial ≤ 256) }
-    ensures answer { Chooses component.now setup.now candidates.now threads calls bound serial result }
+    ensures answer { Chooses component.now setup.now candidates.now threads calls
+        bound serial result }
     ensures of { IfOk result (IsFoundOf component.now) }
     ensures fault { IfErr result (IsLimitFault (length candidates.now) threads calls) }
 {

@@ -49,8 +49,8 @@ fn calls_of(alloc: Global, candidates: &[Call], numbers: &[u8]) -> Result<Calls,
     Ok(Calls::new(calls))
 }
 
-/// The component's matrix of this setup and of so many threads of so many calls: the candidates of the choice, thread 0's
-/// calls first.
+/// The component's matrix of this setup and of so many threads of so many calls: the candidates of
+/// the choice, thread 0's calls first.
 pub(crate) fn fill(
     alloc: Global,
     component: &Component,
@@ -66,7 +66,8 @@ pub(crate) fn fill(
     requires grid { IsGrid threads calls }
     requires choice { IsChoice (length candidates.now) (threads * calls) choice.now }
     requires arguments { HaveArguments candidates.now }
-    ensures { IfOk result (λ m. m ≡ filled_matrix setup.now candidates.now threads calls choice.now) }
+    ensures { IfOk result (λ m.
+        m ≡ filled_matrix setup.now candidates.now threads calls choice.now) }
 {
     let mut rows = Vec::with_capacity(alloc, usize::from(threads))?;
     let mut rest = choice;

@@ -1,8 +1,9 @@
-//! Small tests that fail: matrices with fewer calls, and all small matrices. Specifications that results are held against.
+//! Small tests that fail: matrices with fewer calls, and all small matrices. Specifications that
+//! results are held against.
 //!
-//! [`shrink`] takes calls away from a matrix that fails, one after the other, as long as it goes on failing. [`campaign`] tries
-//! all matrices of a size over some calls, and answers the first that does not pass. Both stand on checks of one matrix
-//! (Burckhardt, Dern, Musuvathi and Tan, 2010).
+//! [`shrink`] takes calls away from a matrix that fails, one after the other, as long as it goes on
+//! failing. [`campaign`] tries all matrices of a size over some calls, and answers the first that
+//! does not pass. Both stand on checks of one matrix (Burckhardt, Dern, Musuvathi and Tan, 2010).
 //!
 //! ```text
 //! let (smaller, report) = shrink(alloc, &component, &matrix, 40, 40)?;

@@ -25,7 +25,8 @@ fn is_failure(report: &Report) -> bool
     }
 }
 
-/// The matrix without the first call, by thread and then by number, without which it still fails, and its report.
+/// The matrix without the first call, by thread and then by number, without which it still fails,
+/// and its report.
 fn take_least(
     alloc: Global,
     component: &Component,
@@ -50,16 +51,17 @@ fn take_least(
     Ok(None)
 }
 
-/// Takes calls away from a matrix that fails: as long as the matrix without some call has a report that is a failure or
-/// nondeterministic, the first such call is taken away, by thread and then by number. The answer is the last matrix, with its
-/// report. Its setup stays, and so do its threads, also those without calls. `bound` is 0 to 256 moves of a schedule, and `serial` 1 to 256 moves of an
-/// operation after its call that is run serially. Asks for a matrix of the component, whose
+/// Takes calls away from a matrix that fails: as long as the matrix without some call has a report
+/// that is a failure or nondeterministic, the first such call is taken away, by thread and then by
+/// number. The answer is the last matrix, with its report. Its setup stays, and so do its threads,
+/// also those without calls. `bound` is 0 to 256 moves of a schedule, and `serial` 1 to 256 moves
+/// of an operation after its call that is run serially. Asks for a matrix of the component, whose
 /// setup settles.
 ///
 /// # Errors
 ///
-/// [`ShrinkFault::NotFailing`] with the report of the given matrix, where that is neither a failure nor nondeterministic.
-/// [`ShrinkFault::Memory`] where memory was refused.
+/// [`ShrinkFault::NotFailing`] with the report of the given matrix, where that is neither a failure
+/// nor nondeterministic. [`ShrinkFault::Memory`] where memory was refused.
 pub fn shrink(
     alloc: Global,
     component: &Component,

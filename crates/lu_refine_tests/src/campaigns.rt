@@ -55,7 +55,8 @@ fn assert_passes<R: AllocGlobal + Abort>(
     Ok(())
 }
 
-/// The first matrix of two threads with a call each that does not pass is this one, with this report.
+/// The first matrix of two threads with a call each that does not pass is this one, with this
+/// report.
 fn assert_first<R: AllocGlobal + Abort>(
     rt: &R,
     candidates: &[u8],

@@ -26,32 +26,40 @@ pub record IsShortest (s : State) (members : List (List SerialOp)) (w v : List M
   pub entries : List SerialOp
   pub whole : IsSeriallyWhole s v entries
   pub outside : contains members entries ≡ false
-  pub shortest : (x : List Move) (q : List SerialOp) → BeginsWith v x → x ≢ v → IsSeriallyWhole s x q → IsMember members q
+  pub shortest : (x : List Move) (q : List SerialOp) → BeginsWith v x → x ≢ v
+      → IsSeriallyWhole s x q → IsMember members q
 
--- the shortest such beginning of the least schedule outside, over the matrix cut to the calls made in it
-pub record IsOutsideAnswer (s : State) (serial : ℕ) (members : List (List SerialOp)) (answer : Matrix × List Move) : Type 0 where
+-- the shortest such beginning of the least schedule outside, over the matrix cut to the calls made
+-- in it
+pub record IsOutsideAnswer (s : State) (serial : ℕ) (members : List (List SerialOp))
+    (answer : Matrix × List Move) : Type 0 where
   pub outside : List Move
   pub least : IsFirstOutside s serial members (Some outside)
   pub short : IsShortest s members outside answer.1
   pub matrix_is : answer.0 ≡ cut s.matrix (made_calls short.whole.end)
 
--- To a failure: its schedule, over the whole matrix, where it is not good for the set; else the answer from outside. To a
--- conflict: the answer from outside.
+-- To a failure: its schedule, over the whole matrix, where it is not good for the set; else the
+-- answer from outside. To a conflict: the answer from outside.
 abbrev pub IsAnswerTo : State → ℕ → List (List SerialOp) → Finding → Matrix × List Move → Type 0
 IsAnswerTo s serial members (SerialCut u) answer = ⊥
-IsAnswerTo s serial members (Nondeterministic u before earlier) answer = IsOutsideAnswer s serial members answer
+IsAnswerTo s serial members (Nondeterministic u before earlier) answer =
+    IsOutsideAnswer s serial members answer
 IsAnswerTo s serial members (Fail u why) answer =
     (Refutes (IsMember members) s u × (answer ≡ (s.matrix, u)))
     ⊎ ((Refutes (IsMember members) s u → ⊥) × IsOutsideAnswer s serial members answer)
 IsAnswerTo s serial members (Pass counts) answer = ⊥
 
 -- what is answered to the report, with this bound of serial runs
-abbrev pub IsAnswerWith : Declarations → Matrix → Report → ℕ → List (List SerialOp) → Matrix × List Move → Type 0
-IsAnswerWith c matrix r serial members answer = (s : State) → IsStart c matrix s → IsAnswerTo s serial members r.finding answer
+abbrev pub IsAnswerWith : Declarations → Matrix → Report → ℕ → List (List SerialOp)
+    → Matrix × List Move → Type 0
+IsAnswerWith c matrix r serial members answer =
+    (s : State) → IsStart c matrix s → IsAnswerTo s serial members r.finding answer
 
 -- what is answered to the report, with its own bound
-abbrev pub IsAnswer : Declarations → Matrix → Report → List (List SerialOp) → Matrix × List Move → Type 0
-IsAnswer c matrix r members answer = IsSomeAnd r.serial (λ serial. IsAnswerWith c matrix r serial members answer)
+abbrev pub IsAnswer : Declarations → Matrix → Report → List (List SerialOp) → Matrix × List Move
+    → Type 0
+IsAnswer c matrix r members answer =
+    IsSomeAnd r.serial (λ serial. IsAnswerWith c matrix r serial members answer)
 
 -- a run confirms the report, which is a failure or nondeterministic
 abbrev pub IsConfirmedFailure : Declarations → Matrix → Report → Type 0

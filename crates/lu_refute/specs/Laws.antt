@@ -39,17 +39,20 @@ IsWhole matrix q = EndsStuck q ⊎ ((t : ℕ) → length (entries t q) ≡ lengt
 
 -- ---- failures
 
--- Where no serial run offends and a specification has every serial history, it has no other whole ones.
+-- Where no serial run offends and a specification has every serial history, it has no other whole
+-- ones.
 abbrev pub SpecIsSerial : Type 0
 SpecIsSerial =
-    (c : Declarations) (matrix : Matrix) (s : State) (bound : ℕ) (members : List (List SerialOp)) (q : List SerialOp) →
+    (c : Declarations) (matrix : Matrix) (s : State) (bound : ℕ) (members : List (List SerialOp))
+    (q : List SerialOp) →
     IsStart c matrix s → NoOffence s bound → IsSpecOf matrix members → HasAll s members →
     IsMember members q → IsWhole matrix q → IsSerialHistory s q
 
 -- There a schedule that is not good for the serial histories is not good for the specification.
 abbrev pub FailRefutes : Type 0
 FailRefutes =
-    (c : Declarations) (matrix : Matrix) (s : State) (bound : ℕ) (members : List (List SerialOp)) (u : List Move) →
+    (c : Declarations) (matrix : Matrix) (s : State) (bound : ℕ) (members : List (List SerialOp))
+    (u : List Move) →
     IsStart c matrix s → NoOffence s bound → IsSpecOf matrix members → HasAll s members →
     Refutes (IsSerialHistory s) s u → Refutes (IsMember members) s u
 
@@ -67,31 +70,39 @@ MadeCut =
     (c : Declarations) (matrix : Matrix) (s : State) (u : List Move) (q : List SerialOp) →
     IsStart c matrix s → (run : IsSeriallyWhole s u q) → AreLengths matrix (made_calls run.end)
 
--- Where its entries are no member, it is an ended schedule of the matrix cut to the calls made in it, and not good for the set.
+-- Where its entries are no member, it is an ended schedule of the matrix cut to the calls made in
+-- it, and not good for the set.
 abbrev pub CutRefutes : Type 0
 CutRefutes =
-    (c : Declarations) (matrix : Matrix) (s start : State) (members : List (List SerialOp)) (u : List Move) (q : List SerialOp) →
+    (c : Declarations) (matrix : Matrix) (s start : State) (members : List (List SerialOp))
+    (u : List Move) (q : List SerialOp) →
     IsStart c matrix s → (run : IsSeriallyWhole s u q) → contains members q ≡ false →
     IsStart c (cut matrix (made_calls run.end)) start → Refutes (IsMember members) start u
 
 -- ---- schedules outside a specification
 
--- Where nothing is outside a specification, a schedule that is not good for the serial histories is not good for it.
+-- Where nothing is outside a specification, a schedule that is not good for the serial histories is
+-- not good for it.
 abbrev pub FailOutside : Type 0
 FailOutside =
-    (c : Declarations) (matrix : Matrix) (s : State) (bound : ℕ) (members : List (List SerialOp)) (u : List Move) →
-    IsStart c matrix s → NoOffence s bound → IsSpecOf matrix members → IsFirstOutside s bound members None →
+    (c : Declarations) (matrix : Matrix) (s : State) (bound : ℕ) (members : List (List SerialOp))
+    (u : List Move) →
+    IsStart c matrix s → NoOffence s bound → IsSpecOf matrix members
+    → IsFirstOutside s bound members None →
     Refutes (IsSerialHistory s) s u → Refutes (IsMember members) s u
 
 -- Where the least serial offence is a conflict, something is outside each deterministic set.
 abbrev pub ConflictOutside : Type 0
 ConflictOutside =
-    (s : State) (bound : ℕ) (members : List (List SerialOp)) (u : List Move) (i : ℕ) (o : SerialOutcome) →
-    IsFirstConflict s bound u i o → IsDeterministic members → (w : List Move) × IsOutside s bound members w
+    (s : State) (bound : ℕ) (members : List (List SerialOp)) (u : List Move) (i : ℕ)
+    (o : SerialOutcome) →
+    IsFirstConflict s bound u i o → IsDeterministic members
+    → (w : List Move) × IsOutside s bound members w
 
 -- A serially ended schedule ends with a whole entry.
 abbrev pub OutsideWhole : Type 0
-OutsideWhole = (s : State) (w : List Move) (q : List SerialOp) → IsSeriallyEnded s w q → IsSeriallyWhole s w q
+OutsideWhole =
+    (s : State) (w : List Move) (q : List SerialOp) → IsSeriallyEnded s w q → IsSeriallyWhole s w q
 
 -- ---- answers
 
@@ -102,27 +113,34 @@ WholeCut = (matrix : Matrix) → IsCutOf matrix matrix
 -- What is answered to a finding is a counterexample.
 abbrev pub AnswerRefutes : Type 0
 AnswerRefutes =
-    (c : Declarations) (matrix : Matrix) (s : State) (serial : ℕ) (members : List (List SerialOp)) (finding : Finding)
+    (c : Declarations) (matrix : Matrix) (s : State) (serial : ℕ) (members : List (List SerialOp))
+    (finding : Finding)
     (answer : Matrix × List Move) →
-    IsStart c matrix s → IsAnswerTo s serial members finding answer → IsCounterexample c matrix (IsMember members) answer
+    IsStart c matrix s → IsAnswerTo s serial members finding answer
+    → IsCounterexample c matrix (IsMember members) answer
 
 -- One thing is answered to a report.
 abbrev pub OneAnswer : Type 0
 OneAnswer =
-    (c : Declarations) (matrix : Matrix) (r : Report) (members : List (List SerialOp)) (a b : Matrix × List Move) →
+    (c : Declarations) (matrix : Matrix) (r : Report) (members : List (List SerialOp))
+    (a b : Matrix × List Move) →
     Settles c matrix → IsAnswer c matrix r members a → IsAnswer c matrix r members b → a ≡ b
 
 -- Where there is a counterexample the component is not linearizable.
 abbrev pub NotLinearizable : Type 0
 NotLinearizable =
-    (c : Declarations) (matrix : Matrix) (members : List (List SerialOp)) (example : Matrix × List Move) →
-    Settles c matrix → IsCounterexample c matrix (IsMember members) example → IsLinearizable c matrix (IsMember members) → ⊥
+    (c : Declarations) (matrix : Matrix) (members : List (List SerialOp))
+    (example : Matrix × List Move) →
+    Settles c matrix → IsCounterexample c matrix (IsMember members) example
+    → IsLinearizable c matrix (IsMember members) → ⊥
 
 -- ---- every specification
 
--- A set of serial histories that a test tells: no two of them conflict, `Stuck` stands only last, and they fit the matrix.
+-- A set of serial histories that a test tells: no two of them conflict, `Stuck` stands only last,
+-- and they fit the matrix.
 pub record IsDeterministicOf (matrix : Matrix) (spec : List SerialOp → Bool) : Type 0 where
-  pub deterministic : (p q : List SerialOp) (i : ℕ) (o : SerialOutcome) → IsTrue (spec p) → IsTrue (spec q) → ConflictAt p q i o → ⊥
+  pub deterministic : (p q : List SerialOp) (i : ℕ) (o : SerialOutcome) → IsTrue (spec p)
+      → IsTrue (spec q) → ConflictAt p q i o → ⊥
   pub serial : (q : List SerialOp) → IsTrue (spec q) → IsSerial q
   pub fits : (q : List SerialOp) → IsTrue (spec q) → FitsMatrix matrix q
 
@@ -133,17 +151,21 @@ NoneLinearizable =
     Settles c matrix → IsConfirmedFailure c matrix r →
     IsDeterministicOf matrix spec → IsLinearizable c matrix (λ q. IsTrue (spec q)) → ⊥
 
--- So does what a check reports: where that is a failure, or nondeterminism, the component is linearizable by none of them.
+-- So does what a check reports: where that is a failure, or nondeterminism, the component is
+-- linearizable by none of them.
 abbrev pub FailingIsNotLinearizable : Type 0
 FailingIsNotLinearizable =
-    (c : Declarations) (matrix : Matrix) (bound serial : ℕ) (r : Report) (spec : List SerialOp → Bool) →
+    (c : Declarations) (matrix : Matrix) (bound serial : ℕ) (r : Report)
+    (spec : List SerialOp → Bool) →
     Settles c matrix → IsReport c matrix bound serial r → IsFailure r.finding →
     IsDeterministicOf matrix spec → IsLinearizable c matrix (λ q. IsTrue (spec q)) → ⊥
 
 -- ---- the set of the serial runs
 
--- The histories of the serial runs, where none offends: no two of them conflict, `Stuck` stands only last, and they fit the matrix.
+-- The histories of the serial runs, where none offends: no two of them conflict, `Stuck` stands
+-- only last, and they fit the matrix.
 abbrev pub LearntCloses : Type 0
 LearntCloses =
     (c : Declarations) (matrix : Matrix) (s : State) (bound : ℕ) (members : List (List SerialOp)) →
-    IsStart c matrix s → IsSetOf s bound members → IsDeterministic members × AllSerial members × AreOf matrix members
+    IsStart c matrix s → IsSetOf s bound members
+    → IsDeterministic members × AllSerial members × AreOf matrix members

@@ -1,5 +1,5 @@
--- Linearizability of a component's operations on a matrix (Herlihy and Wing, 1990), for schedules that are stuck too
--- (Burckhardt, Dern, Musuvathi and Tan, 2010).
+-- Linearizability of a component's operations on a matrix (Herlihy and Wing, 1990), for schedules
+-- that are stuck too (Burckhardt, Dern, Musuvathi and Tan, 2010).
 use Rattle.std.specs.Prelude.{◌≡◌, ℕ, ◌≤◌, List, length}
 use Rattle.std.specs.List.{AllZip}
 use Rattle.lu_component.specs.Component.{Declarations}
@@ -19,23 +19,27 @@ AreLengths matrix lengths = AllZip (λ calls n. n ≤ length calls) matrix.threa
 
 -- the smaller matrix has of each thread some of its first calls, and no others
 abbrev pub IsCutOf : Matrix → Matrix → Type 0
-IsCutOf matrix smaller = (lengths : List ℕ) × AreLengths matrix lengths × (smaller ≡ cut matrix lengths)
+IsCutOf matrix smaller =
+    (lengths : List ℕ) × AreLengths matrix lengths × (smaller ≡ cut matrix lengths)
 
 -- each ended schedule of each cut of the matrix, of any length, is good for the set
 abbrev pub IsLinearizable : Declarations → Matrix → (List SerialOp → Type 0) → Type 0
 IsLinearizable c matrix Set =
     (smaller : Matrix) (s : State) (u : List Move) →
-    IsCutOf matrix smaller → IsStart c smaller s → Reaches s u (λ end _. IsEnded end) → Reaches s u (IsGoodAt Set)
+    IsCutOf matrix smaller → IsStart c smaller s → Reaches s u (λ end _. IsEnded end)
+    → Reaches s u (IsGoodAt Set)
 
 -- u is ended, and not good for the set
 abbrev pub Refutes : (List SerialOp → Type 0) → State → List Move → Type 0
 Refutes Set s u = Reaches s u (λ end history. IsEnded end × (IsGoodAt Set end history → ⊥))
 
 -- a cut of the matrix, with a schedule of it that is ended and not good for the set
-abbrev pub IsCounterexample : Declarations → Matrix → (List SerialOp → Type 0) → Matrix × List Move → Type 0
+abbrev pub IsCounterexample : Declarations → Matrix → (List SerialOp → Type 0) → Matrix × List Move
+    → Type 0
 IsCounterexample c matrix Set example =
     IsCutOf matrix example.0 × ((s : State) → IsStart c example.0 s → Refutes Set s example.1)
 
 -- the same of the set with these members
-abbrev pub IsCounterexampleTo : Declarations → Matrix → List (List SerialOp) → Matrix × List Move → Type 0
+abbrev pub IsCounterexampleTo : Declarations → Matrix → List (List SerialOp) → Matrix × List Move
+    → Type 0
 IsCounterexampleTo c matrix members example = IsCounterexample c matrix (IsMember members) example

@@ -37,16 +37,18 @@ pub record IsFurther (old new : Walk) (m : Move) : Type 0 where
 abbrev pub EndsOutside : State → List (List SerialOp) → List Move → Type 0
 EndsOutside s members u = (q : List SerialOp) × IsSeriallyEnded s u q × (contains members q ≡ false)
 
--- The walk stands behind so many moves of w, and these are the shortest beginning that ends with a whole entry and whose
--- entries are no member.
-pub record IsStop (s : State) (members : List (List SerialOp)) (w : List Move) (walk : Walk) (count : ℕ) : Type 0 where
+-- The walk stands behind so many moves of w, and these are the shortest beginning that ends with a
+-- whole entry and whose entries are no member.
+pub record IsStop (s : State) (members : List (List SerialOp)) (w : List Move) (walk : Walk)
+    (count : ℕ) : Type 0 where
   pub within : count ≤ length w
   pub short : IsShortest s members w (take count w)
   pub ends : short.whole.end ≡ walk.machine
   pub calls : walk.calls.items ≡ made_calls walk.machine
 
 -- the shortest such beginning of w, over the matrix cut to the calls made in it
-pub record IsShortestOver (s : State) (members : List (List SerialOp)) (w : List Move) (answer : Matrix × List Move) : Type 0 where
+pub record IsShortestOver (s : State) (members : List (List SerialOp)) (w : List Move)
+    (answer : Matrix × List Move) : Type 0 where
   pub short : IsShortest s members w answer.1
   pub matrix_is : answer.0 ≡ cut s.matrix (made_calls short.whole.end)
 
@@ -57,20 +59,27 @@ abbrev pub IsOutsideOf : Declarations → Matrix → List (List SerialOp) → Li
 IsOutsideOf c matrix members u = (s : State) → IsStart c matrix s → EndsOutside s members u
 
 -- its shortest such beginning
-abbrev pub IsShortestOf : Declarations → Matrix → List (List SerialOp) → List Move → Matrix × List Move → Type 0
-IsShortestOf c matrix members w answer = (s : State) → IsStart c matrix s → IsShortestOver s members w answer
+abbrev pub IsShortestOf : Declarations → Matrix → List (List SerialOp) → List Move
+    → Matrix × List Move → Type 0
+IsShortestOf c matrix members w answer =
+    (s : State) → IsStart c matrix s → IsShortestOver s members w answer
 
 -- some schedule is outside
 abbrev pub HasOutside : Declarations → Matrix → ℕ → List (List SerialOp) → Type 0
-HasOutside c matrix serial members = (s : State) → IsStart c matrix s → IsFirstOutside s serial members None → ⊥
+HasOutside c matrix serial members =
+    (s : State) → IsStart c matrix s → IsFirstOutside s serial members None → ⊥
 
 -- the answer from outside
-abbrev pub IsFromOutside : Declarations → Matrix → ℕ → List (List SerialOp) → Matrix × List Move → Type 0
-IsFromOutside c matrix serial members answer = (s : State) → IsStart c matrix s → IsOutsideAnswer s serial members answer
+abbrev pub IsFromOutside : Declarations → Matrix → ℕ → List (List SerialOp) → Matrix × List Move
+    → Type 0
+IsFromOutside c matrix serial members answer =
+    (s : State) → IsStart c matrix s → IsOutsideAnswer s serial members answer
 
 -- whether u is ended, and not good for the set
-abbrev pub TellsRefutation : Declarations → Matrix → List (List SerialOp) → List Move → Bool → Type 0
-TellsRefutation c matrix members u told = (s : State) → IsStart c matrix s → IsTrue told ↔ Refutes (IsMember members) s u
+abbrev pub TellsRefutation : Declarations → Matrix → List (List SerialOp) → List Move → Bool
+    → Type 0
+TellsRefutation c matrix members u told =
+    (s : State) → IsStart c matrix s → IsTrue told ↔ Refutes (IsMember members) s u
 
 -- the finding is a failure by this schedule, which is ended and not good for the set
 abbrev pub IsOfFailure : State → List (List SerialOp) → Finding → List Move → Type 0
@@ -80,6 +89,9 @@ IsOfFailure s members (Fail v why) u = (u ≡ v) × Refutes (IsMember members) s
 IsOfFailure s members (Pass counts) u = ⊥
 
 -- the schedule of such a failure, or none where the finding is no such one
-abbrev pub IsFailing : Declarations → Matrix → List (List SerialOp) → Finding → Option (List Move) → Type 0
-IsFailing c matrix members finding None = (s : State) (u : List Move) → IsStart c matrix s → IsOfFailure s members finding u → ⊥
-IsFailing c matrix members finding (Some u) = (s : State) → IsStart c matrix s → IsOfFailure s members finding u
+abbrev pub IsFailing : Declarations → Matrix → List (List SerialOp) → Finding → Option (List Move)
+    → Type 0
+IsFailing c matrix members finding None =
+    (s : State) (u : List Move) → IsStart c matrix s → IsOfFailure s members finding u → ⊥
+IsFailing c matrix members finding (Some u) =
+    (s : State) → IsStart c matrix s → IsOfFailure s members finding u

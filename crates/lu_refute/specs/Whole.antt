@@ -12,7 +12,8 @@ use Rattle.lu_serial.specs.Serial.{HasOpen, SerialRun, entries_of, stuck_of}
 abbrev pub IsQuiet : State → Type 0
 IsQuiet s = (t : ℕ) → HasOpen s t → ⊥
 
--- No operation is open, or the thread of the open one is not enabled; and q are the entries so far, with `Stuck` for the open one.
+-- No operation is open, or the thread of the open one is not enabled; and q are the entries so far,
+-- with `Stuck` for the open one.
 abbrev pub EndsWhole : State → List Event → List SerialOp → Type 0
 EndsWhole end history q =
     (IsQuiet end × (q ≡ entries_of history))

@@ -1,4 +1,5 @@
-//! Whatever deterministic specification somebody has in mind, a failure refutes it (Burckhardt, Dern, Musuvathi and Tan, 2010).
+//! Whatever deterministic specification somebody has in mind, a failure refutes it (Burckhardt,
+//! Dern, Musuvathi and Tan, 2010).
 #![tactic(auto)]
 
 mod fault;

@@ -87,8 +87,9 @@ fn schedule_of_failure(
     }
 }
 
-/// The shortest beginning, that ends with a whole entry and whose entries are no member, of the least serial schedule whose
-/// history is no member: over the matrix cut to the calls made in it. Asks that there is such a schedule.
+/// The shortest beginning, that ends with a whole entry and whose entries are no member, of the
+/// least serial schedule whose history is no member: over the matrix cut to the calls made in it.
+/// Asks that there is such a schedule.
 fn from_outside(
     alloc: Global,
     component: &Component,
@@ -109,7 +110,8 @@ fn from_outside(
     }
 }
 
-/// What is answered to a report that is a confirmed failure, or confirmed nondeterminism, with this bound of serial runs.
+/// What is answered to a report that is a confirmed failure, or confirmed nondeterminism, with this
+/// bound of serial runs.
 fn answer_to(
     alloc: Global,
     component: &Component,
@@ -132,20 +134,23 @@ fn answer_to(
     }
 }
 
-/// Refutes a specification by a failure, or by nondeterminism, that a report shows: by a schedule of the matrix, or of some first
-/// calls of its threads, that is ended and does not have its serial witnesses in the specification. So the component is not
-/// linearizable with it (Burckhardt, Dern, Musuvathi and Tan, 2010).
+/// Refutes a specification by a failure, or by nondeterminism, that a report shows: by a schedule
+/// of the matrix, or of some first calls of its threads, that is ended and does not have its serial
+/// witnesses in the specification. So the component is not linearizable with it (Burckhardt, Dern,
+/// Musuvathi and Tan, 2010).
 ///
-/// For a failure whose schedule does not have its witnesses in the specification the answer is the matrix and that schedule. Else
-/// it comes from the least serially ended schedule whose history is no member of the specification: it is the shortest beginning
-/// that ends with a whole entry of that history and whose entries are no member, over the matrix cut to the calls made in it. Asks
-/// for a matrix of the component ([`Matrix::of`]) whose setup settles (`lu_machine::settles`), and a specification of the matrix ([`Spec::of`]).
+/// For a failure whose schedule does not have its witnesses in the specification the answer is the
+/// matrix and that schedule. Else it comes from the least serially ended schedule whose history is
+/// no member of the specification: it is the shortest beginning that ends with a whole entry of
+/// that history and whose entries are no member, over the matrix cut to the calls made in it. Asks
+/// for a matrix of the component ([`Matrix::of`]) whose setup settles (`lu_machine::settles`), and
+/// a specification of the matrix ([`Spec::of`]).
 ///
 /// # Errors
 ///
-/// [`RefuteFault::NotShown`] where the report is a pass or a serial cut, or is not confirmed ([`confirm`]); so one of a check
-/// against a specification.
-/// [`RefuteFault::Memory`] where memory was refused.
+/// [`RefuteFault::NotShown`] where the report is a pass or a serial cut, or is not confirmed
+/// ([`confirm`]); so one of a check against a specification. [`RefuteFault::Memory`] where memory
+/// was refused.
 pub fn refute(
     alloc: Global,
     component: &Component,
@@ -159,7 +164,8 @@ pub fn refute(
     ensures fault { IfErr result (IsRefuteFault component.now matrix.now report.now) }
     ensures answer { IfOk result (IsAnswer component.now matrix.now report.now spec.now) }
     ensures counterexample { IfOk result (IsCounterexampleTo component.now matrix.now spec.now) }
-    ensures refuted { OnOk result (IsLinearizable component.now matrix.now (IsMember spec.now) → ⊥) }
+    ensures refuted { OnOk result
+        (IsLinearizable component.now matrix.now (IsMember spec.now) → ⊥) }
 {
     let Some(serial) = report.serial() else {
         return Err(RefuteFault::NotShown);

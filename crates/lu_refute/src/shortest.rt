@@ -14,8 +14,8 @@ use lu_test::{Matrix, Move, Schedule, cut_to};
 use lu_trie::Trie;
 use std::alloc::{AllocError, Global};
 
-/// A run along a serial schedule: where it stands, the operations that have returned, in order, and how many calls each thread
-/// has made.
+/// A run along a serial schedule: where it stands, the operations that have returned, in order, and
+/// how many calls each thread has made.
 #[derive(Debug, Drop)]
 pub(crate) struct Walk<'a> {
     pub(crate) machine: Machine<'a>,
@@ -58,8 +58,8 @@ impl<'a> Walk<'a> {
         Ok(())
     }
 
-    /// Goes along a serial schedule whose history is no member of the set, until its entries are no member, or to its
-    /// end. Answers the number of moves made.
+    /// Goes along a serial schedule whose history is no member of the set, until its entries are no
+    /// member, or to its end. Answers the number of moves made.
     fn go_outside(&mut self, moves: &[Move], set: &Trie<Global>) -> Result<usize, AllocError>
         requires before { IsBefore self.old }
         requires empty { IsMember set.now [] }
@@ -76,8 +76,8 @@ impl<'a> Walk<'a> {
     }
 }
 
-/// The shortest beginning of a serial schedule, whose history is no member of the set, that ends with a whole entry and
-/// whose entries are no member: over the matrix cut to the calls made in it.
+/// The shortest beginning of a serial schedule, whose history is no member of the set, that ends
+/// with a whole entry and whose entries are no member: over the matrix cut to the calls made in it.
 pub(crate) fn shortest(
     alloc: Global,
     component: &Component,

@@ -25,33 +25,37 @@ use Rattle.lu_report.specs.declared.report.Report.{Report}
 abbrev pub IsBadFor : (List SerialOp → Type 0) → State → ℕ → List Move → Why → Type 0
 IsBadFor Set s bound u why = IsBad Set s bound u × IsWhy Set s u why
 
--- The least serial offence is as it is said, or there is none and the schedule is bad as it is said; it need not be the least. A pass shows nothing.
+-- The least serial offence is as it is said, or there is none and the schedule is bad as it is
+-- said; it need not be the least. A pass shows nothing.
 abbrev pub IsShown : State → ℕ → ℕ → Finding → Type 0
 IsShown s bound serial (SerialCut u) = IsFirstCut s serial u
-IsShown s bound serial (Nondeterministic u before earlier) = IsFirstConflict s serial u before earlier
-IsShown s bound serial (Fail u why) = NoOffence s serial × IsBadFor (IsSerialHistory s) s bound u why
+IsShown s bound serial (Nondeterministic u before earlier) =
+    IsFirstConflict s serial u before earlier
+IsShown s bound serial (Fail u why) =
+    NoOffence s serial × IsBadFor (IsSerialHistory s) s bound u why
 IsShown s bound serial (Pass counts) = ⊥
 
 -- what it says with this bound of serial runs is shown
 abbrev pub IsShownWith : Declarations → Matrix → Report → ℕ → Type 0
 IsShownWith c matrix r serial = FromEachStart c matrix (λ s. IsShown s r.bound serial r.finding)
 
--- as many local instructions of the component run with one move as the report says; it has a bound of serial runs; and what else
--- it says is shown, with its own bounds
+-- as many local instructions of the component run with one move as the report says; it has a bound
+-- of serial runs; and what else it says is shown, with its own bounds
 abbrev pub IsConfirmed : Declarations → Matrix → Report → Type 0
 IsConfirmed c matrix r = (r.local ≡ c.local) × IsSomeAnd r.serial (IsShownWith c matrix r)
 
 -- ---- against a specification
 
--- A failure is shown where the schedule is bad for the set, as it is said; it need not be the least. Nothing else is shown.
+-- A failure is shown where the schedule is bad for the set, as it is said; it need not be the
+-- least. Nothing else is shown.
 abbrev pub IsShownAgainst : (List SerialOp → Type 0) → State → ℕ → Finding → Type 0
 IsShownAgainst Set s bound (SerialCut u) = ⊥
 IsShownAgainst Set s bound (Nondeterministic u before earlier) = ⊥
 IsShownAgainst Set s bound (Fail u why) = IsBadFor Set s bound u why
 IsShownAgainst Set s bound (Pass counts) = ⊥
 
--- the report is one against a specification, with as many local instructions as the component has, and what it says is shown
--- against this set, with its own bound
+-- the report is one against a specification, with as many local instructions as the component has,
+-- and what it says is shown against this set, with its own bound
 abbrev pub IsConfirmedAgainst : (List SerialOp → Type 0) → Declarations → Matrix → Report → Type 0
 IsConfirmedAgainst Set c matrix r =
     (r.local ≡ c.local) × (r.serial ≡ None)
@@ -82,19 +86,26 @@ abbrev pub SaysWhether : {E : Type 0} → Result Bool E → Type 0 → Type 0
 SaysWhether result Holds = IfOk result (λ yes. IsTrue yes ↔ Holds)
 
 -- whether the schedule is bad for the set with these members, as it is said
-abbrev pub SaysBad : {E : Type 0} → Declarations → Matrix → List (List SerialOp) → ℕ → List Move → Why → Result Bool E → Type 0
-SaysBad c matrix members bound u why result = FromEachStart c matrix (λ s. SaysWhether result (IsBadFor (IsMember members) s bound u why))
+abbrev pub SaysBad : {E : Type 0} → Declarations → Matrix → List (List SerialOp) → ℕ → List Move
+    → Why → Result Bool E → Type 0
+SaysBad c matrix members bound u why result =
+    FromEachStart c matrix (λ s. SaysWhether result (IsBadFor (IsMember members) s bound u why))
 
 -- whether the finding is shown, where the serial runs came to this
-abbrev pub SaysShown : {A E : Type 0} → Declarations → Matrix → Learnt A → ℕ → Finding → Result Bool E → Type 0
+abbrev pub SaysShown : {A E : Type 0} → Declarations → Matrix → Learnt A → ℕ → Finding
+    → Result Bool E → Type 0
 SaysShown c matrix learnt bound f result =
-    (s : State) (serial : ℕ) → IsStart c matrix s → IsLearnt s serial learnt → SaysWhether result (IsShown s bound serial f)
+    (s : State) (serial : ℕ) → IsStart c matrix s → IsLearnt s serial learnt
+    → SaysWhether result (IsShown s bound serial f)
 
 -- whether the finding is shown against the set with these members
-abbrev pub SaysShownAgainst : {E : Type 0} → Declarations → Matrix → List (List SerialOp) → ℕ → Finding → Result Bool E → Type 0
+abbrev pub SaysShownAgainst : {E : Type 0} → Declarations → Matrix → List (List SerialOp) → ℕ
+    → Finding → Result Bool E → Type 0
 SaysShownAgainst c matrix members bound f result =
     FromEachStart c matrix (λ s. SaysWhether result (IsShownAgainst (IsMember members) s bound f))
 
 -- whether the report is confirmed against the set with these members
-abbrev pub SaysConfirmedAgainst : {E : Type 0} → Declarations → Matrix → List (List SerialOp) → Report → Result Bool E → Type 0
-SaysConfirmedAgainst c matrix members r result = SaysWhether result (IsConfirmedAgainst (IsMember members) c matrix r)
+abbrev pub SaysConfirmedAgainst : {E : Type 0} → Declarations → Matrix → List (List SerialOp)
+    → Report → Result Bool E → Type 0
+SaysConfirmedAgainst c matrix members r result =
+    SaysWhether result (IsConfirmedAgainst (IsMember members) c matrix r)

@@ -38,23 +38,27 @@ OneFault =
 abbrev pub AllReplayed : Type 0
 AllReplayed =
     (c : Declarations) (matrix : Matrix) (u : List Move) → Settles c matrix →
-    ((h : List Event) × (a : Status) × Shows c matrix u h a) ⊎ ((i : ℕ) × IsInfeasibleAt c matrix u i)
+    ((h : List Event) × (a : Status) × Shows c matrix u h a)
+    ⊎ ((i : ℕ) × IsInfeasibleAt c matrix u i)
 
 -- no ended schedule is a beginning of another
 abbrev pub EndedApart : Type 0
 EndedApart =
-    (s : State) (u v : List Move) → Reaches s u (λ end _. IsEnded end) → IsSchedule s v → BeginsWith v u → v ≡ u
+    (s : State) (u v : List Move) → Reaches s u (λ end _. IsEnded end) → IsSchedule s v
+    → BeginsWith v u → v ≡ u
 
 -- a component and a matrix have one report with these bounds
 abbrev pub OneReport : Type 0
 OneReport =
     (c : Declarations) (matrix : Matrix) (bound serial : ℕ) (r other : Report) →
-    Settles c matrix → IsReport c matrix bound serial r → IsReport c matrix bound serial other → r ≡ other
+    Settles c matrix → IsReport c matrix bound serial r → IsReport c matrix bound serial other
+    → r ≡ other
 
 -- a component and a matrix have one report against a set with this bound
 abbrev pub OneReportAgainst : Type 0
 OneReportAgainst =
-    (c : Declarations) (matrix : Matrix) (members : List (List SerialOp)) (bound : ℕ) (r other : Report) →
+    (c : Declarations) (matrix : Matrix) (members : List (List SerialOp)) (bound : ℕ)
+    (r other : Report) →
     Settles c matrix → IsReportAgainst (IsMember members) c matrix bound r →
     IsReportAgainst (IsMember members) c matrix bound other → r ≡ other
 
@@ -68,4 +72,5 @@ AllConfirmed =
 abbrev pub AllConfirmedAgainst : Type 0
 AllConfirmedAgainst =
     (c : Declarations) (matrix : Matrix) (members : List (List SerialOp)) (bound : ℕ) (r : Report) →
-    IsReportAgainst (IsMember members) c matrix bound r → (IsPass r.finding → ⊥) → IsConfirmedAgainst (IsMember members) c matrix r
+    IsReportAgainst (IsMember members) c matrix bound r → (IsPass r.finding → ⊥)
+    → IsConfirmedAgainst (IsMember members) c matrix r

@@ -13,12 +13,16 @@ use Rattle.lu_report.specs.declared.report.Finding.{Finding}
 use Rattle.lu_report.specs.declared.report.Finding.TheVariants.{SerialCut, Nondeterministic, Fail, Pass}
 use Rattle.lu_report.specs.declared.report.Report.{Report}
 
--- What is found from the start s, where schedules have up to `bound` moves, and operations run serially take up to `serial` moves after their calls.
+-- What is found from the start s, where schedules have up to `bound` moves, and operations run
+-- serially take up to `serial` moves after their calls.
 abbrev pub IsFinding : State → ℕ → ℕ → Finding → Type 0
 IsFinding s bound serial (SerialCut u) = IsFirstCut s serial u
-IsFinding s bound serial (Nondeterministic u before earlier) = IsFirstConflict s serial u before earlier
-IsFinding s bound serial (Fail u why) = NoOffence s serial × IsFirstBad (IsSerialHistory s) s bound Any u why
-IsFinding s bound serial (Pass counts) = NoOffence s serial × AreAllGood (IsSerialHistory s) s bound Any counts
+IsFinding s bound serial (Nondeterministic u before earlier) =
+    IsFirstConflict s serial u before earlier
+IsFinding s bound serial (Fail u why) =
+    NoOffence s serial × IsFirstBad (IsSerialHistory s) s bound Any u why
+IsFinding s bound serial (Pass counts) =
+    NoOffence s serial × AreAllGood (IsSerialHistory s) s bound Any counts
 
 -- the set is that of all serial histories, where the serial runs came to this
 abbrev pub IsLearntSet : {A : Type 0} → Learnt A → List (List SerialOp) → Type 0
@@ -26,10 +30,11 @@ IsLearntSet learnt set = (s : State) (serial : ℕ) → IsLearnt s serial learnt
 
 -- the finding is a check's with any bound of schedules, where the serial runs came to this
 abbrev pub IsLearntOffence : {A : Type 0} → Learnt A → Finding → Type 0
-IsLearntOffence learnt finding = (s : State) (bound serial : ℕ) → IsLearnt s serial learnt → IsFinding s bound serial finding
+IsLearntOffence learnt finding =
+    (s : State) (bound serial : ℕ) → IsLearnt s serial learnt → IsFinding s bound serial finding
 
--- r is the report of the component and the matrix with these bounds; it says how many of the component's
--- local instructions run with one move
+-- r is the report of the component and the matrix with these bounds; it says how many of the
+-- component's local instructions run with one move
 abbrev pub IsReport : Declarations → Matrix → ℕ → ℕ → Report → Type 0
 IsReport c matrix bound serial r =
     (r.bound ≡ bound) × (r.serial ≡ Some serial) × (r.local ≡ c.local)
@@ -37,7 +42,8 @@ IsReport c matrix bound serial r =
 
 -- ---- against a specification
 
--- What is found from the start s against a set of serial histories that is given: no serial run is made.
+-- What is found from the start s against a set of serial histories that is given: no serial run is
+-- made.
 abbrev pub IsFindingAgainst : (List SerialOp → Type 0) → State → ℕ → Finding → Type 0
 IsFindingAgainst Set s bound (SerialCut u) = ⊥
 IsFindingAgainst Set s bound (Nondeterministic u before earlier) = ⊥

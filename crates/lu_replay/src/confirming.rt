@@ -67,7 +67,8 @@ fn is_reason(status: Status, verdict: Verdict, why: Why) -> bool
     }
 }
 
-/// Whether the schedule ends within the bound without its witnesses in the set of the tree, for this reason.
+/// Whether the schedule ends within the bound without its witnesses in the set of the tree, for
+/// this reason.
 fn fails<T: SerialTree>(
     alloc: Global,
     component: &Component,
@@ -151,7 +152,8 @@ fn is_shown_against<T: SerialTree>(
     finding: &Finding,
 ) -> Result<bool, AllocError>
     requires { CanRun component.now matrix.now }
-    ensures { SaysShownAgainst component.now matrix.now (T.members tree.now) bound finding.now result }
+    ensures { SaysShownAgainst component.now matrix.now (T.members tree.now) bound
+        finding.now result }
 {
     match finding {
         Finding::SerialCut(_) => Ok(false),
@@ -170,11 +172,12 @@ fn says_local(component: &Component, report: &Report) -> bool
     report.local() == component.local()
 }
 
-/// Whether the report holds of the component and the matrix, with its own bounds. One that says another number of local
-/// instructions with a move than the component does not hold, nor does one of a check against a specification. A serial offence
-/// is confirmed where the serial runs show the same one; a failure where there is no serial offence and its schedule, run anew,
-/// ends within the bound without its serial witnesses, for the same reason. That it is the least such schedule is not asked. A
-/// pass is never confirmed, since no single run shows it.
+/// Whether the report holds of the component and the matrix, with its own bounds. One that says
+/// another number of local instructions with a move than the component does not hold, nor does one
+/// of a check against a specification. A serial offence is confirmed where the serial runs show the
+/// same one; a failure where there is no serial offence and its schedule, run anew, ends within the
+/// bound without its serial witnesses, for the same reason. That it is the least such schedule is
+/// not asked. A pass is never confirmed, since no single run shows it.
 ///
 /// # Errors
 ///
@@ -197,11 +200,12 @@ pub fn confirm(
     }
 }
 
-/// Whether the report of a check against a specification holds of the component and the matrix, with its own bound, where the
-/// specification is the set of the tree. A failure is confirmed where its schedule, run anew, ends within the bound without its
-/// witnesses in the set, for the same reason; that it is the least such schedule is not asked. Nothing else is confirmed: no
-/// pass, no report that says another number of local instructions with a move than the component, and none of a check against
-/// the serial runs.
+/// Whether the report of a check against a specification holds of the component and the matrix,
+/// with its own bound, where the specification is the set of the tree. A failure is confirmed where
+/// its schedule, run anew, ends within the bound without its witnesses in the set, for the same
+/// reason; that it is the least such schedule is not asked. Nothing else is confirmed: no pass, no
+/// report that says another number of local instructions with a move than the component, and none
+/// of a check against the serial runs.
 ///
 /// # Errors
 ///

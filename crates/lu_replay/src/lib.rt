@@ -1,6 +1,7 @@
 //! Replays of schedules, and what the report of a component and a matrix is.
 //!
-//! [`replay`] says what a schedule of a component and a matrix shows. [`confirm`] says whether a run shows what a report says.
+//! [`replay`] says what a schedule of a component and a matrix shows. [`confirm`] says whether a
+//! run shows what a report says.
 //!
 //! ```text
 //! let shown = replay(alloc, &component, &matrix, &schedule)?;

@@ -24,7 +24,8 @@ pub fn replay(
     schedule: &Schedule,
 ) -> Result<Replay, ReplayFault>
     requires { CanRun component.now matrix.now }
-    ensures shows { IfOk result (λ r. Shows component.now matrix.now schedule.now r.history r.status) }
+    ensures shows { IfOk result (λ r.
+        Shows component.now matrix.now schedule.now r.history r.status) }
     ensures well_formed { IfOk result (λ r. IsWellFormed r.history) }
     ensures fault { IfErr result (IsReplayFault component.now matrix.now schedule.now) }
 {

@@ -55,12 +55,14 @@ AreReport lines = (r : Report) × AreLimits r × IsSound r.finding × (lines ≡
 
 -- ---- faults
 
--- Some lines of this form begin with the same n lines as these, and none with the same n + 1; where these are n, the missing line is the one that differs.
+-- Some lines of this form begin with the same n lines as these, and none with the same n + 1; where
+-- these are n, the missing line is the one that differs.
 pub record DiffersAt (Texts : List (List ℕ) → Type 0) (lines : List (List ℕ)) (n : ℕ) : Type 0 where
   pub before : (other : List (List ℕ)) × Texts other × (take n other ≡ take n lines)
   pub there : (other : List (List ℕ)) → Texts other → take (n + 1) other ≡ take (n + 1) lines → ⊥
 
--- The fault of a text: the number of the first line at which all reports' texts differ, after the same lines before it. Want of memory can come with any text.
+-- The fault of a text: the number of the first line at which all reports' texts differ, after the
+-- same lines before it. Want of memory can come with any text.
 abbrev pub IsFault : List ℕ → Fault ReportFaultKind → Type 0
 IsFault text (At kind line) = (n : ℕ) × (line ≡ 1 + n) × DiffersAt AreReport (kept_lines text) n
 IsFault text Memory = Unit {0}
@@ -74,7 +76,8 @@ GivesReport (Err fault) r = fault ≡ Memory
 
 -- a number within these limits behind this front
 abbrev pub IsNumberLine : List ℕ → ℕ → ℕ → List ℕ → Type 0
-IsNumberLine front least most line = (n : ℕ) × (least ≤ n) × (n ≤ most) × (line ≡ number_line front n)
+IsNumberLine front least most line =
+    (n : ℕ) × (least ≤ n) × (n ≤ most) × (line ≡ number_line front n)
 
 abbrev pub IsVersionLine : List ℕ → Type 0
 IsVersionLine line = (version : Version) × (line ≡ version_line version)
@@ -142,7 +145,8 @@ AreBehind Three lines = Begins (IsNumberLine (codes "local ") 0 16) AreJudgement
 
 -- the lines behind the first in a report of this version
 abbrev pub AreBounded : Version → List (List ℕ) → Type 0
-AreBounded version lines = Begins (IsNumberLine (codes "bound ") 0 most_moves) (AreBehind version) lines
+AreBounded version lines =
+    Begins (IsNumberLine (codes "bound ") 0 most_moves) (AreBehind version) lines
 
 -- ---- what is read
 
@@ -152,11 +156,13 @@ Cuts text line rest = kept_lines text ≡ line ∷ kept_lines rest
 
 -- the text says this number within these limits behind this front, and goes on so
 abbrev pub SaysNumber : List ℕ → ℕ → ℕ → List ℕ → ℕ → List ℕ → Type 0
-SaysNumber front least most text n rest = (least ≤ n) × (n ≤ most) × Cuts text (number_line front n) rest
+SaysNumber front least most text n rest =
+    (least ≤ n) × (n ≤ most) × Cuts text (number_line front n) rest
 
 -- the text has the lines of these counts
 abbrev pub AreCountsOf : List ℕ → Counts → Type 0
-AreCountsOf text counts = AreCounts counts × (codes "pass\n" ∷ kept_lines text ≡ finding_lines (Pass counts))
+AreCountsOf text counts =
+    AreCounts counts × (codes "pass\n" ∷ kept_lines text ≡ finding_lines (Pass counts))
 
 -- the text is that of a finding
 abbrev pub IsFindingOf : List ℕ → Finding → Type 0
@@ -172,7 +178,8 @@ pub record IsBehind (version : Version) (bound : ℕ) (text : List ℕ) (r : Rep
   pub of : version ≡ version_of r.serial r.local
   pub limits : AreLimits r
   pub sound : IsSound r.finding
-  pub lines : kept_lines text ≡ serial_lines r.serial ++ (local_lines version r.local ++ finding_lines r.finding)
+  pub lines : kept_lines text ≡
+      serial_lines r.serial ++ (local_lines version r.local ++ finding_lines r.finding)
 
 -- ---- where a reader stops
 
@@ -182,16 +189,19 @@ IsFirst text line = take 1 (kept_lines text) ≡ line ∷ []
 
 -- A reader of one such line stops where the text begins: its first line is none.
 abbrev pub HasNo : (List ℕ → Type 0) → List ℕ → Unread → Type 0
-HasNo IsHead text (From rest) = (rest.now ≡ text) × ((line : List ℕ) → IsHead line → IsFirst text line → ⊥)
+HasNo IsHead text (From rest) =
+    (rest.now ≡ text) × ((line : List ℕ) → IsHead line → IsFirst text line → ⊥)
 HasNo IsHead text Exhausted = Unit {0}
 
--- Some lines of the form begin with those before the rest, and none have the line behind these, too.
+-- Some lines of the form begin with those before the rest, and none have the line behind these,
+-- too.
 pub record StopsAt (Texts : List (List ℕ) → Type 0) (text rest : List ℕ) : Type 0 where
   pub front : List (List ℕ)
   pub whole : kept_lines text ≡ front ++ kept_lines rest
   pub other : List (List ℕ)
   pub is : Texts (front ++ other)
-  pub none : (tail : List (List ℕ)) → Texts (front ++ tail) → take 1 tail ≡ take 1 (kept_lines rest) → ⊥
+  pub none : (tail : List (List ℕ)) → Texts (front ++ tail) → take 1 tail ≡ take 1 (kept_lines rest)
+      → ⊥
 
 -- a reader of such lines stops at the first that is none
 abbrev pub Stops : (List (List ℕ) → Type 0) → List ℕ → Unread → Type 0

@@ -26,4 +26,5 @@ lies least n most = nat_le least n && nat_le n most
 -- the limits with these numbers, where they are in range
 abbrev pub limits_of : ℕ → ℕ → Option Limits
 limits_of bound serial =
-    if lies 0 bound most_moves && lies 1 serial most_moves then Some (record { bound = bound; serial = serial }) else None
+    if lies 0 bound most_moves && lies 1 serial most_moves then Some
+    (record { bound = bound; serial = serial }) else None

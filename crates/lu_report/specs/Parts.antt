@@ -6,8 +6,9 @@ use Rattle.lu_report.specs.declared.report.Finding.{Finding}
 use Rattle.lu_report.specs.declared.report.Finding.TheVariants.{SerialCut, Nondeterministic, Fail, Pass}
 pub use Rattle.lu_report.specs.Limits.{IsSerialBound, most_moves}
 
--- The bound of schedules; that of serial runs, where the check is one against these, and none where it is against a
--- specification; how many local instructions run with one move at most; and what is found.
+-- The bound of schedules; that of serial runs, where the check is one against these, and none where
+-- it is against a specification; how many local instructions run with one move at most; and what is
+-- found.
 pub record Parts : Type 0 where
   pub bound : ℕ
   pub serial : Option ℕ

@@ -29,13 +29,16 @@ fail_line (Stuck t) = number_line (codes "fail stuck ") t
 -- the lines of what is found, each with its LF
 abbrev pub finding_lines : Finding → List (List ℕ)
 finding_lines (SerialCut u) = codes "serial-cut\n" ∷ schedule_text u ∷ []
-finding_lines (Nondeterministic u before earlier) = codes "nondeterministic\n" ∷ schedule_text u ∷ number_line (codes "before ") before ∷ earlier_line earlier ∷ []
+finding_lines (Nondeterministic u before earlier) =
+    codes "nondeterministic\n" ∷ schedule_text u ∷ number_line (codes "before ") before ∷
+    earlier_line earlier ∷ []
 finding_lines (Fail u why) = fail_line why ∷ schedule_text u ∷ []
 finding_lines (Pass counts) =
-    codes "pass\n" ∷ number_line (codes "complete ") counts.complete ∷ number_line (codes "stuck ") counts.stuck ∷ number_line (codes "cut ") counts.cut ∷ []
+    codes "pass\n" ∷ number_line (codes "complete ") counts.complete ∷ number_line (codes "stuck ")
+    counts.stuck ∷ number_line (codes "cut ") counts.cut ∷ []
 
--- of a check against the serial runs version 1, where no local instruction runs with a move, else version 2; of a check against
--- a specification version 3
+-- of a check against the serial runs version 1, where no local instruction runs with a move, else
+-- version 2; of a check against a specification version 3
 abbrev pub version_of : Option ℕ → ℕ → Version
 version_of (Some serial) zero = One
 version_of (Some serial) (suc n) = Two

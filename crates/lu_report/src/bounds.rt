@@ -31,8 +31,8 @@ impl Model for Bounds {
 }
 
 impl Bounds {
-    /// These bounds: the most moves of a schedule, 0 to 256, and the most moves of an operation after its call in a serial
-    /// run, 1 to 256. `None` where one is outside.
+    /// These bounds: the most moves of a schedule, 0 to 256, and the most moves of an operation
+    /// after its call in a serial run, 1 to 256. `None` where one is outside.
     pub fn new(bound: u16, serial: u16) -> Option<Bounds>
         ensures { result ≡ limits_of bound serial }
     {

@@ -10,8 +10,8 @@ use thiserror::Error;
 #[derive(Clone, Copy, Debug, Drop, PartialEq, Eq, Error)]
 #[error("{}", self.code())]
 pub enum ReportFaultKind {
-    /// `E1`: no report with the same lines before it has this line there. A missing line counts as the number of lines plus one,
-    /// and a last line without LF is at fault.
+    /// `E1`: no report with the same lines before it has this line there. A missing line counts as
+    /// the number of lines plus one, and a last line without LF is at fault.
     Form,
 }
 

@@ -40,7 +40,8 @@ pub(crate) fn version_in(line: &[u8]) -> Option<Version>
 /// The number of a line that has one of at most `most` behind this front.
 pub(crate) fn number_behind(line: &[u8], front: &str, most: u64) -> Option<u64>
     ensures some { IfSome result (λ n. (n ≤ most) × (line.now ≡ spec.number_line front.now n)) }
-    ensures none { IfNone result ((n : ℕ) → n ≤ most → line.now ≡ spec.number_line front.now n → ⊥) }
+    ensures none { IfNone result ((n : ℕ) →
+        n ≤ most → line.now ≡ spec.number_line front.now n → ⊥) }
 {
     let word = line.strip_prefix(front.as_bytes())?.strip_suffix(b"\n")?;
     number_up_to(word, most)
@@ -64,7 +65,8 @@ pub(crate) fn earlier_in(line: &[u8]) -> Option<SerialOutcome>
 /// The reason that a line `fail ..` says.
 pub(crate) fn why_in(line: &[u8]) -> Option<Why>
     ensures some { IfSome result (λ why. IsThreadOf why × (line.now ≡ spec.fail_line why)) }
-    ensures none { IfNone result ((why : Why) → IsThreadOf why → line.now ≡ spec.fail_line why → ⊥) }
+    ensures none { IfNone result ((why : Why) →
+        IsThreadOf why → line.now ≡ spec.fail_line why → ⊥) }
 {
     if is_line(line, "fail complete\n") {
         return Some(Why::Complete);

@@ -80,7 +80,8 @@ fn schedule_line(alloc: Global, text: &[u8]) -> Result<(Schedule, &[u8]), Unread
 
 /// The outcome on the first line, and what follows the line.
 fn earlier_line(text: &[u8]) -> Result<(SerialOutcome, &[u8]), Unread<'_>>
-    ensures found { IfOk result (λ p. IsOutcome p.0 × Cuts text.now (spec.earlier_line p.0) p.1.now) }
+    ensures found { IfOk result (λ p.
+        IsOutcome p.0 × Cuts text.now (spec.earlier_line p.0) p.1.now) }
     ensures fault { IfErr result (HasNo IsEarlierLine text.now) }
 {
     let (first, rest) = cut_line(text);
@@ -233,13 +234,15 @@ fn lines_in(text: &[u8]) -> usize
     lines
 }
 
-/// Reads a report from its text. Each report has one spelling. The fault is [`ReportFaultKind::Form`] with the first line, from 1,
-/// that no report with the same lines before it has there; a missing line counts as the number of lines plus one, and a last
-/// line without LF is at fault.
+/// Reads a report from its text. Each report has one spelling. The fault is
+/// [`ReportFaultKind::Form`] with the first line, from 1, that no report with the same lines before
+/// it has there; a missing line counts as the number of lines plus one, and a last line without LF
+/// is at fault.
 ///
 /// # Errors
 ///
-/// [`ReportFaultKind::Form`] where the text spells no report, and [`Fault::Memory`] where memory was refused.
+/// [`ReportFaultKind::Form`] where the text spells no report, and [`Fault::Memory`] where memory
+/// was refused.
 pub fn read_report(alloc: Global, text: &[u8]) -> Result<Report, ReportFault>
     // The text spells what is read.
     ensures found { IfOk result (Spells text.now) }

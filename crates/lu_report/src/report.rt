@@ -12,31 +12,34 @@ use std::marker::Model;
 /// What a check finds.
 #[derive(Debug, Drop)]
 pub enum Finding {
-    /// The least serial offence is a schedule that is cut: an operation runs on past the serial bound.
+    /// The least serial offence is a schedule that is cut: an operation runs on past the serial
+    /// bound.
     SerialCut(Schedule),
 
-    /// The least serial offence is a schedule that ends with a history in conflict with that of a smaller one: the first
-    /// `before` operations agree, 0 to 15, and then the smaller one goes on with the outcome `earlier`.
+    /// The least serial offence is a schedule that ends with a history in conflict with that of a
+    /// smaller one: the first `before` operations agree, 0 to 15, and then the smaller one goes on
+    /// with the outcome `earlier`.
     Nondeterministic {
         schedule: Schedule,
         before: usize,
         earlier: SerialOutcome,
     },
 
-    /// The least schedule that ends within the bound without its serial witnesses; no serial run offends.
+    /// The least schedule that ends within the bound without its serial witnesses; no serial run
+    /// offends.
     Fail {
         schedule: Schedule,
         why: Why,
     },
 
-    /// Every schedule that ends within the bound has its serial witnesses, and no serial run offends: how many are complete
-    /// and stuck within the bound, and how many are cut at it.
+    /// Every schedule that ends within the bound has its serial witnesses, and no serial run
+    /// offends: how many are complete and stuck within the bound, and how many are cut at it.
     Pass(Counts),
 }
 
-/// The report of a check, with its bounds (Burckhardt, Dern, Musuvathi and Tan, 2010). A check is one against the component's
-/// own serial runs, or one against a specification. The latter makes no serial runs: it finds a failure or a pass, with witnesses
-/// of the specification.
+/// The report of a check, with its bounds (Burckhardt, Dern, Musuvathi and Tan, 2010). A check is
+/// one against the component's own serial runs, or one against a specification. The latter makes no
+/// serial runs: it finds a failure or a pass, with witnesses of the specification.
 #[derive(Debug, Drop)]
 pub struct Report {
     bound: u16,
@@ -56,9 +59,9 @@ impl Model for Report {
 }
 
 impl Report {
-    /// The report of a check against the serial runs, with these bounds. `bound` is at most 256, `serial` 1 to 256. `local` is
-    /// how many local instructions of the component run with one move at most, 0 to 16. A thread of `Why::Stuck` is at most 7,
-    /// and `before` at most 15.
+    /// The report of a check against the serial runs, with these bounds. `bound` is at most 256,
+    /// `serial` 1 to 256. `local` is how many local instructions of the component run with one move
+    /// at most, 0 to 16. A thread of `Why::Stuck` is at most 7, and `before` at most 15.
     pub fn new(bound: u16, serial: u16, local: u8, finding: Finding) -> Report
         requires most { bound ≤ most_moves }
         requires some { 1 ≤ serial }
@@ -75,8 +78,8 @@ impl Report {
         }
     }
 
-    /// The report of a check against a specification, with this bound, 0 to 256: a failure or a pass. `local` and a thread of
-    /// `Why::Stuck` are as in [`Report::new`].
+    /// The report of a check against a specification, with this bound, 0 to 256: a failure or a
+    /// pass. `local` and a thread of `Why::Stuck` are as in [`Report::new`].
     pub fn against(bound: u16, local: u8, finding: Finding) -> Report
         requires most { bound ≤ most_moves }
         requires local_few { local ≤ 16 }
@@ -100,8 +103,8 @@ impl Report {
         self.bound
     }
 
-    /// The most moves of an operation after its call in a serial run, 1 to 256. `None` where the check is one against a
-    /// specification.
+    /// The most moves of an operation after its call in a serial run, 1 to 256. `None` where the
+    /// check is one against a specification.
     pub fn serial(&self) -> Option<u16>
         ensures serial { result ≡ self.now.serial }
         ensures range { IfSome result IsSerialBound }

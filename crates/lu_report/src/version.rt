@@ -6,18 +6,22 @@ ghost use Rattle.lu_report.specs.Text.{version_line, version_of};
 /// A version of the text of reports.
 #[derive(Clone, Copy, Debug, Drop, PartialEq, Eq)]
 pub(crate) enum Version {
-    /// Of a check against the serial runs of a component whose moves are one call or instruction each.
+    /// Of a check against the serial runs of a component whose moves are one call or instruction
+    /// each.
     One,
 
-    /// Of such a check of a component whose local instructions run with a move. It says how many at most.
+    /// Of such a check of a component whose local instructions run with a move. It says how many at
+    /// most.
     Two,
 
-    /// Of a check against a specification. It says how many local instructions run with a move at most.
+    /// Of a check against a specification. It says how many local instructions run with a move at
+    /// most.
     Three,
 }
 
 impl Version {
-    /// The version of a report, by its bound of serial runs and by how many local instructions run with one move at most.
+    /// The version of a report, by its bound of serial runs and by how many local instructions run
+    /// with one move at most.
     pub(crate) fn of(serial: Option<u16>, local: u8) -> Version
         ensures { result ≡ version_of serial local }
     {

@@ -120,9 +120,9 @@ fn put_local(text: &mut String, version: Version, local: u8) -> Result<(), Alloc
 /// schedule 0 0 0 1 1 0 0 1 1 1
 /// ```
 ///
-/// Where local instructions run with a move, the first line is `lineup report 2`, and the fourth `local` with how many at most. Of
-/// a check against a specification the first line is `lineup report 3`, and the third `local` with how many at most, in the place
-/// of `serial`.
+/// Where local instructions run with a move, the first line is `lineup report 2`, and the fourth
+/// `local` with how many at most. Of a check against a specification the first line is `lineup
+/// report 3`, and the third `local` with how many at most, in the place of `serial`.
 ///
 /// It is the one spelling of the report, which [`crate::read_report`] reads as the report again.
 ///

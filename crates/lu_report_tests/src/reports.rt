@@ -469,7 +469,8 @@ return 0
 end
 ";
 
-/// What the serial runs of the matrix come to, with at most four moves after a call: the offence, if there is one.
+/// What the serial runs of the matrix come to, with at most four moves after a call: the offence,
+/// if there is one.
 fn offence_of(rt: &(impl AllocGlobal + Abort), matrix: &[u8]) -> Result<Option<Finding>, Fail> {
     let alloc = rt.alloc();
     let component = read_component(alloc, OFFENDING)?;

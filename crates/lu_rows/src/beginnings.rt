@@ -22,8 +22,8 @@ fn line_count(text: &[u8]) -> usize {
     }
 }
 
-/// Every beginning of the text is a component, which comes back when it is written, or is refused on its
-/// last line or behind it.
+/// Every beginning of the text is a component, which comes back when it is written, or is refused
+/// on its last line or behind it.
 #[test]
 fn each_beginning_is_a_component_or_is_refused(rt: HostRuntime) -> Result<(), Fail> {
     comes_back(&rt, ROWS)?;

@@ -1,5 +1,5 @@
-//! Worked examples that cross the crates of lineup: components, matrices and schedules, and what the
-//! program answers to them.
+//! Worked examples that cross the crates of lineup: components, matrices and schedules, and what
+//! the program answers to them.
 #![tactic(auto)]
 
 /// A counter that loads, adds and stores: two calls at once can lose an increment.

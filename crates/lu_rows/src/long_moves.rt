@@ -14,7 +14,8 @@ fn rows_with(rt: &impl AllocGlobal, local: &str) -> Result<String, Fail> {
     Ok(text)
 }
 
-/// Runs a command on that component and a matrix, and compares the report below the lines of the bounds.
+/// Runs a command on that component and a matrix, and compares the report below the lines of the
+/// bounds.
 fn reports<X: AllocGlobal + Abort + Threads + Wait>(
     rt: &X,
     words: &[&str],

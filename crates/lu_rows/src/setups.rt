@@ -7,7 +7,8 @@ use std::sync::Wait;
 use std::test::Fail;
 use std::thread::Threads;
 
-/// Runs the program on the component of the examples, a matrix, and the part behind it, if there is one.
+/// Runs the program on the component of the examples, a matrix, and the part behind it, if there is
+/// one.
 fn answers<X: AllocGlobal + Abort + Threads + Wait>(
     rt: &X,
     words: &[&str],
@@ -58,7 +59,8 @@ fn a_setup_that_does_not_settle_is_refused(rt: HostRuntime) -> Result<(), Fail> 
     answers(&rt, &["replay"], trapped, read, 0)
 }
 
-/// It is run directly after the matrix is read: before what stands behind it, and before a campaign's calls.
+/// It is run directly after the matrix is read: before what stands behind it, and before a
+/// campaign's calls.
 #[test]
 fn a_setup_is_run_before_later_parts(rt: HostRuntime) -> Result<(), Fail> {
     let refused = "refused U1 call 0\n";

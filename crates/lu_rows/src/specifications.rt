@@ -127,7 +127,8 @@ fn a_specification_is_refused(rt: HostRuntime) -> Result<(), Fail> {
     )
 }
 
-/// The flag takes no word, stands once, and is one of `check` alone. The other options keep their ranges.
+/// The flag takes no word, stands once, and is one of `check` alone. The other options keep their
+/// ranges.
 #[test]
 fn command_lines_are_refused(rt: HostRuntime) -> Result<(), Fail> {
     for words in [

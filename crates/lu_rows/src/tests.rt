@@ -320,7 +320,8 @@ fn failures_are_reported(rt: HostRuntime) -> Result<(), Fail> {
     Ok(())
 }
 
-/// The report of a failure and of a pass, with the numbers of workers and of the moves of their pieces.
+/// The report of a failure and of a pass, with the numbers of workers and of the moves of their
+/// pieces.
 #[test]
 fn workers_and_depth_change_no_report(rt: HostRuntime) -> Result<(), Fail> {
     for workers in ["1", "2", "16"] {

@@ -8,7 +8,8 @@ use std::sync::Wait;
 use std::test::Fail;
 use std::thread::Threads;
 
-/// Runs `trace` on a component, a matrix and a schedule, and compares what it writes and its status.
+/// Runs `trace` on a component, a matrix and a schedule, and compares what it writes and its
+/// status.
 fn traces<X: AllocGlobal + Abort + Threads + Wait>(
     rt: &X,
     component: &str,

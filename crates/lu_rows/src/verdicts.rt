@@ -30,8 +30,8 @@ fn assert_settles(
     }
 }
 
-/// The verdict on what the schedule shows, and whether its history has a witness, with its pending call as stuck: over the
-/// set of serial histories, and over the packed set.
+/// The verdict on what the schedule shows, and whether its history has a witness, with its pending
+/// call as stuck: over the set of serial histories, and over the packed set.
 fn judged<X: AllocGlobal + Abort>(
     rt: &X,
     matrix: &str,

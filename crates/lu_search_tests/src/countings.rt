@@ -93,8 +93,8 @@ fn retries_are_counted(rt: HostRuntime) -> Result<(), Fail> {
     )
 }
 
-/// One thread waits until the other has made four moves: before those it makes one move at most. Whether it waits or not, the
-/// order of two moves makes no difference.
+/// One thread waits until the other has made four moves: before those it makes one move at most.
+/// Whether it waits or not, the order of two moves makes no difference.
 #[test]
 fn a_thread_that_waits_is_counted(rt: HostRuntime) -> Result<(), Fail> {
     let set = Trie::new(rt.alloc());

@@ -1,4 +1,5 @@
-//! Tests of serial runs, of the witness search and the memory of its verdicts, and of the tree of schedules.
+//! Tests of serial runs, of the witness search and the memory of its verdicts, and of the tree of
+//! schedules.
 #![tactic(auto)]
 
 #[cfg(test)]

@@ -213,7 +213,8 @@ fn the_first_is_outside(rt: HostRuntime) -> Result<(), Fail> {
     )
 }
 
-/// What one take shows has the first history; the least schedule with another one lets the put go first.
+/// What one take shows has the first history; the least schedule with another one lets the put go
+/// first.
 #[test]
 fn a_later_one_is_outside(rt: HostRuntime) -> Result<(), Fail> {
     let set = set_of(&rt, SLOT, b"thread take\n")?;
@@ -237,8 +238,8 @@ L3: jump L3
 end
 ";
 
-/// The first pick never returns, and the second one does: its schedule comes behind one that is cut. Where the cut comes
-/// last, the first schedule is outside.
+/// The first pick never returns, and the second one does: its schedule comes behind one that is
+/// cut. Where the cut comes last, the first schedule is outside.
 #[test]
 fn a_smaller_cut_hides_what_is_outside(rt: HostRuntime) -> Result<(), Fail> {
     let none = Trie::new(rt.alloc());

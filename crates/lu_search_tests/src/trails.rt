@@ -20,7 +20,8 @@ fn push_operation<T: SerialTree>(trail: &mut Trail<'_, T>, t: u8, number: u32)
     requires thread { t < 8 }
     requires none { (calls t trail.old.history ≡ 0) × (length (outcomes t trail.old.history) ≡ 0) }
     ensures tree { trail.new.tree ≡ trail.old.tree }
-    ensures history { trail.new.history ≡ trail.old.history ++ Call t 0 ∷ Return t 0 (Ret number) ∷ [] }
+    ensures history { trail.new.history ≡
+        trail.old.history ++ Call t 0 ∷ Return t 0 (Ret number) ∷ [] }
 {
     trail.push(Event::Call { t, k: 0 });
     trail.push(Event::Return {

@@ -1,4 +1,5 @@
-//! What is found below schedules of one component, over sets of serial histories that are written by hand, and its frontiers.
+//! What is found below schedules of one component, over sets of serial histories that are written
+//! by hand, and its frontiers.
 
 ghost use Rattle.std.specs.Prelude.{◌≡◌, IfOk, OnOk};
 ghost use Rattle.lu_test.specs.Matrix.{IsOf};
@@ -90,7 +91,8 @@ fn one(rt: &(impl AllocGlobal + Abort), outcome: SerialOutcome) -> Result<Trie<G
     Ok(set)
 }
 
-/// A call of thread 0 and one of thread 1 in either order: the earlier one returns the number, and the later one ends so.
+/// A call of thread 0 and one of thread 1 in either order: the earlier one returns the number, and
+/// the later one ends so.
 fn either(
     rt: &(impl AllocGlobal + Abort),
     number: u32,
@@ -238,7 +240,8 @@ fn three_gets(rt: &(impl AllocGlobal + Abort)) -> Result<Trie<Global>, Fail> {
     Ok(set)
 }
 
-/// Nine moves, of which each thread makes three. No thread writes, so they are counted by one look at the set.
+/// Nine moves, of which each thread makes three. No thread writes, so they are counted by one look
+/// at the set.
 #[test]
 fn readers(rt: HostRuntime) -> Result<(), Fail> {
     let mut set = three_gets(&rt)?;
@@ -250,7 +253,8 @@ fn readers(rt: HostRuntime) -> Result<(), Fail> {
     assert_counts(&rt, THREE_GETS, &set, from, 40, complete(10))
 }
 
-/// The order of the threads is not in the set, so the schedule in which they come one after the other is bad.
+/// The order of the threads is not in the set, so the schedule in which they come one after the
+/// other is bad.
 #[test]
 fn readers_in_an_order_too_many(rt: HostRuntime) -> Result<(), Fail> {
     let set = three_gets(&rt)?;
@@ -342,8 +346,8 @@ fn overtaken(rt: HostRuntime) -> Result<(), Fail> {
     assert_bad(&rt, matrix, &set, EMPTY, least, Why::Complete)
 }
 
-/// With thread 0's exchange first and j moves of thread 1 before it, j from 0 to 3: 28, 4 times 21, 10 times 45 and 20 times
-/// 36 schedules; and as many with thread 1's first.
+/// With thread 0's exchange first and j moves of thread 1 before it, j from 0 to 3: 28, 4 times 21,
+/// 10 times 45 and 20 times 36 schedules; and as many with thread 1's first.
 const EXCHANGES: u64 = 2 * (28 + 4 * 21 + 10 * 45 + 20 * 36);
 
 #[test]

@@ -144,7 +144,8 @@ fn a_watch_stops_at_its_third_question(rt: HostRuntime) -> Result<(), Fail> {
     Ok(())
 }
 
-/// Each of two threads can always move, so 12 moves are cut in 4,096 ways, which are counted together: 64 times 64.
+/// Each of two threads can always move, so 12 moves are cut in 4,096 ways, which are counted
+/// together: 64 times 64.
 fn words_found(rt: &(impl AllocGlobal + Abort), watch: &mut Patience) -> Result<Found, Fail>
     requires { watch.old.stopped ≡ false }
 {

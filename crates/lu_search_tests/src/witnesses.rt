@@ -80,7 +80,8 @@ fn assert_judged<R: Abort, T: SerialTree>(
     assert!(rt; has_witness(tree, history) == witness);
 }
 
-/// The set and its packed form give the history this verdict, and say whether the history itself has a witness.
+/// The set and its packed form give the history this verdict, and say whether the history itself
+/// has a witness.
 fn assert_verdict<R: AllocGlobal + Abort>(
     rt: &R,
     alloc: Global,
@@ -96,7 +97,8 @@ fn assert_verdict<R: AllocGlobal + Abort>(
     Ok(())
 }
 
-/// Thread 0 sets a cell to 1 and back to 0; thread 1 sets another cell to 1 where the first one is 0; thread 2 reads that.
+/// Thread 0 sets a cell to 1 and back to 0; thread 1 sets another cell to 1 where the first one is
+/// 0; thread 2 reads that.
 fn judge_overtaken<R: AllocGlobal + Abort>(
     rt: &R,
     alloc: Global,

@@ -15,7 +15,8 @@ use Rattle.lu_serial.specs.declared.learning.Learnt.TheVariants.{Set, Cut, Confl
 use Rattle.lu_machine.specs.Schedules.{IsLeast}
 use Rattle.lu_serial.specs.Serial.{Takes, IsSeriallyEnded, IsSeriallyCut, IsSerialHistory}
 
--- u is serially ended, and its history conflicts at i with that of a smaller serially ended schedule, whose next outcome is o
+-- u is serially ended, and its history conflicts at i with that of a smaller serially ended
+-- schedule, whose next outcome is o
 pub record IsConflict (s : State) (u : List Move) (i : ℕ) (o : SerialOutcome) : Type 0 where
   pub history : List SerialOp
   pub ended : IsSeriallyEnded s u history
@@ -33,7 +34,8 @@ IsOffence s bound u = IsSeriallyCut s bound u ⊎ ((i : ℕ) × (o : SerialOutco
 abbrev pub NoOffence : State → ℕ → Type 0
 NoOffence s bound = (u : List Move) → IsOffence s bound u → ⊥
 
--- without offence, these are the histories of the serially ended schedules, and no two of them conflict
+-- without offence, these are the histories of the serially ended schedules, and no two of them
+-- conflict
 pub record IsSetOf (s : State) (bound : ℕ) (members : List (List SerialOp)) : Type 0 where
   pub none : NoOffence s bound
   pub are : (q : List SerialOp) → (contains members q ≡ true) ↔ IsSerialHistory s q
@@ -47,7 +49,8 @@ IsFirstCut s bound u = IsLeast (IsOffence s bound) u × IsSeriallyCut s bound u
 abbrev pub IsFirstConflict : State → ℕ → List Move → ℕ → SerialOutcome → Type 0
 IsFirstConflict s bound u i o = IsLeast (IsOffence s bound) u × IsConflict s u i o
 
--- what `learn` answers: the set, where there is no offence; or the least offence, which is cut or conflicts so
+-- what `learn` answers: the set, where there is no offence; or the least offence, which is cut or
+-- conflicts so
 abbrev pub IsLearnt : {A : Type 0} → State → ℕ → Learnt A → Type 0
 IsLearnt s bound (Set members) = IsSetOf s bound members
 IsLearnt s bound (Cut u) = IsFirstCut s bound u
@@ -65,11 +68,13 @@ IsFirstOutside s bound members None = (u : List Move) → IsOutside s bound memb
 IsFirstOutside s bound members (Some u) = IsLeast (IsOutside s bound members) u
 
 -- from each start this is the first one outside
-abbrev pub FindsOutside : {E : Type 0} → Declarations → Matrix → ℕ → List (List SerialOp) → Result (Option (List Move)) E → Type 0
+abbrev pub FindsOutside : {E : Type 0} → Declarations → Matrix → ℕ → List (List SerialOp)
+    → Result (Option (List Move)) E → Type 0
 FindsOutside c matrix bound members result =
     FromEachStart c matrix (λ s. IfOk result (IsFirstOutside s bound members))
 
--- Where there is no serial offence, no operation of a serially ended schedule takes more than `bound` moves after its call.
+-- Where there is no serial offence, no operation of a serially ended schedule takes more than
+-- `bound` moves after its call.
 abbrev pub SerialShort : Type 0
 SerialShort =
     (s : State) (bound : ℕ) (u : List Move) (q : List SerialOp) (n : ℕ) →
@@ -78,5 +83,7 @@ SerialShort =
 -- Where the least offence conflicts, the place and the outcome are determined.
 abbrev pub OneConflict : Type 0
 OneConflict =
-    (component : Declarations) (matrix : Matrix) (s : State) (bound : ℕ) (u : List Move) (i j : ℕ) (o p : SerialOutcome) →
-    IsStart component matrix s → IsFirstConflict s bound u i o → IsFirstConflict s bound u j p → (i ≡ j) × (o ≡ p)
+    (component : Declarations) (matrix : Matrix) (s : State) (bound : ℕ) (u : List Move) (i j : ℕ)
+    (o p : SerialOutcome) →
+    IsStart component matrix s → IsFirstConflict s bound u i o → IsFirstConflict s bound u j p
+    → (i ≡ j) × (o ≡ p)

@@ -25,7 +25,8 @@ IsByOpen s m = (t : ℕ) → HasOpen s t → m.thread ≡ t
 abbrev pub IsSerialFrom : State → List Move → Type 0
 IsSerialFrom s [] = Unit {0}
 IsSerialFrom s (m ∷ u) =
-    IsByOpen s m × ((next : State) (event : Option Event) → Step s m next event → IsSerialFrom next u)
+    IsByOpen s m
+    × ((next : State) (event : Option Event) → Step s m next event → IsSerialFrom next u)
 
 -- u is a serial schedule, which leads from s to a state, with a history, at which P holds
 pub record SerialRun (s : State) (u : List Move) (P : State → List Event → Type 0) : Type 0 where
@@ -49,7 +50,8 @@ entries_of (e ∷ h) = entry_of e ++ entries_of h
 abbrev pub stuck_of : ℕ → SerialOp
 stuck_of t = record { thread = t; outcome = Stuck }
 
--- The state is complete, or the thread of the open operation is not enabled; and q is the serial history.
+-- The state is complete, or the thread of the open operation is not enabled; and q is the serial
+-- history.
 abbrev pub EndsAs : State → List Event → List SerialOp → Type 0
 EndsAs end history q =
     (IsComplete end × (q ≡ entries_of history))
@@ -63,8 +65,10 @@ IsSeriallyEnded s u q = SerialRun s u (λ end history. EndsAs end history q)
 abbrev pub IsSerialHistory : State → List SerialOp → Type 0
 IsSerialHistory s q = (u : List Move) × IsSeriallyEnded s u q
 
--- one of the moves of u calls an operation of thread t, which leads to the state called, and these moves are after it
-pub record HasCall (s : State) (u : List Move) (t : ℕ) (called : State) (after : List Move) : Type 0 where
+-- one of the moves of u calls an operation of thread t, which leads to the state called, and these
+-- moves are after it
+pub record HasCall (s : State) (u : List Move) (t : ℕ) (called : State)
+    (after : List Move) : Type 0 where
   pub before : List Move
   pub move : Move
   pub parts : u ≡ before ++ move ∷ after
@@ -74,7 +78,8 @@ pub record HasCall (s : State) (u : List Move) (t : ℕ) (called : State) (after
   pub number : ℕ
   pub step : Step idle move called (Some (Call t number))
 
--- u leads to the state end; one of its moves calls an operation of thread t, and n moves without an event follow.
+-- u leads to the state end; one of its moves calls an operation of thread t, and n moves without an
+-- event follow.
 pub record HasTaken (s : State) (u : List Move) (end : State) (t n : ℕ) : Type 0 where
   pub called : State
   pub after : List Move
@@ -86,9 +91,11 @@ pub record HasTaken (s : State) (u : List Move) (end : State) (t n : ℕ) : Type
 abbrev pub GoesOn : State → ℕ → List Move → Type 0
 GoesOn s t [] = Unit {0}
 GoesOn s t (m ∷ []) = m.thread ≡ t
-GoesOn s t (m ∷ n ∷ u) = (m.thread ≡ t) × (next : State) × Step s m next None × GoesOn next t (n ∷ u)
+GoesOn s t (m ∷ n ∷ u) =
+    (m.thread ≡ t) × (next : State) × Step s m next None × GoesOn next t (n ∷ u)
 
--- an operation of u takes n moves after its call: they are of its thread, and none but perhaps the last, which is the return, has an event
+-- an operation of u takes n moves after its call: they are of its thread, and none but perhaps the
+-- last, which is the return, has an event
 pub record Takes (s : State) (u : List Move) (n : ℕ) : Type 0 where
   pub thread : ℕ
   pub called : State

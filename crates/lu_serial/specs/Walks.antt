@@ -44,7 +44,8 @@ IsOpenIn s (Some current) = HasOpen s current.thread × ((t : ℕ) → HasOpen s
 
 -- the operation that is open after a move of thread t with this event
 abbrev pub open_after : Option OpenCall → ℕ → Option Event → Option OpenCall
-open_after current t None = option_map (λ (o : OpenCall). record { thread = o.thread; taken = o.taken + 1 }) current
+open_after current t None =
+    option_map (λ (o : OpenCall). record { thread = o.thread; taken = o.taken + 1 }) current
 open_after current t (Some (Call u k)) = Some (record { thread = t; taken = 0 })
 open_after current t (Some (Return u k outcome)) = None
 
@@ -68,7 +69,8 @@ HasEntered undo old new = new.entries.items ≡ old.entries.items ++ entry_if un
 -- the entry of the undo's event, if it has one, was taken away
 abbrev pub HasLeft : Undo → Node → Node → Type 0
 HasLeft undo old new =
-    (entries : List SerialOp) → old.entries.items ≡ entries ++ entry_if undo.event → new.entries.items ≡ entries
+    (entries : List SerialOp) → old.entries.items ≡ entries ++ entry_if undo.event
+    → new.entries.items ≡ entries
 
 -- the serial operations, and the open one, which is stuck
 abbrev pub ended_entries : List SerialOp → Option OpenCall → List SerialOp
@@ -77,7 +79,8 @@ ended_entries entries (Some current) = entries ++ stuck_of current.thread ∷ []
 
 abbrev pub HasTakenOf : State → List Move → State → ℕ → Option OpenCall → Type 0
 HasTakenOf start u s bound None = Unit {0}
-HasTakenOf start u s bound (Some current) = HasTaken start u s current.thread current.taken × (current.taken ≤ bound)
+HasTakenOf start u s bound (Some current) =
+    HasTaken start u s current.thread current.taken × (current.taken ≤ bound)
 
 -- how many calls have not returned
 abbrev pub left_of : List (List ACall) → List Thread → ℕ
@@ -85,18 +88,22 @@ left_of [] threads = 0
 left_of (calls ∷ rows) [] = 0
 left_of (calls ∷ rows) (thread ∷ threads) = (length calls - thread.done) + left_of rows threads
 
--- the most moves that can go on serially: a call and `bound` moves for each operation that is to come, and for the open one what it may still take
+-- the most moves that can go on serially: a call and `bound` moves for each operation that is to
+-- come, and for the open one what it may still take
 abbrev pub moves_left : ℕ → State → Option OpenCall → ℕ
 moves_left bound s None = left_of s.matrix.threads s.threads * (bound + 1)
-moves_left bound s (Some current) = (left_of s.matrix.threads s.threads - 1) * (bound + 1) + (bound - current.taken)
+moves_left bound s (Some current) =
+    (left_of s.matrix.threads s.threads - 1) * (bound + 1) + (bound - current.taken)
 
 -- each open operation is a call of the matrix
 abbrev pub AreCalls : State → Type 0
 AreCalls s =
-    (t : ℕ) (thread : Thread) → slice_get s.threads t ≡ Some thread → thread.activity ≢ Idle → thread.done < call_count s t
+    (t : ℕ) (thread : Thread) → slice_get s.threads t ≡ Some thread → thread.activity ≢ Idle
+    → thread.done < call_count s t
 
 -- The path is within the limits of schedules, and stays so.
-pub record StaysWithin (bound : ℕ) (u : List Move) (s : State) (current : Option OpenCall) : Type 0 where
+pub record StaysWithin (bound : ℕ) (u : List Move) (s : State)
+    (current : Option OpenCall) : Type 0 where
   pub component : IsComponent s.component
   pub threads : length s.threads ≤ 8
   pub calls : AreCalls s
@@ -104,7 +111,8 @@ pub record StaysWithin (bound : ℕ) (u : List Move) (s : State) (current : Opti
   pub short : length u + moves_left bound s current ≤ 4112
 
 -- The serial schedule u leads to s, with these serial operations, and this operation is current.
-pub record IsAt (start : State) (bound : ℕ) (u : List Move) (s : State) (entries : List SerialOp) (current : Option OpenCall) : Type 0 where
+pub record IsAt (start : State) (bound : ℕ) (u : List Move) (s : State) (entries : List SerialOp)
+    (current : Option OpenCall) : Type 0 where
   pub serial : IsSerialFrom start u
   pub history : List Event
   pub leads : Leads start u s history
@@ -114,31 +122,41 @@ pub record IsAt (start : State) (bound : ℕ) (u : List Move) (s : State) (entri
   pub within : StaysWithin bound u s current
 
 -- No schedule of this part is cut, and these are the histories of those that are serially ended.
-pub record AreShown (s : State) (bound : ℕ) (Part : List Move → Type 0) (shown : List (List SerialOp)) : Type 0 where
+pub record AreShown (s : State) (bound : ℕ) (Part : List Move → Type 0)
+    (shown : List (List SerialOp)) : Type 0 where
   pub uncut : (u : List Move) → Part u → IsSeriallyCut s bound u → ⊥
-  pub each : (u : List Move) (q : List SerialOp) → Part u → IsSeriallyEnded s u q → contains shown q ≡ true
-  pub only : (q : List SerialOp) → contains shown q ≡ true → (u : List Move) × Part u × IsSeriallyEnded s u q
+  pub each : (u : List Move) (q : List SerialOp) → Part u → IsSeriallyEnded s u q
+      → contains shown q ≡ true
+  pub only : (q : List SerialOp) → contains shown q ≡ true
+      → (u : List Move) × Part u × IsSeriallyEnded s u q
 
 -- all histories of this part were shown, and this is known of them
 abbrev pub Shows : State → ℕ → (List Move → Type 0) → (List (List SerialOp) → Type 0) → Type 0
-Shows s bound Part Known = (shown : List (List SerialOp)) × AreShown s bound Part shown × Known shown
+Shows s bound Part Known =
+    (shown : List (List SerialOp)) × AreShown s bound Part shown × Known shown
 
 -- a harvest that was shown one history more has taken it, or stops there
-abbrev pub Answers : {H S : Type 0} → (H → List (List SerialOp) → Type 0) → (H → List (List SerialOp) → Type 0) → (List SerialOp → S → Type 0) → List SerialOp → Option S → Type 0
-Answers {H} Old New Stops q None = (first : H) (shown : List (List SerialOp)) → Old first shown → New first (q ∷ shown)
+abbrev pub Answers : {H S : Type 0} → (H → List (List SerialOp) → Type 0)
+    → (H → List (List SerialOp) → Type 0) → (List SerialOp → S → Type 0) → List SerialOp → Option S
+    → Type 0
+Answers {H} Old New Stops q None =
+    (first : H) (shown : List (List SerialOp)) → Old first shown → New first (q ∷ shown)
 Answers {H} Old New Stops q (Some stop) =
     ((first : H) (shown : List (List SerialOp)) → Old first shown → New first shown) × Stops q stop
 
 -- the harvest gathers this history, or stops there
-abbrev pub GathersHistory : {H S : Type 0} → (H → H → List (List SerialOp) → Type 0) → (H → List SerialOp → S → Type 0) → H → H → List SerialOp → Option S → Type 0
+abbrev pub GathersHistory : {H S : Type 0} → (H → H → List (List SerialOp) → Type 0)
+    → (H → List SerialOp → S → Type 0) → H → H → List SerialOp → Option S → Type 0
 GathersHistory was_shown stops old new q = Answers (was_shown old) (was_shown new) (stops new) q
 
 -- it gathers the history of a schedule that ends at the node, or stops there
-abbrev pub Gathers : {H S : Type 0} → (H → H → List (List SerialOp) → Type 0) → (H → List SerialOp → S → Type 0) → H → H → Node → Option OpenCall → Option S → Type 0
+abbrev pub Gathers : {H S : Type 0} → (H → H → List (List SerialOp) → Type 0)
+    → (H → List SerialOp → S → Type 0) → H → H → Node → Option OpenCall → Option S → Type 0
 Gathers was_shown stops old new node current =
     GathersHistory was_shown stops old new (ended_entries node.entries.items current)
 
--- a walk that passed leaves path, machine and entries as they were, and one that halted leaves a schedule at the path
+-- a walk that passed leaves path, machine and entries as they were, and one that halted leaves a
+-- schedule at the path
 abbrev pub IsHome : {H S : Type 0} → Tour H → Option (Halt S) → Tour H → Type 0
 IsHome old None new =
     (new.path.items ≡ old.path.items) × (new.node.machine ≡ old.node.machine)
@@ -150,41 +168,54 @@ abbrev pub IsUpTo : List Move → List Move → Type 0
 IsUpTo u v = IsSmaller v u ⊎ BeginsWith v u
 
 -- the path led here, and all smaller schedules were shown
-abbrev pub IsReady : State → ℕ → List Move → Node → Option OpenCall → (List (List SerialOp) → Type 0) → Type 0
+abbrev pub IsReady : State → ℕ → List Move → Node → Option OpenCall
+    → (List (List SerialOp) → Type 0) → Type 0
 IsReady start bound path node current Known =
-    IsAt start bound path node.machine node.entries.items current × Shows start bound (λ v. IsSmaller v path) Known
+    IsAt start bound path node.machine node.entries.items current
+    × Shows start bound (λ v. IsSmaller v path) Known
 
--- the tour's path led here, and all smaller schedules were shown to its harvest, which was once the first
-abbrev pub IsReadyTour : {H : Type 0} → State → ℕ → Tour H → Option OpenCall → (H → H → List (List SerialOp) → Type 0) → H → Type 0
+-- the tour's path led here, and all smaller schedules were shown to its harvest, which was once the
+-- first
+abbrev pub IsReadyTour : {H : Type 0} → State → ℕ → Tour H → Option OpenCall
+    → (H → H → List (List SerialOp) → Type 0) → H → Type 0
 IsReadyTour start bound tour current was_shown first =
     IsReady start bound tour.path.items tour.node current (was_shown tour.harvest first)
 
 -- a walk can go on from here
-abbrev pub CanWalk : {H : Type 0} → (H → H → List (List SerialOp) → Type 0) → ℕ → Tour H → Option OpenCall → Type 0
+abbrev pub CanWalk : {H : Type 0} → (H → H → List (List SerialOp) → Type 0) → ℕ → Tour H
+    → Option OpenCall → Type 0
 CanWalk {H} was_shown bound tour current =
     (start : State) × (first : H) × IsReadyTour start bound tour current was_shown first
 
 -- the schedule u is cut, or ends with a history at which the harvest stops
-abbrev pub HaltsAt : {S : Type 0} → State → ℕ → (List SerialOp → S → Type 0) → Halt S → List Move → Type 0
+abbrev pub HaltsAt : {S : Type 0} → State → ℕ → (List SerialOp → S → Type 0) → Halt S → List Move
+    → Type 0
 HaltsAt s bound Stops Cut u = IsSeriallyCut s bound u
 HaltsAt s bound Stops (Stopped stop) u = (q : List SerialOp) × IsSeriallyEnded s u q × Stops q stop
 
--- A walk that passed has shown all schedules up to those that begin with the path; one that halted all that are smaller than the one there.
-abbrev pub Walked : {S : Type 0} → State → ℕ → List Move → (List (List SerialOp) → Type 0) → (List SerialOp → S → Type 0) → Option (Halt S) → List Move → Type 0
+-- A walk that passed has shown all schedules up to those that begin with the path; one that halted
+-- all that are smaller than the one there.
+abbrev pub Walked : {S : Type 0} → State → ℕ → List Move → (List (List SerialOp) → Type 0)
+    → (List SerialOp → S → Type 0) → Option (Halt S) → List Move → Type 0
 Walked s bound before Known Stops None after = Shows s bound (IsUpTo before) Known
 Walked s bound before Known Stops (Some halt) after =
     Shows s bound (λ v. IsSmaller v after) Known × HaltsAt s bound Stops halt after
 
 -- what a walk does, whatever start leads here
-abbrev pub Walks : {H S : Type 0} → (H → H → List (List SerialOp) → Type 0) → (H → List SerialOp → S → Type 0) → ℕ → Tour H → Option OpenCall → Tour H → Option (Halt S) → Type 0
+abbrev pub Walks : {H S : Type 0} → (H → H → List (List SerialOp) → Type 0)
+    → (H → List SerialOp → S → Type 0) → ℕ → Tour H → Option OpenCall → Tour H → Option (Halt S)
+    → Type 0
 Walks {H} was_shown stops bound old current new halt =
     (start : State) (first : H) → IsReadyTour start bound old current was_shown first
-    → Walked start bound old.path.items (was_shown new.harvest first) (stops new.harvest) halt new.path.items
+    → Walked start bound old.path.items (was_shown new.harvest first) (stops new.harvest) halt
+    new.path.items
 
 -- the members are the histories shown, and none of them conflict
 abbrev pub Learns : List (List SerialOp) → List (List SerialOp) → Type 0
-Learns members shown = IsDeterministic members × ((q : List SerialOp) → contains members q ≡ contains shown q)
+Learns members shown =
+    IsDeterministic members × ((q : List SerialOp) → contains members q ≡ contains shown q)
 
 -- the set is still what it was at first, and each history shown is a member
 abbrev pub Seeks : List (List SerialOp) → List (List SerialOp) → List (List SerialOp) → Type 0
-Seeks first now shown = (now ≡ first) × ((q : List SerialOp) → contains shown q ≡ true → contains first q ≡ true)
+Seeks first now shown =
+    (now ≡ first) × ((q : List SerialOp) → contains shown q ≡ true → contains first q ≡ true)

@@ -29,8 +29,9 @@ pub enum Learnt<A: Allocator> {
     Conflict {
         schedule: Schedule,
 
-        /// The number of operations, from the first on, at which its history agrees with that of a smaller serially ended
-        /// schedule. Its next operation and that of the smaller one are of the same thread, with different outcomes.
+        /// The number of operations, from the first on, at which its history agrees with that of a
+        /// smaller serially ended schedule. Its next operation and that of the smaller one are of
+        /// the same thread, with different outcomes.
         before: usize,
 
         /// The outcome of the smaller one's next operation.
@@ -57,10 +58,11 @@ impl<A: Allocator + Clone> Harvest for Trie<A> {
     }
 }
 
-/// What the serial runs of the component and the matrix show: the histories of all serially ended schedules, or else the
-/// least serial offence. `bound`, 1 to 256, is the number of moves that an operation may take after its call
-/// (Burckhardt, Dern, Musuvathi and Tan, 2010). `set_alloc` is the allocator of the set, and all else is taken from `alloc`.
-/// The matrix has to be one of the component (`Matrix::of`).
+/// What the serial runs of the component and the matrix show: the histories of all serially ended
+/// schedules, or else the least serial offence. `bound`, 1 to 256, is the number of moves that an
+/// operation may take after its call (Burckhardt, Dern, Musuvathi and Tan, 2010). `set_alloc` is
+/// the allocator of the set, and all else is taken from `alloc`. The matrix has to be one of the
+/// component (`Matrix::of`).
 ///
 /// # Errors
 ///

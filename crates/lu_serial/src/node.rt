@@ -50,7 +50,8 @@ impl<'a> Node<'a> {
     /// Makes the move here.
     pub(crate) fn enter(&mut self, next: Move) -> Result<Undo, AllocError>
         requires { IsFeasible self.old.machine next }
-        ensures step { IfOk result (λ undo. Step self.old.machine next self.new.machine undo.event) }
+        ensures step { IfOk result (λ undo.
+            Step self.old.machine next self.new.machine undo.event) }
         ensures entries { IfOk result (λ undo. HasEntered undo self.old self.new) }
         ensures back { IfOk result (λ undo. restored undo self.new.machine ≡ self.old.machine) }
         ensures fits { IfOk result (λ undo. CanTake self.new.machine undo) }

@@ -35,9 +35,9 @@ impl<'a, A: Allocator> Harvest for Search<'a, A> {
     }
 }
 
-/// The least serially ended schedule whose history is not in the set, among those with no smaller schedule that is serially
-/// cut. `bound`, 1 to 256, is the number of moves that an operation may take after its call. The matrix has to be one of the
-/// component (`Matrix::of`).
+/// The least serially ended schedule whose history is not in the set, among those with no smaller
+/// schedule that is serially cut. `bound`, 1 to 256, is the number of moves that an operation may
+/// take after its call. The matrix has to be one of the component (`Matrix::of`).
 ///
 /// # Errors
 ///

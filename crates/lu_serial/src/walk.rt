@@ -15,8 +15,8 @@ pub(crate) trait Harvest {
     /// Why it stops the walk.
     type Stop: Copy;
 
-    /// What is known of a harvest, the first value, which was once the second, and to which these histories were shown since then.
-    /// The last one stands first.
+    /// What is known of a harvest, the first value, which was once the second, and to which these
+    /// histories were shown since then. The last one stands first.
     ghost was_shown: { Self → Self → List (List SerialOp) → Type 0 };
 
     /// What holds where it stops at this history.
@@ -54,7 +54,8 @@ impl Node<'_> {
         requires begun { (first : H) × (shown : _) × H.was_shown harvest.old first shown }
         ensures machine { self.new.machine ≡ self.old.machine }
         ensures entries { OnOk result (self.new.entries.items ≡ self.old.entries.items) }
-        ensures takes { IfOk result (Gathers H.was_shown H.stops harvest.old harvest.new self.old current) }
+        ensures takes { IfOk result
+            (Gathers H.was_shown H.stops harvest.old harvest.new self.old current) }
     {
         let Some(current) = current else {
             return harvest.at_end(&self.entries);
@@ -77,8 +78,8 @@ pub(crate) struct Tour<'a, H> {
     pub(crate) harvest: H,
 }
 
-/// Walks the serial schedules that begin with the tour's path, in order, and shows those that end to its harvest. It halts at
-/// one that is cut, or where the harvest stops it.
+/// Walks the serial schedules that begin with the tour's path, in order, and shows those that end
+/// to its harvest. It halts at one that is cut, or where the harvest stops it.
 pub(crate) fn walk<H: Harvest>(
     bound: u16,
     tour: &mut Tour<'_, H>,

@@ -19,7 +19,8 @@ IsClosed members = (q h : List SerialOp) → Begins q h → Has members h → Ha
 -- all beginnings of the members, and the empty history
 abbrev pub IsClosureOf : List (List SerialOp) → List (List SerialOp) → Type 0
 IsClosureOf members closed =
-    (q : List SerialOp) → Has closed q ↔ ((q ≡ []) ⊎ ((h : List SerialOp) × Begins q h × Has members h))
+    (q : List SerialOp)
+    → Has closed q ↔ ((q ≡ []) ⊎ ((h : List SerialOp) × Begins q h × Has members h))
 
 -- ---- a walk down a tree
 
@@ -27,14 +28,16 @@ IsClosureOf members closed =
 abbrev pub IsBelow : List SerialOp → List (List SerialOp) → List SerialOp → Type 0
 IsBelow path below q =
     (q ≡ path)
-    ⊎ ((begin : List SerialOp) × (h : List SerialOp) × (q ≡ path ++ begin) × Begins begin h × Has below h)
+    ⊎ ((begin : List SerialOp) × (h : List SerialOp) × (q ≡ path ++ begin) × Begins begin h
+    × Has below h)
 
 -- the path is serial with each history below it
 abbrev pub AreSerialBehind : List SerialOp → List (List SerialOp) → Type 0
 AreSerialBehind path below = (q : List SerialOp) → Has below q → IsSerial (path ++ q)
 
 -- new is old, the path, and what goes on from it with the beginnings of the histories below
-abbrev pub AddsBelow : List (List SerialOp) → List (List SerialOp) → List SerialOp → List (List SerialOp) → Type 0
+abbrev pub AddsBelow : List (List SerialOp) → List (List SerialOp) → List SerialOp
+    → List (List SerialOp) → Type 0
 AddsBelow old new path below = (q : List SerialOp) → Has new q ↔ (Has old q ⊎ IsBelow path below q)
 
 -- new is old, and all beginnings of the history

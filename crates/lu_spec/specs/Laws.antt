@@ -17,7 +17,8 @@ OneSpelling =
 -- A text that lists histories has no fault: so such a text is read, unless memory is refused.
 abbrev pub NoFault : Type 0
 NoFault =
-    (matrix : Matrix) (text : List ℕ) (members : List (List SerialOp)) (kind : SpecFaultKind) (n : ℕ) →
+    (matrix : Matrix) (text : List ℕ) (members : List (List SerialOp)) (kind : SpecFaultKind)
+    (n : ℕ) →
     IsReadAs matrix text members → IsSpecFault matrix text (At kind n) → ⊥
 
 -- The text that is written of a specification of a matrix is read as that specification.

@@ -25,12 +25,14 @@ pub record IsListing (members listed : List (List SerialOp)) : Type 0 where
 -- the text lists the members that begin no other
 abbrev pub IsSpecText : {Z : Type 0} → List (List SerialOp) → String Z → Type 0
 IsSpecText members text =
-    (listed : List (List SerialOp)) × IsListing members listed × (string_bytes text ≡ spec_text listed)
+    (listed : List (List SerialOp)) × IsListing members listed
+    × (string_bytes text ≡ spec_text listed)
 
 -- ---- a walk down a tree
 
 -- q goes on from the path with a history below, which begins no other
-pub record IsEnd (path : List SerialOp) (below : List (List SerialOp)) (q : List SerialOp) : Type 0 where
+pub record IsEnd (path : List SerialOp) (below : List (List SerialOp))
+    (q : List SerialOp) : Type 0 where
   pub rest : List SerialOp
   pub is : q ≡ path ++ rest
   pub some : q ≢ []
@@ -43,7 +45,8 @@ pub record AreEnds (path : List SerialOp) (below listed : List (List SerialOp)) 
   pub rises : Rises listed
 
 -- the text grows by the lines of those histories
-abbrev pub AddsEnds : {Z : Type 0} → List SerialOp → List (List SerialOp) → String Z → String Z → Type 0
+abbrev pub AddsEnds : {Z : Type 0} → List SerialOp → List (List SerialOp) → String Z → String Z
+    → Type 0
 AddsEnds path below old new =
     (listed : List (List SerialOp)) × AreEnds path below listed
     × (string_bytes new ≡ string_bytes old ++ flat_map history_line listed)

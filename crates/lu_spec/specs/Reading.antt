@@ -12,10 +12,13 @@ use Rattle.lu_spec.specs.SpecText.{AreListed, HasConflictIn, IsFaultAmong, IsFau
 
 -- the last of the listed histories; the empty one where none is listed
 abbrev pub IsLast : List (List SerialOp) → List SerialOp → Type 0
-IsLast listed last = ((listed ≡ []) × (last ≡ [])) ⊎ ((before : List (List SerialOp)) × (listed ≡ before ++ last ∷ []))
+IsLast listed last =
+    ((listed ≡ []) × (last ≡ []))
+    ⊎ ((before : List (List SerialOp)) × (listed ≡ before ++ last ∷ []))
 
 -- the listed histories, with their closure and the last of them
-pub record IsListedDraft (matrix : Matrix) (listed set : List (List SerialOp)) (last : List SerialOp) : Type 0 where
+pub record IsListedDraft (matrix : Matrix) (listed set : List (List SerialOp))
+    (last : List SerialOp) : Type 0 where
   pub are : AreListed matrix listed
   pub closure : IsClosureOf listed set
   pub ends : IsLast listed last
@@ -31,24 +34,30 @@ IsSomeDraft matrix set last = (listed : List (List SerialOp)) × IsListedDraft m
 -- these lines are theirs
 abbrev pub IsDraftOf : Matrix → List (List ℕ) → Draft → Type 0
 IsDraftOf matrix lines draft =
-    (listed : List (List SerialOp)) × IsListedDraft matrix listed draft.set draft.last.items × (lines ≡ map history_line listed)
+    (listed : List (List SerialOp)) × IsListedDraft matrix listed draft.set draft.last.items
+    × (lines ≡ map history_line listed)
 
 -- the line is that of one more history, which may stand there
-pub record IsNextOf (matrix : Matrix) (listed : List (List SerialOp)) (line : List ℕ) (q : List SerialOp) : Type 0 where
+pub record IsNextOf (matrix : Matrix) (listed : List (List SerialOp)) (line : List ℕ)
+    (q : List SerialOp) : Type 0 where
   pub is : IsLineOf listed line q
   pub fits : FitsMatrix matrix q
   pub apart : HasConflictIn listed q → ⊥
 
 -- with the history of one more line
-abbrev pub IsNextDraft : Matrix → List (List SerialOp) → List ℕ → List (List SerialOp) → List SerialOp → Type 0
-IsNextDraft matrix listed line set last = (line ≡ history_line last) × IsListedDraft matrix (listed ++ last ∷ []) set last
+abbrev pub IsNextDraft : Matrix → List (List SerialOp) → List ℕ → List (List SerialOp)
+    → List SerialOp → Type 0
+IsNextDraft matrix listed line set last =
+    (line ≡ history_line last) × IsListedDraft matrix (listed ++ last ∷ []) set last
 
 -- the fault of line n, or want of memory
 abbrev pub IsRefusal : Matrix → List (List SerialOp) → List ℕ → ℕ → Fault SpecFaultKind → Type 0
-IsRefusal matrix listed line n (At kind number) = (number ≡ n) × IsFaultOfLine matrix listed line kind
+IsRefusal matrix listed line n (At kind number) =
+    (number ≡ n) × IsFaultOfLine matrix listed line kind
 IsRefusal matrix listed line n Memory = Unit {0}
 
--- The lines, of which the first is line 2, are those of listed histories up to one with this fault; or memory was refused.
+-- The lines, of which the first is line 2, are those of listed histories up to one with this fault;
+-- or memory was refused.
 abbrev pub IsRefusalAmong : Matrix → List (List ℕ) → Fault SpecFaultKind → Type 0
 IsRefusalAmong matrix lines (At kind n) = IsFaultAmong matrix lines kind n
 IsRefusalAmong matrix lines Memory = Unit {0}
@@ -56,16 +65,22 @@ IsRefusalAmong matrix lines Memory = Unit {0}
 -- ---- what is returned of a line, which is line n, behind the histories of a draft
 
 -- the history of the line
-abbrev pub FindsNext : {Z E : Type 0} → Matrix → List (List SerialOp) → List SerialOp → List ℕ → Result (Vec SerialOp Z) E → Type 0
+abbrev pub FindsNext : {Z E : Type 0} → Matrix → List (List SerialOp) → List SerialOp → List ℕ
+    → Result (Vec SerialOp Z) E → Type 0
 FindsNext matrix set last line returned =
-    (listed : List (List SerialOp)) → IsListedDraft matrix listed set last → IfOk returned (λ q. IsNextOf matrix listed line q.items)
+    (listed : List (List SerialOp)) → IsListedDraft matrix listed set last
+    → IfOk returned (λ q. IsNextOf matrix listed line q.items)
 
 -- the draft with it
-abbrev pub DraftsNext : {E : Type 0} → Matrix → List (List SerialOp) → List SerialOp → List ℕ → Result Draft E → Type 0
+abbrev pub DraftsNext : {E : Type 0} → Matrix → List (List SerialOp) → List SerialOp → List ℕ
+    → Result Draft E → Type 0
 DraftsNext matrix set last line returned =
-    (listed : List (List SerialOp)) → IsListedDraft matrix listed set last → IfOk returned (λ next. IsNextDraft matrix listed line next.set next.last.items)
+    (listed : List (List SerialOp)) → IsListedDraft matrix listed set last
+    → IfOk returned (λ next. IsNextDraft matrix listed line next.set next.last.items)
 
 -- what is wrong with the line
-abbrev pub Refuses : {A : Type 0} → Matrix → List (List SerialOp) → List SerialOp → List ℕ → ℕ → Result A (Fault SpecFaultKind) → Type 0
+abbrev pub Refuses : {A : Type 0} → Matrix → List (List SerialOp) → List SerialOp → List ℕ → ℕ
+    → Result A (Fault SpecFaultKind) → Type 0
 Refuses matrix set last line n returned =
-    (listed : List (List SerialOp)) → IsListedDraft matrix listed set last → IfErr returned (IsRefusal matrix listed line n)
+    (listed : List (List SerialOp)) → IsListedDraft matrix listed set last
+    → IfErr returned (IsRefusal matrix listed line n)

@@ -81,7 +81,8 @@ SaysHistory line q = IsListable q × (line ≡ history_line q)
 abbrev pub SaysNoHistory : List ℕ → Type 0
 SaysNoHistory line = (q : List SerialOp) → IsListable q → line ≡ history_line q → ⊥
 
--- At the first place where they differ q has the greater entry: so it is greater than p, and does not begin with it.
+-- At the first place where they differ q has the greater entry: so it is greater than p, and does
+-- not begin with it.
 abbrev pub ComesAfter : List SerialOp → List SerialOp → Type 0
 ComesAfter [] q = ⊥
 ComesAfter (a ∷ p) [] = ⊥
@@ -89,12 +90,14 @@ ComesAfter (a ∷ p) (b ∷ q) = (op_cmp a b ≡ Less) ⊎ (a ≡ b) × ComesAft
 
 -- q may stand behind the listed histories: it comes after the last one
 abbrev pub GoesOn : List (List SerialOp) → List SerialOp → Type 0
-GoesOn listed q = (before : List (List SerialOp)) (p : List SerialOp) → listed ≡ before ++ p ∷ [] → ComesAfter p q
+GoesOn listed q =
+    (before : List (List SerialOp)) (p : List SerialOp) → listed ≡ before ++ p ∷ [] → ComesAfter p q
 
 -- a list of histories of the matrix, in order and none a beginning of the next, without conflict
 pub record AreListed (matrix : Matrix) (listed : List (List SerialOp)) : Type 0 where
   pub each : (q : List SerialOp) → Has listed q → IsListable q × FitsMatrix matrix q
-  pub order : (before : List (List SerialOp)) (q : List SerialOp) (after : List (List SerialOp)) → listed ≡ before ++ q ∷ after → GoesOn before q
+  pub order : (before : List (List SerialOp)) (q : List SerialOp) (after : List (List SerialOp))
+      → listed ≡ before ++ q ∷ after → GoesOn before q
   pub deterministic : IsDeterministic listed
 
 -- ---- what is wrong with a line behind the listed histories
@@ -105,17 +108,22 @@ IsLineOf listed line q = (line ≡ history_line q) × IsListable q × GoesOn lis
 
 -- q conflicts with a listed history
 abbrev pub HasConflictIn : List (List SerialOp) → List SerialOp → Type 0
-HasConflictIn listed q = (p : List SerialOp) × Has listed p × (i : ℕ) × (o : SerialOutcome) × ConflictAt q p i o
+HasConflictIn listed q =
+    (p : List SerialOp) × Has listed p × (i : ℕ) × (o : SerialOutcome) × ConflictAt q p i o
 
--- no history's line; that of a history that does not fit the matrix; or that of one that conflicts with a listed one
+-- no history's line; that of a history that does not fit the matrix; or that of one that conflicts
+-- with a listed one
 abbrev pub IsFaultOfLine : Matrix → List (List SerialOp) → List ℕ → SpecFaultKind → Type 0
 IsFaultOfLine matrix listed line Form = (q : List SerialOp) → IsLineOf listed line q → ⊥
-IsFaultOfLine matrix listed line Foreign = (q : List SerialOp) × IsLineOf listed line q × (FitsMatrix matrix q → ⊥)
+IsFaultOfLine matrix listed line Foreign =
+    (q : List SerialOp) × IsLineOf listed line q × (FitsMatrix matrix q → ⊥)
 IsFaultOfLine matrix listed line Nondeterministic =
     (q : List SerialOp) × IsLineOf listed line q × FitsMatrix matrix q × HasConflictIn listed q
 
--- among the lines behind the first line, those before line n are of listed histories, and line n has this fault
-pub record IsFaultAmong (matrix : Matrix) (lines : List (List ℕ)) (kind : SpecFaultKind) (n : ℕ) : Type 0 where
+-- among the lines behind the first line, those before line n are of listed histories, and line n
+-- has this fault
+pub record IsFaultAmong (matrix : Matrix) (lines : List (List ℕ)) (kind : SpecFaultKind)
+    (n : ℕ) : Type 0 where
   pub listed : List (List SerialOp)
   pub are : AreListed matrix listed
   pub line : List ℕ
@@ -127,11 +135,13 @@ pub record IsFaultAmong (matrix : Matrix) (lines : List (List ℕ)) (kind : Spec
 -- the first line is there, and one behind it has this fault
 abbrev pub IsFaultBehind : Matrix → List ℕ → SpecFaultKind → ℕ → Type 0
 IsFaultBehind matrix text kind n =
-    (lines : List (List ℕ)) × (kept_lines text ≡ first_line ∷ lines) × IsFaultAmong matrix lines kind n
+    (lines : List (List ℕ)) × (kept_lines text ≡ first_line ∷ lines)
+    × IsFaultAmong matrix lines kind n
 
 -- the text does not begin with the first line
 abbrev pub HasNoFirstLine : List ℕ → SpecFaultKind → ℕ → Type 0
-HasNoFirstLine text kind n = (kind ≡ Form) × (n ≡ 1) × ((rest : List (List ℕ)) → kept_lines text ≡ first_line ∷ rest → ⊥)
+HasNoFirstLine text kind n =
+    (kind ≡ Form) × (n ≡ 1) × ((rest : List (List ℕ)) → kept_lines text ≡ first_line ∷ rest → ⊥)
 
 -- the first fault of a text that is no specification of the matrix, or want of memory
 abbrev pub IsSpecFault : Matrix → List ℕ → Fault SpecFaultKind → Type 0
@@ -141,4 +151,5 @@ IsSpecFault matrix text Memory = Unit {0}
 -- the text lists these histories, of which the set is the closure
 abbrev pub IsReadAs : Matrix → List ℕ → List (List SerialOp) → Type 0
 IsReadAs matrix text closed =
-    (listed : List (List SerialOp)) × AreListed matrix listed × (text ≡ spec_text listed) × IsClosureOf listed closed
+    (listed : List (List SerialOp)) × AreListed matrix listed × (text ≡ spec_text listed)
+    × IsClosureOf listed closed

@@ -16,8 +16,8 @@ HasOutcome op = IsOutcome op.outcome
 abbrev pub AllHaveOutcomes : List (List SerialOp) → Type 0
 AllHaveOutcomes members = (q : List SerialOp) → Has members q → All HasOutcome q
 
--- no two members conflict; with each member its beginnings are members; the empty history is one; `Stuck` stands only last;
--- returned values are numbers of 32 bits
+-- no two members conflict; with each member its beginnings are members; the empty history is one;
+-- `Stuck` stands only last; returned values are numbers of 32 bits
 pub record IsSpec (members : List (List SerialOp)) : Type 0 where
   pub deterministic : IsDeterministic members
   pub closed : IsClosed members

@@ -6,15 +6,17 @@ ghost use Rattle.lu_spec.specs.Codes.{spec_code_of};
 use lu_text::Fault;
 use thiserror::Error;
 
-/// What is wrong with a line of a specification's text, in the order in which it is looked for. Shown, it is the code of the
-/// refusal.
+/// What is wrong with a line of a specification's text, in the order in which it is looked for.
+/// Shown, it is the code of the refusal.
 #[derive(Clone, Copy, Debug, Drop, PartialEq, Eq, Error)]
 #[error("{}", self.code())]
 pub enum SpecFaultKind {
-    /// `S1`: no line of a history, a history that is not above the one before, or one that begins with the one before.
+    /// `S1`: no line of a history, a history that is not above the one before, or one that begins
+    /// with the one before.
     Form,
 
-    /// `S2`: a thread that the matrix does not have, or more operations of a thread than it has calls.
+    /// `S2`: a thread that the matrix does not have, or more operations of a thread than it has
+    /// calls.
     Foreign,
 
     /// `S3`: a conflict with an earlier line.
@@ -34,5 +36,6 @@ impl SpecFaultKind {
     }
 }
 
-/// Why a text is no specification: the first fault by line, or want of memory, which is shown as `memory`.
+/// Why a text is no specification: the first fault by line, or want of memory, which is shown as
+/// `memory`.
 pub type SpecFault = Fault<SpecFaultKind>;

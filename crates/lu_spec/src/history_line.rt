@@ -20,7 +20,8 @@ pub(crate) fn is_word(word: &[u8], text: &str) -> bool
 
 /// The outcome that a word says.
 fn outcome_in(word: &[u8]) -> Option<SerialOutcome>
-    ensures some { IfSome result (λ outcome. IsOutcome outcome × (word.now ≡ outcome_text outcome)) }
+    ensures some { IfSome result (λ outcome.
+        IsOutcome outcome × (word.now ≡ outcome_text outcome)) }
     ensures none { IfNone result (SaysNoOutcome word.now) }
 {
     if is_word(word, "trap") {
@@ -55,7 +56,8 @@ fn entry_in(word: &[u8]) -> Option<SerialOp>
 
 /// The operations that words say, where each says one.
 fn entries_in(alloc: Global, words: &[&[u8]]) -> Result<Option<Vec<SerialOp>>, AllocError>
-    ensures some { IfOk result (λ read. IfSome read (λ ops. SayEntries (texts words.now) ops.items)) }
+    ensures some { IfOk result (λ read.
+        IfSome read (λ ops. SayEntries (texts words.now) ops.items)) }
     ensures none { IfOk result (λ read. IfNone read (SayNoEntries (texts words.now))) }
 {
     let mut entries = Vec::with_capacity(alloc, words.len())?;
@@ -93,7 +95,8 @@ pub(crate) fn comes_after(last: &[SerialOp], history: &[SerialOp]) -> bool
     }
 }
 
-/// Whether a specification may list a history of these entries: 1 to 16 of them, and `Stuck` stands only last.
+/// Whether a specification may list a history of these entries: 1 to 16 of them, and `Stuck` stands
+/// only last.
 fn is_listable(entries: &[SerialOp]) -> bool
     requires { All IsEntry entries.now }
     ensures { IsTrue result ↔ IsListable entries.now }

@@ -2,18 +2,21 @@
 
 ghost use Rattle.lu_spec.specs.Laws.{NoFault, OneSpelling, ReadAgain};
 
-/// What is read of a text is written as that text: a specification has one spelling. The function does nothing.
+/// What is read of a text is written as that text: a specification has one spelling. The function
+/// does nothing.
 pub fn one_spelling()
     ensures { OneSpelling }
 {}
 
-/// A text that lists histories of the matrix has no fault: so it is read, unless memory is refused. The function does nothing.
+/// A text that lists histories of the matrix has no fault: so it is read, unless memory is refused.
+/// The function does nothing.
 pub fn no_fault()
     ensures { NoFault }
 {}
 
-/// The text that is written of a specification of a matrix lists its histories: so, by [`no_fault`], it is read as that
-/// specification, unless memory is refused. The function does nothing.
+/// The text that is written of a specification of a matrix lists its histories: so, by
+/// [`no_fault`], it is read as that specification, unless memory is refused. The function does
+/// nothing.
 pub fn read_again()
     ensures { ReadAgain }
 {}

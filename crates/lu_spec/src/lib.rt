@@ -1,8 +1,8 @@
-//! Specifications of components: deterministic sets of serial histories, closed under beginnings (Burckhardt, Dern, Musuvathi
-//! and Tan, 2010).
+//! Specifications of components: deterministic sets of serial histories, closed under beginnings
+//! (Burckhardt, Dern, Musuvathi and Tan, 2010).
 //!
-//! A [`Spec`] says which serial histories of a matrix are right. [`Spec::closure`] makes one of a set of serial histories,
-//! [`read_spec`] of a text, and [`write_spec`] writes it.
+//! A [`Spec`] says which serial histories of a matrix are right. [`Spec::closure`] makes one of a
+//! set of serial histories, [`read_spec`] of a text, and [`write_spec`] writes it.
 //!
 //! ```text
 //! let spec = read_spec(alloc, &matrix, b"lineup spec 1\nhistory 0=1 1=2\n")?;

@@ -14,8 +14,8 @@ use lu_trie::{SerialTree, Trie};
 use std::alloc::{AllocError, Allocator, Global};
 use std::marker::Model;
 
-/// A specification: a set of serial histories without conflict, closed under beginnings, which holds the empty one. In clauses
-/// it is the list of its members, in order.
+/// A specification: a set of serial histories without conflict, closed under beginnings, which
+/// holds the empty one. In clauses it is the list of its members, in order.
 #[derive(Drop)]
 pub struct Spec {
     set: Trie<Global>,
@@ -34,8 +34,9 @@ impl Model for Spec {
 }
 
 impl Spec {
-    /// The specification of all beginnings of the members, and of the empty history. It is one of the matrix. Asks for members
-    /// of this matrix that do not conflict, and in which `Stuck` stands only last, as those of the set that `learn` answers.
+    /// The specification of all beginnings of the members, and of the empty history. It is one of
+    /// the matrix. Asks for members of this matrix that do not conflict, and in which `Stuck`
+    /// stands only last, as those of the set that `learn` answers.
     ///
     /// # Errors
     ///
@@ -65,8 +66,8 @@ impl Spec {
         Spec { set }
     }
 
-    /// Whether this is a specification of the matrix: no history has more operations of a thread than the thread has calls, nor
-    /// any of a thread that the matrix does not have.
+    /// Whether this is a specification of the matrix: no history has more operations of a thread
+    /// than the thread has calls, nor any of a thread that the matrix does not have.
     pub fn of(&self, matrix: &Matrix) -> bool
         ensures { IsTrue result ↔ AreOf matrix.now self.now }
     {

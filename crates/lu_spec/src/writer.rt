@@ -41,8 +41,8 @@ fn is_end<T: SerialTree>(tree: &T, place: T::Place, path: &[SerialOp]) -> bool
     tree.kid_count(place) == 0 && tree.ends(place) && !path.is_empty()
 }
 
-/// Adds a line for each history that begins with the path, which leads to this place, and begins no other. The empty one has
-/// no line.
+/// Adds a line for each history that begins with the path, which leads to this place, and begins no
+/// other. The empty one has no line.
 fn write_below<T: SerialTree>(
     text: &mut String,
     tree: &T,
@@ -50,7 +50,8 @@ fn write_below<T: SerialTree>(
     path: &mut Vec<SerialOp>,
 ) -> Result<(), AllocError>
     requires { T.is_place tree.now place }
-    ensures text { OnOk result (AddsEnds path.old.items (T.below tree.now place) text.old text.new) }
+    ensures text { OnOk result
+        (AddsEnds path.old.items (T.below tree.now place) text.old text.new) }
     ensures path { OnOk result (path.new.items ≡ path.old.items) }
 {
     if is_end(tree, place, path) {
@@ -65,7 +66,8 @@ fn write_below<T: SerialTree>(
     Ok(())
 }
 
-/// The text of a specification: its first line, and a line for each history that begins no other, in order.
+/// The text of a specification: its first line, and a line for each history that begins no other,
+/// in order.
 ///
 /// # Errors
 ///

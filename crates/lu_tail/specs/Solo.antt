@@ -11,7 +11,8 @@ use Rattle.lu_machine.specs.Steps.{Step, picks_of}
 abbrev pub IsShared : State → State → Type 0
 IsShared s r = (r.cells ≡ s.cells) × (r.locks ≡ s.locks)
 
--- r is the same as s for thread t: other threads may differ, and where t doesn't see cells and locks, they too
+-- r is the same as s for thread t: other threads may differ, and where t doesn't see cells and
+-- locks, they too
 pub record IsSame (sees : Bool) (t : ℕ) (s r : State) : Type 0 where
   pub component : r.component ≡ s.component
   pub matrix_is : r.matrix ≡ s.matrix
@@ -22,7 +23,8 @@ pub record IsSame (sees : Bool) (t : ℕ) (s r : State) : Type 0 where
 abbrev pub move_of : ℕ → Move
 move_of t = record { thread = t; pick = 0 }
 
--- The events of a thread's last moves: for each number of moves, that of the move after which so many are left.
+-- The events of a thread's last moves: for each number of moves, that of the move after which so
+-- many are left.
 abbrev pub LastEvents : Type 0
 LastEvents = ℕ → Option Event
 
@@ -31,7 +33,9 @@ abbrev pub last_events : LastEvents → ℕ → List Event
 last_events event_of zero = []
 last_events event_of (suc n) = with_event (event_of n) (last_events event_of n)
 
--- wherever it is the same for thread t as in s, t makes n moves more, with these events, without a choice and whatever the others do; it keeps cells and locks, where it is to, and ends with its last call
+-- wherever it is the same for thread t as in s, t makes n moves more, with these events, without a
+-- choice and whatever the others do; it keeps cells and locks, where it is to, and ends with its
+-- last call
 abbrev pub Solo : Bool → Bool → ℕ → LastEvents → ℕ → State → Type 0
 Solo sees keeps t event_of zero s =
     (done : ℕ) × (slice_get s.threads t ≡ Some (idle done)) × (call_count s t ≤ done)
@@ -49,8 +53,10 @@ pub record Sharing : Type 0 where
 abbrev pub AreApart : Sharing → Type 0
 AreApart sharing = (t u : ℕ) → (t ≡ u → ⊥) → sharing.sees t ≡ true → sharing.keeps u ≡ true
 
--- what is left in s: each thread makes so many moves by itself, with these events, and what one sees the others keep
-pub record IsTail (s : State) (ns : List ℕ) (sharing : Sharing) (events_of : ℕ → LastEvents) : Type 0 where
+-- what is left in s: each thread makes so many moves by itself, with these events, and what one
+-- sees the others keep
+pub record IsTail (s : State) (ns : List ℕ) (sharing : Sharing)
+    (events_of : ℕ → LastEvents) : Type 0 where
   pub many : length ns ≡ length s.threads
   pub apart : AreApart sharing
   pub each :

@@ -47,7 +47,8 @@ pub record IsSetup (calls : List Call) : Type 0 where
 
 -- among the operations is the call's, with as many arguments
 abbrev pub IsCallAmong : List Op → Call → Type 0
-IsCallAmong operations call = IsSomeAnd (slice_get operations call.op) (λ op. length call.args ≡ op.args)
+IsCallAmong operations call =
+    IsSomeAnd (slice_get operations call.op) (λ op. length call.args ≡ op.args)
 
 -- the component has the call's operation, with as many arguments
 abbrev pub IsCallOf : Declarations → Call → Type 0
@@ -61,7 +62,8 @@ IsOf matrix c = All (IsCallOf c) matrix.setup × All (λ calls. All (IsCallOf c)
 unfoldable pub IsOfSome : Matrix → Type 0
 IsOfSome matrix = (c : Declarations) × IsComponent c × IsOf matrix c
 
--- A matrix of some component: the limits of the setup and of the threads hold, and there is a thread.
+-- A matrix of some component: the limits of the setup and of the threads hold, and there is a
+-- thread.
 pub record IsMatrix (matrix : Matrix) : Type 0 where
   pub some : 1 ≤ thread_count matrix
   pub limits : AreThreads matrix.threads

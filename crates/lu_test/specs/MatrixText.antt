@@ -26,7 +26,8 @@ named_operation operations (name ∷ arguments) = operation_place operations nam
 
 -- the operation itself
 abbrev pub operation_of : List Op → List Word → Option Op
-operation_of operations words = option_and_then (slice_get operations) (named_operation operations words)
+operation_of operations words =
+    option_and_then (slice_get operations) (named_operation operations words)
 
 abbrev pub has_name : List Word → Bool
 has_name words = not (length words == 0)
@@ -49,7 +50,8 @@ arguments_in words = filter_map value_in (drop 1 words)
 -- the call that the words say, where they name an operation
 abbrev pub call_of : List Op → List Word → Option Call
 call_of operations words =
-    option_map (λ number. record { op = number; args = arguments_in words }) (named_operation operations words)
+    option_map (λ number. record { op = number; args = arguments_in words })
+    (named_operation operations words)
 
 -- the calls that the words of each part say
 abbrev pub calls_said : List Op → List (List Word) → List Call
@@ -97,7 +99,8 @@ calls_fault operations calls full =
 
 -- there is no room for one more thread of n calls
 abbrev pub is_full : List (List Call) → ℕ → Bool
-is_full threads n = nat_le 8 (length threads) || (nat_lt 8 n || nat_lt 16 (sum_by length threads + n))
+is_full threads n =
+    nat_le 8 (length threads) || (nat_lt 8 n || nat_lt 16 (sum_by length threads + n))
 
 -- what is wrong with the calls of one more thread; or the draft with it
 abbrev pub with_thread : List Op → Drafted → List (List Word) → Result Drafted MatrixFaultKind
@@ -119,14 +122,16 @@ calls_after words parts = if length words == 0 && length parts == 0 then [] else
 abbrev pub by_keyword : List Op → Drafted → Word → List (List Word) → Result Drafted MatrixFaultKind
 by_keyword operations draft word calls =
     if bytes_eq word (codes "thread") then with_thread operations draft calls
-    else (if bytes_eq word (codes "setup") && is_nothing draft then with_setup operations draft calls else Err Form)
+    else (if bytes_eq word (codes "setup") && is_nothing draft then with_setup operations draft
+    calls else Err Form)
 
 -- a line by the words of its parts, between which stands `;`
 abbrev pub by_parts : List Op → Drafted → List (List Word) → Result Drafted MatrixFaultKind
 by_parts operations draft [] = Ok draft
 by_parts operations draft ([] ∷ []) = Ok draft
 by_parts operations draft ([] ∷ part ∷ parts) = Err Form
-by_parts operations draft ((word ∷ words) ∷ parts) = by_keyword operations draft word (calls_after words parts)
+by_parts operations draft ((word ∷ words) ∷ parts) =
+    by_keyword operations draft word (calls_after words parts)
 
 -- the words of each of these parts in memory
 abbrev pub words_in : List (Bor (List ℕ)) → List (List Word)
@@ -137,7 +142,8 @@ abbrev pub parts_in : List ℕ → List (List Word)
 parts_in line = map words_of (slice_split (λ b. b == 59) (before_comment line))
 
 unfoldable pub line_of : List Op → Drafted → List ℕ → Result Drafted MatrixFaultKind
-line_of operations draft line = if list_all is_allowed line then by_parts operations draft (parts_in line) else Err Byte
+line_of operations draft line =
+    if list_all is_allowed line then by_parts operations draft (parts_in line) else Err Byte
 
 -- at the end there is a thread
 abbrev pub finished : Drafted → Result Matrix MatrixFaultKind
@@ -174,7 +180,8 @@ others_text operations calls = flat_map (other_text operations) calls
 -- behind the first word nothing, or a space and the calls with `;` between them
 abbrev pub calls_text : List Op → List Call → List ℕ
 calls_text operations [] = []
-calls_text operations (call ∷ calls) = 32 ∷ call_text operations call ++ others_text operations calls
+calls_text operations (call ∷ calls) =
+    32 ∷ call_text operations call ++ others_text operations calls
 
 -- a line of these calls
 abbrev pub line_text : List Op → Word → List Call → List ℕ

@@ -60,9 +60,8 @@ pub fn copy_matrix(alloc: Global, matrix: &Matrix) -> Result<Matrix, AllocError>
     Ok(Matrix::of_calls(setup, threads))
 }
 
-/// The matrix without call number `k` of thread `t`, both from 0. The thread stays, also with no calls,
-/// and so does the setup.
-/// Asks for a call that is there.
+/// The matrix without call number `k` of thread `t`, both from 0. The thread stays, also with no
+/// calls, and so does the setup. Asks for a call that is there.
 ///
 /// # Errors
 ///
@@ -77,8 +76,8 @@ pub fn remove(alloc: Global, matrix: &Matrix, t: u8, k: u8) -> Result<Matrix, Al
     Ok(Matrix::of_calls(setup, threads))
 }
 
-/// The matrix of each thread's first calls: of thread `t` as many as `lengths[t]` says. The setup stays.
-/// Asks for a length of each thread, at most its number of calls.
+/// The matrix of each thread's first calls: of thread `t` as many as `lengths[t]` says. The setup
+/// stays. Asks for a length of each thread, at most its number of calls.
 ///
 /// # Errors
 ///

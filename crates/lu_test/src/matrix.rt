@@ -124,12 +124,12 @@ fn are_of(setup: &Calls, threads: &[Calls], component: &Component) -> bool
     setup.are_among(operations) && all_are_among(threads, operations)
 }
 
-/// A matrix: the calls of a setup, which are made before the start, and for each thread the calls that it
-/// makes. 1 to 8 threads of at most 8 calls, 16 calls in all, at most 8 more of the setup, and at most 4
-/// arguments of a call.
+/// A matrix: the calls of a setup, which are made before the start, and for each thread the calls
+/// that it makes. 1 to 8 threads of at most 8 calls, 16 calls in all, at most 8 more of the setup,
+/// and at most 4 arguments of a call.
 ///
-/// It is always one that some text gives: there is a component that has the operation of each call, with as
-/// many arguments.
+/// It is always one that some text gives: there is a component that has the operation of each call,
+/// with as many arguments.
 #[derive(Debug, Drop)]
 pub struct Matrix {
     setup: Calls,
@@ -147,9 +147,10 @@ impl Model for Matrix {
 }
 
 impl Matrix {
-    /// The matrix of this setup and of these threads' calls, where it is one of the component: that has the
-    /// operation of each call, with as many arguments. Asks for the limits of each matrix: 1 to 8 threads of
-    /// at most 8 calls, 16 calls in all, at most 8 of the setup, and at most 4 arguments of a call.
+    /// The matrix of this setup and of these threads' calls, where it is one of the component: that
+    /// has the operation of each call, with as many arguments. Asks for the limits of each matrix:
+    /// 1 to 8 threads of at most 8 calls, 16 calls in all, at most 8 of the setup, and at most 4
+    /// arguments of a call.
     pub fn new(component: &Component, setup: Calls, threads: Vec<Calls>) -> Option<Matrix>
         requires some { 1 ≤ length threads.items }
         requires limits { AreThreads threads.items }

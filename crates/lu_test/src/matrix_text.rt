@@ -273,13 +273,15 @@ fn with_setup(
     }
 }
 
-/// The parts behind the first word: none, or the words of the first and the other parts of the line.
+/// The parts behind the first word: none, or the words of the first and the other parts of the
+/// line.
 fn call_parts<'a>(
     alloc: Global,
     words: &[&'a [u8]],
     others: &[&'a [u8]],
 ) -> Result<Vec<Part<'a>>, AllocError>
-    ensures { IfOk result (λ calls. calls.items ≡ calls_after (texts words.now) (words_in others.now)) }
+    ensures { IfOk result (λ calls.
+        calls.items ≡ calls_after (texts words.now) (words_in others.now)) }
 {
     let mut calls = Vec::new(alloc);
     if words.is_empty() && others.is_empty() {
@@ -304,7 +306,8 @@ fn by_words(
     more: &[&[u8]],
 ) -> Result<Draft, MatrixFault>
     requires { CanRead operations.now draft }
-    ensures { OnLine line result (by_parts operations.now draft (texts words.now ∷ words_in more.now)) }
+    ensures { OnLine line result
+        (by_parts operations.now draft (texts words.now ∷ words_in more.now)) }
 {
     match words {
         [] => {
@@ -389,7 +392,8 @@ fn finish(alloc: Global, line: usize, draft: Draft) -> Result<Matrix, MatrixFaul
 }
 
 fn read_lines(alloc: Global, component: &Component, lines: &[&[u8]]) -> Result<Matrix, MatrixFault>
-    ensures exact { Gives result (meaning_of_lines (matrix_grammar component.now) (texts lines.now)) }
+    ensures exact { Gives result
+        (meaning_of_lines (matrix_grammar component.now) (texts lines.now)) }
     ensures of { IfOk result (λ matrix. IsOf matrix component.now) }
 {
     let operations = component.operations();
@@ -413,8 +417,8 @@ fn matrix_in(alloc: Global, component: &Component, text: &[u8]) -> Result<Matrix
 
 /// Reads a matrix of a component from its text.
 ///
-/// A fault is the first one of the text: by line, and on a line by the order of [`MatrixFaultKind`].
-/// One at the end of the text carries the number of lines plus one.
+/// A fault is the first one of the text: by line, and on a line by the order of
+/// [`MatrixFaultKind`]. One at the end of the text carries the number of lines plus one.
 ///
 /// # Errors
 ///

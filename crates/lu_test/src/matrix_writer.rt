@@ -10,8 +10,8 @@ use crate::matrix::{Call, Calls, Matrix};
 use lu_component::{Component, Op};
 use std::alloc::{AllocError, Global};
 
-/// Adds the name of operation number `number` at the end of a text: no name where there is none, as no call of a matrix of
-/// the component has it.
+/// Adds the name of operation number `number` at the end of a text: no name where there is none, as
+/// no call of a matrix of the component has it.
 fn put_name(text: &mut String, operations: &[Op], number: u8) -> Result<(), AllocError>
     ensures { Writes result text.old text.new (spec.operation_name operations.now number) }
 {
@@ -100,7 +100,8 @@ fn put_setup(text: &mut String, operations: &[Op], calls: &[Call]) -> Result<(),
 }
 
 fn put_threads(text: &mut String, operations: &[Op], threads: &[Calls]) -> Result<(), AllocError>
-    ensures { Writes result text.old text.new (flat_map (spec.thread_text operations.now) threads.now) }
+    ensures { Writes result text.old text.new
+        (flat_map (spec.thread_text operations.now) threads.now) }
 {
     for calls in threads {
         put_line(text, operations, "thread", calls.as_slice())?;
@@ -108,9 +109,10 @@ fn put_threads(text: &mut String, operations: &[Op], threads: &[Calls]) -> Resul
     Ok(())
 }
 
-/// The canonical text of a matrix: `setup`, where it has calls, and `thread` for each thread, and where
-/// there are calls a space and the calls, parted by `;` without blanks; one space before each argument;
-/// each line ends with LF. Read again it is the same matrix. Asks for a matrix of the component.
+/// The canonical text of a matrix: `setup`, where it has calls, and `thread` for each thread, and
+/// where there are calls a space and the calls, parted by `;` without blanks; one space before each
+/// argument; each line ends with LF. Read again it is the same matrix. Asks for a matrix of the
+/// component.
 ///
 /// # Errors
 ///
@@ -121,7 +123,8 @@ pub fn write_matrix(
     matrix: &Matrix,
 ) -> Result<String, AllocError>
     requires { IsOf matrix.now component.now }
-    ensures text { IfOk result (λ text. string_bytes text ≡ spec.matrix_text component.now matrix.now) }
+    ensures text { IfOk result (λ text.
+        string_bytes text ≡ spec.matrix_text component.now matrix.now) }
     ensures again { IfOk result (IsTextOf (spec.matrix_grammar component.now) matrix.now) }
 {
     let operations = component.operations();

@@ -34,7 +34,8 @@ impl Model for Schedule {
 }
 
 impl Schedule {
-    /// The schedule of these moves. Asks for at most 4,112, each of a thread 0 to 7 and a pick 0 to 7.
+    /// The schedule of these moves. Asks for at most 4,112, each of a thread 0 to 7 and a pick 0 to
+    /// 7.
     pub fn new(moves: Vec<Move>) -> Schedule
         requires { AreMoves moves.items }
         ensures { result ≡ moves.items }

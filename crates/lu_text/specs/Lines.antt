@@ -14,7 +14,8 @@ text_if word = option_map (λ w. w.now) word
 
 -- the lines, without their LFs; a last LF begins no further line, and the empty text has no lines
 abbrev pub without_last_lf : List ℕ → List ℕ
-without_last_lf text = if slice_index text (length text - 1) == 10 then take (length text - 1) text else text
+without_last_lf text =
+    if slice_index text (length text - 1) == 10 then take (length text - 1) text else text
 
 abbrev pub lines_of : List ℕ → List (List ℕ)
 lines_of text = if length text == 0 then [] else slice_split (λ b. b == 10) (without_last_lf text)

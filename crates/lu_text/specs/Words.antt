@@ -9,7 +9,8 @@ Word = List ℕ
 abbrev pub four_texts : Bor Word × Bor Word × Bor Word × Bor Word → Word × Word × Word × Word
 four_texts (a, b, c, d) = (a.now, b.now, c.now, d.now)
 
-abbrev pub five_texts : Bor Word × Bor Word × Bor Word × Bor Word × Bor Word → Word × Word × Word × Word × Word
+abbrev pub five_texts : Bor Word × Bor Word × Bor Word × Bor Word × Bor Word
+    → Word × Word × Word × Word × Word
 five_texts (a, b, c, d, e) = (a.now, b.now, c.now, d.now, e.now)
 
 abbrev pub one : List Word → Option Word

@@ -7,5 +7,6 @@ abbrev pub Writes : {T E Z : Type 0} → Result T E → String Z → String Z �
 Writes result old new bytes = OnOk result (string_bytes new ≡ string_bytes old ++ bytes)
 
 -- the text is read as this value
-abbrev pub IsTextOf : {Kind Draft Value Z : Type 0} → Grammar Kind Draft Value → Value → String Z → Type 0
+abbrev pub IsTextOf : {Kind Draft Value Z : Type 0} → Grammar Kind Draft Value → Value → String Z
+    → Type 0
 IsTextOf g value text = meaning_of g (string_bytes text) ≡ Ok value

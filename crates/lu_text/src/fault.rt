@@ -7,7 +7,8 @@ use std::alloc::{AllocError, AllocFailed};
 use std::fmt::Display;
 use thiserror::Error;
 
-/// Why a text that is read by lines is refused: what is wrong, of a kind `K`, or that memory ran out.
+/// Why a text that is read by lines is refused: what is wrong, of a kind `K`, or that memory ran
+/// out.
 ///
 /// Shown, it is the kind's code and the line, as in `L2 line 3`, or `memory`.
 #[derive(Clone, Copy, Debug, Drop, PartialEq, Eq, Error)]

@@ -32,7 +32,8 @@ impl Model for Name {
 impl Name {
     /// The name that these bytes spell.
     ///
-    /// Asks for a name: a letter or `_`, followed by letters, digits or `_`, at most 32 bytes in all.
+    /// Asks for a name: a letter or `_`, followed by letters, digits or `_`, at most 32 bytes in
+    /// all.
     ///
     /// # Errors
     ///

@@ -74,8 +74,10 @@ swap_deed c to w i expected desired n =
     else cell_is c w i n ++ codes ", " ++ register_becomes to 0
 
 -- such a deed is written
-abbrev pub WritesSwap : {T E Z : Type 0} → Result T E → String Z → String Z → Declarations → ℕ → ℕ → ℕ → ℕ → ℕ → ℕ → Type 0
-WritesSwap result old new c to w i expected desired n = Writes result old new (swap_deed c to w i expected desired n)
+abbrev pub WritesSwap : {T E Z : Type 0} → Result T E → String Z → String Z → Declarations → ℕ → ℕ
+    → ℕ → ℕ → ℕ → ℕ → Type 0
+WritesSwap result old new c to w i expected desired n =
+    Writes result old new (swap_deed c to w i expected desired n)
 
 -- the lock is free; a trap where thread t does not own it
 abbrev pub unlock_deed : State → ℕ → ℕ → List ℕ
@@ -92,7 +94,9 @@ deed s m f (Compute by to a b) = register_becomes to (computed by (value_of f a)
 deed s m f (Load to w i) = load_deed s f to w i
 deed s m f (Store w i v) = store_deed s f w i (value_of f v)
 deed s m f (Cas to w i expected desired) =
-    or_trap (λ n. swap_deed s.component to w (value_of f i) (value_of f expected) (value_of f desired) n)
+    or_trap
+    (λ n. swap_deed s.component to w (value_of f i) (value_of f expected)
+    (value_of f desired) n)
     (seen s f w i)
 deed s m f (Lock l) = lock_word s.component l ++ codes " is taken"
 deed s m f (Unlock l) = unlock_deed s m.thread l
@@ -121,7 +125,8 @@ awaited_lock s l =
 -- the value that the cell has to become, and the one that it has
 abbrev pub awaited_value : State → Frame → ℕ → Operand → Operand → List ℕ
 awaited_value s f w i v =
-    codes "waits until " ++ cell_is s.component w (value_of f i) (value_of f v) ++ present (seen s f w i)
+    codes "waits until " ++ cell_is s.component w (value_of f i) (value_of f v) ++ present
+    (seen s f w i)
 
 -- the value that the cell has to lose
 abbrev pub awaited_other : Declarations → ℕ → ℕ → ℕ → List ℕ

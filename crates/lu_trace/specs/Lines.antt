@@ -46,7 +46,8 @@ column = codes "                        "
 
 -- what a line of thread t begins with: the number or none, and in the thread's column its name
 abbrev pub head : Option ℕ → ℕ → List ℕ
-head number t = number_text number ++ codes " " ++ repeat t column ++ codes "T" ++ decimal t ++ codes " "
+head number t =
+    number_text number ++ codes " " ++ repeat t column ++ codes "T" ++ decimal t ++ codes " "
 
 -- a line of thread t
 abbrev pub line : Option ℕ → ℕ → List ℕ → List ℕ
@@ -86,7 +87,8 @@ next_words s m done (Open f) = next_instr s m f
 -- what the thread of the move m does next, in the state s
 abbrev pub step_words : State → Move → List ℕ
 step_words s m =
-    option_map_or (λ thread. next_words s m thread.done thread.activity) (slice_get s.threads m.thread) []
+    option_map_or (λ thread. next_words s m thread.done thread.activity)
+    (slice_get s.threads m.thread) []
 
 -- the line of that, with the number or none
 abbrev pub step_line : Option ℕ → State → Move → List ℕ
@@ -97,7 +99,8 @@ step_line number s m = line number m.thread (step_words s m)
 -- a blocked instruction's line, with what it waits for; nothing where it is not blocked
 abbrev pub instr_wait : State → ℕ → Frame → Instr → List ℕ
 instr_wait s t f instr =
-    if is_blocked s f instr then line None t (instr_text s.component f instr ++ awaited s f instr) else []
+    if is_blocked s f instr then line None t (instr_text s.component f instr ++ awaited s f instr)
+    else []
 
 abbrev pub activity_wait : State → ℕ → Activity → List ℕ
 activity_wait s t Idle = []
@@ -105,7 +108,8 @@ activity_wait s t (Open f) = option_map_or (instr_wait s t f) (instr_at s.compon
 
 -- the line of what thread t waits for, where it is blocked
 abbrev pub thread_wait : State → ℕ → List ℕ
-thread_wait s t = option_map_or (λ thread. activity_wait s t thread.activity) (slice_get s.threads t) []
+thread_wait s t =
+    option_map_or (λ thread. activity_wait s t thread.activity) (slice_get s.threads t) []
 
 -- what each of the first n threads waits for
 abbrev pub waits : State → ℕ → List ℕ

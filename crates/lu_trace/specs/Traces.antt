@@ -14,8 +14,8 @@ use Rattle.lu_trace.specs.declared.fault.TraceFault.{TraceFault}
 use Rattle.lu_trace.specs.declared.fault.TraceFault.TheVariants.{Infeasible, Memory}
 use Rattle.lu_trace.specs.Lines.{status_line, step_line, waits}
 
--- Thread t runs on from the state s to the state `end` by at most n local instructions, and each has its
--- line, without a number.
+-- Thread t runs on from the state s to the state `end` by at most n local instructions, and each
+-- has its line, without a number.
 abbrev pub LocalLines : ℕ → State → ℕ → State → List ℕ → Type 0
 LocalLines zero s t end lines = (end ≡ s) × (lines ≡ [])
 LocalLines (suc n) s t end lines =
@@ -25,24 +25,25 @@ LocalLines (suc n) s t end lines =
     × (lines ≡ step_line None s (record { thread = t; pick = 0 }) ++ rest))
     ((end ≡ s) × (lines ≡ []))
 
--- The move m leads from the state s to the state `new`: its first step has the line of its number, and the
--- local instructions behind it have theirs.
+-- The move m leads from the state s to the state `new`: its first step has the line of its number,
+-- and the local instructions behind it have theirs.
 abbrev pub MoveLines : ℕ → State → Move → State → List ℕ → Type 0
 MoveLines number s m new lines =
     (mid : State) × (event : Option Event) × (rest : List ℕ)
     × OneStep s m mid event × LocalLines (more_local s m.thread) mid m.thread new rest
     × (lines ≡ step_line (Some number) s m ++ rest)
 
--- The schedule leads from the state s to the state `end`, and these are the lines of its moves, which are
--- numbered from `number` on.
+-- The schedule leads from the state s to the state `end`, and these are the lines of its moves,
+-- which are numbered from `number` on.
 abbrev pub TraceLines : ℕ → State → List Move → State → List ℕ → Type 0
 TraceLines number s [] end lines = (end ≡ s) × (lines ≡ [])
 TraceLines number s (m ∷ u) end lines =
     (next : State) × (first : List ℕ) × (rest : List ℕ)
-    × MoveLines number s m next first × TraceLines (number + 1) next u end rest × (lines ≡ first ++ rest)
+    × MoveLines number s m next first × TraceLines (number + 1) next u end rest
+    × (lines ≡ first ++ rest)
 
--- The trace of the schedule: how the state stands that it leads to, the lines of its moves from 0 on, and
--- what each blocked thread waits for in the end.
+-- The trace of the schedule: how the state stands that it leads to, the lines of its moves from 0
+-- on, and what each blocked thread waits for in the end.
 abbrev pub IsTrace : Declarations → Matrix → List Move → List ℕ → Type 0
 IsTrace c matrix u text =
     (start : State) × (end : State) × (status : Status) × (lines : List ℕ)

@@ -64,7 +64,8 @@ fn write_swap(
     desired: u32,
     value: u32,
 ) -> Result<(), AllocError>
-    ensures { WritesSwap result text.old text.new component.now to array index expected desired value }
+    ensures { WritesSwap result text.old text.new component.now to array index
+        expected desired value }
 {
     if value == expected {
         write_becoming(text, component, array, index, desired)?;
@@ -103,7 +104,8 @@ fn write_load(
 ) -> Result<(), AllocError>
     requires array { array < length machine.now.component.arrays }
     requires index { IsOperand index }
-    ensures { Writes result text.old text.new (spec.load_deed machine.now frame.now to array index) }
+    ensures { Writes result text.old text.new
+        (spec.load_deed machine.now frame.now to array index) }
 {
     match value_in(machine, frame, array, index) {
         None => text.push_str("trap"),

@@ -1,7 +1,7 @@
 //! Traces of schedules: what each move of a run does, for people to read.
 //!
-//! [`write_trace`] plays a schedule of a component and a matrix, and writes a line for each step. Each
-//! thread has a column of its own, so that it is seen how their steps interleave.
+//! [`write_trace`] plays a schedule of a component and a matrix, and writes a line for each step.
+//! Each thread has a column of its own, so that it is seen how their steps interleave.
 //!
 //! ```text
 //! trace complete

@@ -51,7 +51,8 @@ fn write_number(text: &mut String, number: Option<usize>) -> Result<(), AllocErr
     }
 }
 
-/// Adds what a line of the thread begins with: the number or none, and in the thread's column its name.
+/// Adds what a line of the thread begins with: the number or none, and in the thread's column its
+/// name.
 pub(crate) fn write_head(
     alloc: Global,
     text: &mut String,
@@ -75,7 +76,8 @@ fn code_of(component: &Component, op: u8) -> &[Instr]
     }
 }
 
-/// Adds the instruction at the operation's place as the component's text has it, and what begins a remark.
+/// Adds the instruction at the operation's place as the component's text has it, and what begins a
+/// remark.
 pub(crate) fn write_instr_text(
     text: &mut String,
     component: &Component,
@@ -89,7 +91,8 @@ pub(crate) fn write_instr_text(
     text.push_str("  # ")
 }
 
-/// Adds the name of an operation, by its number. No call of a component names one that is not there.
+/// Adds the name of an operation, by its number. No call of a component names one that is not
+/// there.
 fn write_name(text: &mut String, component: &Component, op: u8) -> Result<(), AllocError>
     ensures { Writes result text.old text.new (operation_name component.now.operations op) }
 {

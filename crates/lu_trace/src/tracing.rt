@@ -13,8 +13,8 @@ use lu_machine::Machine;
 use lu_test::{Matrix, Move, Schedule};
 use std::alloc::{AllocError, Global};
 
-/// Carries out the local instructions that come next in thread `t`, up to `most` of them, and adds their
-/// lines.
+/// Carries out the local instructions that come next in thread `t`, up to `most` of them, and adds
+/// their lines.
 fn run_on(
     alloc: Global,
     text: &mut String,
@@ -45,7 +45,8 @@ fn write_move(
     next: Move,
 ) -> Result<(), AllocError>
     requires { IsFeasible machine.old next }
-    ensures { OnOk result (AddsText (MoveLines number machine.old next machine.new) text.old text.new) }
+    ensures { OnOk result
+        (AddsText (MoveLines number machine.old next machine.new) text.old text.new) }
 {
     let more = machine.more_local(next.thread);
     write_line(alloc, text, machine, Some(number), next)?;
@@ -53,18 +54,19 @@ fn write_move(
     run_on(alloc, text, machine, next.thread, more)
 }
 
-/// The trace of a schedule of the component and the matrix, for people to read. The matrix is asked to be
-/// one of the component.
+/// The trace of a schedule of the component and the matrix, for people to read. The matrix is asked
+/// to be one of the component.
 ///
-/// The first line is `trace complete`, `trace stuck` or `trace running`. Then each move has a line: its
-/// number, from 0, and in its thread's column the call that it opens, or the instruction as the component's
-/// text has it and behind `#` what it did. Local instructions that run with a move stand below it, without
-/// a number. Last comes a line for each thread that is blocked in the end, with what it waits for.
+/// The first line is `trace complete`, `trace stuck` or `trace running`. Then each move has a line:
+/// its number, from 0, and in its thread's column the call that it opens, or the instruction as the
+/// component's text has it and behind `#` what it did. Local instructions that run with a move
+/// stand below it, without a number. Last comes a line for each thread that is blocked in the end,
+/// with what it waits for.
 ///
 /// # Errors
 ///
-/// `Infeasible` with the index, from 0, of the first move that is not feasible where it stands; `Memory`
-/// where memory was refused.
+/// `Infeasible` with the index, from 0, of the first move that is not feasible where it stands;
+/// `Memory` where memory was refused.
 pub fn write_trace(
     alloc: Global,
     component: &Component,

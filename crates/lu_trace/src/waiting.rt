@@ -71,7 +71,8 @@ fn write_await(
     requires array { array < length machine.now.component.arrays }
     requires index { IsOperand index }
     requires value { IsOperand value }
-    ensures { Writes result text.old text.new (awaited_value machine.now frame.now array index value) }
+    ensures { Writes result text.old text.new
+        (awaited_value machine.now frame.now array index value) }
 {
     let component = machine.component();
     text.push_str("waits until ")?;
@@ -93,7 +94,8 @@ fn write_await_not(
     index: u32,
     value: u32,
 ) -> Result<(), AllocError>
-    ensures { Writes result text.old text.new (words.awaited_other component.now array index value) }
+    ensures { Writes result text.old text.new
+        (words.awaited_other component.now array index value) }
 {
     text.push_str("waits until ")?;
     write_other(text, component, array, index, value)
@@ -179,7 +181,8 @@ pub(crate) fn write_waits(
     text: &mut String,
     machine: &Machine<'_>,
 ) -> Result<(), AllocError>
-    ensures { Writes result text.old text.new (spec.waits machine.now (length machine.now.threads)) }
+    ensures { Writes result text.old text.new
+        (spec.waits machine.now (length machine.now.threads)) }
 {
     for t in 0..machine.threads() {
         write_wait(alloc, text, machine, t)?;

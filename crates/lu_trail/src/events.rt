@@ -87,8 +87,8 @@ fn common_count(events: &[Event], others: &[Event]) -> usize
     count
 }
 
-/// Makes the history this one, in the room that it has: what both begin with stays. It may have some of the events where
-/// memory is refused.
+/// Makes the history this one, in the room that it has: what both begin with stays. It may have
+/// some of the events where memory is refused.
 pub(crate) fn refill(history: &mut History, events: &[Event]) -> Result<(), AllocError>
     requires { IsWellFormed events.now }
     ensures { OnOk result (history.new ≡ events.now) }

@@ -16,7 +16,8 @@ const ROOM: usize = 262144;
 /// A beginning of histories.
 #[derive(Clone, Copy)]
 pub(crate) struct Beginning {
-    /// Its last event. The empty one, which is the first in the list, has none, and what stands here means nothing.
+    /// Its last event. The empty one, which is the first in the list, has none, and what stands
+    /// here means nothing.
     event: Event,
 
     /// The place of the beginning without that event.
@@ -57,7 +58,8 @@ impl Path {
     pub(crate) fn new(alloc: Global) -> Result<Path, AllocError>
         ensures path { IfOk result (λ path. IsPath path) }
         ensures history { IfOk result (λ path. history_of path ≡ []) }
-        ensures good { (members : List (List SerialOp)) → IfOk result (λ path. AreGood members path) }
+        ensures good { (members : List (List SerialOp)) →
+            IfOk result (λ path. AreGood members path) }
     {
         let mut beginnings = Vec::with_capacity(alloc, ROOM)?;
         beginnings.push_reserved(empty());

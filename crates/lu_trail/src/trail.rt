@@ -16,16 +16,19 @@ use lu_witness::{Cache, Verdict};
 use std::alloc::{AllocError, Global};
 use std::marker::Model;
 
-/// The history of a walk, and the tree of serial histories over which it is judged. In clauses it is the two.
+/// The history of a walk, and the tree of serial histories over which it is judged. In clauses it
+/// is the two.
 ///
-/// It remembers which histories were judged good, as long as it has room for their beginnings. Where that is used up and most
-/// of what was judged was not known, it remembers none any more: nearly every schedule then has a history of its own.
+/// It remembers which histories were judged good, as long as it has room for their beginnings.
+/// Where that is used up and most of what was judged was not known, it remembers none any more:
+/// nearly every schedule then has a history of its own.
 #[derive(Drop)]
 pub struct Trail<'t, T: SerialTree> {
     tree: &'t T,
     path: Path,
 
-    /// The events of the history where no beginnings are remembered, and else those that were written out last.
+    /// The events of the history where no beginnings are remembered, and else those that were
+    /// written out last.
     events: Events,
 
     /// Whether no beginnings are remembered any more, since that was of little use.
@@ -43,12 +46,16 @@ impl<'t, T: SerialTree> Model for Trail<'t, T> {
 
     ghost Value = { Trailed T };
 
-    ghost view = { λ a. record { tree = a.tree.now; history = history_in a.is_plain a.events a.path } };
+    ghost view = { λ a. record {
+      tree = a.tree.now;
+      history = history_in a.is_plain a.events a.path;
+    } };
 
     ghost invariant = { λ a. IsTrail (T.members a.tree.now) a.is_plain a.events a.path };
 }
 
-/// The verdict of a history that is not known to be good, which is written into the room of the one that was judged last.
+/// The verdict of a history that is not known to be good, which is written into the room of the one
+/// that was judged last.
 #[inline(never)]
 fn verdict_of<'t, T: SerialTree>(
     tree: &'t T,
@@ -152,20 +159,23 @@ impl<'t, T: SerialTree> Trail<'t, T> {
         self.events.clear();
     }
 
-    /// The verdict of the history over the tree. A cache over that tree is asked for it where the history is not known to be
-    /// good; but where nearly every history is a new one the cache is asked for one of 64, since to look a history up takes
-    /// longer than to search for its witnesses.
+    /// The verdict of the history over the tree. A cache over that tree is asked for it where the
+    /// history is not known to be good; but where nearly every history is a new one the cache is
+    /// asked for one of 64, since to look a history up takes longer than to search for its
+    /// witnesses.
     ///
     /// # Errors
     ///
-    /// `AllocError` where memory was refused, which comes only while the history is longer than each that was judged before.
+    /// `AllocError` where memory was refused, which comes only while the history is longer than
+    /// each that was judged before.
     #[inline(always)]
     pub fn judge(&mut self, cache: &mut Cache<'t, T>) -> Result<Verdict, AllocError>
         requires { cache.old.tree ≡ self.old.tree }
         ensures same { self.new ≡ self.old }
         ensures cache { SameButEntries cache.old cache.new }
         ensures well_formed { IsWellFormed self.old.history }
-        ensures verdict { IfOk result (IsVerdict (IsMember (T.members self.old.tree)) self.old.history) }
+        ensures verdict { IfOk result
+            (IsVerdict (IsMember (T.members self.old.tree)) self.old.history) }
     {
         self.uses.count();
         if self.is_plain {

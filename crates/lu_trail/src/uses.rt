@@ -20,8 +20,8 @@ pub(crate) struct Uses {
     /// How many of them were not known to be good.
     asked: u64,
 
-    /// Whether the cache kept the one that was tried last. Where nearly every history is a new one it keeps none: to look one
-    /// up then takes longer than to search for its witnesses.
+    /// Whether the cache kept the one that was tried last. Where nearly every history is a new one
+    /// it keeps none: to look one up then takes longer than to search for its witnesses.
     cache_keeps: bool,
 }
 
@@ -46,7 +46,8 @@ impl Uses {
         self.asked <= self.judged / 2
     }
 
-    /// The verdict of a history that is not known to be good, over the tree: from its cache where that is of use.
+    /// The verdict of a history that is not known to be good, over the tree: from its cache where
+    /// that is of use.
     pub(crate) fn verdict<'t, T: SerialTree>(
         &mut self,
         tree: &'t T,

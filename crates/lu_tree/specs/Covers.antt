@@ -20,7 +20,8 @@ FirstOfCover Set =
     ((q : List Move) → Lists pieces q → IsSmaller q p → AreGood Set s bound (Below q)) →
     IsFirstBad Set s bound (Below p) u why → IsFirstBad Set s bound Any u why
 
--- Where the schedules below every piece of a cover are good, all are, and their numbers are the sums over the pieces.
+-- Where the schedules below every piece of a cover are good, all are, and their numbers are the
+-- sums over the pieces.
 abbrev pub SumsOfCover : (List SerialOp → Type 0) → Type 0
 SumsOfCover Set =
     (s : State) (bound : ℕ) (pieces : List (List Move)) (counts : List Counts) →

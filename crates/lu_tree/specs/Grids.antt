@@ -13,8 +13,8 @@ use Rattle.lu_tree.specs.declared.grid.Width.{Width}
 use Rattle.lu_tree.specs.Trees.{Below}
 use Rattle.lu_tree.specs.Walks.{cuts}
 
--- Wherever a path leads to s: none of the schedules that go on from it ends within `left` moves, and n are cut, 2^64 - 1 standing
--- for that or more.
+-- Wherever a path leads to s: none of the schedules that go on from it ends within `left` moves,
+-- and n are cut, 2^64 - 1 standing for that or more.
 abbrev pub AreCutFrom : State → ℕ → ℕ → Type 0
 AreCutFrom s left n =
     (start : State) (u : List Move) (h : List Event) → Leads start u s h →
@@ -32,10 +32,12 @@ IsForTwo pair s = (t : ℕ) → t ≢ pair.down → t ≢ pair.along → picks_o
 abbrev pub Moves : ℕ → State → State → Type 0
 Moves t s r = (event : Option Event) × (picks_of s t ≡ 1) × Step s (move_of t) r event
 
--- The row that begins at s: how many schedules are cut below s, below the state after one move of thread t, after two, and so on.
+-- The row that begins at s: how many schedules are cut below s, below the state after one move of
+-- thread t, after two, and so on.
 abbrev pub AreRow : ℕ → State → ℕ → List ℕ → Type 0
 AreRow t s left [] = Unit {0}
-AreRow t s left (n ∷ ns) = AreCutFrom s left n × ((next : State) → Moves t s next → AreRow t next (left - 1) ns)
+AreRow t s left (n ∷ ns) =
+    AreCutFrom s left n × ((next : State) → Moves t s next → AreRow t next (left - 1) ns)
 
 -- each number with all that stand behind it
 abbrev pub sums_from : List ℕ → List ℕ
@@ -51,12 +53,15 @@ at_bound false = []
 abbrev pub row_before : Width → List ℕ → List ℕ
 row_before width next = sums_from (take width.taken next ++ at_bound width.is_cut)
 
--- The row that begins at s has this width, where the next one begins at r: its numbers come from those of the next row.
+-- The row that begins at s has this width, where the next one begins at r: its numbers come from
+-- those of the next row.
 pub record IsWide (t : ℕ) (s r : State) (left : ℕ) (width : Width) : Type 0 where
   pub some : 0 < width.taken
   pub few : width.taken ≤ left
-  pub before : (next : List ℕ) → AreRow t r (left - 1) next → width.taken ≤ length next → AreRow t s left (row_before width next)
+  pub before : (next : List ℕ) → AreRow t r (left - 1) next → width.taken ≤ length next
+      → AreRow t s left (row_before width next)
 
--- only the pair can move in s, and a move of `down` from s and one of `along` from r lead to one state
+-- only the pair can move in s, and a move of `down` from s and one of `along` from r lead to one
+-- state
 abbrev pub Meet : Pair → State → State → State → Type 0
 Meet pair s r end = IsForTwo pair s × Moves pair.down s end × Moves pair.along r end

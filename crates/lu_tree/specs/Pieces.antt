@@ -16,7 +16,8 @@ use Rattle.lu_tree.specs.Trees.{IsFrontier, IsPieceAt}
 pub record AreMovesOf (s : State) (moves : List Move) : Type 0 where
   pub feasible : (k : ℕ) (m : Move) → slice_get moves k ≡ Some m → IsFeasible s m
   pub each : (m : Move) → IsFeasible s m → (k : ℕ) × (slice_get moves k ≡ Some m)
-  pub rising : (i j : ℕ) (m n : Move) → i < j → slice_get moves i ≡ Some m → slice_get moves j ≡ Some n → IsMoveBelow m n
+  pub rising : (i j : ℕ) (m n : Move) → i < j → slice_get moves i ≡ Some m
+      → slice_get moves j ≡ Some n → IsMoveBelow m n
 
 -- the schedule with each of the moves behind it
 abbrev pub with_each : List Move → List Move → List (List Move)
@@ -29,7 +30,8 @@ deepened p (m ∷ moves) = with_each p (m ∷ moves)
 
 -- the pieces before, and then what p becomes with the moves of s
 abbrev pub HasKids : State → List Move → List (List Move) → List (List Move) → Type 0
-HasKids s p before after = (moves : List Move) × (after ≡ before ++ deepened p moves) × AreMovesOf s moves
+HasKids s p before after =
+    (moves : List Move) × (after ≡ before ++ deepened p moves) × AreMovesOf s moves
 
 -- what the piece p becomes one move deeper, where `rest` leads on from s to its end
 abbrev pub AreKids : State → List Move → List Move → List (List Move) → Type 0
@@ -40,19 +42,23 @@ AreKids s p rest kids =
 -- at any depth below that of these pieces there are more than 65,536
 abbrev pub TooMany : State → List (List Move) → Type 0
 TooMany s pieces =
-    (d e : ℕ) (list : List (List Move)) → AreAll (IsPieceAt s d) pieces → d < e → AreAll (IsPieceAt s e) list → 65536 < length list
+    (d e : ℕ) (list : List (List Move)) → AreAll (IsPieceAt s d) pieces → d < e
+    → AreAll (IsPieceAt s e) list → 65536 < length list
 
 -- the pieces before, and then what p becomes, `made` moves of which lead to s
 abbrev pub GrowByKids : State → List Move → ℕ → List (List Move) → List (List Move) → Type 0
-GrowByKids s p made before after = (kids : List (List Move)) × (after ≡ before ++ kids) × AreKids s p (drop made p) kids
+GrowByKids s p made before after =
+    (kids : List (List Move)) × (after ≡ before ++ kids) × AreKids s p (drop made p) kids
 
 -- where the pieces are those at some depth, these are the ones one move deeper
 abbrev pub AreDeeper : State → List (List Move) → List (List Move) → Type 0
-AreDeeper s pieces next = (d : ℕ) → AreAll (IsPieceAt s d) pieces → AreAll (IsPieceAt s (d + 1)) next
+AreDeeper s pieces next =
+    (d : ℕ) → AreAll (IsPieceAt s d) pieces → AreAll (IsPieceAt s (d + 1)) next
 
 -- the frontier and the cover of the tree of a component and a matrix
 abbrev pub IsFrontierFrom : Declarations → Matrix → ℕ → ℕ → List (List Move) → Type 0
-IsFrontierFrom c matrix bound depth pieces = (s : State) → IsStart c matrix s → IsFrontier s (min bound depth) pieces
+IsFrontierFrom c matrix bound depth pieces =
+    (s : State) → IsStart c matrix s → IsFrontier s (min bound depth) pieces
 
 abbrev pub IsCoverFrom : Declarations → Matrix → ℕ → List (List Move) → Type 0
 IsCoverFrom c matrix bound pieces = (s : State) → IsStart c matrix s → IsCover s bound pieces

@@ -24,7 +24,8 @@ IsFound Set s bound Part (Bad schedule why) = IsFirstBad Set s bound Part schedu
 IsFound Set s bound Part Abandoned = ⊥
 
 -- the same, unless the search was abandoned
-abbrev pub IsFoundWatched : (List SerialOp → Type 0) → State → ℕ → (List Move → Type 0) → Found → Type 0
+abbrev pub IsFoundWatched : (List SerialOp → Type 0) → State → ℕ → (List Move → Type 0) → Found
+    → Type 0
 IsFoundWatched Set s bound Part (Clean counts) = AreAllGood Set s bound Part counts
 IsFoundWatched Set s bound Part (Bad schedule why) = IsFirstBad Set s bound Part schedule why
 IsFoundWatched Set s bound Part Abandoned = Unit {0}
@@ -38,7 +39,8 @@ is_abandoned (Err e) = false
 
 -- u has d moves, or fewer and is ended
 abbrev pub IsPieceAt : State → ℕ → List Move → Type 0
-IsPieceAt s d u = ((length u ≡ d) × IsSchedule s u) ⊎ ((length u < d) × Reaches s u (λ end _. IsEnded end))
+IsPieceAt s d u =
+    ((length u ≡ d) × IsSchedule s u) ⊎ ((length u < d) × Reaches s u (λ end _. IsEnded end))
 
 -- all pieces at the greatest depth, up to `most`, at which there are at most 65,536
 pub record IsFrontier (s : State) (most : ℕ) (pieces : List (List Move)) : Type 0 where
@@ -46,13 +48,18 @@ pub record IsFrontier (s : State) (most : ℕ) (pieces : List (List Move)) : Typ
   pub within : depth ≤ most
   pub all : AreAll (IsPieceAt s depth) pieces
   pub few : length pieces ≤ 65536
-  pub greatest : (d : ℕ) (list : List (List Move)) → depth < d → d ≤ most → AreAll (IsPieceAt s d) list → 65536 < length list
+  pub greatest : (d : ℕ) (list : List (List Move)) → depth < d → d ≤ most
+      → AreAll (IsPieceAt s d) list → 65536 < length list
 
--- what is found from the start of the component and the matrix among the schedules that begin with `from`; and the same, unless the search was abandoned
-abbrev pub Finds : {E : Type 0} → Declarations → Matrix → List (List SerialOp) → List Move → ℕ → Result Found E → Type 0
+-- what is found from the start of the component and the matrix among the schedules that begin with
+-- `from`; and the same, unless the search was abandoned
+abbrev pub Finds : {E : Type 0} → Declarations → Matrix → List (List SerialOp) → List Move → ℕ
+    → Result Found E → Type 0
 Finds c matrix members from bound result =
     (s : State) → IsStart c matrix s → IfOk result (IsFound (IsMember members) s bound (Below from))
 
-abbrev pub MayFind : {E : Type 0} → Declarations → Matrix → List (List SerialOp) → List Move → ℕ → Result Found E → Type 0
+abbrev pub MayFind : {E : Type 0} → Declarations → Matrix → List (List SerialOp) → List Move → ℕ
+    → Result Found E → Type 0
 MayFind c matrix members from bound result =
-    (s : State) → IsStart c matrix s → IfOk result (IsFoundWatched (IsMember members) s bound (Below from))
+    (s : State) → IsStart c matrix s
+    → IfOk result (IsFoundWatched (IsMember members) s bound (Below from))

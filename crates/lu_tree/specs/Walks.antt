@@ -57,69 +57,87 @@ Counted Set s h old new =
     ⊎ ((IsComplete s × IsGoodAt Set s h × (new ≡ plus old one_complete))
     ⊎ (IsStuck s × IsGoodAt Set s h × (new ≡ plus old one_stuck)))
 
--- The schedules that go on from a path to s and h, with no more than `left` moves behind it, are good if they end, and these
--- are their numbers.
+-- The schedules that go on from a path to s and h, with no more than `left` moves behind it, are
+-- good if they end, and these are their numbers.
 abbrev pub AreBelow : (List SerialOp → Type 0) → State → List Event → ℕ → Counts → Type 0
 AreBelow Set s h left below =
-    (start : State) (u : List Move) → Leads start u s h → AreAllGood Set start (length u + left) (Below u) below
+    (start : State) (u : List Move) → Leads start u s h
+    → AreAllGood Set start (length u + left) (Below u) below
 
--- The walk passed: each schedule that goes on from a path to s and h, with no more than `left` moves behind it, is good if it
--- ends; their numbers were added.
+-- The walk passed: each schedule that goes on from a path to s and h, with no more than `left`
+-- moves behind it, is good if it ends; their numbers were added.
 abbrev pub Passes : (List SerialOp → Type 0) → State → List Event → ℕ → Counts → Counts → Type 0
 Passes Set s h left old new =
     (start : State) (u : List Move) → Leads start u s h →
-    (below : Counts) × (new ≡ plus old below) × AreAllGood Set start (length u + left) (Below u) below
+    (below : Counts) × (new ≡ plus old below)
+    × AreAllGood Set start (length u + left) (Below u) below
 
 -- a schedule that ends here is not good, and why
 abbrev pub IsBadAt : (List SerialOp → Type 0) → State → List Event → Why → Type 0
 IsBadAt Set s h why = (IsGoodAt Set s h → ⊥) × IsWhyAt Set s h why
 
 -- u ends here within the bound, and each smaller schedule of the part that ends within it is good
-pub record IsFirstAt (Set : List SerialOp → Type 0) (start : State) (bound : ℕ) (Part : List Move → Type 0) (u : List Move) (end : State) (history : List Event) : Type 0 where
+pub record IsFirstAt (Set : List SerialOp → Type 0) (start : State) (bound : ℕ)
+    (Part : List Move → Type 0) (u : List Move) (end : State) (history : List Event) : Type 0 where
   pub part : Part u
   pub short : length u ≤ bound
   pub leads : Leads start u end history
   pub ended : IsEnded end
   pub before : AreGood Set start bound (λ v. Part v × IsSmaller v u)
 
--- The walk stopped at a schedule that ends: it goes on by these moves, the last one first, and those before it are good.
-abbrev pub StopsAt : (List SerialOp → Type 0) → State → List Event → ℕ → List Move → State → List Event → Type 0
+-- The walk stopped at a schedule that ends: it goes on by these moves, the last one first, and
+-- those before it are good.
+abbrev pub StopsAt : (List SerialOp → Type 0) → State → List Event → ℕ → List Move → State
+    → List Event → Type 0
 StopsAt Set s h left path end history =
     (start : State) (u : List Move) → Leads start u s h →
     IsFirstAt Set start (length u + left) (Below u) (u ++ reverse path) end history
 
 -- the same of a node and a tally, over the histories of the node's tree
-abbrev pub IsCounted : {T Place : Type 0} → (T → List (List SerialOp)) → Node T Place → Tally → Tally → Type 0
+abbrev pub IsCounted : {T Place : Type 0} → (T → List (List SerialOp)) → Node T Place → Tally
+    → Tally → Type 0
 IsCounted members node old new =
-    Counted (IsMember (members node.trail.tree)) node.machine node.trail.history old.counts new.counts
+    Counted (IsMember (members node.trail.tree)) node.machine node.trail.history old.counts
+    new.counts
 
-abbrev pub AreBelowNode : {T Place : Type 0} → (T → List (List SerialOp)) → Node T Place → ℕ → Counts → Type 0
-AreBelowNode members node left below = AreBelow (IsMember (members node.trail.tree)) node.machine node.trail.history left below
+abbrev pub AreBelowNode : {T Place : Type 0} → (T → List (List SerialOp)) → Node T Place → ℕ
+    → Counts → Type 0
+AreBelowNode members node left below =
+    AreBelow (IsMember (members node.trail.tree)) node.machine node.trail.history left below
 
-abbrev pub HasPassed : {T Place : Type 0} → (T → List (List SerialOp)) → Node T Place → ℕ → Tally → Tally → Type 0
+abbrev pub HasPassed : {T Place : Type 0} → (T → List (List SerialOp)) → Node T Place → ℕ → Tally
+    → Tally → Type 0
 HasPassed members node left old new =
-    Passes (IsMember (members node.trail.tree)) node.machine node.trail.history left old.counts new.counts
+    Passes (IsMember (members node.trail.tree)) node.machine node.trail.history left old.counts
+    new.counts
 
 -- or, where it did not pass and the watch did not stop it
-abbrev pub Stopped : {T Place : Type 0} → (T → List (List SerialOp)) → Node T Place → ℕ → Bool → Bool → Tally → Node T Place → Type 0
+abbrev pub Stopped : {T Place : Type 0} → (T → List (List SerialOp)) → Node T Place → ℕ → Bool
+    → Bool → Tally → Node T Place → Type 0
 Stopped members node left passed stopped tally end =
     passed ≡ false → stopped ≡ false →
-    StopsAt (IsMember (members node.trail.tree)) node.machine node.trail.history left tally.path.items end.machine end.trail.history
+    StopsAt (IsMember (members node.trail.tree)) node.machine node.trail.history left
+    tally.path.items end.machine end.trail.history
 
 -- a schedule that ends at the node is good, or complete and good, or not good and why
 abbrev pub IsGoodEnd : {T Place : Type 0} → (T → List (List SerialOp)) → Node T Place → Type 0
-IsGoodEnd members node = IsGoodAt (IsMember (members node.trail.tree)) node.machine node.trail.history
+IsGoodEnd members node =
+    IsGoodAt (IsMember (members node.trail.tree)) node.machine node.trail.history
 
 abbrev pub IsGoodComplete : {T Place : Type 0} → (T → List (List SerialOp)) → Node T Place → Type 0
-IsGoodComplete members node = IsComplete node.machine × HasWitness (IsMember (members node.trail.tree)) node.trail.history
+IsGoodComplete members node =
+    IsComplete node.machine × HasWitness (IsMember (members node.trail.tree)) node.trail.history
 
 abbrev pub IsBadEnd : {T Place : Type 0} → (T → List (List SerialOp)) → Node T Place → Why → Type 0
-IsBadEnd members node why = IsBadAt (IsMember (members node.trail.tree)) node.machine node.trail.history why
+IsBadEnd members node why =
+    IsBadAt (IsMember (members node.trail.tree)) node.machine node.trail.history why
 
 -- the history before the move with this event
 abbrev pub IsTakenBack : Option Event → List Event → List Event → Type 0
 IsTakenBack event old new = (h : List Event) → old ≡ h ++ with_event event [] → new ≡ h
 
 -- the schedule leads to the node from the start
-abbrev pub LeadsToNode : {T Place : Type 0} → Declarations → Matrix → List Move → Node T Place → Type 0
-LeadsToNode c matrix u node = (s : State) → IsStart c matrix s → Leads s u node.machine node.trail.history
+abbrev pub LeadsToNode : {T Place : Type 0} → Declarations → Matrix → List Move → Node T Place
+    → Type 0
+LeadsToNode c matrix u node =
+    (s : State) → IsStart c matrix s → Leads s u node.machine node.trail.history

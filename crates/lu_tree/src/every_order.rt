@@ -39,7 +39,8 @@ fn without(alloc: Global, ops: &[SerialOp], i: usize) -> Result<Vec<SerialOp>, A
 fn kid_with<T: SerialTree>(tree: &T, place: T::Place, label: SerialOp) -> Option<T::Place>
     requires { T.is_place tree.now place }
     ensures place { IfSome result (T.is_place tree.now) }
-    ensures behind { IfSome result (λ kid. AreBehind (label ∷ []) (T.below tree.now kid) (T.below tree.now place)) }
+    ensures behind { IfSome result (λ kid.
+        AreBehind (label ∷ []) (T.below tree.now kid) (T.below tree.now place)) }
 {
     for i in 0..tree.kid_count(place) {
         let (op, kid) = tree.kid(place, i);
@@ -53,7 +54,8 @@ fn kid_with<T: SerialTree>(tree: &T, place: T::Place, label: SerialOp) -> Option
 /// The place to which the operations lead from the root.
 fn place_behind<T: SerialTree>(tree: &T, ops: &[SerialOp]) -> Option<T::Place>
     ensures place { IfSome result (T.is_place tree.now) }
-    ensures behind { IfSome result (λ place. AreBehind ops.now (T.below tree.now place) (T.members tree.now)) }
+    ensures behind { IfSome result (λ place.
+        AreBehind ops.now (T.below tree.now place) (T.members tree.now)) }
 {
     let mut place = tree.root();
     for op in ops {
@@ -62,8 +64,8 @@ fn place_behind<T: SerialTree>(tree: &T, ops: &[SerialOp]) -> Option<T::Place>
     Some(place)
 }
 
-/// Whether the operations stand below the place in every order, those of each thread in their own. It may say no where there
-/// is no room to look at more places.
+/// Whether the operations stand below the place in every order, those of each thread in their own.
+/// It may say no where there is no room to look at more places.
 fn has_every_order<T: SerialTree>(
     alloc: Global,
     tree: &T,
@@ -97,7 +99,8 @@ fn has_every_order<T: SerialTree>(
     true
 }
 
-/// Whether the tree has the operations of the history in every order behind the first so many to return.
+/// Whether the tree has the operations of the history in every order behind the first so many to
+/// return.
 pub(crate) fn has_orders<'t, T: SerialTree>(
     alloc: Global,
     tree: &T,
@@ -105,7 +108,8 @@ pub(crate) fn has_orders<'t, T: SerialTree>(
     trail: &mut Trail<'t, T>,
 ) -> bool
     ensures same { trail.new ≡ trail.old }
-    ensures judged { IsTrue result → IsJudged (IsMember (T.members tree.now)) (EveryOrder first) trail.old.history }
+    ensures judged { IsTrue result →
+        IsJudged (IsMember (T.members tree.now)) (EveryOrder first) trail.old.history }
 {
     let Ok(ops) = trail.returned(alloc) else {
         return false;

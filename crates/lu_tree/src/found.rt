@@ -10,7 +10,8 @@ pub enum Found {
     /// Every schedule that ends within the bound is good: how many are complete, stuck and cut.
     Clean(Counts),
 
-    /// The least schedule that ends within the bound and is not good, and why it is not. Every smaller one is good.
+    /// The least schedule that ends within the bound and is not good, and why it is not. Every
+    /// smaller one is good.
     Bad { schedule: Schedule, why: Why },
 
     /// The watch stopped the search.

@@ -1,8 +1,9 @@
 //! The schedules of two threads, counted as the paths of a grid.
 //!
-//! Where only two threads have moves, the states below a node make a grid: a row goes on by moves of the one thread, and the next
-//! row begins with a move of the other. Where both orders of two moves lead to one state, the schedules below it are the same, and
-//! are counted once for both: the numbers of a row come from those of the next row. That two orders lead to one state is seen by
+//! Where only two threads have moves, the states below a node make a grid: a row goes on by moves
+//! of the one thread, and the next row begins with a move of the other. Where both orders of two
+//! moves lead to one state, the schedules below it are the same, and are counted once for both: the
+//! numbers of a row come from those of the next row. That two orders lead to one state is seen by
 //! making the moves on two machines.
 
 ghost use Rattle.std.specs.Prelude.{◌≡◌, ◌≢◌, ◌+◌, ◌<◌, ◌≤◌, [], ◌∷◌, true, false, ℕ, length, get_or, IfOk, IfSome};
@@ -34,7 +35,8 @@ const GAIN_OF_SCHEDULE: u64 = 16;
 /// What a look in vain for two threads takes.
 const COST_OF_LOOK: u64 = 16;
 
-/// Two threads: a row of their grid goes on by moves of the one, and the next row begins with a move of the other.
+/// Two threads: a row of their grid goes on by moves of the one, and the next row begins with a
+/// move of the other.
 #[derive(Clone, Copy, Debug)]
 struct Pair {
     down: u8,
@@ -76,8 +78,8 @@ fn is_for_two(pair: Pair, machine: &Machine<'_>) -> bool
     true
 }
 
-/// Whether a move of `down` on the machine leads to the state to which one of `along` leads on the other. The machine is as it was,
-/// and the other one has made its move.
+/// Whether a move of `down` on the machine leads to the state to which one of `along` leads on the
+/// other. The machine is as it was, and the other one has made its move.
 fn meet<'a, const LONG: bool>(
     pair: Pair,
     machine: &mut Machine<'a>,
@@ -102,8 +104,9 @@ fn meet<'a, const LONG: bool>(
     same
 }
 
-/// How far the row goes that begins at the machine's state, where the next one begins at that of the other: none where two orders of
-/// moves lead to different states, a schedule ends, or another thread has a move.
+/// How far the row goes that begins at the machine's state, where the next one begins at that of
+/// the other: none where two orders of moves lead to different states, a schedule ends, or another
+/// thread has a move.
 fn reach<'a, const LONG: bool>(
     pair: Pair,
     machine: &mut Machine<'a>,
@@ -172,7 +175,8 @@ fn add_up(numbers: Vec<u64>) -> Vec<u64>
     numbers
 }
 
-/// The numbers of a row of this width, from those of the next row: none where those don't go so far, or memory was refused.
+/// The numbers of a row of this width, from those of the next row: none where those don't go so
+/// far, or memory was refused.
 fn row_before(width: Width, next: Vec<u64>) -> Option<Vec<u64>>
     ensures enough { IfSome result (λ _. width.taken ≤ length next.items) }
     ensures row { IfSome result (λ row. row.items ≡ numbers_before width next.items) }
@@ -188,8 +192,8 @@ fn row_before(width: Width, next: Vec<u64>) -> Option<Vec<u64>>
     Some(add_up(numbers))
 }
 
-/// The numbers of a row that begins with a move of one thread alone: the first number stands for the state before it, too. None
-/// where there are none, or memory was refused.
+/// The numbers of a row that begins with a move of one thread alone: the first number stands for
+/// the state before it, too. None where there are none, or memory was refused.
 fn row_longer(rest: Vec<u64>) -> Option<Vec<u64>>
     ensures some { IfSome result (λ _. 0 < length rest.items) }
     ensures row { IfSome result (λ row. row.items ≡ get_or rest.items 0 0 ∷ rest.items) }
@@ -202,8 +206,8 @@ fn row_longer(rest: Vec<u64>) -> Option<Vec<u64>>
     }
 }
 
-/// The numbers of the row that begins at the machine's state, where all schedules below it are cut: none where that is not certain.
-/// What the other machine's state is does not matter.
+/// The numbers of the row that begins at the machine's state, where all schedules below it are cut:
+/// none where that is not certain. What the other machine's state is does not matter.
 fn row<'a, const LONG: bool>(
     alloc: Global,
     pair: Pair,
@@ -294,8 +298,9 @@ pub(crate) struct Grid<'a> {
     /// The machine on which moves are made in another order.
     pub(crate) other: Machine<'a>,
 
-    /// What further tries may cost. Each node of the walk gives a little, each schedule that a grid has counted gives more, and each
-    /// try that failed takes what it may have cost: so a walk in which grids are of no use takes hardly longer.
+    /// What further tries may cost. Each node of the walk gives a little, each schedule that a grid
+    /// has counted gives more, and each try that failed takes what it may have cost: so a walk in
+    /// which grids are of no use takes hardly longer.
     credit: u64,
 }
 
@@ -343,7 +348,8 @@ impl<'a> Grid<'a> {
         };
     }
 
-    /// The two threads whose grid it is: none, and a little credit less, where more or fewer threads are not finished.
+    /// The two threads whose grid it is: none, and a little credit less, where more or fewer
+    /// threads are not finished.
     fn look(&mut self, machine: &Machine<'_>) -> Option<Pair>
         ensures other { self.new.other ≡ self.old.other }
         ensures differ { IfSome result (λ pair. pair.down ≢ pair.along) }
@@ -355,7 +361,8 @@ impl<'a> Grid<'a> {
         found
     }
 
-    /// How many schedules are cut below the machine's state, where that can be counted by the grid of these two threads.
+    /// How many schedules are cut below the machine's state, where that can be counted by the grid
+    /// of these two threads.
     fn count<const LONG: bool>(
         &mut self,
         pair: Pair,
@@ -373,9 +380,9 @@ impl<'a> Grid<'a> {
         numbers.first().copied()
     }
 
-    /// How many schedules are cut below the machine's state, where only two threads have moves, none of their schedules ends within
-    /// `left` moves, and the state after some moves of both does not depend on their order: none where that is not certain, or
-    /// was not tried.
+    /// How many schedules are cut below the machine's state, where only two threads have moves,
+    /// none of their schedules ends within `left` moves, and the state after some moves of both
+    /// does not depend on their order: none where that is not certain, or was not tried.
     #[inline(always)]
     pub(crate) fn cut_below<const LONG: bool>(
         &mut self,

@@ -58,7 +58,8 @@ impl<'a, 't, T: SerialTree> Node<'a, 't, T> {
         requires one { LONG ≡ false → self.old.machine.component.local ≡ 0 }
         requires agree { Agree (progress self.old.machine) self.old.trail.history }
         ensures step { Step self.old.machine next self.new.machine result.event }
-        ensures history { self.new.trail.history ≡ self.old.trail.history ++ with_event result.event [] }
+        ensures history { self.new.trail.history ≡
+            self.old.trail.history ++ with_event result.event [] }
         ensures tree { self.new.trail.tree ≡ self.old.trail.tree }
         ensures agree { Agree (progress self.new.machine) self.new.trail.history }
         ensures back { restored result self.new.machine ≡ self.old.machine }
@@ -79,7 +80,8 @@ impl<'a, 't, T: SerialTree> Node<'a, 't, T> {
     #[inline(always)]
     pub(crate) fn leave(&mut self, undo: Undo)
         requires fits { CanTake self.old.machine undo }
-        requires made { (h : List Event) × (self.old.trail.history ≡ h ++ with_event undo.event []) }
+        requires made { (h : List Event) ×
+            (self.old.trail.history ≡ h ++ with_event undo.event []) }
         ensures machine { self.new.machine ≡ restored undo self.old.machine }
         ensures history { IsTakenBack undo.event self.old.trail.history self.new.trail.history }
         ensures tree { self.new.trail.tree ≡ self.old.trail.tree }

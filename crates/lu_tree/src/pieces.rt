@@ -32,7 +32,8 @@ fn extend(alloc: Global, piece: &Schedule, next: Move) -> Result<Schedule, Alloc
     Ok(Schedule::new(longer))
 }
 
-/// Adds to `next` the piece with each move of the machine behind it, or the piece itself where there is none.
+/// Adds to `next` the piece with each move of the machine behind it, or the piece itself where
+/// there is none.
 fn add_kids(
     alloc: Global,
     machine: &Machine,
@@ -55,7 +56,8 @@ fn add_kids(
     Ok(())
 }
 
-/// Adds to `next` what the piece becomes one move deeper, from the machine at which so many of its moves are made.
+/// Adds to `next` what the piece becomes one move deeper, from the machine at which so many of its
+/// moves are made.
 fn deepen(
     alloc: Global,
     machine: &mut Machine,
@@ -68,7 +70,8 @@ fn deepen(
     requires within { made ≤ length piece.now }
     requires leads { IsSchedule machine.old (drop made piece.now) }
     ensures home { OnOk result (machine.new ≡ machine.old) }
-    ensures kids { OnOk result (GrowByKids machine.old piece.now made next.old.items next.new.items) }
+    ensures kids { OnOk result
+        (GrowByKids machine.old piece.now made next.old.items next.new.items) }
 {
     let moves = piece.moves();
     if made == moves.len() {
@@ -91,7 +94,8 @@ fn go_deeper(
     requires leads { (u : List AMove) → Lists pieces.now u → IsSchedule machine.old u }
     ensures home { OnOk result (machine.new ≡ machine.old) }
     ensures few { IfOk result (λ deeper. IfSome deeper (λ next. length next.items ≤ 65536)) }
-    ensures some { IfOk result (λ d. IfSome d (λ next. AreDeeper machine.old pieces.now next.items)) }
+    ensures some { IfOk result (λ d.
+        IfSome d (λ next. AreDeeper machine.old pieces.now next.items)) }
     ensures none { IfOk result (λ deeper. IfNone deeper (TooMany machine.old pieces.now)) }
 {
     let mut next = Vec::new(alloc);
@@ -104,9 +108,10 @@ fn go_deeper(
     Ok(Some(next))
 }
 
-/// The schedules of `d` moves and the ended ones of fewer, in order. `d` is the greatest number, at most `depth` (0 to 8) and
-/// `bound` (0 to 256), for which there are at most 65,536 of them. They are a cover: each schedule that is ended within the
-/// bound or cut at it begins with exactly one of them. The matrix has to be one of the component (`Matrix::of`).
+/// The schedules of `d` moves and the ended ones of fewer, in order. `d` is the greatest number, at
+/// most `depth` (0 to 8) and `bound` (0 to 256), for which there are at most 65,536 of them. They
+/// are a cover: each schedule that is ended within the bound or cut at it begins with exactly one
+/// of them. The matrix has to be one of the component (`Matrix::of`).
 ///
 /// # Errors
 ///
@@ -121,8 +126,10 @@ pub fn frontier(
     requires of { CanRun component.now matrix.now }
     requires few { bound ≤ 256 }
     requires shallow { depth ≤ 8 }
-    ensures frontier { IfOk result (λ p. IsFrontierFrom component.now matrix.now bound depth p.items) }
-    ensures cover { IfOk result (λ pieces. IsCoverFrom component.now matrix.now bound pieces.items) }
+    ensures frontier { IfOk result (λ p.
+        IsFrontierFrom component.now matrix.now bound depth p.items) }
+    ensures cover { IfOk result (λ pieces.
+        IsCoverFrom component.now matrix.now bound pieces.items) }
     ensures limits { IsComponent component.now × IsMatrix matrix.now }
 {
     let mut machine = Machine::start(alloc, component, matrix)?;

@@ -64,8 +64,8 @@ fn join(from: &[Move], path: Vec<Move>) -> Vec<Move>
     moves
 }
 
-/// Searches as [`search`] does, over the tree of the cache, until the watch stops it. The watch is asked after each 64 further
-/// schedules that were judged good, or that are cut.
+/// Searches as [`search`] does, over the tree of the cache, until the watch stops it. The watch is
+/// asked after each 64 further schedules that were judged good, or that are cut.
 ///
 /// # Errors
 ///
@@ -84,7 +84,8 @@ pub fn search_watched<'a, 't, T: SerialTree, W: Watch>(
     requires short { length from.now ≤ bound }
     requires leads { (s : State) → IsStart component.now matrix.now s → IsSchedule s from.now }
     requires running { W.is_stopped watch.old ≡ false }
-    ensures found { MayFind component.now matrix.now (T.members cache.old.tree) from.now bound result }
+    ensures found { MayFind component.now matrix.now (T.members cache.old.tree)
+        from.now bound result }
     ensures base { W.base watch.new ≡ W.base watch.old }
     ensures cache { SameButEntries cache.old cache.new }
     ensures stopped { W.is_stopped watch.new ≡ is_abandoned result }
@@ -109,9 +110,10 @@ pub fn search_watched<'a, 't, T: SerialTree, W: Watch>(
     })
 }
 
-/// Searches the schedules that begin with `from`: answers the least one that is ended within the bound, 0 to 256 moves, and
-/// not good for the set of the tree, and why it is not good; or, where all are good, how many are complete, stuck and cut.
-/// The matrix has to be one of the component (`Matrix::of`), and `from` has to be feasible and to have at most `bound` moves.
+/// Searches the schedules that begin with `from`: answers the least one that is ended within the
+/// bound, 0 to 256 moves, and not good for the set of the tree, and why it is not good; or, where
+/// all are good, how many are complete, stuck and cut. The matrix has to be one of the component
+/// (`Matrix::of`), and `from` has to be feasible and to have at most `bound` moves.
 ///
 /// # Errors
 ///

@@ -108,9 +108,10 @@ fn is_judged_end<'t, T: SerialTree>(
     }
 }
 
-/// Runs thread `t` and those behind it to their ends, one after the other, and takes it back. Where that is all that the
-/// order of their moves could change, and the end is good, it answers how many moves each thread makes: none where it is
-/// not certain, or takes more than `left` moves, or a thread touches more than it may.
+/// Runs thread `t` and those behind it to their ends, one after the other, and takes it back. Where
+/// that is all that the order of their moves could change, and the end is good, it answers how many
+/// moves each thread makes: none where it is not certain, or takes more than `left` moves, or a
+/// thread touches more than it may.
 fn finish<'t, T: SerialTree>(
     alloc: Global,
     cache: &mut Cache<'t, T>,
@@ -179,8 +180,8 @@ fn look_at<'t, T: SerialTree>(
     }
 }
 
-/// Where all schedules below the node end within `left` moves, complete and good, how many there are: none where that is not
-/// certain.
+/// Where all schedules below the node end within `left` moves, complete and good, how many there
+/// are: none where that is not certain.
 fn complete_below<'t, T: SerialTree>(
     cache: &mut Cache<'t, T>,
     ahead: &Ahead,
@@ -201,7 +202,8 @@ fn complete_below<'t, T: SerialTree>(
     ahead.orders.interleavings(&lengths)
 }
 
-/// Where no schedule from the machine's state ends within `left` moves, how many are cut: none where that is not certain.
+/// Where no schedule from the machine's state ends within `left` moves, how many are cut: none
+/// where that is not certain.
 fn cut_below(ahead: &Ahead, left: usize, machine: &Machine<'_>) -> Option<u64>
     ensures { Serves ahead.now.horizon machine.now → IfSome result (IsCutBelow machine.now left) }
 {
@@ -209,8 +211,8 @@ fn cut_below(ahead: &Ahead, left: usize, machine: &Machine<'_>) -> Option<u64>
     ahead.orders.orders_within(left, &caps)
 }
 
-/// How many schedules there are below the node, by a law: all of them are cut, or all end complete and good. None where
-/// neither is certain.
+/// How many schedules there are below the node, by a law: all of them are cut, or all end complete
+/// and good. None where neither is certain.
 pub(crate) fn counted_below<'t, T: SerialTree>(
     cache: &mut Cache<'t, T>,
     ahead: &Ahead,

@@ -24,7 +24,8 @@ pub(crate) struct Tally {
     /// How many of them the watch was not asked about yet.
     unasked: u8,
 
-    /// The moves by which a walk that stopped had gone on, the last one first. It has room for all of them.
+    /// The moves by which a walk that stopped had gone on, the last one first. It has room for all
+    /// of them.
     pub(crate) path: Vec<Move>,
 }
 
@@ -41,7 +42,8 @@ impl Tally {
         })
     }
 
-    /// Counts a schedule that is passed. Answers whether the walk goes on: after each 64 the watch is asked.
+    /// Counts a schedule that is passed. Answers whether the walk goes on: after each 64 the watch
+    /// is asked.
     #[inline(always)]
     pub(crate) fn pass<W: Watch>(&mut self, one: Counts, watch: &mut W) -> bool
         requires { W.is_stopped watch.old ≡ false }
@@ -60,8 +62,8 @@ impl Tally {
         !watch.stop()
     }
 
-    /// Counts so many schedules that are passed together. Answers whether the walk goes on: the watch is asked as often as if
-    /// they had been walked one after another.
+    /// Counts so many schedules that are passed together. Answers whether the walk goes on: the
+    /// watch is asked as often as if they had been walked one after another.
     pub(crate) fn pass_many<W: Watch>(&mut self, passed: Counts, watch: &mut W) -> bool
         requires { W.is_stopped watch.old ≡ false }
         ensures base { W.base watch.new ≡ W.base watch.old }

@@ -21,8 +21,8 @@ use lu_test::Move;
 use lu_trie::SerialTree;
 use lu_witness::Cache;
 
-/// Ends a schedule here, which is cut, or is ended and has to be good. Answers whether it was counted, and the watch lets the walk
-/// go on.
+/// Ends a schedule here, which is cut, or is ended and has to be good. Answers whether it was
+/// counted, and the watch lets the walk go on.
 #[inline(always)]
 fn end<'t, T: SerialTree, W: Watch>(
     cache: &mut Cache<'t, T>,
@@ -87,7 +87,8 @@ fn cut_in_grid<'a, 't, const LONG: bool, T: SerialTree>(
     })
 }
 
-/// How many schedules there are below the node, where that is known without a walk. The grid is asked last, since it makes moves.
+/// How many schedules there are below the node, where that is known without a walk. The grid is
+/// asked last, since it makes moves.
 #[inline(always)]
 fn known_below<'a, 't, const LONG: bool, T: SerialTree>(
     cache: &mut Cache<'t, T>,
@@ -117,8 +118,9 @@ fn known_below<'a, 't, const LONG: bool, T: SerialTree>(
     }
 }
 
-/// Walks the schedules below the node, of no more than `left` moves, in order. Answers whether all of them were passed: the walk
-/// stops at the first that is not found good, and where the watch stops it. It is then still there.
+/// Walks the schedules below the node, of no more than `left` moves, in order. Answers whether all
+/// of them were passed: the walk stops at the first that is not found good, and where the watch
+/// stops it. It is then still there.
 pub(crate) fn walk<'a, 't, T: SerialTree, W: Watch>(
     cache: &mut Cache<'t, T>,
     watch: &mut W,
@@ -129,7 +131,8 @@ pub(crate) fn walk<'a, 't, T: SerialTree, W: Watch>(
     tally: &mut Tally,
 ) -> bool
     requires few { left ≤ 256 }
-    requires serves { node.old.machine.component.local ≡ 0 → Serves ahead.now.horizon node.old.machine }
+    requires serves { node.old.machine.component.local ≡ 0 →
+        Serves ahead.now.horizon node.old.machine }
     requires agree { Agree (progress node.old.machine) node.old.trail.history }
     requires tree { cache.old.tree ≡ node.old.trail.tree }
     requires running { W.is_stopped watch.old ≡ false }
@@ -146,7 +149,8 @@ pub(crate) fn walk<'a, 't, T: SerialTree, W: Watch>(
     ensures passes { result ≡ true → HasPassed T.members node.old left tally.old tally.new }
     ensures room { 256 ≤ vec_capacity tally.new.path }
     ensures path { length tally.new.path.items ≤ left }
-    ensures stops { Stopped T.members node.old left result (W.is_stopped watch.new) tally.new node.new }
+    ensures stops { Stopped T.members node.old left result (W.is_stopped watch.new)
+        tally.new node.new }
 {
     if node.machine.local() == 0 {
         walk_as::<false, T, W>(cache, watch, ahead, grid, left, node, tally)
@@ -185,7 +189,8 @@ fn walk_as<'a, 't, const LONG: bool, T: SerialTree, W: Watch>(
     ensures room { 256 ≤ vec_capacity tally.new.path }
     ensures path { length tally.new.path.items ≤ left }
     ensures beside { result ≡ true → AreBeside node.old.machine grid.new.other }
-    ensures stops { Stopped T.members node.old left result (W.is_stopped watch.new) tally.new node.new }
+    ensures stops { Stopped T.members node.old left result (W.is_stopped watch.new)
+        tally.new node.new }
 {
     if left == 0 {
         return end(cache, watch, node, tally);

@@ -1,4 +1,5 @@
--- A set of serial histories as a node of a tree: whether the empty history is a member, and what follows each first entry.
+-- A set of serial histories as a node of a tree: whether the empty history is a member, and what
+-- follows each first entry.
 use Rattle.std.specs.Prelude.{◌≡◌, ◌≢◌, ℕ, ◌<◌, ◌≤◌, Bool, List, [], ◌∷◌, ◌++◌, map, length, if◌then◌else◌, Some, slice_get, slice_index_or}
 use Rattle.std.specs.List.{HoldsAt}
 use Rattle.std.specs.List.Sorted.{IsStrictlySortedBy}
@@ -42,7 +43,8 @@ pub record IsNode (ends : Bool) (branches : List Branch) : Type 0 where
 abbrev pub with_first : SerialOp → List SerialOp → List Branch → List Branch
 with_first op history [] = (op, history ∷ []) ∷ []
 with_first op history (branch ∷ branches) =
-    if same_op op branch.0 then (branch.0, history ∷ branch.1) ∷ branches else (op, history ∷ []) ∷ branch ∷ branches
+    if same_op op branch.0 then (branch.0, history ∷ branch.1) ∷ branches
+    else (op, history ∷ []) ∷ branch ∷ branches
 
 -- the histories that are not empty, by their first entries
 abbrev pub branches_of : List (List SerialOp) → List Branch
@@ -50,7 +52,8 @@ branches_of [] = []
 branches_of ([] ∷ histories) = branches_of histories
 branches_of ((op ∷ history) ∷ histories) = with_first op history (branches_of histories)
 
--- the members are the empty history, where it is one, and those of the branches, each behind its label
+-- the members are the empty history, where it is one, and those of the branches, each behind its
+-- label
 pub record IsBranching (histories : List (List SerialOp)) : Type 0 where
   pub parted : histories ≡ members_from (contains histories []) (branches_of histories)
   pub branches : AreBranches (branches_of histories)
@@ -63,8 +66,10 @@ pub record IsBranchAt (branches : List Branch) (label : SerialOp) (i : ℕ) : Ty
 -- a branch with the label would go at place i
 pub record IsGapFor (branches : List Branch) (label : SerialOp) (i : ℕ) : Type 0 where
   pub in_range : i ≤ length branches
-  pub smaller_before : (j : ℕ) (d : Branch) → j < i → op_cmp (slice_index_or branches j d).0 label ≡ Less
-  pub greater_after : (j : ℕ) (d : Branch) → i ≤ j → j < length branches → op_cmp (slice_index_or branches j d).0 label ≡ Greater
+  pub smaller_before : (j : ℕ) (d : Branch) → j < i
+      → op_cmp (slice_index_or branches j d).0 label ≡ Less
+  pub greater_after : (j : ℕ) (d : Branch) → i ≤ j → j < length branches
+      → op_cmp (slice_index_or branches j d).0 label ≡ Greater
 
 -- branch i of the histories
 abbrev pub IsBranchOf : List (List SerialOp) → ℕ → Branch → Type 0

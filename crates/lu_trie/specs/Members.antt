@@ -26,11 +26,14 @@ contains histories history = list_any (same_history history) histories
 
 -- each member is a serial history
 abbrev pub AllSerial : List (List SerialOp) → Type 0
-AllSerial histories = (history : List SerialOp) → contains histories history ≡ true → IsSerial history
+AllSerial histories =
+    (history : List SerialOp) → contains histories history ≡ true → IsSerial history
 
 -- new is old and the history
 abbrev pub Adds : List (List SerialOp) → List (List SerialOp) → List SerialOp → Type 0
-Adds old new history = (other : List SerialOp) → contains new other ≡ (same_history other history || contains old other)
+Adds old new history =
+    (other : List SerialOp)
+    → contains new other ≡ (same_history other history || contains old other)
 
 -- each history behind the entry
 abbrev pub behind : SerialOp → List (List SerialOp) → List (List SerialOp)

@@ -27,12 +27,15 @@ abbrev pub members_at : List Link → List (List (List SerialOp)) → Node → L
 members_at links table node = members_from node.ends (resolve table (links_of links node))
 
 -- the table, with the members below each further node
-abbrev pub table_from : List Link → List (List (List SerialOp)) → List Node → List (List (List SerialOp))
+abbrev pub table_from : List Link → List (List (List SerialOp)) → List Node
+    → List (List (List SerialOp))
 table_from links table [] = table
-table_from links table (node ∷ nodes) = table_from links (table ++ members_at links table node ∷ []) nodes
+table_from links table (node ∷ nodes) =
+    table_from links (table ++ members_at links table node ∷ []) nodes
 
 -- the node's links lie in the list, lead to earlier nodes, and to branches in order
-pub record IsPacked (links : List Link) (table : List (List (List SerialOp))) (node : Node) : Type 0 where
+pub record IsPacked (links : List Link) (table : List (List (List SerialOp)))
+    (node : Node) : Type 0 where
   pub in_range : node.first + node.count ≤ length links
   pub below : AllBelow (length table) (links_of links node)
   pub branches : AreBranches (resolve table (links_of links node))
@@ -40,7 +43,8 @@ pub record IsPacked (links : List Link) (table : List (List (List SerialOp))) (n
 
 abbrev pub ArePacked : List Link → List (List (List SerialOp)) → List Node → Type 0
 ArePacked links table [] = Unit {0}
-ArePacked links table (node ∷ nodes) = IsPacked links table node × ArePacked links (table ++ members_at links table node ∷ []) nodes
+ArePacked links table (node ∷ nodes) =
+    IsPacked links table node × ArePacked links (table ++ members_at links table node ∷ []) nodes
 
 -- the set of a packed trie: the members below its root
 abbrev pub members_of : (List (List (List SerialOp)) × ℕ) → List (List SerialOp)

@@ -10,17 +10,35 @@ pub weight-append : (xs ys : List (List SerialOp)) → weight (xs ++ ys) ≡ wei
 weight-append [] ys = omega arith
 weight-append (x ∷ xs) ys = omega (arith, weight-append xs ys)
 
-weight-behind : (op : SerialOp) (xs : List (List SerialOp)) → weight (behind op xs) ≡ weight xs + length xs
+weight-behind : (op : SerialOp) (xs : List (List SerialOp))
+    → weight (behind op xs) ≡ weight xs + length xs
 weight-behind op [] = omega arith
 weight-behind op (x ∷ xs) = omega (arith, weight-behind op xs)
 
-pub behind-full : (op : SerialOp) (xs : List (List SerialOp)) → xs ≢ [] → weight xs + 1 ≤ weight (behind op xs)
+pub behind-full : (op : SerialOp) (xs : List (List SerialOp)) → xs ≢ []
+    → weight xs + 1 ≤ weight (behind op xs)
 behind-full op [] ne = absurd (ne refl)
 behind-full op (x ∷ xs) ne = omega (arith, weight-behind op (x ∷ xs))
 
-branches_lighter : (f : Branch → ℕ) → ((branch : Branch) → f branch ≤ weight branch.1 + 1) → (branches : List Branch) → NoneBare branches → most f branches ≤ weight (joined branches)
+branches_lighter : (f : Branch → ℕ) → ((branch : Branch) → f branch ≤ weight branch.1 + 1)
+    → (branches : List Branch) → NoneBare branches → most f branches ≤ weight (joined branches)
 branches_lighter f le [] full = omega arith
-branches_lighter f le (k ∷ ks) full = omega (arith, le k, weight-append (behind k.0 k.1) (joined ks), behind-full k.0 k.1 full.0, branches_lighter f le ks full.1)
+branches_lighter f le (k ∷ ks) full =
+    omega (
+      arith,
+      le k,
+      weight-append (behind k.0 k.1) (joined ks),
+      behind-full k.0 k.1 full.0,
+      branches_lighter f le ks full.1,
+    )
 
-pub node_lighter : (f : Branch → ℕ) → ((branch : Branch) → f branch ≤ weight branch.1 + 1) → (ends : Bool) (branches : List Branch) → AreBranches branches → max (most f branches) 0 ≤ weight (members_from ends branches)
-node_lighter f le ends branches are = omega (arith, weight-append (empty_if ends) (joined branches), branches_lighter f le branches are.full)
+pub node_lighter : (f : Branch → ℕ) → ((branch : Branch) → f branch ≤ weight branch.1 + 1)
+    → (ends : Bool) (branches : List Branch) → AreBranches branches
+    → max (most f branches) 0 ≤ weight (members_from ends branches)
+node_lighter f le ends branches are =
+    omega (
+      arith,
+      weight-append (empty_if ends) (joined branches),
+      branches_lighter f le branches
+          are.full,
+    )

@@ -1,8 +1,8 @@
 //! Sets of serial histories.
 //!
-//! A [`Trie`] is such a set under any allocator: histories that begin alike share their first nodes. A [`PackedTrie`] is the
-//! same set in flat vectors, for readers that come back millions of times. Both are read through [`SerialTree`], place by
-//! place, without copies.
+//! A [`Trie`] is such a set under any allocator: histories that begin alike share their first
+//! nodes. A [`PackedTrie`] is the same set in flat vectors, for readers that come back millions of
+//! times. Both are read through [`SerialTree`], place by place, without copies.
 //!
 //! ```text
 //! let mut seen = Trie::new(alloc);

@@ -46,7 +46,8 @@ impl<A: Allocator> Model for Table<A> {
 }
 
 impl<B: Allocator> Trie<B> {
-    /// Adds the trie's nodes to a table, and answers the place of its root. It may have added some where memory is refused.
+    /// Adds the trie's nodes to a table, and answers the place of its root. It may have added some
+    /// where memory is refused.
     fn add_to<A: Allocator + Clone>(&self, table: &mut Table<A>) -> Result<usize, AllocError>
         ensures grows { (more : List (List (List SerialOp))) × (table.new ≡ table.old ++ more) }
         ensures place { IfOk result (λ place. place < length table.new) }
@@ -69,8 +70,9 @@ impl<B: Allocator> Trie<B> {
     }
 }
 
-/// A set of serial histories in flat vectors, made from a trie and only read. A step down the tree reads two nodes and
-/// the link between them, and takes no memory. In clauses it is the sets below its places and the place of its root.
+/// A set of serial histories in flat vectors, made from a trie and only read. A step down the tree
+/// reads two nodes and the link between them, and takes no memory. In clauses it is the sets below
+/// its places and the place of its root.
 #[derive(Drop)]
 pub struct PackedTrie<A: Allocator> {
     table: Table<A>,
@@ -114,7 +116,8 @@ impl<'a, A: Allocator> SerialTree for &'a PackedTrie<A> {
 
     ghost below = { λ tree place. slice_index_or tree.now.0 place [] };
 
-    ghost is_place = { λ tree place. (place < length tree.now.0) × IsBranching (slice_index_or tree.now.0 place []) };
+    ghost is_place = { λ tree place.
+        (place < length tree.now.0) × IsBranching (slice_index_or tree.now.0 place []) };
 
     ghost branching = { λ tree place is. is.1 };
 

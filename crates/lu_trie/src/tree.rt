@@ -13,14 +13,15 @@ use std::alloc::Allocator;
 ///
 /// The laws that are asked of a tree, at each of its places:
 ///
-/// - the members below the place are the empty history, where the place ends one, and those below its kids, in the order
-///   of the kids and each behind its kid's label;
+/// - the members below the place are the empty history, where the place ends one, and those below
+///   its kids, in the order of the kids and each behind its kid's label;
 /// - the labels of the kids rise strictly, by thread and then by outcome;
 /// - below each kid there is a member.
 ///
 /// Places are cheap to copy. They are asked to come from `root` or `kid` of the same tree.
 ///
-/// To read a tree from several threads ask for `T: SerialTree + Sync` where `T::Place: Send + Sync`.
+/// To read a tree from several threads ask for `T: SerialTree + Sync` where `T::Place: Send +
+/// Sync`.
 pub trait SerialTree {
     /// A place in the tree.
     type Place: Copy;
@@ -28,7 +29,8 @@ pub trait SerialTree {
     /// The members.
     ghost members: { Self → List (List SerialOp) };
 
-    /// The members below a place: what follows, in the members, the operations that lead to the place.
+    /// The members below a place: what follows, in the members, the operations that lead to the
+    /// place.
     ghost below: { Self → Self.Place → List (List SerialOp) };
 
     /// The place is one of the tree.
@@ -56,9 +58,11 @@ pub trait SerialTree {
         ensures place { is_place self.now result.1 }
         ensures kid { IsBranchOf (below self.now place) i (result.0, below self.now result.1) };
 
-    /// The laws: what is below a place is the empty history, where the place ends one, and what is below its kids, each behind
-    /// its label; the labels rise strictly; and below each kid there is a member.
-    ghost branching: { (tree : Self) (place : Self.Place) → is_place tree place → IsBranching (below tree place) };
+    /// The laws: what is below a place is the empty history, where the place ends one, and what is
+    /// below its kids, each behind its label; the labels rise strictly; and below each kid there is
+    /// a member.
+    ghost branching: { (tree : Self) (place : Self.Place) →
+        is_place tree place → IsBranching (below tree place) };
 }
 
 /// A reference to a trie lends its nodes: nothing is copied.

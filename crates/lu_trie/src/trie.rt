@@ -14,8 +14,8 @@ use std::marker::Model;
 
 /// A set of serial histories. In clauses it is the list of its members, in order.
 ///
-/// Histories are ordered operation by operation, and a proper beginning is smaller. All memory is taken from the trie's
-/// allocator, so a trie over a borrowed arena can't outlive the arena.
+/// Histories are ordered operation by operation, and a proper beginning is smaller. All memory is
+/// taken from the trie's allocator, so a trie over a borrowed arena can't outlive the arena.
 #[derive(Drop)]
 pub struct Trie<A: Allocator> {
     /// Whether the empty history is a member.
@@ -41,7 +41,8 @@ impl<A: Allocator> Model for Trie<A> {
 
     ghost size = { weight };
 
-    ghost size_decreases = { λ a h. node_lighter _ (λ kid. Prim.omega arith) a.ends a.kids.items h.are };
+    ghost size_decreases = { λ a h.
+        node_lighter _ (λ kid. Prim.omega arith) a.ends a.kids.items h.are };
 }
 
 impl<A: Allocator> Trie<A> {
@@ -87,10 +88,10 @@ impl<A: Allocator> Trie<A> {
         !self.ends && self.kids.is_empty()
     }
 
-    /// Where the history conflicts with a member: the number i of operations at which they agree, and the outcome of the
-    /// member's next one, where the histories go on with the same thread and different outcomes
-    /// (Burckhardt, Dern, Musuvathi and Tan, 2010). The set is asked to be one without conflicts between its members, and then
-    /// there is at most one such pair.
+    /// Where the history conflicts with a member: the number i of operations at which they agree,
+    /// and the outcome of the member's next one, where the histories go on with the same thread and
+    /// different outcomes (Burckhardt, Dern, Musuvathi and Tan, 2010). The set is asked to be one
+    /// without conflicts between its members, and then there is at most one such pair.
     pub fn conflict(&self, history: &[SerialOp]) -> Option<(usize, SerialOutcome)>
         requires { IsDeterministic self.now }
         ensures { IsConflict self.now history.now result }
@@ -127,11 +128,13 @@ impl<A: Allocator + Clone> Trie<A> {
         }
     }
 
-    /// Adds a history, in which `Stuck` may stand only last, and answers whether it was no member before.
+    /// Adds a history, in which `Stuck` may stand only last, and answers whether it was no member
+    /// before.
     ///
     /// # Errors
     ///
-    /// Want of memory. The set then stays as it was: the nodes of the new operations are built first, and linked by one growth.
+    /// Want of memory. The set then stays as it was: the nodes of the new operations are built
+    /// first, and linked by one growth.
     pub fn insert(&mut self, history: &[SerialOp]) -> Result<bool, AllocError>
         requires { IsSerial history.now }
         ensures ok { OnOk result (Adds self.old self.new history.now) }

@@ -1,6 +1,7 @@
 //! Tries over arenas and over heaps of fixed size, and walks over any tree of serial histories.
 //!
-//! A trie over an arena or a heap borrows it: an arena that is dropped or reset while the trie lives does not compile.
+//! A trie over an arena or a heap borrows it: an arena that is dropped or reset while the trie
+//! lives does not compile.
 #![tactic(auto)]
 
 mod walk;

@@ -21,8 +21,8 @@ fn ret(thread: u8, number: u32) -> SerialOp
     }
 }
 
-/// Inserts the histories `0=0`, `0=1` and so on, and answers the number of those that were inserted before memory was
-/// refused; `None` where it never was, or one of them was a member before.
+/// Inserts the histories `0=0`, `0=1` and so on, and answers the number of those that were inserted
+/// before memory was refused; `None` where it never was, or one of them was a member before.
 fn fill<A: Allocator + Clone>(set: &mut Trie<A>) -> Option<u32> {
     for number in 0..10_000 {
         match set.insert(&[ret(0, number)]) {

@@ -11,7 +11,9 @@ use Rattle.lu_witness.specs.Witnesses.{IsMember, IsVerdict}
 
 -- each verdict that is kept is that of its events
 abbrev pub AreRight : List (List SerialOp) → List (Vec Event × Verdict) → Type 0
-AreRight members entries = (key : Vec Event) (v : Verdict) → Contains entries (key, v) → IsVerdict (IsMember members) key.items v
+AreRight members entries =
+    (key : Vec Event) (v : Verdict) → Contains entries (key, v)
+    → IsVerdict (IsMember members) key.items v
 
 -- an entry, by the events of its key
 abbrev pub shown : Vec Event × Verdict → List Event × Verdict
@@ -27,17 +29,21 @@ abbrev pub has_entry : (Event → Event → Bool) → List Event → LruCache (L
 has_entry same events kept = is_some (lookup (pointwise same events) kept.entries)
 
 -- the verdict is put in, unless there is no memory for that
-abbrev pub IsPut : (Event → Event → Bool) → List Event → LruCache (List Event) Verdict → LruCache (List Event) Verdict → Verdict → Type 0
+abbrev pub IsPut : (Event → Event → Bool) → List Event → LruCache (List Event) Verdict
+    → LruCache (List Event) Verdict → Verdict → Type 0
 IsPut same events old new v =
     (new ≡ old) ⊎ (new ≡ lru_cache (put_entries (pointwise same) old events v) old.cap)
 
--- After a look-up of the events. One that finds them makes them the most recently used, and v is the verdict that is kept. One
--- that does not puts them in with v, unless there is no memory for that.
-abbrev pub LooksUp : (Event → Event → Bool) → List Event → LruCache (List Event) Verdict → LruCache (List Event) Verdict → Verdict → Type 0
+-- After a look-up of the events. One that finds them makes them the most recently used, and v is
+-- the verdict that is kept. One that does not puts them in with v, unless there is no memory for
+-- that.
+abbrev pub LooksUp : (Event → Event → Bool) → List Event → LruCache (List Event) Verdict
+    → LruCache (List Event) Verdict → Verdict → Type 0
 LooksUp same events old new v =
     MatchOption (lookup (pointwise same events) old.entries)
     (IsPut same events old new v)
-    (λ known. (v ≡ known) × (new ≡ lru_cache (promoted (pointwise same events) old.entries) old.cap))
+    (λ known. (v ≡ known)
+    × (new ≡ lru_cache (promoted (pointwise same events) old.entries) old.cap))
 
 -- the tree and the capacity are as before; the entries may be others
 pub record SameButEntries {T : Type 0} (old new : Remembered T) : Type 0 where

@@ -14,7 +14,8 @@ next_of p op = record { t = op.thread; k = length (entries op.thread p) }
 -- op ended as the next operation of its thread, and all operations that precede that one are in p
 pub record IsNext (h : List Event) (p : List SerialOp) (op : SerialOp) : Type 0 where
   pub outcome : slice_get (part op.thread h) (length (entries op.thread p)) ≡ Some op.outcome
-  pub before : (j u : ℕ) → IsCallAt h j (next_of p op) → length (outcomes u (take j h)) ≤ length (entries u p)
+  pub before : (j u : ℕ) → IsCallAt h j (next_of p op)
+      → length (outcomes u (take j h)) ≤ length (entries u p)
 
 -- each operation is next after those before it
 abbrev pub IsBeginning : List Event → List SerialOp → Type 0
@@ -31,12 +32,15 @@ GoesOnToWitness Set p h = (q : List SerialOp) × Set q × IsWitness (p ++ q) h
 -- whether a beginning of which so many operations are taken goes on to a witness in this set
 abbrev pub Finds : (List SerialOp → Type 0) → List ℕ → List Event → Bool → Type 0
 Finds Set taken h found =
-    (p : List SerialOp) → AreTaken p taken → IsBeginning h p → IsTrue found ↔ GoesOnToWitness Set p h
+    (p : List SerialOp) → AreTaken p taken → IsBeginning h p
+    → IsTrue found ↔ GoesOnToWitness Set p h
 
--- whether a beginning of which so many operations are taken is a witness, and nothing goes on from it
+-- whether a beginning of which so many operations are taken is a witness, and nothing goes on from
+-- it
 abbrev pub FindsEnd : (List SerialOp → Type 0) → List ℕ → List Event → Bool → Type 0
 FindsEnd Set taken h found =
-    (p : List SerialOp) → AreTaken p taken → IsBeginning h p → IsTrue found ↔ (Set [] × IsWitness p h)
+    (p : List SerialOp) → AreTaken p taken → IsBeginning h p
+    → IsTrue found ↔ (Set [] × IsWitness p h)
 
 -- whether the operation is next behind those of which so many are taken
 abbrev pub TellsNext : List ℕ → List Event → SerialOp → Bool → Type 0

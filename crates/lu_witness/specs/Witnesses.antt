@@ -17,7 +17,9 @@ entries t (op ∷ q) = if op.thread == t then op.outcome ∷ entries t q else en
 
 -- place i has the operation: that of its thread with as many before it as the number of its call
 abbrev pub IsEntryAt : List SerialOp → ℕ → OpId → Type 0
-IsEntryAt q i a = (op : SerialOp) × (slice_get q i ≡ Some op) × (op.thread ≡ a.t) × (length (entries a.t (take i q)) ≡ a.k)
+IsEntryAt q i a =
+    (op : SerialOp) × (slice_get q i ≡ Some op) × (op.thread ≡ a.t)
+    × (length (entries a.t (take i q)) ≡ a.k)
 
 -- a stands before b
 abbrev pub StandsBefore : List SerialOp → OpId → OpId → Type 0
@@ -47,7 +49,8 @@ pub record IsLeastWithout (Set : List SerialOp → Type 0) (h : List Event) (t :
   pub without : HasWitness Set (keep_pending t h) → ⊥
   pub least : (a : OpId) → a.t < t → IsPending h a → HasWitness Set (keep_pending a.t h)
 
--- what `verdict` answers: the history has its witnesses; or no call is pending and it has none; or the least thread whose pending call has none
+-- what `verdict` answers: the history has its witnesses; or no call is pending and it has none; or
+-- the least thread whose pending call has none
 abbrev pub IsVerdict : (List SerialOp → Type 0) → List Event → Verdict → Type 0
 IsVerdict Set h Good = IsGood Set h
 IsVerdict Set h NoWitness = ((a : OpId) → IsPending h a → ⊥) × (HasWitness Set h → ⊥)

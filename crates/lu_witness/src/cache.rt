@@ -15,8 +15,8 @@ use std::alloc::{AllocError, Global};
 use std::marker::Model;
 use std::num::NonZeroUsize;
 
-/// The verdicts over one tree that were asked for last, each with the whole list of events of its history. In clauses it is the
-/// tree and the entries, the most recently used first.
+/// The verdicts over one tree that were asked for last, each with the whole list of events of its
+/// history. In clauses it is the tree and the entries, the most recently used first.
 #[derive(Drop)]
 pub struct Cache<'t, T: SerialTree> {
     alloc: Global,
@@ -31,13 +31,17 @@ impl<'t, T: SerialTree> Model for Cache<'t, T> {
 
     ghost Value = { Remembered T };
 
-    ghost view = { λ a. record { tree = a.tree.now; kept = lru_cache (map shown a.kept.entries) a.kept.cap } };
+    ghost view = { λ a. record {
+      tree = a.tree.now;
+      kept = lru_cache (map shown a.kept.entries) a.kept.cap;
+    } };
 
     ghost invariant = { λ a. AreRight (T.members a.tree.now) a.kept.entries };
 }
 
 impl<'t, T: SerialTree> Cache<'t, T> {
-    /// An empty cache over the tree, which keeps `capacity` verdicts, 1 to 4,096. It takes its memory from `alloc`.
+    /// An empty cache over the tree, which keeps `capacity` verdicts, 1 to 4,096. It takes its
+    /// memory from `alloc`.
     ///
     /// # Errors
     ///
@@ -62,20 +66,22 @@ impl<'t, T: SerialTree> Cache<'t, T> {
         self.tree
     }
 
-    /// Whether the verdict of the history is kept. It takes no memory, and leaves the order of use as it is.
+    /// Whether the verdict of the history is kept. It takes no memory, and leaves the order of use
+    /// as it is.
     pub fn keeps(&self, history: &History) -> bool
         ensures { result ≡ has_entry ⟦<Event as PartialEq>⟧.eq history.now self.now.kept }
     {
         self.kept.contains(history.events())
     }
 
-    /// The verdict of the history over the tree ([`verdict`]), kept or found anew. One that is found anew is kept, and takes the
-    /// place of the one that was not asked for longest where the cache is full. Where memory is refused for that, the cache stays
-    /// as it was.
+    /// The verdict of the history over the tree ([`verdict`]), kept or found anew. One that is
+    /// found anew is kept, and takes the place of the one that was not asked for longest where the
+    /// cache is full. Where memory is refused for that, the cache stays as it was.
     pub fn verdict(&mut self, history: &History) -> Verdict
         ensures same { SameButEntries self.old self.new }
         ensures verdict { IsVerdict (IsMember (T.members self.old.tree)) history.now result }
-        ensures entries { LooksUp ⟦<Event as PartialEq>⟧.eq history.now self.old.kept self.new.kept result }
+        ensures entries { LooksUp ⟦<Event as PartialEq>⟧.eq history.now self.old.kept
+            self.new.kept result }
     {
         let events = history.events();
         match self.kept.peek(events).copied() {
@@ -95,7 +101,8 @@ impl<'t, T: SerialTree> Cache<'t, T> {
     fn remember(&mut self, events: &[Event], found: Verdict)
         requires { IsVerdict (IsMember (T.members self.old.tree)) events.now found }
         ensures tree { self.new.tree ≡ self.old.tree }
-        ensures entries { IsPut ⟦<Event as PartialEq>⟧.eq events.now self.old.kept self.new.kept found }
+        ensures entries { IsPut ⟦<Event as PartialEq>⟧.eq events.now self.old.kept
+            self.new.kept found }
     {
         let mut key = Vec::new(self.alloc);
         if key.extend_from_slice(events).is_err() {

@@ -8,8 +8,9 @@ use crate::search::{has_witness, is_witnessed};
 use lu_history::History;
 use lu_trie::SerialTree;
 
-/// Whether a history has its witnesses in the tree: the history itself where no call is pending, and else, for each pending
-/// call, the history without the other pending calls. It takes no memory.
+/// Whether a history has its witnesses in the tree: the history itself where no call is pending,
+/// and else, for each pending call, the history without the other pending calls. It takes no
+/// memory.
 pub fn verdict<T: SerialTree>(tree: &T, history: &History) -> Verdict
     ensures { IsVerdict (IsMember (T.members tree.now)) history.now result }
 {

@@ -7,8 +7,8 @@ ghost use Rattle.lu_history.specs.Parts.{part, keep_pending};
 use lu_history::{History, OpId, SerialOutcome};
 use std::marker::Model;
 
-/// A history, whole or without the pending calls of all threads but one. It is read in place, so leaving calls out takes no
-/// memory. In clauses it is the list of the events that are kept.
+/// A history, whole or without the pending calls of all threads but one. It is read in place, so
+/// leaving calls out takes no memory. In clauses it is the list of the events that are kept.
 #[derive(Drop)]
 pub(crate) struct Kept<'a> {
     history: &'a History,

@@ -1,7 +1,8 @@
 //! The search for a witness.
 //!
-//! It descends the tree with one count for each thread, of the operations that it has taken. A label is taken only where it is
-//! its thread's next outcome and all operations that precede it are taken.
+//! It descends the tree with one count for each thread, of the operations that it has taken. A
+//! label is taken only where it is its thread's next outcome and all operations that precede it are
+//! taken.
 
 ghost use Rattle.std.specs.Prelude.{◌≡◌, ◌↔◌, ◌<◌, ◌≤◌, ℕ, IsTrue, length, get_or};
 ghost use Rattle.lu_history.specs.Histories.{IsWellFormed};
@@ -13,7 +14,8 @@ use crate::kept::Kept;
 use lu_history::{History, OpId, SerialOp};
 use lu_trie::SerialTree;
 
-/// Whether some serial history of the tree is a witness of the history. Pending calls count as stuck.
+/// Whether some serial history of the tree is a witness of the history. Pending calls count as
+/// stuck.
 pub fn has_witness<T: SerialTree>(tree: &T, history: &History) -> bool
     ensures { IsTrue result ↔ HasWitness (IsMember (T.members tree.now)) history.now }
 {
@@ -68,7 +70,8 @@ fn all_taken(history: &Kept<'_>, taken: &[u8; 8]) -> bool
     true
 }
 
-/// Whether the operation can be taken next: it is its thread's next outcome, and all operations that precede it are taken.
+/// Whether the operation can be taken next: it is its thread's next outcome, and all operations
+/// that precede it are taken.
 fn is_next(history: &Kept<'_>, taken: &[u8; 8], op: SerialOp) -> bool
     requires { IsWellFormed history.now }
     ensures next { TellsNext taken.now history.now op result }

@@ -192,7 +192,8 @@ fn many_workers_check(rt: HostRuntime) -> Result<(), Fail> {
 /// Two increments, one after the other.
 const RIGHT: &[u8] = b"lineup spec 1\nhistory 0=1 1=2\nhistory 1=1 0=2\n";
 
-/// A check against a specification finds the same with any number of workers, and so does the check on the calling thread.
+/// A check against a specification finds the same with any number of workers, and so does the check
+/// on the calling thread.
 #[test]
 fn a_specification_is_checked(rt: HostRuntime) -> Result<(), Fail> {
     let alloc = rt.alloc();
@@ -224,7 +225,8 @@ enum Until {
     Done(u64),
 }
 
-/// The number of a worker, from 1, once a worker has told it: waits for that, at most a million turns. 0 where none came.
+/// The number of a worker, from 1, once a worker has told it: waits for that, at most a million
+/// turns. 0 where none came.
 fn told(worker: &AtomicU64) -> u64 {
     for _ in 0..1_000_000 {
         let told = worker.load(Ordering::SeqCst);
@@ -297,7 +299,8 @@ impl Gate for Holding {
     }
 }
 
-/// A piece is held while another worker goes through the next one, which waits until the first is held.
+/// A piece is held while another worker goes through the next one, which waits until the first is
+/// held.
 #[test]
 fn two_workers_work_at_once(rt: HostRuntime) -> Result<(), Fail> {
     let gate = Holding::new(0, Until::Done(1));
@@ -307,7 +310,8 @@ fn two_workers_work_at_once(rt: HostRuntime) -> Result<(), Fail> {
     Ok(())
 }
 
-/// The least failure is reported, though its piece is held until another worker has come to the last one.
+/// The least failure is reported, though its piece is held until another worker has come to the
+/// last one.
 #[test]
 fn the_least_failure_comes_last(rt: HostRuntime) -> Result<(), Fail> {
     let gate = Holding::new(1, Until::Comes(15));
@@ -350,7 +354,8 @@ fn pieces_pass_the_gate(rt: HostRuntime) -> Result<(), Fail> {
     Ok(())
 }
 
-/// A gate that holds each worker's first piece until so many workers have come, at most a million turns.
+/// A gate that holds each worker's first piece until so many workers have come, at most a million
+/// turns.
 #[derive(Drop)]
 struct Meeting {
     wanted: u64,
@@ -468,7 +473,8 @@ fn settle_and_lower(rt: &impl Abort, board: &Board, seat: &mut Seat)
     }
 }
 
-/// The works of the other seat, after one seat settled the first piece clean and lowered the second.
+/// The works of the other seat, after one seat settled the first piece clean and lowered the
+/// second.
 fn works_above<R: AllocGlobal + Abort, T: SerialTree>(
     rt: &R,
     component: &Component,
@@ -535,7 +541,8 @@ fn serial_histories(
     }
 }
 
-/// A worker above a lesser failure searches nothing, and two workers in turn find the least failure.
+/// A worker above a lesser failure searches nothing, and two workers in turn find the least
+/// failure.
 fn assert_worked_in_turn<R: AllocGlobal + Abort>(
     rt: &R,
     component: &Component,
