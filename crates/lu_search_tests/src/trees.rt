@@ -357,6 +357,21 @@ fn exchanges(rt: HostRuntime) -> Result<(), Fail> {
     assert_counts(&rt, matrix, &set, EMPTY, 40, complete(EXCHANGES))
 }
 
+/// Three exchanges return 1, 2 and 3, in any order. Most of their moves commute: so many schedules
+/// could not be walked one by one.
+#[test]
+fn exchanges_of_three(rt: HostRuntime) -> Result<(), Fail> {
+    let mut set = Trie::new(rt.alloc());
+    insert_three(&mut set, (0, 1), (1, 2), ret(2, 3))?;
+    insert_three(&mut set, (0, 1), (2, 2), ret(1, 3))?;
+    insert_three(&mut set, (1, 1), (0, 2), ret(2, 3))?;
+    insert_three(&mut set, (1, 1), (2, 2), ret(0, 3))?;
+    insert_three(&mut set, (2, 1), (0, 2), ret(1, 3))?;
+    insert_three(&mut set, (2, 1), (1, 2), ret(0, 3))?;
+    let matrix = b"thread cinc\nthread cinc\nthread cinc\n";
+    assert_counts(&rt, matrix, &set, EMPTY, 30, complete(25_046_026_296))
+}
+
 /// The pieces of a frontier.
 fn pieces(
     rt: &(impl AllocGlobal + Abort),

@@ -8,42 +8,26 @@ use Rattle.lu_machine.specs.States.{State}
 use Rattle.lu_machine.specs.Steps.{IsFeasible, Step, picks_of}
 use Rattle.lu_machine.specs.Runs.{Leads, with_event}
 use Rattle.lu_machine.specs.Ends.{HasMove, HasNoMove, IsEnded}
-use Rattle.lu_machine.specs.Sums.{capped, plus}
+use Rattle.lu_machine.specs.Sums.{plus}
 use Rattle.lu_machine.proofs.Paths.{child_leads}
 use Rattle.lu_history.specs.declared.serial.SerialOp.{SerialOp}
-use Rattle.lu_machine.specs.Schedules.{IsNumber}
 use Rattle.lu_witness.specs.declared.judgement.Why.{Why}
 use Rattle.lu_witness.specs.Goodness.{IsFirstBad, AreAllGood}
 use Rattle.lu_tree.specs.Trees.{Below}
-use Rattle.lu_tree.specs.Walks.{AreCapped, Counted, IsBadAt, IsFirstAt, Passes, StopsAt, no_schedule}
+use Rattle.lu_tree.specs.Walks.{AreBelow, Counted, IsBadAt, IsFirstAt, StopsAt, no_schedule}
 use Rattle.lu_tree.proofs.Walking.{GoesOnBelow, counted_here, first_here, kids_all, kids_more, kids_none, kids_stop, kids_turn}
 
-capped_twice : (a b c : ℕ) → capped (capped (a + b) + c) ≡ capped (a + capped (b + c))
-capped_twice a b c = omega arith
-
-plus_assoc : (a b c : Counts) → plus (plus a b) c ≡ plus a (plus b c)
-plus_assoc a b c = rw (capped_twice a.complete b.complete c.complete, capped_twice a.stuck b.stuck c.stuck, capped_twice a.cut b.cut c.cut) refl
-
-capped_again : (a b : ℕ) → capped (capped (a + b) + 0) ≡ capped (a + b)
-capped_again a b = omega arith
-
--- sums are capped
-pub plus_capped : (a b : Counts) → AreCapped (plus a b)
-plus_capped a b = rw (capped_again a.complete b.complete, capped_again a.stuck b.stuck, capped_again a.cut b.cut) refl
-
--- the numbers of the schedules that go on by a move below the limit were added
-abbrev pub AreAdded : (List SerialOp → Type 0) → State → List Event → ℕ → Move → Counts → Counts → Type 0
-AreAdded Set s h left limit old new =
-    (start : State) (u : List Move) → Leads start u s h →
-    (below : Counts) × (new ≡ plus old below) × AreAllGood Set start (length u + left) (GoesOnBelow u limit) below
+-- the schedules that go on by a move below the limit are good if they end, and these are their numbers
+abbrev pub AreAdded : (List SerialOp → Type 0) → State → List Event → ℕ → Move → Counts → Type 0
+AreAdded Set s h left limit below =
+    (start : State) (u : List Move) → Leads start u s h → AreAllGood Set start (length u + left) (GoesOnBelow u limit) below
 
 module _ (Set : List SerialOp → Type 0) (s : State) (h : List Event) (left : ℕ) where
-  pub added_none : (old : Counts) → AreCapped old → AreAdded Set s h left (record { thread = 0; pick = 0 }) old old
-  added_none old is = λ start u at. (no_schedule, sym is, kids_none start u s h at Set (length u + left))
+  pub added_none : AreAdded Set s h left (record { thread = 0; pick = 0 }) no_schedule
+  added_none = λ start u at. kids_none start u s h at Set (length u + left)
 
-  pub added_turn : (t p : ℕ) → picks_of s t ≤ p → (old new : Counts) → AreAdded Set s h left (record { thread = t; pick = p }) old new → AreAdded Set s h left (record { thread = t + 1; pick = 0 }) old new
-  added_turn t p all old new added = λ start u at.
-      (let a = added start u at in (a.0, a.1, kids_turn start u s h at Set (length u + left) t p all a.0 a.2))
+  pub added_turn : (t p : ℕ) → picks_of s t ≤ p → (below : Counts) → AreAdded Set s h left (record { thread = t; pick = p }) below → AreAdded Set s h left (record { thread = t + 1; pick = 0 }) below
+  added_turn t p all below added = λ start u at. kids_turn start u s h at Set (length u + left) t p all below (added start u at)
 
   -- one move more, which leads to r and k
   module _ (t p : ℕ) (r : State) (event : Option Event) (k : List Event) (step : Step s (record { thread = t; pick = p }) r event) (is : k ≡ h ++ with_event event []) (some : 1 ≤ left) where
@@ -56,36 +40,32 @@ module _ (Set : List SerialOp → Type 0) (s : State) (h : List Event) (left : �
     on : (start : State) (u : List Move) → Leads start u s h → Leads start (u ++ m ∷ []) r k
     on start u at = subst (Leads start (u ++ m ∷ []) r) (sym is) (child_leads start u s h at m r event step)
 
-    pub added_more : (old mid new : Counts) → AreAdded Set s h left (record { thread = t; pick = p }) old mid → Passes Set r k (left - 1) mid new → AreAdded Set s h left (record { thread = t; pick = p + 1 }) old new
-    added_more old mid new added passes = λ start u at.
-        (let a = added start u at in
-        let b = passes start (u ++ m ∷ []) (on start u at) in
-        let good = subst (λ n. AreAllGood Set start n (Below (u ++ m ∷ [])) b.0) (one_less u) b.2 in
-        (plus a.0 b.0, b.1 ∙ (ap (λ x. plus x b.0) a.1 ∙ plus_assoc old a.0 b.0), kids_more start u s h at Set (length u + left) t p a.0 b.0 a.2 good))
+    pub added_more : (below more : Counts) → AreAdded Set s h left (record { thread = t; pick = p }) below → AreBelow Set r k (left - 1) more → AreAdded Set s h left (record { thread = t; pick = p + 1 }) (plus below more)
+    added_more below more added behind = λ start u at.
+        (let good = subst (λ n. AreAllGood Set start n (Below (u ++ m ∷ [])) more) (one_less u) (behind start (u ++ m ∷ []) (on start u at)) in
+        kids_more start u s h at Set (length u + left) t p below more (added start u at) good)
 
     longer : (u path : List Move) → (u ++ m ∷ []) ++ reverse path ≡ u ++ reverse (path ++ m ∷ [])
     longer u path = append_assoc u (m ∷ []) (reverse path) ∙ ap (λ x. u ++ x) (sym (reverse-append path (m ∷ [])))
 
-    pub stops_more : IsFeasible s m → (old mid : Counts) → AreAdded Set s h left (record { thread = t; pick = p }) old mid → (path : List Move) (end : State) (last : List Event) → StopsAt Set r k (left - 1) path end last → StopsAt Set s h left (path ++ m ∷ []) end last
-    stops_more feasible old mid added path end last stops = λ start u at.
-        (let a = added start u at in
-        let b = stops start (u ++ m ∷ []) (on start u at) in
+    pub stops_more : IsFeasible s m → (below : Counts) → AreAdded Set s h left (record { thread = t; pick = p }) below → (path : List Move) (end : State) (last : List Event) → StopsAt Set r k (left - 1) path end last → StopsAt Set s h left (path ++ m ∷ []) end last
+    stops_more feasible below added path end last stops = λ start u at.
+        (let b = stops start (u ++ m ∷ []) (on start u at) in
         let c = subst (λ n. IsFirstAt Set start n (Below (u ++ m ∷ [])) ((u ++ m ∷ []) ++ reverse path) end last) (one_less u) b in
-        let d = kids_stop start u s h at Set (length u + left) m feasible a.0 ((u ++ m ∷ []) ++ reverse path) end last a.2 c in
+        let d = kids_stop start u s h at Set (length u + left) m feasible below ((u ++ m ∷ []) ++ reverse path) end last (added start u at) c in
         subst (λ v. IsFirstAt Set start (length u + left) (Below u) v end last) (longer u path) d)
 
   -- all moves
-  pub added_all : (t : ℕ) → length s.threads ≤ t → HasMove s → 1 ≤ left → (old new : Counts) → AreAdded Set s h left (record { thread = t; pick = 0 }) old new → Passes Set s h left old new
-  added_all t past some room old new added = λ start u at.
-      (let a = added start u at in (a.0, a.1, kids_all start u s h at Set (length u + left) t past some (omega arith) a.0 a.2))
+  pub added_all : (t : ℕ) → length s.threads ≤ t → HasMove s → 1 ≤ left → (below : Counts) → AreAdded Set s h left (record { thread = t; pick = 0 }) below → AreBelow Set s h left below
+  added_all t past some room below added = λ start u at. kids_all start u s h at Set (length u + left) t past some (omega arith) below (added start u at)
 
   -- where no move is made
   over_at : HasNoMove s ⊎ (left ≡ 0) → (u : List Move) → HasNoMove s ⊎ (length u ≡ length u + left)
   over_at (inl none) u = inl none
   over_at (inr zero) u = inr (omega arith)
 
-  pub end_passes : HasNoMove s ⊎ (left ≡ 0) → (old new : Counts) → Counted Set s h old new → Passes Set s h left old new
-  end_passes over old new counted = λ start u at. counted_here start u s h at Set (length u + left) (over_at over u) (omega arith) old new counted
+  pub end_below : HasNoMove s ⊎ (left ≡ 0) → (counts : Counts) → Counted Set s h counts → AreBelow Set s h left counts
+  end_below over counts counted = λ start u at. counted_here start u s h at Set (length u + left) (over_at over u) (omega arith) counts counted
 
   pub end_stops : HasNoMove s ⊎ (left ≡ 0) → IsEnded s → (path : List Move) → path ≡ [] → StopsAt Set s h left path s h
   end_stops over ended path none = λ start u at.
@@ -105,23 +85,12 @@ first_bad Set start bound Part u end history why first bad = record {
   why_is = record { end = end; history = history; leads = first.leads; holds = bad.1 };
 }
 
-number_alone : (Kind : List Move → Type 0) (n : ℕ) → IsNumber Kind n → capped (0 + n) ≡ n
-number_alone Kind n is = let e = is.number in omega arith
-
--- numbers that were added to none
-pub added_alone : (Set : List SerialOp → Type 0) (start : State) (bound : ℕ) (Part : List Move → Type 0) (new below : Counts) → new ≡ plus no_schedule below → AreAllGood Set start bound Part below → AreAllGood Set start bound Part new
-added_alone Set start bound Part new below is good =
-    let alone : plus no_schedule below ≡ below = rw (number_alone _ below.complete good.numbers.complete, number_alone _ below.stuck good.numbers.stuck, number_alone _ below.cut good.numbers.cut) refl in
-    subst (AreAllGood Set start bound Part) (sym (is ∙ alone)) good
-
 -- a walk of all moves that are left behind a schedule
 module _ (Set : List SerialOp → Type 0) (start : State) (bound left : ℕ) (from moves : List Move) (s : State) (h : List Event) (is : moves ≡ from) (all : length moves + left ≡ bound) (at : Leads start moves s h) where
-  pub walk_passed : (old new : Counts) → old ≡ no_schedule → Passes Set s h left old new → AreAllGood Set start bound (Below from) new
-  walk_passed old new none passes =
-      let a = passes start moves at in
-      let good = subst (λ n. AreAllGood Set start n (Below moves) a.0) all a.2 in
-      let alone = added_alone Set start bound (Below moves) new a.0 (a.1 ∙ ap (λ x. plus x a.0) none) good in
-      subst (λ u. AreAllGood Set start bound (Below u) new) is alone
+  pub walk_passed : (below : Counts) → AreBelow Set s h left below → AreAllGood Set start bound (Below from) below
+  walk_passed below passes =
+      let good = subst (λ n. AreAllGood Set start n (Below moves) below) all (passes start moves at) in
+      subst (λ u. AreAllGood Set start bound (Below u) below) is good
 
   pub walk_stopped : (path : List Move) (end : State) (k : List Event) → StopsAt Set s h left path end k → IsFirstAt Set start bound (Below from) (from ++ reverse path) end k
   walk_stopped path end k stops =

@@ -12,4 +12,4 @@ mod TailVerdicts
 mod Finishing
 mod OrderSets
 mod NeverStopped
-mod GridLaws
+mod KnownLaws

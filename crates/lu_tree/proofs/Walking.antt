@@ -147,10 +147,10 @@ module _ (start : State) (u : List Move) (s : State) (h : List Event) (at : Lead
       }
 
       -- where a schedule ends or is cut, it is counted
-      pub counted_here : (old new : Counts) → Counted Set s h old new → (below : Counts) × (new ≡ plus old below) × AreAllGood Set start bound (Below u) below
-      counted_here old new (inl cut) = (one_cut, cut.1, cut_counted cut.0)
-      counted_here old new (inr (inl complete)) = (one_complete, complete.2, complete_counted complete.0 complete.1)
-      counted_here old new (inr (inr stuck)) = (one_stuck, stuck.2, stuck_counted stuck.0 stuck.1)
+      pub counted_here : (counts : Counts) → Counted Set s h counts → AreAllGood Set start bound (Below u) counts
+      counted_here counts (inl cut) = subst (AreAllGood Set start bound (Below u)) (sym cut.1) (cut_counted cut.0)
+      counted_here counts (inr (inl complete)) = subst (AreAllGood Set start bound (Below u)) (sym complete.2) (complete_counted complete.0 complete.1)
+      counted_here counts (inr (inr stuck)) = subst (AreAllGood Set start bound (Below u)) (sym stuck.2) (stuck_counted stuck.0 stuck.1)
 
       -- or it is the first to end
       pub first_here : IsEnded s → IsFirstAt Set start bound (Below u) u s h

@@ -10,7 +10,6 @@ use Rattle.lu_machine.specs.Ends.{HasMove, IsComplete, IsStuck, IsEnded}
 use Rattle.lu_machine.specs.Order.{IsSmaller}
 use Rattle.lu_machine.specs.Runs.{Leads, with_event}
 use Rattle.lu_machine.specs.Starts.{IsStart}
-use Rattle.lu_machine.specs.Sums.{plus}
 use Rattle.lu_history.specs.declared.serial.SerialOp.{SerialOp}
 use Rattle.lu_witness.specs.declared.judgement.Why.{Why}
 use Rattle.lu_witness.specs.Goodness.{IsGoodAt, IsWhyAt, AreGood, AreAllGood}
@@ -40,22 +39,17 @@ completes n = record { complete = n; stuck = 0; cut = 0 }
 abbrev pub cuts : ℕ → Counts
 cuts n = record { complete = 0; stuck = 0; cut = n }
 
--- each number is at most 2^64 - 1
-abbrev pub AreCapped : Counts → Type 0
-AreCapped counts = plus counts no_schedule ≡ counts
-
 -- a tally with which a walk can go on: no path yet, and room for any
 pub record IsReady (tally : Tally) : Type 0 where
-  pub capped : AreCapped tally.counts
   pub room : 256 ≤ vec_capacity tally.path
   pub empty : tally.path.items ≡ []
 
--- a schedule that is cut here, or ends here and is good, is counted
-abbrev pub Counted : (List SerialOp → Type 0) → State → List Event → Counts → Counts → Type 0
-Counted Set s h old new =
-    (HasMove s × (new ≡ plus old one_cut))
-    ⊎ ((IsComplete s × IsGoodAt Set s h × (new ≡ plus old one_complete))
-    ⊎ (IsStuck s × IsGoodAt Set s h × (new ≡ plus old one_stuck)))
+-- the numbers of a schedule that is cut here, or ends here and is good
+abbrev pub Counted : (List SerialOp → Type 0) → State → List Event → Counts → Type 0
+Counted Set s h counts =
+    (HasMove s × (counts ≡ one_cut))
+    ⊎ ((IsComplete s × IsGoodAt Set s h × (counts ≡ one_complete))
+    ⊎ (IsStuck s × IsGoodAt Set s h × (counts ≡ one_stuck)))
 
 -- The schedules that go on from a path to s and h, with no more than `left` moves behind it, are
 -- good if they end, and these are their numbers.
@@ -63,14 +57,6 @@ abbrev pub AreBelow : (List SerialOp → Type 0) → State → List Event → �
 AreBelow Set s h left below =
     (start : State) (u : List Move) → Leads start u s h
     → AreAllGood Set start (length u + left) (Below u) below
-
--- The walk passed: each schedule that goes on from a path to s and h, with no more than `left`
--- moves behind it, is good if it ends; their numbers were added.
-abbrev pub Passes : (List SerialOp → Type 0) → State → List Event → ℕ → Counts → Counts → Type 0
-Passes Set s h left old new =
-    (start : State) (u : List Move) → Leads start u s h →
-    (below : Counts) × (new ≡ plus old below)
-    × AreAllGood Set start (length u + left) (Below u) below
 
 -- a schedule that ends here is not good, and why
 abbrev pub IsBadAt : (List SerialOp → Type 0) → State → List Event → Why → Type 0
@@ -93,23 +79,16 @@ StopsAt Set s h left path end history =
     (start : State) (u : List Move) → Leads start u s h →
     IsFirstAt Set start (length u + left) (Below u) (u ++ reverse path) end history
 
--- the same of a node and a tally, over the histories of the node's tree
-abbrev pub IsCounted : {T Place : Type 0} → (T → List (List SerialOp)) → Node T Place → Tally
-    → Tally → Type 0
-IsCounted members node old new =
-    Counted (IsMember (members node.trail.tree)) node.machine node.trail.history old.counts
-    new.counts
+-- the same of a node, over the histories of its tree
+abbrev pub IsCounted : {T Place : Type 0} → (T → List (List SerialOp)) → Node T Place → Counts
+    → Type 0
+IsCounted members node counts =
+    Counted (IsMember (members node.trail.tree)) node.machine node.trail.history counts
 
 abbrev pub AreBelowNode : {T Place : Type 0} → (T → List (List SerialOp)) → Node T Place → ℕ
     → Counts → Type 0
 AreBelowNode members node left below =
     AreBelow (IsMember (members node.trail.tree)) node.machine node.trail.history left below
-
-abbrev pub HasPassed : {T Place : Type 0} → (T → List (List SerialOp)) → Node T Place → ℕ → Tally
-    → Tally → Type 0
-HasPassed members node left old new =
-    Passes (IsMember (members node.trail.tree)) node.machine node.trail.history left old.counts
-    new.counts
 
 -- or, where it did not pass and the watch did not stop it
 abbrev pub Stopped : {T Place : Type 0} → (T → List (List SerialOp)) → Node T Place → ℕ → Bool

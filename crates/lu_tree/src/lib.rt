@@ -19,9 +19,10 @@
 #![tactic(auto)]
 
 mod ahead;
+mod commuting;
 mod every_order;
 mod found;
-mod grid;
+mod known;
 mod look;
 mod node;
 mod pieces;

@@ -14,8 +14,8 @@ ghost use Rattle.lu_tree.specs.Trees.{Finds, MayFind, is_abandoned};
 ghost use Rattle.lu_tree.specs.Walks.{LeadsToNode};
 
 use crate::ahead::Ahead;
+use crate::commuting::Commuting;
 use crate::found::Found;
-use crate::grid::Grid;
 use crate::node::Node;
 use crate::tally::Tally;
 use crate::walk::walk;
@@ -96,9 +96,18 @@ pub fn search_watched<'a, 't, T: SerialTree, W: Watch>(
     let mut tally = Tally::new(alloc)?;
     let left = bound - moves.len() as u16;
     let ahead = Ahead::new(alloc, component, matrix, left)?;
-    let mut grid = Grid::new(alloc, component, matrix)?;
-    if walk(cache, watch, &ahead, &mut grid, left, &mut node, &mut tally) {
-        return Ok(Found::Clean(tally.counts));
+    let mut commuting = Commuting::new(alloc, component, matrix)?;
+    let walked = walk(
+        cache,
+        watch,
+        &ahead,
+        &mut commuting,
+        left,
+        &mut node,
+        &mut tally,
+    );
+    if let Some(known) = walked {
+        return Ok(Found::Clean(known.counts));
     }
     if watch.stopped() {
         return Ok(Found::Abandoned);

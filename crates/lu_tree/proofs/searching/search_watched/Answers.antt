@@ -1,20 +1,21 @@
-use Rattle.std.proofs.Common.{arith, ◌≡◌, ◌≤◌, ◌+◌, ◌-◌, ◌++◌, length, reverse, sym, ◌∙◌, ap, subst}
+use Rattle.std.proofs.Common.{arith, ◌≡◌, ◌≤◌, ◌+◌, ◌-◌, ◌++◌, length, reverse, refl, sym, ◌∙◌, ap, subst}
 use Rattle.lu_component.specs.Component.{Declarations}
 use Rattle.lu_test.specs.Schedule.{AreMoves}
 use Rattle.lu_machine.specs.States.{State}
 use Rattle.lu_witness.specs.Goodness.{IsFirstBad, AreAllGood}
 use Rattle.lu_witness.specs.Witnesses.{IsMember}
+use Rattle.lu_tree.specs.Known.{counts_of}
 use Rattle.lu_tree.specs.Trees.{Below}
 use Rattle.lu_tree.specs.Walks.{IsBadAt, IsFirstAt}
 use Rattle.lu_horizon.proofs.OwnLaws.{leads_component, serves_end}
 use Rattle.lu_tree.proofs.Added.{first_bad, walk_passed, walk_stopped}
-use Rattle.lu_tree.proofs.GridLaws.{leads_beside}
+use Rattle.lu_tree.proofs.KnownLaws.{known_below, leads_beside}
 use Rattle.lu_tree.proofs.Limits.{schedule_moves}
 use Rattle.lu_machine.proofs.Starting.{start_there}
 use Rattle.lu_tree.proofs.searching.search_watched.Goals as goal
 
-pub returns-then-walk-clause-found : goal.returns-then-walk-clause-found
-returns-then-walk-clause-found g c = λ s is.
+pub returns-in-Some-clause-found : goal.returns-in-Some-clause-found
+returns-in-Some-clause-found g c = λ s is.
     (let moves = c.moves-moves.result.now in
     let node = c.in_ok-node.node in
     let tree : node.trail.tree ≡ c.args.cache.now.tree = c.in_ok-node.ensures.tree ∙ c.tree.ensures in
@@ -22,11 +23,13 @@ returns-then-walk-clause-found g c = λ s is.
     let left = c.args.bound - length moves in
     let all : length moves + left ≡ c.args.bound = omega (arith, ap length c.moves-moves.ensures.moves) in
     let Set = IsMember (g.T.SerialTree.members node.trail.tree) in
-    let good = walk_passed Set s c.args.bound left c.args.from.now moves node.machine node.trail.history c.moves-moves.ensures.moves all (c.in_ok-node.ensures.leads s is) c.in_ok-tally.tally.counts c.walk.new.tally.counts c.in_ok-tally.ensures.counts (c.walk.ensures.passes c.if-walk.true) in
-    subst (λ x. AreAllGood (IsMember x) s c.args.bound (Below c.args.from.now) c.walk.new.tally.counts) set good)
+    let known = c.in-Some.known in
+    let below = known_below Set node.machine node.trail.history left known c.in-Some.ensures.known in
+    let good = walk_passed Set s c.args.bound left c.args.from.now moves node.machine node.trail.history c.moves-moves.ensures.moves all (c.in_ok-node.ensures.leads s is) (counts_of known) below in
+    subst (λ x. AreAllGood (IsMember x) s c.args.bound (Below c.args.from.now) (counts_of known)) set good)
 
-pub walk-requires-clause-serves : goal.walk-requires-clause-serves
-walk-requires-clause-serves g c = λ short.
+pub walk-walked-requires-clause-serves : goal.walk-walked-requires-clause-serves
+walk-walked-requires-clause-serves g c = λ short.
     (let there = start_there c.args.component.now c.args.matrix.now c.requires.of.settles in
     let start : State = there.0 in
     let moves = c.moves-moves.result.now in
@@ -37,15 +40,15 @@ walk-requires-clause-serves g c = λ short.
     let serves = c.in_ok-ahead.ensures start (sym (ap (λ (x : Declarations). x.local) same) ∙ short) there.1 in
     serves_end c.in_ok-ahead.ahead.horizon start moves node.machine node.trail.history leads serves)
 
-pub walk-requires-clause-beside : goal.walk-requires-clause-beside
-walk-requires-clause-beside g c =
+pub walk-walked-requires-clause-beside : goal.walk-walked-requires-clause-beside
+walk-walked-requires-clause-beside g c =
     let there = start_there c.args.component.now c.args.matrix.now c.requires.of.settles in
     let moves = c.moves-moves.result.now in
     let node = c.in_ok-node.node in
     let led = leads_beside there.0 moves node.machine node.trail.history (c.in_ok-node.ensures.leads there.0 there.1) in
-    let other = c.in_ok-grid.ensures in
-    let component : there.0.component ≡ c.in_ok-grid.grid.other.component = ap (λ (x : State). x.component) there.1.is ∙ sym (ap (λ (x : State). x.component) other.is) in
-    let matrix : there.0.matrix ≡ c.in_ok-grid.grid.other.matrix = ap (λ (x : State). x.matrix) there.1.is ∙ sym (ap (λ (x : State). x.matrix) other.is) in
+    let other = c.in_ok-commuting.ensures in
+    let component : there.0.component ≡ c.in_ok-commuting.commuting.other.component = ap (λ (x : State). x.component) there.1.is ∙ sym (ap (λ (x : State). x.component) other.is) in
+    let matrix : there.0.matrix ≡ c.in_ok-commuting.commuting.other.matrix = ap (λ (x : State). x.matrix) there.1.is ∙ sym (ap (λ (x : State). x.matrix) other.is) in
     (sym led.0 ∙ component, sym led.1 ∙ matrix)
 
 pub why_bad-requires-clause-ended : goal.why_bad-requires-clause-ended
@@ -59,11 +62,11 @@ why_bad-requires-clause-ended g c =
     let left = c.args.bound - length moves in
     let all : length moves + left ≡ c.args.bound = omega (arith, ap length c.moves-moves.ensures.moves) in
     let Set = IsMember (g.T.SerialTree.members node.trail.tree) in
-    let path = c.walk.new.tally.path.items in
-    let end = c.walk.new.node.machine in
-    let last = c.walk.new.node.trail.history in
+    let path = c.walk-walked.new.tally.path.items in
+    let end = c.walk-walked.new.node.machine in
+    let last = c.walk-walked.new.node.trail.history in
     let running = sym c.stopped.ensures ∙ c.if-stopped.false in
-    let first : IsFirstAt Set start c.args.bound (Below c.args.from.now) (c.args.from.now ++ reverse path) end last = walk_stopped Set start c.args.bound left c.args.from.now moves node.machine node.trail.history c.moves-moves.ensures.moves all (c.in_ok-node.ensures.leads start there.1) path end last (c.walk.ensures.stops c.if-walk.false running) in
+    let first : IsFirstAt Set start c.args.bound (Below c.args.from.now) (c.args.from.now ++ reverse path) end last = walk_stopped Set start c.args.bound left c.args.from.now moves node.machine node.trail.history c.moves-moves.ensures.moves all (c.in_ok-node.ensures.leads start there.1) path end last (c.in_default.ensures.stops refl running) in
     first.ended
 
 pub new-requires-4 : goal.new-requires-4
@@ -77,11 +80,11 @@ new-requires-4 g c =
     let left = c.args.bound - length moves in
     let all : length moves + left ≡ c.args.bound = omega (arith, ap length c.moves-moves.ensures.moves) in
     let Set = IsMember (g.T.SerialTree.members node.trail.tree) in
-    let path = c.walk.new.tally.path.items in
-    let end = c.walk.new.node.machine in
-    let last = c.walk.new.node.trail.history in
+    let path = c.walk-walked.new.tally.path.items in
+    let end = c.walk-walked.new.node.machine in
+    let last = c.walk-walked.new.node.trail.history in
     let running = sym c.stopped.ensures ∙ c.if-stopped.false in
-    let first : IsFirstAt Set start c.args.bound (Below c.args.from.now) (c.args.from.now ++ reverse path) end last = walk_stopped Set start c.args.bound left c.args.from.now moves node.machine node.trail.history c.moves-moves.ensures.moves all (c.in_ok-node.ensures.leads start there.1) path end last (c.walk.ensures.stops c.if-walk.false running) in
+    let first : IsFirstAt Set start c.args.bound (Below c.args.from.now) (c.args.from.now ++ reverse path) end last = walk_stopped Set start c.args.bound left c.args.from.now moves node.machine node.trail.history c.moves-moves.ensures.moves all (c.in_ok-node.ensures.leads start there.1) path end last (c.in_default.ensures.stops refl running) in
     let few = c.requires.few in
     let short : length (c.args.from.now ++ reverse path) ≤ c.args.bound = first.short in
     let are : AreMoves (c.args.from.now ++ reverse path) = schedule_moves c.args.component.now c.args.matrix.now start c.in_ok-node.ensures.limits.0 c.in_ok-node.ensures.limits.1 there.1 (c.args.from.now ++ reverse path) end last first.leads (omega arith) in
@@ -97,12 +100,12 @@ returns-clause-found g c = λ s is.
     let left = c.args.bound - length moves in
     let all : length moves + left ≡ c.args.bound = omega (arith, ap length c.moves-moves.ensures.moves) in
     let Set = IsMember (g.T.SerialTree.members node.trail.tree) in
-    let path = c.walk.new.tally.path.items in
-    let end = c.walk.new.node.machine in
-    let last = c.walk.new.node.trail.history in
+    let path = c.walk-walked.new.tally.path.items in
+    let end = c.walk-walked.new.node.machine in
+    let last = c.walk-walked.new.node.trail.history in
     let running = sym c.stopped.ensures ∙ c.if-stopped.false in
-    let first : IsFirstAt Set s c.args.bound (Below c.args.from.now) (c.args.from.now ++ reverse path) end last = walk_stopped Set s c.args.bound left c.args.from.now moves node.machine node.trail.history c.moves-moves.ensures.moves all (c.in_ok-node.ensures.leads s is) path end last (c.walk.ensures.stops c.if-walk.false running) in
-    let walked = ap (λ x. g.T.SerialTree.members x) c.walk.ensures.tree in
+    let first : IsFirstAt Set s c.args.bound (Below c.args.from.now) (c.args.from.now ++ reverse path) end last = walk_stopped Set s c.args.bound left c.args.from.now moves node.machine node.trail.history c.moves-moves.ensures.moves all (c.in_ok-node.ensures.leads s is) path end last (c.in_default.ensures.stops refl running) in
+    let walked = ap (λ x. g.T.SerialTree.members x) c.walk-walked.ensures.tree in
     let bad : IsBadAt Set end last c.in_ok-why.why = subst (λ x. IsBadAt (IsMember x) end last c.in_ok-why.why) walked c.in_ok-why.ensures.bad in
     let found : IsFirstBad Set s c.args.bound (Below c.args.from.now) (c.args.from.now ++ reverse path) c.in_ok-why.why = first_bad Set s c.args.bound (Below c.args.from.now) (c.args.from.now ++ reverse path) end last c.in_ok-why.why first bad in
     let joined = c.join.ensures ∙ ap (λ u. u ++ reverse path) c.moves-moves.ensures.moves in

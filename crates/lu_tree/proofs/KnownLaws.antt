@@ -1,0 +1,181 @@
+-- What is known below a state, and behind moves that commute.
+use Rattle.std.proofs.Common.{◌≡◌, ℕ, zero, suc, ◌-◌, ◌<◌, ◌≤◌, ◌⊎◌, List, [], ◌∷◌, ◌++◌, Option, None, Some, IfSome, Bor, slice_get, slice_set, length, length-set, unwrap_or, refl, sym, ◌∙◌, ap, subst, inl, inr, arith}
+use Rattle.std.specs.List.{Contains}
+use Rattle.std.proofs.lemmas.Bool.{cases_eq, cases_lt}
+use Rattle.std.proofs.lemmas.List.{append-nil}
+use Rattle.std.proofs.lemmas.Option.{slice_get_within}
+use Rattle.lu_horizon.proofs.OwnLaws.{get_set_other, get_set_same}
+use Rattle.lu_test.specs.declared.schedule.Move.{Move}
+use Rattle.lu_machine.specs.declared.counts.Counts.{Counts}
+use Rattle.lu_machine.specs.declared.event.Event.{Event}
+use Rattle.lu_machine.specs.States.{State}
+use Rattle.lu_machine.specs.Steps.{Step, picks_of}
+use Rattle.lu_machine.specs.Runs.{Leads, with_event}
+use Rattle.lu_machine.proofs.Keeping.{step_moved}
+use Rattle.lu_machine.proofs.StepLaws.{step_feasible, step_same}
+use Rattle.lu_tail.specs.Solo.{move_of}
+use Rattle.lu_history.specs.declared.serial.SerialOp.{SerialOp}
+use Rattle.lu_tree.specs.declared.commuting.Both.{Both}
+use Rattle.lu_tree.specs.declared.known.Known.{Known}
+use Rattle.lu_tree.specs.declared.known.Hints.{Hints}
+use Rattle.lu_tree.specs.Known.{AreBeside, AreFrom, AreKnownBehind, Commute, HaveOneHistory, IsAmong, IsAmongOr, IsHint, IsHintOr, IsKid, IsKnown, IsKnownBy, MadeBoth, Moves, MovesBoth, counts_of, kids_of}
+use Rattle.lu_tree.specs.Walks.{AreBelow}
+
+-- a move keeps the component and the matrix
+pub beside_step : (s r next : State) (m : Move) (event : Option Event) → AreBeside s r → Step r m next event → AreBeside s next
+beside_step s r next m event beside step =
+    let moved = step_moved r m next event step in
+    (beside.0 ∙ sym moved.component, beside.1 ∙ sym moved.matrix)
+
+-- the same on the other side
+pub beside_moved : (s r next : State) (m : Move) (event : Option Event) → AreBeside s r → Step s m next event → AreBeside next r
+beside_moved s r next m event beside step =
+    let moved = step_moved s m next event step in
+    (moved.component ∙ beside.0, moved.matrix ∙ beside.1)
+
+-- and before the move
+pub beside_back : (s r next : State) (m : Move) (event : Option Event) → Step s m next event → AreBeside next r → AreBeside s r
+beside_back s r next m event step beside =
+    let moved = step_moved s m next event step in
+    (sym moved.component ∙ beside.0, sym moved.matrix ∙ beside.1)
+
+-- all states to which a schedule leads run one component and one matrix
+pub leads_beside : (s : State) (u : List Move) (end : State) (h : List Event) → Leads s u end h → AreBeside s end
+leads_beside s [] end h leads = (ap (λ (x : State). x.component) (sym leads.0), ap (λ (x : State). x.matrix) (sym leads.0))
+leads_beside s (m ∷ u) end h leads =
+    let first = step_moved s m leads.0 leads.1 leads.3 in
+    let rest = leads_beside leads.0 u end leads.2 leads.4 in
+    (sym first.component ∙ rest.0, sym first.matrix ∙ rest.1)
+
+-- the hint of a thread, if there is one
+pub hint_there : (hints : Hints) (t i : ℕ) (slot : Option (Bor Known)) → i ≡ t → slice_get hints.by_thread i ≡ Some slot → IfSome slot (λ b. IsHint hints t b.now)
+hint_there hints t i None is there = tt
+hint_there hints t i (Some b) is there = (b, subst (λ x. slice_get hints.by_thread x ≡ Some (Some b)) is there, refl)
+
+some_same : {A : Type 0} (x y : A) → Some x ≡ Some y → x ≡ y
+some_same x y is = ap (λ o. unwrap_or o x) is
+
+slot_set : (slots : List (Option (Bor Known))) (t i : ℕ) (b : Bor Known) → i ≡ t → (u : ℕ) (known : Known) → (c : Bor Known) × (slice_get (slice_set slots i (Some b)) u ≡ Some (Some c)) × (c.now ≡ known) → ((c : Bor Known) × (slice_get slots u ≡ Some (Some c)) × (c.now ≡ known)) ⊎ ((u ≡ t) × (known ≡ b.now))
+slot_set slots t i b is u known hint =
+    elim (cases_eq u i) [
+      | inl same ↦ elim (cases_lt i (length slots)) [
+        | inl lt ↦
+            (let there : slice_get (slice_set slots i (Some b)) u ≡ Some (Some b) = rw same (get_set_same slots i (Some b) lt) in
+            let slot : Some b ≡ Some hint.0 = some_same (Some b) (Some hint.0) (sym there ∙ hint.1) in
+            let one : b ≡ hint.0 = some_same b hint.0 slot in
+            inr (same ∙ is, sym hint.2 ∙ ap (λ (x : Bor Known). x.now) (sym one)))
+        | inr ge ↦
+            (let within = slice_get_within (slice_set slots i (Some b)) u (Some hint.0) hint.1 in
+            let long : length (slice_set slots i (Some b)) ≡ length slots = length-set slots i (Some b) in
+            absurd (omega arith))
+      ]
+      | inr other ↦ inl (hint.0, sym (get_set_other slots i u (Some b) other) ∙ hint.1, hint.2)
+    ]
+
+pub hint_added : (old : Hints) (t i : ℕ) (b : Bor Known) → i ≡ t → IsHintOr t b.now old (record { by_thread = slice_set old.by_thread i (Some b) })
+hint_added old t i b is = λ u known hint. slot_set old.by_thread t i b is u known hint
+
+-- moves that were made in both orders
+pub commute_seen : (t u : ℕ) (s end other : State) (there here : Both) → MadeBoth t u s end there → MadeBoth u t s other here → other ≡ end → HaveOneHistory there here → Commute t u s
+commute_seen t u s end other there here one two same history =
+    let back : MovesBoth u t s end there.second.event there.first.event = rw (history.0, history.1, ← same) two.moves in
+    (end, there.first.event, there.second.event, one.moves, back, history.2)
+
+-- one hint more
+pub from_more : (s : State) (hints : Hints) (known : Known) (t u : ℕ) (first below : Known) (old new : Hints) → AreFrom s hints known t old → IsHintOr u below old new → Commute u t s → IsKnownBy hints known u first → IsKid first t below → AreFrom s hints known t new
+from_more s hints known t u first below old new are more commute by kid = λ v other hint.
+    elim (more v other hint) [
+      | inl before ↦ are v other before
+      | inr is ↦ rw (is.0, is.1) (commute, first, by, kid)
+    ]
+
+-- none is an element of an empty list
+none_kid : {A : Type 0} (xs : List A) (x : A) → xs ≡ [] → Contains xs x → ⊥
+none_kid [] x none in_xs = omega (arith, in_xs.1)
+none_kid (y ∷ ys) x none in_xs = omega (arith, ap length none)
+
+module _ (Set : List SerialOp → Type 0) where
+  pub known_below : (s : State) (h : List Event) (left : ℕ) (known : Known) → IsKnown Set s h left known → AreBelow Set s h left (counts_of known)
+  known_below s h zero known is = is.0
+  known_below s h (suc left) known is = is.0
+
+  pub kids_known : (s : State) (h : List Event) (left : ℕ) (known : Known) → IsKnown Set s h left known → AreKnownBehind Set s h (left - 1) (IsKid known)
+  kids_known s h zero known is = λ t below kid. absurd (none_kid (kids_of known) (t, below) is.1 kid)
+  kids_known s h (suc left) known is =
+      let one : left ≡ suc left - 1 = omega arith in
+      subst (λ n. AreKnownBehind Set s h n (IsKid known)) one is.1
+
+  pub known_alone : (s : State) (h : List Event) (left : ℕ) (known : Known) (counts : Counts) → counts_of known ≡ counts → kids_of known ≡ [] → AreBelow Set s h left counts → IsKnown Set s h left known
+  known_alone s h zero known counts is none below = (subst (AreBelow Set s h zero) (sym is) below, none)
+  known_alone s h (suc left) known counts is none below = (subst (AreBelow Set s h (suc left)) (sym is) below, λ t kid in_kids. absurd (none_kid (kids_of known) (t, kid) none in_kids))
+
+  pub none_behind : (s : State) (h : List Event) (left : ℕ) (known : Known) → kids_of known ≡ [] → AreKnownBehind Set s h left (IsKid known)
+  none_behind s h left known none = λ t kid in_kids. absurd (none_kid (kids_of known) (t, kid) none in_kids)
+
+  pub known_with : (s : State) (h : List Event) (left : ℕ) (known : Known) → 1 ≤ left → AreBelow Set s h left (counts_of known) → AreKnownBehind Set s h (left - 1) (IsKid known) → IsKnown Set s h left known
+  known_with s h zero known some below kids = absurd (omega arith)
+  known_with s h (suc left) known some below kids =
+      let one : suc left - 1 ≡ left = omega arith in
+      (below, subst (λ n. AreKnownBehind Set s h n (IsKid known)) one kids)
+
+  -- what is told behind the only move of thread t is known where it leads
+  pub behind_here : (s : State) (h : List Event) (left t : ℕ) (below : Known) (IsTold : ℕ → Known → Type 0) → AreKnownBehind Set s h left IsTold → IsTold t below → (next : State) (event : Option Event) → Moves t s next event → AreBelow Set next (h ++ with_event event []) left (counts_of below)
+  behind_here s h left t below IsTold are told next event moves = known_below next (h ++ with_event event []) left below (are t below told next event moves)
+
+  -- fewer are told of
+  pub behind_same : (s : State) (h : List Event) (left : ℕ) (old new : Known) → kids_of new ≡ kids_of old → AreKnownBehind Set s h left (IsKid old) → AreKnownBehind Set s h left (IsKid new)
+  behind_same s h left old new same are = λ t below kid. are t below (subst (λ x. Contains x (t, below)) same kid)
+
+  pub behind_among : (s : State) (h : List Event) (left : ℕ) (old new : Known) → IsAmong (kids_of old) (kids_of new) → AreKnownBehind Set s h left (IsKid old) → AreKnownBehind Set s h left (IsKid new)
+  behind_among s h left old new among are = λ t below kid. are t below (among (t, below) kid)
+
+  -- one more is told of
+  pub behind_more : (s : State) (h : List Event) (left t : ℕ) (old new below : Known) → IsAmongOr (t, below) (kids_of old) (kids_of new) → AreKnownBehind Set s h left (IsKid old) → ((next : State) (event : Option Event) → Moves t s next event → IsKnown Set next (h ++ with_event event []) left below) → AreKnownBehind Set s h left (IsKid new)
+  behind_more s h left t old new below among are one = λ u kid in_kids.
+      elim (among (u, kid) in_kids) [
+        | inl before ↦ are u kid before
+        | inr is ↦ (λ next event moves.
+            (let thread : u ≡ t = ap (λ p. p.0) is in
+            let known : kid ≡ below = ap (λ p. p.1) is in
+            rw known (one next event (subst (λ x. Moves x s next event) thread moves))))
+      ]
+
+  -- what is known where a move of thread t leads
+  pub known_behind : (s : State) (h : List Event) (left t p : ℕ) (next : State) (event : Option Event) (k : List Event) (below : Known) → Step s (record { thread = t; pick = p }) next event → k ≡ h ++ with_event event [] → IsKnown Set next k left below → (there : State) (other : Option Event) → Moves t s there other → IsKnown Set there (h ++ with_event other []) left below
+  known_behind s h left t p next event k below step is known there other moves =
+      let feasible : p < picks_of s t = step_feasible s (record { thread = t; pick = p }) next event step in
+      let only : p ≡ 0 = omega (arith, moves.0) in
+      let first : Step s (move_of t) next event = subst (λ x. Step s (record { thread = t; pick = x }) next event) only step in
+      let at : (there ≡ next) × (other ≡ event) = step_same s (move_of t) there next other event moves.1 first in
+      rw (at.0, at.1, ← is) known
+
+  -- in either order of two moves there is one history
+  swapped : (h : List Event) (e f : Option Event) → (e ≡ None) ⊎ (f ≡ None) → (h ++ with_event e []) ++ with_event f [] ≡ (h ++ with_event f []) ++ with_event e []
+  swapped h e f (inl none) = rw none (ap (λ x. x ++ with_event f []) (append-nil h) ∙ sym (append-nil (h ++ with_event f [])))
+  swapped h e f (inr none) = rw none (append-nil (h ++ with_event e []) ∙ ap (λ x. x ++ with_event e []) (sym (append-nil h)))
+
+  -- Where thread t moves first: what is known behind a move that commutes with that is known there,
+  -- too.
+  pub hints_on : (s : State) (h : List Event) (left : ℕ) (hints : Hints) (known : Known) (t p : ℕ) (new : Hints) → AreKnownBehind Set s h left (IsHint hints) → AreKnownBehind Set s h left (IsKid known) → AreFrom s hints known t new → (next : State) (event : Option Event) → Step s (record { thread = t; pick = p }) next event → AreKnownBehind Set next (h ++ with_event event []) (left - 1) (IsHint new)
+  hints_on s h left hints known t p new by_hint by_kid from next event step = λ u below hint there last moves.
+      (let c = from u below hint in
+      let commute : Commute u t s = c.0 in
+      let end = commute.0 in
+      let e = commute.1 in
+      let f = commute.2 in
+      let one = commute.3 in
+      let two = commute.4 in
+      let feasible : p < picks_of s t = step_feasible s (record { thread = t; pick = p }) next event step in
+      let only : p ≡ 0 = omega (arith, two.1.0) in
+      let first : Step s (move_of t) next event = subst (λ x. Step s (record { thread = t; pick = x }) next event) only step in
+      let at : (next ≡ two.0) × (event ≡ f) = step_same s (move_of t) next two.0 event f first two.1.1 in
+      let then : Step two.0 (move_of u) there last = subst (λ x. Step x (move_of u) there last) at.0 moves.1 in
+      let to : (there ≡ end) × (last ≡ e) = step_same two.0 (move_of u) there end last e then two.2.1 in
+      let before = behind u c.1 c.2 one.0 e one.1 in
+      let kid = kids_known one.0 (h ++ with_event e []) left c.1 before t below c.3 end f one.2 in
+      let same = swapped h e f commute.5 in
+      rw (at.1, to.0, to.1, ← same) kid)
+    where
+      behind : (u : ℕ) (first : Known) → IsKnownBy hints known u first → (r : State) (e : Option Event) → Moves u s r e → IsKnown Set r (h ++ with_event e []) left first
+      behind u first (inl hint) = by_hint u first hint
+      behind u first (inr kid) = by_kid u first kid

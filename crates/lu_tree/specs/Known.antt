@@ -1,0 +1,120 @@
+-- What is known below a state, and of moves that commute.
+use Rattle.std.specs.Prelude.{◌≡◌, ℕ, zero, suc, ◌⊎◌, ◌++◌, List, [], Option, None, Some, slice_get}
+use Rattle.std.specs.Borrow.{Bor}
+use Rattle.std.specs.List.{Contains}
+use Rattle.lu_machine.specs.declared.counts.Counts.{Counts}
+use Rattle.lu_machine.specs.declared.event.Event.{Event}
+use Rattle.lu_machine.specs.Runs.{with_event}
+use Rattle.lu_machine.specs.States.{State}
+use Rattle.lu_machine.specs.Steps.{Step, picks_of}
+use Rattle.lu_machine.specs.Undoes.{CanTake, restored}
+use Rattle.lu_tail.specs.Solo.{move_of}
+use Rattle.lu_history.specs.declared.serial.SerialOp.{SerialOp}
+use Rattle.lu_witness.specs.Witnesses.{IsMember}
+use Rattle.lu_tree.specs.declared.commuting.Both.{Both}
+use Rattle.lu_tree.specs.declared.known.Known.{Known, out-Known}
+use Rattle.lu_tree.specs.declared.known.Hints.{Hints}
+use Rattle.lu_tree.specs.declared.node.Node.{Node}
+use Rattle.lu_tree.specs.Walks.{AreBelow}
+
+-- both run one component and one matrix
+abbrev pub AreBeside : State → State → Type 0
+AreBeside s r = (s.component ≡ r.component) × (s.matrix ≡ r.matrix)
+
+-- thread t has one pick in s, and its move leads to r
+abbrev pub Moves : ℕ → State → State → Option Event → Type 0
+Moves t s r event = (picks_of s t ≡ 1) × Step s (move_of t) r event
+
+-- the only moves of t and of u, one after the other
+abbrev pub MovesBoth : ℕ → ℕ → State → State → Option Event → Option Event → Type 0
+MovesBoth t u s end e f = (r : State) × Moves t s r e × Moves u r end f
+
+-- The only moves of t and of u commute: in either order they lead to one state, with the same
+-- events, and at most one of them has an event.
+abbrev pub Commute : ℕ → ℕ → State → Type 0
+Commute t u s =
+    (end : State) × (e : Option Event) × (f : Option Event) × MovesBoth t u s end e f
+    × MovesBoth u t s end f e × ((e ≡ None) ⊎ (f ≡ None))
+
+-- both moves were made, and can be taken back
+abbrev pub taken_back : Both → State → State
+taken_back both s = restored both.first (restored both.second s)
+
+pub record MadeBoth (t u : ℕ) (s end : State) (both : Both) : Type 0 where
+  pub moves : MovesBoth t u s end both.first.event both.second.event
+  pub back : taken_back both end ≡ s
+  pub second : CanTake end both.second
+  pub first : CanTake (restored both.second end) both.first
+
+-- two moves have the same events in the other order, and at most one of them has one
+abbrev pub HaveOneHistory : Both → Both → Type 0
+HaveOneHistory there here =
+    (there.first.event ≡ here.second.event) × (there.second.event ≡ here.first.event)
+    × ((there.first.event ≡ None) ⊎ (there.second.event ≡ None))
+
+-- the numbers below a state, and what is known behind the only moves of threads
+abbrev pub counts_of : Known → Counts
+counts_of known = (out-Known known).counts
+
+abbrev pub kids_of : Known → List (ℕ × Known)
+kids_of known = (out-Known known).kids.items
+
+abbrev pub IsKid : Known → ℕ → Known → Type 0
+IsKid known t below = Contains (kids_of known) (t, below)
+
+-- what is known behind the move of thread t, by a hint; and by a hint or since it was walked
+abbrev pub IsHint : Hints → ℕ → Known → Type 0
+IsHint hints t below =
+    (b : Bor Known) × (slice_get hints.by_thread t ≡ Some (Some b)) × (b.now ≡ below)
+
+abbrev pub IsKnownBy : Hints → Known → ℕ → Known → Type 0
+IsKnownBy hints known t below = IsHint hints t below ⊎ IsKid known t below
+
+abbrev pub IsHintOr : ℕ → Known → Hints → Hints → Type 0
+IsHintOr t below old new =
+    (u : ℕ) (known : Known) → IsHint new u known → IsHint old u known ⊎ ((u ≡ t) × (known ≡ below))
+
+-- each of the second list is one of the first, or the one that comes with it
+abbrev pub IsAmong : {A : Type 0} → List A → List A → Type 0
+IsAmong {A} all some = (x : A) → Contains some x → Contains all x
+
+abbrev pub IsAmongOr : {A : Type 0} → A → List A → List A → Type 0
+IsAmongOr {A} one all some = (x : A) → Contains some x → Contains all x ⊎ (x ≡ one)
+
+-- What is known below s, behind the history h, with no more than `left` moves: the schedules that
+-- go on from there are good if they end, and these are their numbers; and so behind the only moves
+-- of some threads.
+abbrev pub IsKnown : (List SerialOp → Type 0) → State → List Event → ℕ → Known → Type 0
+IsKnown Set s h zero known = AreBelow Set s h zero (counts_of known) × (kids_of known ≡ [])
+IsKnown Set s h (suc left) known =
+    AreBelow Set s h (suc left) (counts_of known)
+    × ((t : ℕ) (below : Known) → IsKid known t below
+    → (next : State) (event : Option Event) → Moves t s next event
+    → IsKnown Set next (h ++ with_event event []) left below)
+
+-- what is known behind the only moves of threads
+abbrev pub AreKnownBehind : (List SerialOp → Type 0) → State → List Event → ℕ
+    → (ℕ → Known → Type 0) → Type 0
+AreKnownBehind Set s h left IsTold =
+    (t : ℕ) (below : Known) → IsTold t below
+    → (next : State) (event : Option Event) → Moves t s next event
+    → IsKnown Set next (h ++ with_event event []) left below
+
+-- Where thread t moves first: each hint is of a move that commutes with that, and was known behind
+-- it.
+abbrev pub AreFrom : State → Hints → Known → ℕ → Hints → Type 0
+AreFrom s hints known t new =
+    (u : ℕ) (below : Known) → IsHint new u below
+    → Commute u t s × (first : Known) × IsKnownBy hints known u first × IsKid first t below
+
+-- the same of a node, over the histories of its tree
+abbrev pub IsKnownNode : {T Place : Type 0} → (T → List (List SerialOp)) → Node T Place → ℕ
+    → Known → Type 0
+IsKnownNode members node left known =
+    IsKnown (IsMember (members node.trail.tree)) node.machine node.trail.history left known
+
+abbrev pub AreHints : {T Place : Type 0} → (T → List (List SerialOp)) → Node T Place → ℕ → Hints
+    → Type 0
+AreHints members node left hints =
+    AreKnownBehind (IsMember (members node.trail.tree)) node.machine node.trail.history left
+    (IsHint hints)

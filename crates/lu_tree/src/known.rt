@@ -1,0 +1,141 @@
+//! What is known below a state.
+
+ghost use Rattle.std.specs.Prelude.{◌≡◌, ◌<◌, [], IfSome};
+ghost use Rattle.lu_machine.specs.Sums.{plus};
+ghost use Rattle.lu_tree.specs.Known.{IsAmong, IsAmongOr, IsHint, IsHintOr, IsKid, counts_of, kids_of};
+
+use lu_machine::Counts;
+use std::alloc::Global;
+
+/// The most states of which is kept what is known below them, where a walk comes back from a state.
+const MOST_STATES: u16 = 256;
+
+/// How many schedules there are below a state, and below states that follow it.
+#[derive(Drop)]
+pub(crate) struct Known {
+    pub(crate) counts: Counts,
+
+    /// Of how many states it tells.
+    size: u16,
+
+    /// What is known below the states to which the only moves of some threads lead.
+    kids: Vec<(u8, Known)>,
+}
+
+/// What is known behind the only moves of some threads.
+#[derive(Clone, Copy)]
+pub(crate) struct Hints<'k> {
+    by_thread: [Option<&'k Known>; 8],
+}
+
+impl<'k> Hints<'k> {
+    /// Nothing is known.
+    pub(crate) const NONE: Hints<'static> = Hints {
+        by_thread: [None; 8],
+    };
+
+    /// What is known behind the only move of the thread.
+    #[inline(always)]
+    pub(crate) fn behind(&self, thread: u8) -> Option<&'k Known>
+        ensures { IfSome result (λ below. IsHint self.now thread below.now) }
+    {
+        match self.by_thread.get(usize::from(thread)) {
+            Some(hint) => *hint,
+            None => None,
+        }
+    }
+
+    /// The same of a thread with so many moves.
+    #[inline(always)]
+    pub(crate) fn behind_one_of(&self, picks: u8, thread: u8) -> Option<&'k Known>
+        ensures only { IfSome result (λ _. picks ≡ 1) }
+        ensures hint { IfSome result (λ below. IsHint self.now thread below.now) }
+    {
+        if picks == 1 {
+            self.behind(thread)
+        } else {
+            None
+        }
+    }
+
+    /// This is known behind the only move of the thread.
+    #[inline(always)]
+    pub(crate) fn add(&mut self, thread: u8, below: &'k Known)
+        requires { thread < 8 }
+        ensures { IsHintOr thread below.entry.now self.old self.new }
+    {
+        let slots = &mut self.by_thread[..];
+        slots[usize::from(thread)] = Some(below);
+    }
+}
+
+impl Known {
+    /// These numbers, and nothing of states that follow.
+    pub(crate) fn alone(alloc: Global, counts: Counts) -> Known
+        ensures counts { counts_of result ≡ counts }
+        ensures kids { kids_of result ≡ [] }
+    {
+        Known {
+            counts,
+            size: 1,
+            kids: Vec::new(alloc),
+        }
+    }
+
+    /// What is known below the state to which the only move of the thread leads.
+    pub(crate) fn behind(&self, thread: u8) -> Option<&Known>
+        ensures { IfSome result (λ below. IsKid self.now thread below.now) }
+    {
+        for (of, below) in &self.kids {
+            if *of == thread {
+                return Some(below);
+            }
+        }
+        None
+    }
+
+    /// Adds these numbers.
+    pub(crate) fn add(&mut self, below: Counts)
+        ensures counts { counts_of self.new ≡ plus (counts_of self.old) below }
+        ensures kids { kids_of self.new ≡ kids_of self.old }
+    {
+        self.counts = self.counts.plus(below);
+    }
+
+    /// Keeps what is known behind a move of a thread with so many moves: where it is the only one,
+    /// and memory is not refused.
+    pub(crate) fn keep(&mut self, picks: u8, thread: u8, below: Known)
+        ensures counts { counts_of self.new ≡ counts_of self.old }
+        ensures kids { IsAmongOr (thread, below) (kids_of self.old) (kids_of self.new) }
+    {
+        if picks != 1 {
+            return;
+        }
+        let size = self.size.saturating_add(below.size);
+        if self.kids.push((thread, below)).is_ok() {
+            self.size = size;
+        }
+    }
+
+    /// What a walk tells when it comes back: nothing of the moves of thread 0, which comes before
+    /// all others, and nothing but the numbers where there would be too much.
+    pub(crate) fn told(self) -> Known
+        ensures counts { counts_of result ≡ counts_of self }
+        ensures kids { IsAmong (kids_of self) (kids_of result) }
+    {
+        let mut known = self;
+        let of_first = match known.kids.first() {
+            Some((0, below)) => below.size,
+            _ => 0,
+        };
+        if of_first > 0 {
+            known.kids.remove(0);
+            known.size = known.size.saturating_sub(of_first);
+        }
+        if known.size > MOST_STATES {
+            known.kids.clear();
+            known.size = 1;
+        }
+        known
+    }
+}
