@@ -1,4 +1,4 @@
--- Where the registers tell to which place a thread goes, its outlook is that of this place.
+-- Where no local instructions run with a move, and the registers tell to which place a thread goes, its outlook is that of this place.
 use Rattle.std.proofs.Common.{◌≡◌, ℕ, ◌+◌, ◌==◌, if◌then◌else◌, Bool, true, false, List, Option, Some, slice_get, slice_set, refl, sym, ◌∙◌, ap, subst}
 use Rattle.std.proofs.lemmas.Option.{same_Some}
 use Rattle.lu_component.specs.declared.instr.Instr.{Instr}
@@ -14,16 +14,17 @@ use Rattle.lu_machine.specs.declared.thread.Thread.{Thread}
 use Rattle.lu_machine.specs.Changes.{at_work}
 use Rattle.lu_machine.specs.Effects.{Effect, onward, onward_at, value_of}
 use Rattle.lu_machine.specs.States.{State, instr_at}
-use Rattle.lu_machine.specs.Steps.{ByActivity, Carries, Step, picks_of, thread_after}
+use Rattle.lu_machine.specs.Steps.{ByActivity, Carries, OneStep, Step, picks_of, thread_after}
 use Rattle.lu_machine.proofs.Keeping.{carries_alike}
+use Rattle.lu_machine.proofs.Unseen.{one_without_local}
 use Rattle.lu_horizon.specs.declared.outlook.Outlook.{Outlook}
 use Rattle.lu_horizon.specs.Outlooks.{one_before}
 use Rattle.lu_horizon.specs.Own.{IsAt, IsOwn}
 use Rattle.lu_horizon.specs.Sure.{HasOutlook}
-use Rattle.lu_horizon.proofs.OwnLaws.{itself_stands, other_stands, step_by, step_keeps_own}
+use Rattle.lu_horizon.proofs.OwnLaws.{itself_stands, one_step_by, other_stands, step_keeps_own}
 use Rattle.lu_horizon.proofs.SureLaws.{before}
 
-module _ (c : Declarations) (matrix : Matrix) (t k : ℕ) (f : Frame) (v : Operand) (target : ℕ) (jumps : instr_at c f.op f.place ≡ Some (JumpIfZero v target)) where
+module _ (c : Declarations) (none : c.local ≡ 0) (matrix : Matrix) (t k : ℕ) (f : Frame) (v : Operand) (target : ℕ) (jumps : instr_at c f.op f.place ≡ Some (JumpIfZero v target)) where
   -- thread t has its call number k open, with these registers
   abbrev Holds : State → Type 0
   Holds s = IsOwn c matrix s × (slice_get s.threads t ≡ Some (at_work k f))
@@ -36,9 +37,10 @@ module _ (c : Declarations) (matrix : Matrix) (t k : ℕ) (f : Frame) (v : Opera
 
   goes : (s : State) (m : Move) (new : State) (event : Option Event) → Holds s → m.thread ≡ t → Step s m new event → IsAt c matrix t k (if value_of f v == 0 then target else f.place + 1) new
   goes s m new event holds same step =
-      let short : s.component.local ≡ 0 = ap (λ (x : Declarations). x.local) holds.0.component ∙ holds.0.short in
+      let short : s.component.local ≡ 0 = ap (λ (x : Declarations). x.local) holds.0.component ∙ none in
+      let one : OneStep s m new event = (one_without_local s m new event short).0 step in
       let stands : slice_get s.threads m.thread ≡ Some (at_work k f) = rw same holds.1 in
-      let h : ByActivity s m k (Open f) new event = step_by s m new event (at_work k f) short stands step in
+      let h : ByActivity s m k (Open f) new event = one_step_by s m new event (at_work k f) stands one in
       let is : h.0 ≡ JumpIfZero v target = same_Some h.0 (JumpIfZero v target) (sym h.3 ∙ there s holds) in
       let carries : Carries s m f (JumpIfZero v target) h.1 h.2 = subst (λ (x : Instr). Carries s m f x h.1 h.2) is h.5 in
       let mid = carries_alike s m f h.0 h.1 h.2 h.5 in

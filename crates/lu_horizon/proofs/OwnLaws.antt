@@ -22,9 +22,8 @@ use Rattle.lu_machine.specs.Changes.{at_work, idle}
 use Rattle.lu_machine.specs.Runs.{Leads}
 use Rattle.lu_machine.specs.Starts.{IsStart}
 use Rattle.lu_machine.specs.States.{State, cell_at, instr_at, value_at, with_cell, with_owner}
-use Rattle.lu_machine.specs.Steps.{Carries, ByActivity, OneStep, Step, opened, owns, thread_after}
+use Rattle.lu_machine.specs.Steps.{Carries, ByActivity, OneStep, RunsOn, Step, is_at_local, more_local, opened, owns, thread_after}
 use Rattle.lu_machine.proofs.Keeping.{carries_alike, step_moved}
-use Rattle.lu_machine.proofs.Unseen.{one_without_local}
 use Rattle.lu_horizon.specs.Code.{is_there}
 use Rattle.lu_horizon.specs.Own.{IsOwn, IsIdle, IsAt}
 use Rattle.lu_horizon.specs.Tables.{IsTable, Outlooks, Serves}
@@ -133,19 +132,37 @@ open_goes s m k f new event h =
       follows = carries_follows s m f h.0 h.1 h.2 h.5;
     }
 
--- where no local instructions run with a move, it is one call or instruction
-pub one_step : (s : State) (m : Move) (new : State) (event : Option Event) → s.component.local ≡ 0 → Step s m new event → OneStep s m new event
-one_step s m new event short step = (one_without_local s m new event short).0 step
+-- a thread's call or instruction changes where it stands, and else cells and locks alone
+record Turned (s : State) (t : ℕ) (new : State) : Type 0 where
+  component : new.component ≡ s.component
+  matrix : new.matrix ≡ s.matrix
+  now : Thread
+  threads : new.threads ≡ slice_set s.threads t now
 
-pub whole_step : (s : State) (m : Move) (new : State) (event : Option Event) → s.component.local ≡ 0 → OneStep s m new event → Step s m new event
-whole_step s m new event short one = (one_without_local s m new event short).1 one
+by_turned : (s : State) (m : Move) (k : ℕ) (activity : Activity) (new : State) (event : Option Event) → ByActivity s m k activity new event → Turned s m.thread new
+by_turned s m k Idle new event h = record {
+  component = ap (λ (x : State). x.component) h.3;
+  matrix = ap (λ (x : State). x.matrix) h.3;
+  now = record { done = k; activity = Open (opened h.0) };
+  threads = ap (λ (x : State). x.threads) h.3;
+}
+by_turned s m k (Open f) new event h =
+    let mid = carries_alike s m f h.0 h.1 h.2 h.5 in
+    record {
+      component = ap (λ (x : State). x.component) h.6 ∙ mid.component;
+      matrix = ap (λ (x : State). x.matrix) h.6 ∙ mid.matrix;
+      now = thread_after k h.2;
+      threads = ap (λ (x : State). x.threads) h.6 ∙ ap (λ (x : List Thread). slice_set x m.thread (thread_after k h.2)) mid.threads;
+    }
 
--- the move of a thread that stands so
-pub step_by : (s : State) (m : Move) (new : State) (event : Option Event) (thread : Thread) → s.component.local ≡ 0 → slice_get s.threads m.thread ≡ Some thread → Step s m new event → ByActivity s m thread.done thread.activity new event
-step_by s m new event thread short stands step =
-    let h = one_step s m new event short step in
-    let same : h.0 ≡ thread = same_Some h.0 thread (sym h.1 ∙ stands) in
-    rw same at h.2
+one_turned : (s : State) (m : Move) (new : State) (event : Option Event) → OneStep s m new event → Turned s m.thread new
+one_turned s m new event one = by_turned s m one.0.done one.0.activity new event one.2
+
+-- the call or instruction of a thread that stands so
+pub one_step_by : (s : State) (m : Move) (new : State) (event : Option Event) (thread : Thread) → slice_get s.threads m.thread ≡ Some thread → OneStep s m new event → ByActivity s m thread.done thread.activity new event
+one_step_by s m new event thread stands one =
+    let same : one.0 ≡ thread = same_Some one.0 thread (sym one.1 ∙ stands) in
+    rw same at one.2
 
 -- another thread stands as it stood
 pub other_stands : (s : State) (m : Move) (new : State) (event : Option Event) (t : ℕ) → (m.thread ≡ t → ⊥) → Step s m new event → slice_get new.threads t ≡ slice_get s.threads t
@@ -153,23 +170,28 @@ other_stands s m new event t other step =
     let moved = step_moved s m new event step in
     ap (λ (x : List Thread). slice_get x t) moved.threads ∙ get_set_other s.threads m.thread t moved.now (λ e. other (sym e))
 
+one_other_stands : (s : State) (m : Move) (new : State) (event : Option Event) (t : ℕ) → (m.thread ≡ t → ⊥) → OneStep s m new event → slice_get new.threads t ≡ slice_get s.threads t
+one_other_stands s m new event t other one =
+    let turned = one_turned s m new event one in
+    ap (λ (x : List Thread). slice_get x t) turned.threads ∙ get_set_other s.threads m.thread t turned.now (λ e. other (sym e))
+
 -- the thread itself stands as the move leaves it
 pub itself_stands : (s new : State) (t : ℕ) (was now : Thread) → slice_get s.threads t ≡ Some was → new.threads ≡ slice_set s.threads t now → slice_get new.threads t ≡ Some now
 itself_stands s new t was now stands is = ap (λ (x : List Thread). slice_get x t) is ∙ get_set_same s.threads t now (slice_get_within s.threads t was stands)
 
--- after a thread's own move: an idle one has opened its next call
-idle_opens : (s : State) (m : Move) (k : ℕ) (new : State) (event : Option Event) → s.component.local ≡ 0 → slice_get s.threads m.thread ≡ Some (record { done = k; activity = Idle }) → Step s m new event → (call : Call) × (slice_get (calls_of s.matrix m.thread) k ≡ Some call) × (slice_get new.threads m.thread ≡ Some (record { done = k; activity = Open (opened call) }))
-idle_opens s m k new event short stands step =
+-- after a thread's own call or instruction: an idle one has opened its next call
+idle_opens : (s : State) (m : Move) (k : ℕ) (new : State) (event : Option Event) → slice_get s.threads m.thread ≡ Some (record { done = k; activity = Idle }) → OneStep s m new event → (call : Call) × (slice_get (calls_of s.matrix m.thread) k ≡ Some call) × (slice_get new.threads m.thread ≡ Some (record { done = k; activity = Open (opened call) }))
+idle_opens s m k new event stands one =
     let was : Thread = record { done = k; activity = Idle } in
-    let h : ByActivity s m k Idle new event = step_by s m new event was short stands step in
+    let h : ByActivity s m k Idle new event = one_step_by s m new event was stands one in
     let now : Thread = record { done = k; activity = Open (opened h.0) } in
     (h.0, h.1, itself_stands s new m.thread was now stands (ap (λ (x : State). x.threads) h.3))
 
 -- and what an open operation has done
-open_moves : (s : State) (m : Move) (k : ℕ) (f : Frame) (new : State) (event : Option Event) → s.component.local ≡ 0 → slice_get s.threads m.thread ≡ Some (record { done = k; activity = Open f }) → Step s m new event → (g : Goes s m.thread k f new) × (slice_get new.threads m.thread ≡ Some (thread_after k g.effect))
-open_moves s m k f new event short stands step =
+open_moves : (s : State) (m : Move) (k : ℕ) (f : Frame) (new : State) (event : Option Event) → slice_get s.threads m.thread ≡ Some (record { done = k; activity = Open f }) → OneStep s m new event → (g : Goes s m.thread k f new) × (slice_get new.threads m.thread ≡ Some (thread_after k g.effect))
+open_moves s m k f new event stands one =
     let was : Thread = record { done = k; activity = Open f } in
-    let g = open_goes s m k f new event (step_by s m new event was short stands step) in
+    let g = open_goes s m k f new event (one_step_by s m new event was stands one) in
     (g, itself_stands s new m.thread was (thread_after k g.effect) stands g.threads)
 
 stays_open : (c : Declarations) (f g : Frame) (instr : Instr) (k j : ℕ) (e : Effect) → Follows c f instr e → thread_after k e ≡ record { done = j; activity = Open g } → (k ≡ j) × (g.op ≡ f.op)
@@ -181,13 +203,10 @@ stays_open c f g instr k j (Ends outcome) follows same =
     let idle : Idle ≡ Open g = ap (λ (y : Thread). y.activity) same in
     absurd (cc)
 
-module _ (c : Declarations) (matrix : Matrix) (s : State) (m : Move) (new : State) (event : Option Event) (o : IsOwn c matrix s) (step : Step s m new event) where
-  short : s.component.local ≡ 0
-  short = ap (λ (x : Declarations). x.local) o.component ∙ o.short
-
+module _ (c : Declarations) (matrix : Matrix) (s : State) (m : Move) (new : State) (event : Option Event) (o : IsOwn c matrix s) (one : OneStep s m new event) where
   own_itself : (k : ℕ) (activity : Activity) → slice_get s.threads m.thread ≡ Some (record { done = k; activity = activity }) → (j : ℕ) (g : Frame) → slice_get new.threads m.thread ≡ Some (record { done = j; activity = Open g }) → (call : Call) × (slice_get (calls_of matrix m.thread) j ≡ Some call) × (g.op ≡ call.op)
   own_itself k Idle stands j g at =
-      let opens = idle_opens s m k new event short stands step in
+      let opens = idle_opens s m k new event stands one in
       let a : Thread = record { done = k; activity = Open (opened opens.0) } in
       let b : Thread = record { done = j; activity = Open g } in
       let same : a ≡ b = same_Some a b (sym opens.2 ∙ at) in
@@ -197,29 +216,46 @@ module _ (c : Declarations) (matrix : Matrix) (s : State) (m : Move) (new : Stat
       let called : slice_get (calls_of s.matrix m.thread) j ≡ Some opens.0 = rw (← number) opens.1 in
       (opens.0, subst (λ x. slice_get (calls_of x m.thread) j ≡ Some opens.0) o.matrix_is called, ap (λ (y : Frame). y.op) (sym is))
   own_itself k (Open f) stands j g at =
-      let moves = open_moves s m k f new event short stands step in
+      let moves = open_moves s m k f new event stands one in
       let same : thread_after k moves.0.effect ≡ record { done = j; activity = Open g } = same_Some _ _ (sym moves.1 ∙ at) in
       let stays = stays_open s.component f g moves.0.instr k j moves.0.effect moves.0.follows same in
       let was = o.own m.thread k f stands in
       (was.0, rw (← stays.0) was.1, stays.1 ∙ was.2)
 
-  -- a move keeps the states of a run
-  pub step_keeps_own : IsOwn c matrix new
-  step_keeps_own =
-      let moved = step_moved s m new event step in
+  -- a call or an instruction keeps the states of a run
+  one_keeps_own : IsOwn c matrix new
+  one_keeps_own =
+      let turned = one_turned s m new event one in
       record {
-        component = moved.component ∙ o.component;
-        short = o.short;
-        matrix_is = moved.matrix ∙ o.matrix_is;
+        component = turned.component ∙ o.component;
+        matrix_is = turned.matrix ∙ o.matrix_is;
         own = λ t k f at. elim (cases_eq m.thread t) [
           | inl same ↦
               (let at' : slice_get new.threads m.thread ≡ Some (record { done = k; activity = Open f }) = rw same at in
-              let one = one_step s m new event short step in
               let own = own_itself one.0.done one.0.activity one.1 k f at' in
               (own.0, rw (← same) own.1, own.2))
-          | inr other ↦ o.own t k f (sym (other_stands s m new event t other step) ∙ at)
+          | inr other ↦ o.own t k f (sym (one_other_stands s m new event t other one) ∙ at)
         ];
       }
+
+-- so do local instructions that follow
+runs_keep_own : (c : Declarations) (matrix : Matrix) (n : ℕ) (s : State) (t : ℕ) (end : State) → RunsOn n s t end → IsOwn c matrix s → IsOwn c matrix end
+runs_keep_own c matrix zero s t end runs own = rw runs own
+runs_keep_own c matrix (suc n) s t end runs own = by_test (λ x. runs_keep_own c matrix n x t end) (is_at_local s t) runs
+  where
+    by_test : ((x : State) → RunsOn n x t end → IsOwn c matrix x → IsOwn c matrix end) → (test : Bool) → MatchBool test ((next : State) × OneStep s (record { thread = t; pick = 0 }) next None × RunsOn n next t end) (end ≡ s) → IsOwn c matrix end
+    by_test go true h = go h.0 h.2 (one_keeps_own c matrix s (record { thread = t; pick = 0 }) h.0 None own h.1)
+    by_test go false h = rw h own
+
+-- a move keeps the states of a run
+pub step_keeps_own : (c : Declarations) (matrix : Matrix) (s : State) (m : Move) (new : State) (event : Option Event) → IsOwn c matrix s → Step s m new event → IsOwn c matrix new
+step_keeps_own c matrix s m new event o step =
+    runs_keep_own c matrix (more_local s m.thread) step.0 m.thread new step.2 (one_keeps_own c matrix s m step.0 event o step.1)
+
+-- no idle thread runs on
+pub idle_stays : (n : ℕ) (s : State) (t k : ℕ) (end : State) → slice_get s.threads t ≡ Some (record { done = k; activity = Idle }) → RunsOn n s t end → end ≡ s
+idle_stays zero s t k end stands runs = runs
+idle_stays (suc n) s t k end stands runs = rw stands at runs
 
 follows_same : (a b : Declarations) (f : Frame) (i j : Instr) (e : Effect) → a ≡ b → i ≡ j → Follows a f i e → Follows b f j e
 follows_same a b f i j e same is h = subst (λ x. Follows b f x e) is (subst (λ x. Follows x f i e) same h)
@@ -240,13 +276,14 @@ module _ (c : Declarations) (matrix : Matrix) (t k : ℕ) (s : State) (m : Move)
     place_is = a.place_is;
   }
 
-  -- its own opens its next call
+module _ (c : Declarations) (matrix : Matrix) (t k : ℕ) (s : State) (m : Move) (new : State) (event : Option Event) (one : OneStep s m new event) where
+  -- the first step of its own opens its next call
   pub own_opens : IsIdle c matrix t k s → m.thread ≡ t → IsAt c matrix t k 0 new
   own_opens i same =
       let stands : slice_get s.threads m.thread ≡ Some (record { done = k; activity = Idle }) = rw same i.stands in
-      let opens = idle_opens s m k new event (short c matrix s m new event i.own step) stands step in
+      let opens = idle_opens s m k new event stands one in
       record {
-        own = step_keeps_own c matrix s m new event i.own step;
+        own = one_keeps_own c matrix s m new event i.own one;
         frame = opened opens.0;
         stands = rw (← same) opens.2;
         place_is = refl;
@@ -256,16 +293,16 @@ module _ (c : Declarations) (matrix : Matrix) (t k : ℕ) (s : State) (m : Move)
   pub own_goes : (place : ℕ) (a : IsAt c matrix t k place s) → m.thread ≡ t → (instr : Instr) → instr_at s.component a.frame.op a.frame.place ≡ Some instr → ((q : ℕ) × MayGoTo instr place q × IsAt c matrix t k q new) ⊎ (MayEnd c instr × IsIdle c matrix t (k + 1) new)
   own_goes place a same instr at =
       let stands : slice_get s.threads m.thread ≡ Some (record { done = k; activity = Open a.frame }) = rw same a.stands in
-      let moves = open_moves s m k a.frame new event (short c matrix s m new event a.own step) stands step in
+      let moves = open_moves s m k a.frame new event stands one in
       let is : moves.0.instr ≡ instr = same_Some moves.0.instr instr (sym moves.0.is ∙ at) in
       let follows : Follows c a.frame instr moves.0.effect = follows_same s.component c a.frame moves.0.instr instr moves.0.effect a.own.component is moves.0.follows in
       by_effect moves.0.effect follows (subst (λ (x : ℕ). slice_get new.threads x ≡ Some (thread_after k moves.0.effect)) same moves.1)
     where
       by_effect : (e : Effect) → Follows c a.frame instr e → slice_get new.threads t ≡ Some (thread_after k e) → ((q : ℕ) × MayGoTo instr place q × IsAt c matrix t k q new) ⊎ (MayEnd c instr × IsIdle c matrix t (k + 1) new)
       by_effect (GoesOn g) follows now =
-          inl (g.place, rw a.place_is at follows.1, record { own = step_keeps_own c matrix s m new event a.own step; frame = g; stands = now; place_is = refl })
+          inl (g.place, rw a.place_is at follows.1, record { own = one_keeps_own c matrix s m new event a.own one; frame = g; stands = now; place_is = refl })
       by_effect (Ends outcome) follows now =
-          inr (follows, record { own = step_keeps_own c matrix s m new event a.own step; stands = now })
+          inr (follows, record { own = one_keeps_own c matrix s m new event a.own one; stands = now })
 
 pub leads_keeps_own : (c : Declarations) (matrix : Matrix) (s : State) (u : List Move) (end : State) (h : List Event) → Leads s u end h → IsOwn c matrix s → IsOwn c matrix end
 leads_keeps_own c matrix s [] end h leads own = rw leads.0 own
@@ -299,10 +336,9 @@ idle_threads (suc n) zero k f at =
 idle_threads (suc n) (suc t) k f at = idle_threads n t k f at
 
 -- at the start nothing is open
-pub start_own : (c : Declarations) (matrix : Matrix) (s : State) → c.local ≡ 0 → IsStart c matrix s → IsOwn s.component s.matrix s
-start_own c matrix s short is = rw is.is (record {
+pub start_own : (c : Declarations) (matrix : Matrix) (s : State) → IsStart c matrix s → IsOwn s.component s.matrix s
+start_own c matrix s is = rw is.is (record {
   component = refl;
-  short = short;
   matrix_is = refl;
   own = λ t k f at. absurd (idle_threads (thread_count matrix) t k f at);
 })

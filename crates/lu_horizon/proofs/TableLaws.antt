@@ -1,5 +1,5 @@
 -- Tables, entry by entry.
-use Rattle.std.proofs.Common.{◌≡◌, ℕ, zero, suc, ◌+◌, ◌<◌, ◌≤◌, ◌⊎◌, List, [], ◌∷◌, ◌++◌, Option, Some, None, slice_get, slice_set, get_or, length, replicate, refl, ◌∙◌, ap, subst, inl, inr, arith}
+use Rattle.std.proofs.Common.{◌≡◌, ℕ, zero, suc, ◌+◌, ◌<◌, ◌≤◌, ◌⊎◌, List, [], ◌∷◌, ◌++◌, Option, Some, None, slice_get, slice_set, get_or, length, replicate, refl, sym, ◌∙◌, ap, subst, inl, inr, arith}
 use Rattle.std.proofs.lemmas.Bool.{cases_eq, cases_lt}
 use Rattle.std.specs.Option.{option_map}
 use Rattle.std.proofs.lemmas.List.{get_or-set_same, get_or-set_other}
@@ -19,9 +19,9 @@ use Rattle.lu_horizon.specs.Own.{IsAt, IsIdle, IsOwn}
 use Rattle.lu_horizon.specs.declared.outlook.Outlook.{Outlook}
 use Rattle.lu_horizon.specs.Outlooks.{IsWeaker, no_move, nothing, one_before}
 use Rattle.lu_horizon.specs.Sure.{HasOutlook}
-use Rattle.lu_horizon.specs.Tables.{AreCalls, ArePlaces, IsTable, IsThread, Outlooks, outlook_of}
+use Rattle.lu_horizon.specs.Tables.{AreCalls, AreOfCall, ArePlaces, IsTable, IsThread, Outlooks, no_outlooks, outlook_before, outlook_within}
 use Rattle.lu_horizon.proofs.JumpLaws.{jump_before}
-use Rattle.lu_horizon.proofs.CodeLaws.{idle_ahead, idle_over}
+use Rattle.lu_horizon.proofs.CodeLaws.{idle_over}
 use Rattle.lu_horizon.proofs.SureLaws.{nothing_ahead, outlook_less}
 
 get_or_nothings : (n place : ℕ) → get_or (replicate n nothing) place nothing ≡ nothing
@@ -42,14 +42,14 @@ places_set c matrix t k places place o within ahead old q s a =
     ]
 
 -- call number i of those from k on
-pub calls_at : (c : Declarations) (matrix : Matrix) (t k i : ℕ) (calls : Outlooks) → AreCalls c matrix t k calls → ArePlaces c matrix t (k + i) (get_or calls i [])
-calls_at c matrix t k i [] are place s a = nothing_ahead s t
-calls_at c matrix t k zero (first ∷ calls) are place s a =
+pub calls_at : (c : Declarations) (matrix : Matrix) (t k i : ℕ) (calls : Outlooks) → AreCalls c matrix t k calls → AreOfCall c matrix t (k + i) (get_or calls i no_outlooks)
+calls_at c matrix t k i [] are = record { before = λ s idle. nothing_ahead s t; places = λ place s a. nothing_ahead s t }
+calls_at c matrix t k zero (first ∷ calls) are =
     let e : k + 0 ≡ k = omega arith in
-    are.0 place s (rw e at a)
-calls_at c matrix t k (suc i) (first ∷ calls) are place s a =
+    subst (λ n. AreOfCall c matrix t n first) (sym e) are.0
+calls_at c matrix t k (suc i) (first ∷ calls) are =
     let e : k + suc i ≡ (k + 1) + i = omega arith in
-    calls_at c matrix t (k + 1) i calls are.1 place s (rw e at a)
+    subst (λ n. AreOfCall c matrix t n (get_or calls i no_outlooks)) (sym e) (calls_at c matrix t (k + 1) i calls are.1)
 
 -- where a thread stands
 pub stands_idle : (o : Option Thread) (stand : Stand) → option_map stand_of o ≡ Some stand → stand.place ≡ None → o ≡ Some (record { done = stand.done; activity = Idle })
@@ -91,38 +91,37 @@ stands_open (Some thread) stand place is at = by_activity thread.activity refl
         (f, ap Some (first ∙ second), same_Some f.place place q))
 
 module _ (c : Declarations) (matrix : Matrix) (s : State) (t : ℕ) (calls : Outlooks) (thread : IsThread c matrix t calls) (own : IsOwn c matrix s) (stand : Stand) (stands : option_map stand_of (slice_get s.threads t) ≡ Some stand) where
-  outlooks : (k : ℕ) → ArePlaces c matrix t k (get_or calls k [])
-  outlooks k place s a =
+  outlooks : (k : ℕ) → AreOfCall c matrix t k (get_or calls k no_outlooks)
+  outlooks k =
       let e : 0 + k ≡ k = omega arith in
-      calls_at c matrix t 0 k calls thread.each place s (rw (← e) at a)
+      subst (λ n. AreOfCall c matrix t n (get_or calls k no_outlooks)) e (calls_at c matrix t 0 k calls thread.each)
 
   -- the outlook at an open operation's place holds
-  pub at_open : (place : ℕ) → stand.place ≡ Some place → HasOutlook s t (outlook_of (get_or calls stand.done []) place)
+  pub at_open : (place : ℕ) → stand.place ≡ Some place → HasOutlook s t (outlook_within calls stand.done place)
   at_open place at =
       let o = stands_open (slice_get s.threads t) stand place stands at in
-      outlooks stand.done place s (record { own = own; frame = o.0; stands = o.1; place_is = o.2 })
+      (outlooks stand.done).places place s (record { own = own; frame = o.0; stands = o.1; place_is = o.2 })
 
-  -- and that of the place to which it goes
-  pub at_jump : (next : ℕ) → JumpsTo s t next → (o : Outlook) → IsWeaker o (one_before (outlook_of (get_or calls stand.done []) next)) → HasOutlook s t o
-  at_jump next jump o within =
-      let known = outlook_of (get_or calls stand.done []) next in
+  -- and that of the place to which it goes, where no local instructions run with a move
+  pub at_jump : s.component.local ≡ 0 → (next : ℕ) → JumpsTo s t next → (o : Outlook) → IsWeaker o (one_before (outlook_within calls stand.done next)) → HasOutlook s t o
+  at_jump none next jump o within =
+      let known = outlook_within calls stand.done next in
       let is : option_map stand_of (Some (at_work jump.done jump.frame)) ≡ Some stand = rw jump.stands at stands in
       let same : stand_of (at_work jump.done jump.frame) ≡ stand = same_Some (stand_of (at_work jump.done jump.frame)) stand is in
       let number : jump.done ≡ stand.done = ap (λ (x : Stand). x.done) same in
       let there : instr_at c jump.frame.op jump.frame.place ≡ Some (JumpIfZero jump.value jump.target) = rw own.component at jump.is in
+      let short : c.local ≡ 0 = rw own.component at none in
       let holds : slice_get s.threads t ≡ Some (at_work stand.done jump.frame) = jump.stands ∙ ap (λ (x : ℕ). Some (at_work x jump.frame)) number in
       outlook_less s t o (one_before known) within
-      (jump_before c matrix t stand.done jump.frame jump.value jump.target there known (λ x a. outlooks stand.done next x (rw (← jump.goes) at a)) s (own, holds))
+      (jump_before c short matrix t stand.done jump.frame jump.value jump.target there known (λ x a. (outlooks stand.done).places next x (rw (← jump.goes) at a)) s (own, holds))
 
   -- and that before a call
-  pub at_idle : stand.place ≡ None → (o : Outlook) → (stand.done < length calls → IsWeaker o (one_before (outlook_of (get_or calls stand.done []) 0))) → (length calls ≤ stand.done → o ≡ no_move) → HasOutlook s t o
+  pub at_idle : stand.place ≡ None → (o : Outlook) → (stand.done < length calls → o ≡ outlook_before calls stand.done) → (length calls ≤ stand.done → o ≡ no_move) → HasOutlook s t o
   at_idle at o call none =
       let i : IsIdle c matrix t stand.done s = record { own = own; stands = stands_idle (slice_get s.threads t) stand stands at } in
       let many = thread.many in
       elim (cases_lt stand.done (length calls)) [
-        | inl some ↦
-            (let first = outlook_of (get_or calls stand.done []) 0 in
-            outlook_less s t o (one_before first) (call some) (idle_ahead c matrix t stand.done first (omega arith) (λ x a. outlooks stand.done 0 x a) s i))
+        | inl some ↦ rw (call some) ((outlooks stand.done).before s i)
         | inr all ↦ rw (none all) (idle_over c matrix t stand.done (omega arith) s i)
       ]
 

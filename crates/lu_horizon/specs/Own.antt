@@ -8,10 +8,9 @@ use Rattle.lu_machine.specs.declared.thread.Frame.{Frame}
 use Rattle.lu_machine.specs.States.{State}
 
 -- a state of the component and the matrix, in which what is open is the thread's call of that
--- number; no local instructions run with a move
+-- number
 pub record IsOwn (c : Declarations) (matrix : Matrix) (s : State) : Type 0 where
   pub component : s.component ≡ c
-  pub short : c.local ≡ 0
   pub matrix_is : s.matrix ≡ matrix
   pub own : (t k : ℕ) (f : Frame)
       → slice_get s.threads t ≡ Some (record { done = k; activity = Open f })

@@ -7,17 +7,30 @@ use Rattle.lu_test.specs.Matrix.{Matrix, calls_of}
 use Rattle.lu_machine.specs.Starts.{IsStart}
 use Rattle.lu_machine.specs.States.{State, instr_at}
 use Rattle.lu_horizon.specs.declared.outlook.Outlook.{Outlook}
-use Rattle.lu_horizon.specs.Outlooks.{nothing, one_before}
+use Rattle.lu_horizon.specs.Outlooks.{nothing}
 use Rattle.lu_horizon.specs.Own.{IsOwn, IsIdle, IsAt}
 use Rattle.lu_horizon.specs.Sure.{HasOutlook}
 
--- the outlooks of a thread, for each of its calls and each place of the call's operation
+-- the outlooks of a call: before it is opened, and at each place of its operation
+pub record CallOutlooks : Type 0 where
+  pub before : Outlook
+  pub places : List Outlook
+
+-- those of a call of which nothing is known
+abbrev pub no_outlooks : CallOutlooks
+no_outlooks = record { before = nothing; places = [] }
+
+-- the outlooks of a thread, for each of its calls
 abbrev pub Outlooks : Type 0
-Outlooks = List (List Outlook)
+Outlooks = List CallOutlooks
 
 -- the outlook at place of a call's operation
 abbrev pub outlook_of : List Outlook → ℕ → Outlook
 outlook_of places place = get_or places place nothing
+
+-- the outlook before call number k of thread t
+abbrev pub IsBefore : Declarations → Matrix → ℕ → ℕ → Outlook → Type 0
+IsBefore c matrix t k o = (s : State) → IsIdle c matrix t k s → HasOutlook s t o
 
 -- call number k of thread t runs this code, and behind it there is `rest`
 pub record IsCall (c : Declarations) (matrix : Matrix) (t k : ℕ) (code : List Instr)
@@ -25,19 +38,25 @@ pub record IsCall (c : Declarations) (matrix : Matrix) (t k : ℕ) (code : List 
   pub call : Call
   pub called : slice_get (calls_of matrix t) k ≡ Some call
   pub code_is : (place : ℕ) → instr_at c call.op place ≡ slice_get code place
-  pub after : (s : State) → IsIdle c matrix t (k + 1) s → HasOutlook s t rest
+  pub after : IsBefore c matrix t (k + 1) rest
 
 -- the outlooks at the places of call number k of thread t
 abbrev pub ArePlaces : Declarations → Matrix → ℕ → ℕ → List Outlook → Type 0
 ArePlaces c matrix t k places =
     (place : ℕ) (s : State) → IsAt c matrix t k place s → HasOutlook s t (outlook_of places place)
 
--- the outlooks at the places of each call that runs this code
-abbrev pub AreOutlooks : Declarations → List Instr → Outlook → List Outlook → Type 0
-AreOutlooks c code rest places =
-    (matrix : Matrix) (t k : ℕ) → IsCall c matrix t k code rest → ArePlaces c matrix t k places
+-- the outlooks of call number k of thread t
+pub record AreOfCall (c : Declarations) (matrix : Matrix) (t k : ℕ)
+    (outlooks : CallOutlooks) : Type 0 where
+  pub before : IsBefore c matrix t k outlooks.before
+  pub places : ArePlaces c matrix t k outlooks.places
 
--- they stay so
+-- the outlooks of each call that runs this code
+abbrev pub AreOutlooks : Declarations → List Instr → Outlook → CallOutlooks → Type 0
+AreOutlooks c code rest outlooks =
+    (matrix : Matrix) (t k : ℕ) → IsCall c matrix t k code rest → AreOfCall c matrix t k outlooks
+
+-- the outlooks at the places of each call that runs this code stay so
 abbrev pub StayOutlooks : Declarations → List Instr → Outlook → List Outlook → List Outlook → Type 0
 StayOutlooks c code rest old new =
     (matrix : Matrix) (t k : ℕ) → IsCall c matrix t k code rest → ArePlaces c matrix t k old
@@ -45,13 +64,17 @@ StayOutlooks c code rest old new =
 
 -- the outlook before call number k
 abbrev pub outlook_before : Outlooks → ℕ → Outlook
-outlook_before calls k = one_before (outlook_of (get_or calls k []) 0)
+outlook_before calls k = (get_or calls k no_outlooks).before
+
+-- the outlook at place of call number k
+abbrev pub outlook_within : Outlooks → ℕ → ℕ → Outlook
+outlook_within calls k place = outlook_of (get_or calls k no_outlooks).places place
 
 -- those of the calls of thread t, from number k on
 abbrev pub AreCalls : Declarations → Matrix → ℕ → ℕ → Outlooks → Type 0
 AreCalls c matrix t k [] = Unit {0}
-AreCalls c matrix t k (places ∷ calls) =
-    ArePlaces c matrix t k places × AreCalls c matrix t (k + 1) calls
+AreCalls c matrix t k (outlooks ∷ calls) =
+    AreOfCall c matrix t k outlooks × AreCalls c matrix t (k + 1) calls
 
 -- those of all calls of thread t
 pub record IsThread (c : Declarations) (matrix : Matrix) (t : ℕ) (calls : Outlooks) : Type 0 where
@@ -68,7 +91,6 @@ pub record Serves (table : List Outlooks) (s : State) : Type 0 where
   pub numbers : IsTable s.component s.matrix table
   pub own : IsOwn s.component s.matrix s
 
--- the table is that of the runs of the component and the matrix, where no local instructions run
--- with a move
+-- the table is that of the runs of the component and the matrix
 abbrev pub ServesRuns : Declarations → Matrix → List Outlooks → Type 0
-ServesRuns c matrix table = (s : State) → c.local ≡ 0 → IsStart c matrix s → Serves table s
+ServesRuns c matrix table = (s : State) → IsStart c matrix s → Serves table s

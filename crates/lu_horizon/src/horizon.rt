@@ -1,12 +1,12 @@
 //! The table of all places.
 
-ghost use Rattle.std.specs.Prelude.{◌≡◌, ◌<◌, ◌≤◌, ℕ, IfOk, IfSome, [], length, get_or, slice_get};
+ghost use Rattle.std.specs.Prelude.{◌≡◌, ◌<◌, ◌≤◌, ℕ, IfOk, IfSome, length, slice_get};
 ghost use Rattle.lu_machine.specs.States.{instr_at};
-ghost use Rattle.lu_horizon.specs.Outlooks.{IsWeaker, no_move};
+ghost use Rattle.lu_horizon.specs.Outlooks.{no_move};
 ghost use Rattle.lu_horizon.specs.Sure.{AreCaps, HasOutlook};
-ghost use Rattle.lu_horizon.specs.Tables.{AreOutlooks, IsThread, Serves, ServesRuns, StayOutlooks, outlook_before, outlook_of};
+ghost use Rattle.lu_horizon.specs.Tables.{AreOutlooks, IsThread, Serves, ServesRuns, StayOutlooks, outlook_before, outlook_of, outlook_within};
 
-use crate::certain::{certain, outlook_of};
+use crate::certain::{before_call, certain, outlook_of};
 use crate::outlook::Outlook;
 use crate::sharers::{Known, Quiet, Sharers};
 use crate::stand::{is_unseen_at, jumps_to, stand_at};
@@ -17,31 +17,57 @@ use lu_test::Matrix;
 use std::alloc::{AllocError, Global};
 use std::marker::Model;
 
-/// The outlooks at the places of one call's operation.
+/// The outlooks of one call.
 #[derive(Debug, Drop)]
 struct Places {
+    /// That before it is opened.
+    before: Outlook,
+
+    /// Those at the places of its operation.
     outlooks: Vec<Outlook>,
 }
 
 impl Model for Places {
-    ghost use Rattle.std.specs.Prelude.{List};
-    ghost use Rattle.lu_horizon.specs.declared.outlook.Outlook.{Outlook};
+    ghost use Rattle.lu_horizon.specs.Tables.{CallOutlooks};
 
-    ghost Value = { List Outlook };
+    ghost Value = { CallOutlooks };
 
-    ghost view = { λ p. p.outlooks.items };
+    ghost view = { λ p. record { before = p.before; places = p.outlooks.items } };
 }
 
 impl Places {
+    /// The outlook before the call.
+    fn before(&self) -> Outlook
+        ensures { result ≡ self.now.before }
+    {
+        self.before
+    }
+
     /// The outlook at this place.
     fn at(&self, place: u8) -> Outlook
-        ensures { result ≡ outlook_of self.now place }
+        ensures { result ≡ outlook_of self.now.places place }
     {
         outlook_of(&self.outlooks, usize::from(place))
     }
+
+    /// The greatest number of moves of those outlooks at whose end the thread is over, or else of
+    /// the others. No clause says so: it only saves time.
+    fn greatest(&self, over: bool) -> u16 {
+        let mut greatest = if self.before.over == over {
+            self.before.moves
+        } else {
+            0
+        };
+        for outlook in &self.outlooks {
+            if outlook.over == over {
+                greatest = outlook.moves.saturating_add(1).max(greatest);
+            }
+        }
+        greatest
+    }
 }
 
-/// The outlooks at the places of all calls of one thread.
+/// The outlooks of all calls of one thread.
 #[derive(Debug, Drop)]
 struct Calls {
     calls: Vec<Places>,
@@ -51,10 +77,9 @@ struct Calls {
 }
 
 impl Model for Calls {
-    ghost use Rattle.std.specs.Prelude.{List};
-    ghost use Rattle.lu_horizon.specs.declared.outlook.Outlook.{Outlook};
+    ghost use Rattle.lu_horizon.specs.Tables.{Outlooks};
 
-    ghost Value = { List (List Outlook) };
+    ghost Value = { Outlooks };
 
     ghost view = { λ n. n.calls.items };
 }
@@ -62,7 +87,7 @@ impl Model for Calls {
 impl Calls {
     /// The outlook at this place of call `k`.
     fn open(&self, k: u8, place: u8) -> Outlook
-        ensures { result ≡ outlook_of (get_or self.now k []) place }
+        ensures { result ≡ outlook_within self.now k place }
     {
         match self.calls.get(usize::from(k)) {
             None => Outlook::NOTHING,
@@ -72,13 +97,13 @@ impl Calls {
 
     /// The outlook before call `k`.
     fn idle(&self, k: u8) -> Outlook
-        ensures call { k < length self.now → IsWeaker result (outlook_before self.now k) }
+        ensures call { k < length self.now → result ≡ outlook_before self.now k }
         ensures none { length self.now ≤ k → result ≡ no_move }
     {
-        if usize::from(k) >= self.calls.len() {
-            return Outlook::NO_MOVE;
+        match self.calls.get(usize::from(k)) {
+            None => Outlook::NO_MOVE,
+            Some(places) => places.before(),
         }
-        self.open(k, 0).one_before()
     }
 
     /// The greatest number of moves of those outlooks at whose end the thread is over, or else of
@@ -86,33 +111,26 @@ impl Calls {
     fn greatest(&self, over: bool) -> u16 {
         let mut greatest = 0;
         for places in &self.calls {
-            for outlook in &places.outlooks {
-                if outlook.over == over {
-                    greatest = outlook.moves.saturating_add(1).max(greatest);
-                }
-            }
+            greatest = places.greatest(over).max(greatest);
         }
         greatest
     }
 }
 
-/// For each place of each call's operation what is certain from there.
+/// What is certain before each call, and from each place of its operation.
 #[derive(Debug, Drop)]
 pub struct Horizon {
     threads: Vec<Calls>,
 
     /// Where more moves are left than this, the table need not be read.
     greatest: u16,
-
-    /// How many moves are left where the walk begins.
-    most: u16,
 }
 
 impl Model for Horizon {
     ghost use Rattle.std.specs.Prelude.{List};
-    ghost use Rattle.lu_horizon.specs.declared.outlook.Outlook.{Outlook};
+    ghost use Rattle.lu_horizon.specs.Tables.{Outlooks};
 
-    ghost Value = { List (List (List Outlook)) };
+    ghost Value = { List Outlooks };
 
     ghost view = { λ h. h.threads.items };
 }
@@ -134,14 +152,14 @@ fn look(
     let mut more = false;
     for i in 0..code.len() {
         let place = code.len() - 1 - i;
-        let outlook = certain(component, &code[place], place, known, rest).up_to(most);
+        let outlook = certain(component, code, &code[place], place, known, rest).up_to(most);
         more |= known[place].moves < outlook.moves;
         known[place] = outlook;
     }
     more
 }
 
-/// The outlooks at the places of a call that runs this code, up to `most` moves, where there is
+/// The outlooks of a call that runs this code, at its places up to `most` moves, where there is
 /// `rest` behind it.
 fn of_code(
     alloc: Global,
@@ -159,7 +177,8 @@ fn of_code(
             break;
         }
     }
-    Ok(Places { outlooks })
+    let before = before_call(component, code, &outlooks);
+    Ok(Places { before, outlooks })
 }
 
 /// The code of an operation: none where there is no such operation.
@@ -190,7 +209,7 @@ fn of_thread(
     for behind in 0..many {
         let code = code_of(component, matrix.call(t, many - 1 - behind).op);
         let places = of_code(alloc, component, code, rest, most)?;
-        rest = places.at(0).one_before();
+        rest = places.before();
         calls.insert(0, places)?;
     }
     Ok(Calls {
@@ -225,7 +244,6 @@ impl Horizon {
         Ok(Horizon {
             threads,
             greatest: greatest.max(last),
-            most,
         })
     }
 
@@ -279,8 +297,7 @@ impl Horizon {
     /// Who touches what is shared in all calls that are left, where a look at them may serve: where
     /// the walk begins, or no operation is open, and two threads have calls left. A look that fails
     /// mostly fails behind the next move too, so it is not made at each node. No clause says so.
-    pub fn sharers(&self, machine: &Machine, left: usize) -> Option<Sharers> {
-        let begins = left == usize::from(self.most);
+    pub fn sharers(&self, machine: &Machine, begins: bool) -> Option<Sharers> {
         let mut known = Known::NOTHING;
         let mut callers: u8 = 0;
         for t in 0..machine.threads() {

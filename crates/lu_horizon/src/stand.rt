@@ -34,10 +34,14 @@ pub fn stand_at(machine: &Machine, t: u8) -> Option<Stand>
 }
 
 /// The place to which thread `t` goes next, where its registers alone tell: none where its next
-/// instruction is no `jz`.
+/// instruction is no `jz`, or local instructions run with a move.
 pub(crate) fn jumps_to(machine: &Machine, t: u8) -> Option<u8>
-    ensures { IfSome result (JumpsTo machine.now t) }
+    ensures place { IfSome result (JumpsTo machine.now t) }
+    ensures alone { IfSome result (λ _place. machine.now.component.local ≡ 0) }
 {
+    if machine.local() != 0 {
+        return None;
+    }
     let standing = machine.standing(t)?;
     match &standing.activity {
         Activity::Idle => None,

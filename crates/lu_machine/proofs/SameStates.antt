@@ -1,6 +1,6 @@
 -- Cells, locks and threads that compare as equal are the same.
 use Rattle.std.proofs.Common.{◌≡◌, ℕ, Bool, true, ◌&&◌, List, [], ◌∷◌, Option, Some, None, nat_eq, refl, ap, rules}
-use Rattle.std.proofs.lemmas.Bool.{and_parts, eqb-true}
+use Rattle.std.proofs.lemmas.Bool.{and_parts, eq-eqb, eqb-true}
 use lib.Pointwise.{pointwise}
 use Rattle.std.specs.Option.{option_eq}
 use Rattle.lu_component.specs.Component.{Declarations}
@@ -64,6 +64,37 @@ same_locks a b h = same_list (option_eq nat_eq) same_owner a b h
 
 pub same_threads : (a b : List Thread) → pointwise (thread.TheImpl.ghosts).eq a b ≡ true → a ≡ b
 same_threads a b h = same_list (thread.TheImpl.ghosts).eq same_thread a b h
+
+-- and what is the same compares as equal
+list_itself : {A : Type 0} (E : A → A → Bool) → ((x : A) → E x x ≡ true) → (xs : List A) → pointwise E xs xs ≡ true
+list_itself E itself [] = refl
+list_itself E itself (x ∷ xs) = rw (itself x, list_itself E itself xs) refl
+
+number_itself : (n : ℕ) → nat_eq n n ≡ true
+number_itself n = eq-eqb n n refl
+
+owner_itself : (a : Option ℕ) → option_eq nat_eq a a ≡ true
+owner_itself (Some a) = number_itself a
+owner_itself None = refl
+
+frame_itself : (f : Frame) → (frame.TheImpl.ghosts).eq f f ≡ true
+frame_itself f = rw (list_itself nat_eq number_itself f.registers, number_itself f.op, number_itself f.place) refl
+
+activity_itself : (a : Activity) → (activity.TheImpl.ghosts).eq a a ≡ true
+activity_itself Idle = refl
+activity_itself (Open f) = frame_itself f
+
+thread_itself : (t : Thread) → (thread.TheImpl.ghosts).eq t t ≡ true
+thread_itself t = rw (number_itself t.done, activity_itself t.activity) refl
+
+pub cells_equal : (a b : List ℕ) → a ≡ b → pointwise nat_eq a b ≡ true
+cells_equal a b h = rw (← h) (list_itself nat_eq number_itself a)
+
+pub locks_equal : (a b : List (Option ℕ)) → a ≡ b → pointwise (option_eq nat_eq) a b ≡ true
+locks_equal a b h = rw (← h) (list_itself (option_eq nat_eq) owner_itself a)
+
+pub threads_equal : (a b : List Thread) → a ≡ b → pointwise (thread.TheImpl.ghosts).eq a b ≡ true
+threads_equal a b h = rw (← h) (list_itself (thread.TheImpl.ghosts).eq thread_itself a)
 
 state_parts : (c d : Declarations) (m n : Matrix) (cells others : List ℕ) (locks owners : List (Option ℕ)) (threads rest : List Thread) → c ≡ d → m ≡ n → cells ≡ others → locks ≡ owners → threads ≡ rest → let s : State = record { component = c; matrix = m; cells = cells; locks = locks; threads = threads } in s ≡ record { component = d; matrix = n; cells = others; locks = owners; threads = rest }
 state_parts c d m n cells others locks owners threads rest a b e f g = rw (a, b, e, f, g) refl

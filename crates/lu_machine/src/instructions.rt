@@ -39,7 +39,7 @@ fn alone(change: Change) -> Act
 }
 
 /// Whether the instruction is local: it reads and writes registers alone, or jumps.
-pub(crate) fn is_local(instr: &Instr) -> bool
+pub fn is_local(instr: &Instr) -> bool
     ensures { result ≡ is_local instr.now }
 {
     matches!(

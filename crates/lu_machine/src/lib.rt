@@ -39,6 +39,7 @@ mod undo;
 
 pub use counts::Counts;
 pub use event::{Event, Outcome, Status};
+pub use instructions::is_local;
 pub use laws::{local_laws, step_laws};
 pub use machine::Machine;
 pub use setup::settles;

@@ -612,7 +612,7 @@ impl<'a> Machine<'a> {
     pub fn is_same(&self, other: &Machine<'a>) -> bool
         requires component { self.now.component ≡ other.now.component }
         requires matrix { self.now.matrix ≡ other.now.matrix }
-        ensures { result ≡ true → self.now ≡ other.now }
+        ensures { result ≡ true ↔ self.now ≡ other.now }
     {
         self.cells == other.cells && self.locks == other.locks && self.threads == other.threads
     }

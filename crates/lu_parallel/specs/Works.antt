@@ -13,7 +13,9 @@ use Rattle.lu_machine.specs.Sums.{total}
 use Rattle.lu_history.specs.declared.serial.SerialOp.{SerialOp}
 use Rattle.lu_witness.specs.Goodness.{IsFirstBad, AreAllGood}
 use Rattle.lu_witness.specs.Witnesses.{IsMember}
+use Rattle.lu_tree.specs.Tables.{AreTables}
 use Rattle.lu_tree.specs.Trees.{Below, IsFoundWatched}
+use Rattle.lu_tree.specs.declared.tables.Tables.{Tables}
 use Rattle.lu_tree.specs.declared.found.Found.{Found}
 use Rattle.lu_board.specs.declared.view.View.{View}
 use Rattle.lu_board.specs.Pieces.{without}
@@ -96,6 +98,10 @@ IsWorkOn c matrix members bound pieces board w = IsWork c matrix members bound p
 
 abbrev pub IsLent : Job → Type 0
 IsLent job = IsJob job.component.now job.matrix.now job.bound job.pieces.now job.board.now
+
+-- the tables are those of what is lent
+abbrev pub AreTablesFor : Job → Tables → Type 0
+AreTablesFor job tables = AreTables job.component.now job.matrix.now tables
 
 -- a work for what is lent, with the set of these members
 abbrev pub IsWorkFor : Job → List (List SerialOp) → Work → Type 0

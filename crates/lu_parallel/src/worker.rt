@@ -7,7 +7,7 @@ ghost use Rattle.lu_witness.specs.Caches.{SameButEntries};
 ghost use Rattle.lu_report.specs.Limits.{most_moves};
 ghost use Rattle.lu_tree.specs.Trees.{is_abandoned};
 ghost use Rattle.lu_parallel.specs.Watches.{held_piece, rest_of};
-ghost use Rattle.lu_parallel.specs.Works.{ArePieces, IsFoundIn, IsFresh, IsLent, IsWorkFor, IsWorkOn, Tallied, PutsAway};
+ghost use Rattle.lu_parallel.specs.Works.{ArePieces, AreTablesFor, IsFoundIn, IsFresh, IsLent, IsWorkFor, IsWorkOn, Tallied, PutsAway};
 
 use crate::gate::Gate;
 use crate::seat_watch::SeatWatch;
@@ -17,7 +17,7 @@ use lu_board::view::{Kind, Look};
 use lu_component::Component;
 use lu_machine::Counts;
 use lu_test::{Matrix, Schedule};
-use lu_tree::{Found, search_watched};
+use lu_tree::{Found, Tables, search_with};
 use lu_trie::SerialTree;
 use lu_witness::Cache;
 use std::alloc::{AllocError, Global};
@@ -57,11 +57,13 @@ struct Searched {
 /// skipped.
 fn search_held<'t, T: SerialTree>(
     job: &Job<'_>,
+    tables: &Tables,
     cache: &mut Cache<'t, T>,
     seat: Seat,
     piece: u64,
 ) -> Searched
     requires job { IsLent job.now }
+    requires tables { AreTablesFor job.now tables.now }
     requires board { seat.board ≡ job.now.board.now.board }
     requires piece { piece < length job.now.pieces.now }
     requires held { seat.view.held ≡ piece ∷ [] }
@@ -72,10 +74,11 @@ fn search_held<'t, T: SerialTree>(
     ensures held { result.seat.view.held ≡ held_piece (is_abandoned result.found) piece }
 {
     let mut watch = SeatWatch::new(job.board, seat, piece);
-    let found = search_watched(
+    let found = search_with(
         job.alloc,
         job.component,
         job.matrix,
+        tables,
         cache,
         &job.pieces[piece as usize],
         job.bound,
@@ -103,11 +106,13 @@ impl Tally {
     fn search<'t, T: SerialTree>(
         &mut self,
         job: &Job<'_>,
+        tables: &Tables,
         cache: &mut Cache<'t, T>,
         seat: Seat,
         piece: u64,
     ) -> Seat
         requires job { IsLent job.now }
+        requires tables { AreTablesFor job.now tables.now }
         requires board { seat.board ≡ job.now.board.now.board }
         requires piece { piece < length job.now.pieces.now }
         requires held { seat.view.held ≡ piece ∷ [] }
@@ -117,7 +122,7 @@ impl Tally {
         ensures holds { Tallied job.now (T.members cache.old.tree) seat.view self.old
             result.view self.new }
     {
-        let Searched { found, mut seat } = search_held(job, cache, seat, piece);
+        let Searched { found, mut seat } = search_held(job, tables, cache, seat, piece);
         match found {
             Ok(Found::Clean(counts)) => {
                 self.counts = self.counts.plus(counts);
@@ -152,6 +157,7 @@ impl Tally {
     fn serve<'t, T: SerialTree, G: Gate>(
         &mut self,
         job: &Job<'_>,
+        tables: &Tables,
         cache: &mut Cache<'t, T>,
         seat: Seat,
         gate: &G,
@@ -159,6 +165,7 @@ impl Tally {
         piece: u64,
     ) -> Seat
         requires job { IsLent job.now }
+        requires tables { AreTablesFor job.now tables.now }
         requires board { seat.board ≡ job.now.board.now.board }
         requires piece { piece < length job.now.pieces.now }
         requires held { seat.view.held ≡ piece ∷ [] }
@@ -180,7 +187,7 @@ impl Tally {
                 seat
             }
             Look::Go(_) => {
-                let seat = self.search(job, cache, seat, piece);
+                let seat = self.search(job, tables, cache, seat, piece);
                 gate.done(worker, piece);
                 seat
             }
@@ -188,21 +195,23 @@ impl Tally {
     }
 }
 
-/// The life of a worker that remembers verdicts.
+/// The life of a worker that has its tables and remembers verdicts.
 fn serve_all<'t, T: SerialTree, G: Gate>(
     job: &Job<'_>,
+    tables: &Tables,
     mut cache: Cache<'t, T>,
     mut seat: Seat,
     gate: &G,
     worker: u8,
 ) -> Work
     requires job { IsLent job.now }
+    requires tables { AreTablesFor job.now tables.now }
     requires fresh { IsFresh job.now.board.now.board seat }
     ensures { IsWorkFor job.now (T.members cache.entry.tree) result }
 {
     let mut tally = Tally::new(job.alloc);
     while let Some(piece) = job.board.claim(&mut seat) {
-        seat = tally.serve(job, &mut cache, seat, gate, worker, piece);
+        seat = tally.serve(job, tables, &mut cache, seat, gate, worker, piece);
     }
     Work {
         seat,
@@ -262,8 +271,10 @@ pub fn work<T: SerialTree, G: Gate>(
         bound,
         board,
     };
-    match Cache::new(alloc, tree, REMEMBERED) {
-        Ok(cache) => serve_all(&job, cache, seat, gate, worker),
-        Err(_) => give_up_all(&job, seat),
+    let cache = Cache::new(alloc, tree, REMEMBERED);
+    let tables = Tables::new(alloc, component, matrix, bound);
+    match (cache, tables) {
+        (Ok(cache), Ok(tables)) => serve_all(&job, &tables, cache, seat, gate, worker),
+        _ => give_up_all(&job, seat),
     }
 }

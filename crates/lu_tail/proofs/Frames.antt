@@ -1,6 +1,7 @@
 -- What a thread's move needs of the state: where other threads stand does not matter, and for one that doesn't see cells and locks they do not either.
-use Rattle.std.proofs.Common.{◌≡◌, ℕ, zero, suc, ◌==◌, Bool, true, false, List, Option, Some, None, MatchOption, MatchBool, slice_get, slice_set, refl, sym, ◌∙◌, ap, subst}
-use Rattle.std.proofs.lemmas.Option.{slice_get_within}
+use Rattle.std.proofs.Common.{◌≡◌, ℕ, zero, suc, ◌-◌, ◌==◌, if◌then◌else◌, Bool, true, false, List, Option, Some, None, MatchOption, MatchBool, slice_get, slice_set, refl, sym, ◌∙◌, ap, subst}
+use Rattle.std.proofs.lemmas.Option.{same_Some, slice_get_within}
+use Rattle.std.specs.Option.{option_map_or}
 use Rattle.lu_component.specs.declared.instr.Instr.{Instr}
 use Rattle.lu_component.specs.declared.instr.Instr.TheVariants.{Set, Compute, Load, Store, Cas, Lock, Unlock, Await, AwaitNot, Pick, Jump, JumpIfZero, Return}
 use Rattle.lu_component.specs.Component.{Declarations}
@@ -17,9 +18,10 @@ use Rattle.lu_machine.specs.Effects.{Effect, onward, onward_with, value_of}
 use Rattle.lu_machine.specs.Effects.Effect.{Ends}
 use Rattle.lu_horizon.specs.Stands.{is_unseen, only_reads}
 use Rattle.lu_machine.specs.States.{State, cell_at, instr_at, value_at, with_cell, with_owner, with_thread}
-use Rattle.lu_machine.specs.Steps.{Carries, ByActivity, Step, instr_picks, opened, owns, picks_of, thread_after}
+use Rattle.lu_machine.specs.Steps.{Carries, ByActivity, OneStep, RunsOn, Step, activity_is_local, instr_picks, is_at_local, is_local, more_local, opened, owns, picks_of, thread_after}
 use Rattle.lu_machine.proofs.Keeping.{carries_alike}
-use Rattle.lu_horizon.proofs.OwnLaws.{get_set_same, step_by, whole_step}
+use Rattle.lu_machine.proofs.Running.{local_once}
+use Rattle.lu_horizon.proofs.OwnLaws.{get_set_same, one_step_by}
 use Rattle.lu_tail.specs.Solo.{IsSame, IsShared, LastEvents, Solo, move_of}
 
 -- s with these threads
@@ -113,7 +115,6 @@ pub record Touches (sees keeps : Bool) (s : State) (f : Frame) : Type 0 where
 
 -- the only move of a thread that stands so
 pub record Works (sees keeps : Bool) (t k : ℕ) (activity : Activity) (s next : State) (event : Option Event) : Type 0 where
-  pub short : s.component.local ≡ 0
   pub stands : slice_get s.threads t ≡ Some (record { done = k; activity = activity })
   pub touches : (f : Frame) → activity ≡ Open f → Touches sees keeps s f
   pub one : picks_of s t ≡ 1
@@ -155,93 +156,203 @@ now_stands new ths t was now stands is = ap (λ (x : List Thread). slice_get x t
 picks_at : (s : State) (t k : ℕ) (f : Frame) (instr : Instr) → slice_get s.threads t ≡ Some (at_work k f) → instr_at s.component f.op f.place ≡ Some instr → picks_of s t ≡ instr_picks s f instr
 picks_at s t k f instr stands at = rw (stands, at) refl
 
-module _ (keeps : Bool) (t k : ℕ) (f : Frame) (s next : State) (event : Option Event) where
-  frame_unseen : Works false keeps t k (Open f) s next event → (r : State) → IsSame false t s r → Framed false keeps t r next event
-  frame_unseen w r same =
-      let h : ByActivity s (move_of t) k (Open f) next event = step_by s (move_of t) next event (at_work k f) w.short w.stands w.step in
-      let is = (w.touches f refl).unseen_is h.0 refl h.3 in
-      let by = carries_unseen s r (move_of t) f h.0 h.1 h.2 is h.5 in
-      let now = thread_after k h.2 in
-      let stands : slice_get r.threads t ≡ Some (at_work k f) = same.stands ∙ w.stands in
-      let at : instr_at r.component f.op f.place ≡ Some h.0 = rw same.component h.3 in
-      let mid = carries_alike s (move_of t) f h.0 h.1 h.2 h.5 in
-      let there = with_thread r t now in
-      let short : r.component.local ≡ 0 = ap (λ (x : Declarations). x.local) same.component ∙ w.short in
-      record {
-        there = there;
-        step = whole_step r (move_of t) there event short (at_work k f, stands, (h.0, r, h.2, at, h.4, by.1, refl, h.7));
-        one = picks_at r t k f h.0 stands at ∙ unseen_picks r f h.0 is;
-        quiet = λ e. (refl, refl);
-        same = record {
-          component = same.component ∙ sym (ap (λ (x : State). x.component) h.6 ∙ mid.component);
-          matrix_is = same.matrix_is ∙ sym (ap (λ (x : State). x.matrix) h.6 ∙ mid.matrix);
-          stands =
-              now_stands there r.threads t (at_work k f) now stands refl
-              ∙ sym (now_stands next s.threads t (at_work k f) now w.stands (ap (λ (x : State). x.threads) h.6 ∙ ap (λ (x : List Thread). slice_set x t now) mid.threads));
-          shared = λ e. absurd (cc);
-        };
-      }
+-- what one call or instruction gives in a state that is the same for its thread
+record FramedOnce (sees keeps : Bool) (t : ℕ) (r next : State) (event : Option Event) : Type 0 where
+  pub there : State
+  pub step : OneStep r (move_of t) there event
+  pub one : picks_of r t ≡ 1
+  pub quiet : keeps ≡ true → IsShared r there
+  pub same : IsSame sees t next there
 
-  frame_seen : Works true keeps t k (Open f) s next event → (r : State) → IsSame true t s r → Framed true keeps t r next event
-  frame_seen w r same =
-      let h : ByActivity s (move_of t) k (Open f) next event = step_by s (move_of t) next event (at_work k f) w.short w.stands w.step in
-      let shared = same.shared refl in
-      let is : with_threads s r.threads ≡ r = state_is s r same.component same.matrix_is shared.0 shared.1 in
-      let now = thread_after k h.2 in
-      let stands : slice_get r.threads t ≡ Some (at_work k f) = same.stands ∙ w.stands in
-      let at : instr_at r.component f.op f.place ≡ Some h.0 = rw same.component h.3 in
-      let mid = carries_alike s (move_of t) f h.0 h.1 h.2 h.5 in
-      let carries : Carries r (move_of t) f h.0 (with_threads h.1 r.threads) h.2 = subst (λ x. Carries x (move_of t) f h.0 (with_threads h.1 r.threads) h.2) is (carries_threads s (move_of t) f h.0 h.1 r.threads h.2 h.5) in
-      let there = with_thread (with_threads h.1 r.threads) t now in
-      let short : r.component.local ≡ 0 = ap (λ (x : Declarations). x.local) same.component ∙ w.short in
-      let picks : instr_picks r f h.0 ≡ instr_picks s f h.0 = subst (λ x. instr_picks x f h.0 ≡ instr_picks s f h.0) is (same_picks s r.threads f h.0) in
-      record {
-        there = there;
-        step = whole_step r (move_of t) there event short (at_work k f, stands, (h.0, with_threads h.1 r.threads, h.2, at, h.4, carries, refl, h.7));
-        one = picks_at r t k f h.0 stands at ∙ (picks ∙ (sym (picks_at s t k f h.0 w.stands h.3) ∙ w.one));
-        quiet = λ e.
-            (let left : h.1 ≡ s = carries_reads s (move_of t) f h.0 h.1 h.2 ((w.touches f refl).reads_is h.0 e h.3) h.5 in
-            (ap (λ (x : State). x.cells) left ∙ sym shared.0, ap (λ (x : State). x.locks) left ∙ sym shared.1));
-        same = record {
-          component = sym (ap (λ (x : State). x.component) h.6);
-          matrix_is = sym (ap (λ (x : State). x.matrix) h.6);
-          stands =
-              now_stands there r.threads t (at_work k f) now stands refl
-              ∙ sym (now_stands next s.threads t (at_work k f) now w.stands (ap (λ (x : State). x.threads) h.6 ∙ ap (λ (x : List Thread). slice_set x t now) mid.threads));
-          shared = λ e. (sym (ap (λ (x : State). x.cells) h.6), sym (ap (λ (x : State). x.locks) h.6));
-        };
-      }
-
--- an idle thread opens its next call
-frame_call : (sees keeps : Bool) (t k : ℕ) (s next : State) (event : Option Event) → Works sees keeps t k Idle s next event → (r : State) → IsSame sees t s r → Framed sees keeps t r next event
-frame_call sees keeps t k s next event w r same =
-    let h : ByActivity s (move_of t) k Idle next event = step_by s (move_of t) next event (idle k) w.short w.stands w.step in
-    let now = at_work k (opened h.0) in
-    let stands : slice_get r.threads t ≡ Some (idle k) = same.stands ∙ w.stands in
+-- an instruction that is unseen, whether or not its thread sees what is shared
+once_unseen : (sees keeps : Bool) (t k : ℕ) (f : Frame) (s next : State) (event : Option Event) → slice_get s.threads t ≡ Some (at_work k f) → (h : ByActivity s (move_of t) k (Open f) next event) → is_unseen h.0 ≡ true → (r : State) → IsSame sees t s r → FramedOnce sees keeps t r next event
+once_unseen sees keeps t k f s next event was h is r same =
+    let by = carries_unseen s r (move_of t) f h.0 h.1 h.2 is h.5 in
+    let now = thread_after k h.2 in
+    let stands : slice_get r.threads t ≡ Some (at_work k f) = same.stands ∙ was in
+    let at : instr_at r.component f.op f.place ≡ Some h.0 = rw same.component h.3 in
+    let mid = carries_alike s (move_of t) f h.0 h.1 h.2 h.5 in
     let there = with_thread r t now in
-    let short : r.component.local ≡ 0 = ap (λ (x : Declarations). x.local) same.component ∙ w.short in
     record {
       there = there;
-      step = whole_step r (move_of t) there event short (idle k, stands, (h.0, rw same.matrix_is h.1, refl, refl, h.4));
-      one = (let e : picks_of r t ≡ picks_of s t = rw (stands, w.stands, same.matrix_is) refl in e ∙ w.one);
+      step = (at_work k f, stands, (h.0, r, h.2, at, h.4, by.1, refl, h.7));
+      one = picks_at r t k f h.0 stands at ∙ unseen_picks r f h.0 is;
+      quiet = λ e. (refl, refl);
+      same = record {
+        component = same.component ∙ sym (ap (λ (x : State). x.component) h.6 ∙ mid.component);
+        matrix_is = same.matrix_is ∙ sym (ap (λ (x : State). x.matrix) h.6 ∙ mid.matrix);
+        stands =
+            now_stands there r.threads t (at_work k f) now stands refl
+            ∙ sym (now_stands next s.threads t (at_work k f) now was (ap (λ (x : State). x.threads) h.6 ∙ ap (λ (x : List Thread). slice_set x t now) mid.threads));
+        shared = λ e.
+            (let shared = same.shared e in (
+              shared.0 ∙ sym (ap (λ (x : State). x.cells) h.6 ∙ ap (λ (x : State). x.cells) by.0),
+              shared.1 ∙ sym (ap (λ (x : State). x.locks) h.6 ∙ ap (λ (x : State). x.locks) by.0),
+            ));
+      };
+    }
+
+-- any other, of a thread that sees what is shared
+once_seen : (keeps : Bool) (t k : ℕ) (f : Frame) (s next : State) (event : Option Event) → slice_get s.threads t ≡ Some (at_work k f) → Touches true keeps s f → picks_of s t ≡ 1 → ByActivity s (move_of t) k (Open f) next event → (r : State) → IsSame true t s r → FramedOnce true keeps t r next event
+once_seen keeps t k f s next event was touches only h r same =
+    let shared = same.shared refl in
+    let is : with_threads s r.threads ≡ r = state_is s r same.component same.matrix_is shared.0 shared.1 in
+    let now = thread_after k h.2 in
+    let stands : slice_get r.threads t ≡ Some (at_work k f) = same.stands ∙ was in
+    let at : instr_at r.component f.op f.place ≡ Some h.0 = rw same.component h.3 in
+    let mid = carries_alike s (move_of t) f h.0 h.1 h.2 h.5 in
+    let carries : Carries r (move_of t) f h.0 (with_threads h.1 r.threads) h.2 = subst (λ x. Carries x (move_of t) f h.0 (with_threads h.1 r.threads) h.2) is (carries_threads s (move_of t) f h.0 h.1 r.threads h.2 h.5) in
+    let there = with_thread (with_threads h.1 r.threads) t now in
+    let picks : instr_picks r f h.0 ≡ instr_picks s f h.0 = subst (λ x. instr_picks x f h.0 ≡ instr_picks s f h.0) is (same_picks s r.threads f h.0) in
+    record {
+      there = there;
+      step = (at_work k f, stands, (h.0, with_threads h.1 r.threads, h.2, at, h.4, carries, refl, h.7));
+      one = picks_at r t k f h.0 stands at ∙ (picks ∙ (sym (picks_at s t k f h.0 was h.3) ∙ only));
+      quiet = λ e.
+          (let left : h.1 ≡ s = carries_reads s (move_of t) f h.0 h.1 h.2 (touches.reads_is h.0 e h.3) h.5 in
+          (ap (λ (x : State). x.cells) left ∙ sym shared.0, ap (λ (x : State). x.locks) left ∙ sym shared.1));
+      same = record {
+        component = sym (ap (λ (x : State). x.component) h.6);
+        matrix_is = sym (ap (λ (x : State). x.matrix) h.6);
+        stands =
+            now_stands there r.threads t (at_work k f) now stands refl
+            ∙ sym (now_stands next s.threads t (at_work k f) now was (ap (λ (x : State). x.threads) h.6 ∙ ap (λ (x : List Thread). slice_set x t now) mid.threads));
+        shared = λ e. (sym (ap (λ (x : State). x.cells) h.6), sym (ap (λ (x : State). x.locks) h.6));
+      };
+    }
+
+-- an idle thread opens its next call
+once_called : (sees keeps : Bool) (t k : ℕ) (s next : State) (event : Option Event) → slice_get s.threads t ≡ Some (idle k) → picks_of s t ≡ 1 → ByActivity s (move_of t) k Idle next event → (r : State) → IsSame sees t s r → FramedOnce sees keeps t r next event
+once_called sees keeps t k s next event was only h r same =
+    let now = at_work k (opened h.0) in
+    let stands : slice_get r.threads t ≡ Some (idle k) = same.stands ∙ was in
+    let there = with_thread r t now in
+    record {
+      there = there;
+      step = (idle k, stands, (h.0, rw same.matrix_is h.1, refl, refl, h.4));
+      one = (let e : picks_of r t ≡ picks_of s t = rw (stands, was, same.matrix_is) refl in e ∙ only);
       quiet = λ e. (refl, refl);
       same = record {
         component = same.component ∙ sym (ap (λ (x : State). x.component) h.3);
         matrix_is = same.matrix_is ∙ sym (ap (λ (x : State). x.matrix) h.3);
         stands =
             now_stands there r.threads t (idle k) now stands refl
-            ∙ sym (now_stands next s.threads t (idle k) now w.stands (ap (λ (x : State). x.threads) h.3));
+            ∙ sym (now_stands next s.threads t (idle k) now was (ap (λ (x : State). x.threads) h.3));
         shared = λ e.
             (let shared = same.shared e in
             (shared.0 ∙ sym (ap (λ (x : State). x.cells) h.3), shared.1 ∙ sym (ap (λ (x : State). x.locks) h.3)));
       };
     }
 
+-- one call or instruction of a thread is one in each state that is the same for it
+frame_once : (sees keeps : Bool) (t k : ℕ) (activity : Activity) (s next : State) (event : Option Event) → slice_get s.threads t ≡ Some (record { done = k; activity = activity }) → ((f : Frame) → activity ≡ Open f → Touches sees keeps s f) → picks_of s t ≡ 1 → ByActivity s (move_of t) k activity next event → (r : State) → IsSame sees t s r → FramedOnce sees keeps t r next event
+frame_once sees keeps t k Idle s next event was touches only h r same = once_called sees keeps t k s next event was only h r same
+frame_once false keeps t k (Open f) s next event was touches only h r same =
+    once_unseen false keeps t k f s next event was h ((touches f refl).unseen_is h.0 refl h.3) r same
+frame_once true keeps t k (Open f) s next event was touches only h r same = once_seen keeps t k f s next event was (touches f refl) only h r same
+
+-- a local instruction is unseen
+local_is_unseen : (instr : Instr) → is_local instr ≡ true → is_unseen instr ≡ true
+local_is_unseen (Set to v) is = refl
+local_is_unseen (Compute by to x y) is = refl
+local_is_unseen (Load to w i) is = absurd (cc)
+local_is_unseen (Store w i v) is = absurd (cc)
+local_is_unseen (Cas to w i x y) is = absurd (cc)
+local_is_unseen (Lock l) is = absurd (cc)
+local_is_unseen (Unlock l) is = absurd (cc)
+local_is_unseen (Await w i v) is = absurd (cc)
+local_is_unseen (AwaitNot w i v) is = absurd (cc)
+local_is_unseen (Pick to count) is = absurd (cc)
+local_is_unseen (Jump target) is = refl
+local_is_unseen (JumpIfZero v target) is = refl
+local_is_unseen (Return v) is = absurd (cc)
+
+-- whether the next instruction is local is the same in two states of one component
+activity_alike : (s r : State) → r.component ≡ s.component → (activity : Activity) → activity_is_local r activity ≡ activity_is_local s activity
+activity_alike s r same Idle = refl
+activity_alike s r same (Open f) = rw same refl
+
+standing_alike : (s r : State) → r.component ≡ s.component → (o : Option Thread) → option_map_or (λ thread. activity_is_local r thread.activity) o false ≡ option_map_or (λ thread. activity_is_local s thread.activity) o false
+standing_alike s r same None = refl
+standing_alike s r same (Some thread) = activity_alike s r same thread.activity
+
+local_alike : (sees : Bool) (t : ℕ) (s r : State) → IsSame sees t s r → is_at_local r t ≡ is_at_local s t
+local_alike sees t s r same =
+    ap (λ (o : Option Thread). option_map_or (λ thread. activity_is_local r thread.activity) o false) same.stands
+    ∙ standing_alike s r same.component (slice_get s.threads t)
+
+-- and so is how many may follow
+more_alike : (sees : Bool) (t : ℕ) (s r : State) → IsSame sees t s r → more_local r t ≡ more_local s t
+more_alike sees t s r same =
+    ap (λ (x : Declarations). x.local - (if is_at_local r t then 1 else 0)) same.component
+    ∙ ap (λ (b : Bool). s.component.local - (if b then 1 else 0)) (local_alike sees t s r same)
+
+-- what running on gives in a state that is the same for the thread
+record FramedRun (sees : Bool) (t n : ℕ) (r end : State) : Type 0 where
+  pub there : State
+  pub runs : RunsOn n r t there
+  pub quiet : IsShared r there
+  pub same : IsSame sees t end there
+
+runs_nowhere : (sees : Bool) (t n : ℕ) (s end r : State) → is_at_local s t ≡ false → end ≡ s → IsSame sees t s r → FramedRun sees t (suc n) r end
+runs_nowhere sees t n s end r is stays same =
+    let still : is_at_local r t ≡ false = local_alike sees t s r same ∙ is in
+    record {
+      there = r;
+      runs = rw still refl;
+      quiet = (refl, refl);
+      same = subst (λ x. IsSame sees t x r) (sym stays) same;
+    }
+
+-- a thread at a local instruction carries it out
+runs_once : (sees : Bool) (t : ℕ) (s next r : State) → is_at_local s t ≡ true → OneStep s (move_of t) next None → IsSame sees t s r → FramedOnce sees true t r next None
+runs_once sees t s next r is step same =
+    let once = local_once s t is in
+    let k = once.standing.done in
+    let f = once.before in
+    let stands : slice_get s.threads t ≡ Some (at_work k f) = once.stands ∙ ap (λ (a : Activity). let x : Thread = record { done = k; activity = a } in Some x) once.is_open in
+    let h : ByActivity s (move_of t) k (Open f) next None = one_step_by s (move_of t) next None (at_work k f) stands step in
+    let local : is_local h.0 ≡ true = rw (stands, h.3) at is in
+    once_unseen sees true t k f s next None stands h (local_is_unseen h.0 local) r same
+
+-- by what local instructions a thread runs on, it does so in each state that is the same for it
+frame_runs : (sees : Bool) (t n : ℕ) (s end r : State) → RunsOn n s t end → IsSame sees t s r → FramedRun sees t n r end
+frame_runs sees t zero s end r runs same = record {
+  there = r;
+  runs = refl;
+  quiet = (refl, refl);
+  same = subst (λ x. IsSame sees t x r) (sym runs) same;
+}
+frame_runs sees t (suc n) s end r runs same = by_test (λ x y. frame_runs sees t n x end y) (is_at_local s t) refl runs
+  where
+    by_test : ((x y : State) → RunsOn n x t end → IsSame sees t x y → FramedRun sees t n y end) → (test : Bool) → is_at_local s t ≡ test → MatchBool test ((next : State) × OneStep s (record { thread = t; pick = 0 }) next None × RunsOn n next t end) (end ≡ s) → FramedRun sees t (suc n) r end
+    by_test go true is h =
+        let once = runs_once sees t s h.0 r is h.1 same in
+        let on = go h.0 once.there h.2 once.same in
+        let kept = once.quiet refl in
+        let still : is_at_local r t ≡ true = local_alike sees t s r same ∙ is in
+        record {
+          there = on.there;
+          runs = rw still (once.there, once.step, on.runs);
+          quiet = (on.quiet.0 ∙ kept.0, on.quiet.1 ∙ kept.1);
+          same = on.same;
+        }
+    by_test go false is h = runs_nowhere sees t n s end r is h same
+
 -- a step of a thread is one in each state that is the same for it
 pub frame : (sees keeps : Bool) (t k : ℕ) (activity : Activity) (s next : State) (event : Option Event) → Works sees keeps t k activity s next event → (r : State) → IsSame sees t s r → Framed sees keeps t r next event
-frame sees keeps t k Idle s next event = frame_call sees keeps t k s next event
-frame false keeps t k (Open f) s next event = frame_unseen keeps t k f s next event
-frame true keeps t k (Open f) s next event = frame_seen keeps t k f s next event
+frame sees keeps t k activity s next event w r same =
+    let mid = w.step.0 in
+    let by : ByActivity s (move_of t) k activity mid event = one_step_by s (move_of t) mid event (record { done = k; activity = activity }) w.stands w.step.1 in
+    let once = frame_once sees keeps t k activity s mid event w.stands w.touches w.one by r same in
+    let on = frame_runs sees t (more_local s t) mid next once.there w.step.2 once.same in
+    record {
+      there = on.there;
+      step = (once.there, once.step, subst (λ n. RunsOn n once.there t on.there) (sym (more_alike sees t s r same)) on.runs);
+      one = once.one;
+      quiet = λ e. (let kept = once.quiet e in (on.quiet.0 ∙ kept.0, on.quiet.1 ∙ kept.1));
+      same = on.same;
+    }
 
 pub same_itself : (sees : Bool) (t : ℕ) (s : State) → IsSame sees t s s
 same_itself sees t s = record { component = refl; matrix_is = refl; stands = refl; shared = λ e. (refl, refl) }

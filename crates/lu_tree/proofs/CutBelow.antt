@@ -1,18 +1,16 @@
 -- Below a state from which no schedule ends within the moves that are left, each is cut, and their number is that of the orders within the caps.
-use Rattle.std.proofs.Common.{◌≡◌, ℕ, zero, suc, ◌+◌, ◌<◌, ◌≤◌, ◌⊎◌, List, [], ◌∷◌, ◌++◌, Option, get_or, slice_set, length, refl, sym, subst, inl, inr, arith, length-append}
+use Rattle.std.proofs.Common.{◌≡◌, ℕ, zero, suc, ◌+◌, ◌<◌, ◌≤◌, ◌⊎◌, List, [], ◌∷◌, ◌++◌, get_or, slice_set, length, refl, sym, subst, inl, inr, arith, length-append}
 use Rattle.lu_test.specs.declared.schedule.Move.{Move}
 use Rattle.lu_machine.specs.declared.event.Event.{Event}
 use Rattle.lu_machine.specs.States.{State}
-use Rattle.lu_machine.specs.Steps.{Step, IsFeasible, picks_of}
+use Rattle.lu_machine.specs.Steps.{IsFeasible, picks_of}
 use Rattle.lu_machine.specs.Runs.{Leads, with_event}
 use Rattle.lu_machine.specs.Ends.{HasMove}
 use Rattle.lu_machine.specs.Sums.{capped, plus}
 use Rattle.lu_machine.proofs.Paths.{child_leads}
 use Rattle.lu_machine.proofs.StepLaws.{feasible_step}
 use Rattle.lu_horizon.specs.Sure.{AreCaps}
-use Rattle.lu_horizon.specs.Tables.{Outlooks, Serves}
 use Rattle.lu_horizon.proofs.CapLaws.{cap_picks, caps_step}
-use Rattle.lu_horizon.proofs.OwnLaws.{serves_next}
 use Rattle.lu_tail.specs.Orders.{first_below, first_of, orders_within}
 use Rattle.lu_history.specs.declared.serial.SerialOp.{SerialOp}
 use Rattle.lu_witness.specs.Goodness.{AreAllGood}
@@ -22,9 +20,6 @@ use Rattle.lu_tree.specs.Walks.{cuts, one_cut}
 use Rattle.lu_tree.proofs.Walking.{GoesOnBelow, cut_counted, kids_all, kids_more, kids_none, kids_turn}
 
 -- a table that serves a run's state serves the next one
-pub still_serves : (P : Type 0) (table : List Outlooks) (s : State) (m : Move) (next : State) (event : Option Event) → (P → Serves table s) → Step s m next event → P → Serves table next
-still_serves P table s m next event serves step p = serves_next table s m next event (serves p) step
-
 module _ (start : State) (Set : List SerialOp → Type 0) (bound : ℕ) where
   module _ (left : ℕ) (u : List Move) (s : State) (h : List Event) (at : Leads start u s h) (caps : List ℕ) (are : AreCaps s (suc left) caps) (kid : (m : Move) (n : ℕ) → IsFeasible s m → get_or caps m.thread 0 ≡ suc n → AreAllGood Set start bound (Below (u ++ m ∷ [])) (cuts (capped (orders_within left (slice_set caps m.thread n))))) where
     Counted : ℕ → ℕ → ℕ → Type 0

@@ -20,7 +20,7 @@ use Rattle.lu_machine.specs.Sums.{capped}
 use Rattle.lu_machine.proofs.Keeping.{step_keeps_threads, step_moved}
 use Rattle.lu_machine.proofs.Paths.{with_event-append}
 use Rattle.lu_machine.proofs.StepLaws.{step_same}
-use Rattle.lu_horizon.proofs.OwnLaws.{other_stands, step_by}
+use Rattle.lu_horizon.proofs.OwnLaws.{one_step_by, other_stands}
 use Rattle.lu_tail.specs.Orders.{all_moves, interleavings}
 use Rattle.lu_tail.specs.Solo.{AreApart, HasSolo, IsSame, IsShared, LastEvents, Solo, move_of}
 use Rattle.lu_tail.proofs.Frames.{Touches, Works, frame, same_itself, solo_same}
@@ -108,7 +108,7 @@ module _ (Set : List SerialOp → Type 0) (look : Look) (s : State) (h : List Ev
       over j lt is = by_thread j (slice_get s.threads j) refl lt is
 
   -- one move before
-  module _ (t : ℕ) (next : State) (event : Option Event) (short : s.component.local ≡ 0) (step : Step s (move_of t) next event) (may : MayMove look s t) where
+  module _ (t : ℕ) (next : State) (event : Option Event) (step : Step s (move_of t) next event) (may : MayMove look s t) where
     touches : (k : ℕ) (f : Frame) → slice_get s.threads t ≡ Some (at_work k f) → Touches ((sharing_of look.sharers).sees t) ((sharing_of look.sharers).keeps t) s f
     touches k f stands =
         let within = may.within k f stands in
@@ -119,7 +119,6 @@ module _ (Set : List SerialOp → Type 0) (look : Look) (s : State) (h : List Ev
 
     works : (k : ℕ) (activity : Activity) → slice_get s.threads t ≡ Some (record { done = k; activity = activity }) → Works ((sharing_of look.sharers).sees t) ((sharing_of look.sharers).keeps t) t k activity s next event
     works k activity stands = record {
-      short = short;
       stands = stands;
       touches = λ f e. touches k f (stands ∙ ap (λ a. let x : Thread = record { done = k; activity = a } in Some x) e);
       one = may.one;
@@ -137,7 +136,7 @@ module _ (Set : List SerialOp → Type 0) (look : Look) (s : State) (h : List Ev
     silent : (k : ℕ) (activity : Activity) → slice_get s.threads t ≡ Some (record { done = k; activity = activity }) → look.judging ≡ OneVerdict → (rest : List Event) → HasNoCall rest → HasNoCall (with_event event rest)
     silent k Idle stands one rest none = absurd (may.calls k stands one)
     silent k (Open f) stands one rest none =
-        let by : ByActivity s (move_of t) k (Open f) next event = step_by s (move_of t) next event (at_work k f) short stands step in
+        let by : ByActivity s (move_of t) k (Open f) step.0 event = one_step_by s (move_of t) step.0 event (at_work k f) stands step.1 in
         rw by.7 (by_effect by.2)
       where
         by_effect : (e : Effect) → HasNoCall (with_event (event_after t k e) rest)

@@ -18,7 +18,7 @@ use Rattle.lu_history.specs.declared.serial.SerialOp.{SerialOp}
 use Rattle.lu_tree.specs.declared.commuting.Both.{Both}
 use Rattle.lu_tree.specs.declared.known.Known.{Known}
 use Rattle.lu_tree.specs.declared.known.Hints.{Hints}
-use Rattle.lu_tree.specs.Known.{AreBeside, AreFrom, AreKnownBehind, Commute, HaveOneHistory, IsAmong, IsAmongOr, IsHint, IsHintOr, IsKid, IsKnown, IsKnownBy, MadeBoth, Moves, MovesBoth, counts_of, kids_of}
+use Rattle.lu_tree.specs.Known.{AreBeside, AreFrom, AreKnownBehind, Commute, HaveOneHistory, IsAmong, IsAmongOr, IsHint, IsHintOr, IsKid, IsKnown, IsKnownBy, MadeBoth, MoveNotBoth, Moves, MovesBoth, counts_of, kids_of}
 use Rattle.lu_tree.specs.Walks.{AreBelow}
 
 -- a move keeps the component and the matrix
@@ -80,6 +80,37 @@ pub commute_seen : (t u : ℕ) (s end other : State) (there here : Both) → Mad
 commute_seen t u s end other there here one two same history =
     let back : MovesBoth u t s end there.second.event there.first.event = rw (history.0, history.1, ← same) two.moves in
     (end, there.first.event, there.second.event, one.moves, back, history.2)
+
+-- an only move leads to one state
+moves_same : (t : ℕ) (s a b : State) (e f : Option Event) → Moves t s a e → Moves t s b f → (a ≡ b) × (e ≡ f)
+moves_same t s a b e f x y = step_same s (move_of t) a b e f x.1 y.1
+
+both_same : (t u : ℕ) (s a b : State) (e f g h : Option Event) → MovesBoth t u s a e f → MovesBoth t u s b g h → (a ≡ b) × (e ≡ g) × (f ≡ h)
+both_same t u s a b e f g h x y =
+    let first = moves_same t s x.0 y.0 e g x.1 y.1 in
+    let on : Moves u y.0 a f = subst (λ r. Moves u r a f) first.0 x.2 in
+    let second = moves_same u y.0 a b f h on y.2 in
+    (second.0, first.1, second.1)
+
+-- where u has not one pick behind the only move of t, they can't both be made
+pub not_both : (t u : ℕ) (s r : State) (event : Option Event) → Moves t s r event → (picks_of r u ≡ 1 → ⊥) → MoveNotBoth t u s
+not_both t u s r event moves not end e f both =
+    let same = moves_same t s both.0 r e event both.1 moves in
+    not (subst (λ x. picks_of x u ≡ 1) same.0 both.2.0)
+
+-- moves that commute, and were made in both orders, led to one state with one history
+pub commute_made : (t u : ℕ) (s end other : State) (there here : Both) → MadeBoth t u s end there → MadeBoth u t s other here → Commute t u s → (other ≡ end) × HaveOneHistory there here
+commute_made t u s end other there here one two (last, e, f, first, second, quiet) =
+    let a = both_same t u s last end e f there.first.event there.second.event first one.moves in
+    let b = both_same u t s last other f e here.first.event here.second.event second two.moves in
+    let silent : (there.first.event ≡ None) ⊎ (there.second.event ≡ None) = rw (← a.1, ← a.2) quiet in
+    (sym b.0 ∙ a.0, (sym a.1 ∙ b.2, sym a.2 ∙ b.1, silent))
+
+-- at most one of them has an event
+pub commute_quiet : (t u : ℕ) (s end : State) (there : Both) → MadeBoth t u s end there → Commute t u s → (there.first.event ≡ None) ⊎ (there.second.event ≡ None)
+commute_quiet t u s end there one (last, e, f, first, second, quiet) =
+    let a = both_same t u s last end e f there.first.event there.second.event first one.moves in
+    rw (← a.1, ← a.2) quiet
 
 -- one hint more
 pub from_more : (s : State) (hints : Hints) (known : Known) (t u : ℕ) (first below : Known) (old new : Hints) → AreFrom s hints known t old → IsHintOr u below old new → Commute u t s → IsKnownBy hints known u first → IsKid first t below → AreFrom s hints known t new

@@ -29,6 +29,10 @@ Moves t s r event = (picks_of s t ≡ 1) × Step s (move_of t) r event
 abbrev pub MovesBoth : ℕ → ℕ → State → State → Option Event → Option Event → Type 0
 MovesBoth t u s end e f = (r : State) × Moves t s r e × Moves u r end f
 
+-- they can't be made so: t or u has not exactly one pick
+abbrev pub MoveNotBoth : ℕ → ℕ → State → Type 0
+MoveNotBoth t u s = (end : State) (e f : Option Event) → MovesBoth t u s end e f → ⊥
+
 -- The only moves of t and of u commute: in either order they lead to one state, with the same
 -- events, and at most one of them has an event.
 abbrev pub Commute : ℕ → ℕ → State → Type 0

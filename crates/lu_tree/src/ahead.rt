@@ -1,40 +1,14 @@
-//! What is known of the moves ahead before a walk.
+//! What a walk knows ahead of its moves.
 
-ghost use Rattle.std.specs.Prelude.{IfOk};
-ghost use Rattle.lu_horizon.specs.Tables.{ServesRuns};
+use crate::tables::Tables;
+use std::alloc::Global;
 
-use lu_component::Component;
-use lu_horizon::Horizon;
-use lu_tail::Orders;
-use lu_test::Matrix;
-use std::alloc::{AllocError, Global};
-
-/// The tables by which a walk counts schedules that it doesn't walk.
-#[derive(Drop)]
-pub(crate) struct Ahead {
+/// What a walk knows ahead of its moves.
+#[derive(Clone, Copy, Drop)]
+pub(crate) struct Ahead<'a> {
     pub(crate) alloc: Global,
+    pub(crate) tables: &'a Tables,
 
-    /// How many moves of each thread are certain.
-    pub(crate) horizon: Horizon,
-
-    /// In how many orders moves of several threads can be made.
-    pub(crate) orders: Orders,
-}
-
-impl Ahead {
-    /// The tables of a component and a matrix, for up to `most` moves.
-    pub(crate) fn new(
-        alloc: Global,
-        component: &Component,
-        matrix: &Matrix,
-        most: u16,
-    ) -> Result<Ahead, AllocError>
-        ensures { IfOk result (λ ahead. ServesRuns component.now matrix.now ahead.horizon) }
-    {
-        Ok(Ahead {
-            alloc,
-            horizon: Horizon::new(alloc, component, matrix, most)?,
-            orders: Orders::new(alloc, most)?,
-        })
-    }
+    /// How many moves are left where the walk begins.
+    pub(crate) most: u16,
 }

@@ -5,11 +5,11 @@
 //! the one order, and counted behind both. That two orders lead to one state is seen by making the
 //! moves on two machines.
 
-ghost use Rattle.std.specs.Prelude.{◌≡◌, ◌<◌, false, true, IfNone, IfOk, IfSome};
+ghost use Rattle.std.specs.Prelude.{◌≡◌, ◌<◌, ◌↔◌, false, true, IfNone, IfOk, IfSome};
 ghost use Rattle.lu_machine.specs.Starts.{CanRun, IsStart};
 ghost use Rattle.lu_machine.specs.Steps.{picks_of};
 ghost use Rattle.lu_machine.specs.Undoes.{CanTake, restored};
-ghost use Rattle.lu_tree.specs.Known.{AreBeside, AreFrom, Commute, HaveOneHistory, IsKnownBy, MadeBoth, Moves, taken_back};
+ghost use Rattle.lu_tree.specs.Known.{AreBeside, AreFrom, Commute, HaveOneHistory, IsKnownBy, MadeBoth, MoveNotBoth, Moves, taken_back};
 
 use crate::known::{Hints, Known};
 use lu_component::Component;
@@ -45,7 +45,8 @@ fn make_both<const LONG: bool>(first: u8, second: u8, machine: &mut Machine<'_>)
     requires only { picks_of machine.old first ≡ 1 }
     ensures made { IfSome result (MadeBoth first second machine.old machine.new) }
     ensures beside { AreBeside machine.old machine.new }
-    ensures none { IfNone result (machine.new ≡ machine.old) }
+    ensures none { IfNone result (MoveNotBoth first second machine.old) }
+    ensures back { IfNone result (machine.new ≡ machine.old) }
 {
     let undo = make_move::<LONG>(first, machine);
     if machine.picks(second) != 1 {
@@ -72,7 +73,7 @@ fn take_back(both: Both, machine: &mut Machine<'_>)
 /// Whether two moves have the same events in the other order, and at most one of them has one.
 #[inline(always)]
 fn have_one_history(there: Both, here: Both) -> bool
-    ensures { result ≡ true → HaveOneHistory there here }
+    ensures { result ≡ true ↔ HaveOneHistory there here }
 {
     let quiet = there.first.event().is_none() || there.second.event().is_none();
     quiet
@@ -120,7 +121,7 @@ impl<'a> Commuting<'a> {
         })
     }
 
-    /// Whether the moves of two threads are their only ones and commute. It may miss that they do.
+    /// Whether the moves of two threads are their only ones and commute.
     pub(crate) fn commute<const LONG: bool>(
         &mut self,
         first: u8,
@@ -131,7 +132,7 @@ impl<'a> Commuting<'a> {
         requires beside { AreBeside machine.old self.old.other }
         ensures machine { machine.new ≡ machine.old }
         ensures beside { AreBeside machine.old self.new.other }
-        ensures commute { result ≡ true → Commute first second machine.old }
+        ensures commute { result ≡ true ↔ Commute first second machine.old }
     {
         if machine.picks(first) != 1 || machine.picks(second) != 1 {
             return false;

@@ -27,6 +27,7 @@ mod look;
 mod node;
 mod pieces;
 mod searching;
+mod tables;
 mod tail;
 mod tally;
 mod walk;
@@ -34,5 +35,6 @@ mod watch;
 
 pub use found::Found;
 pub use pieces::frontier;
-pub use searching::{search, search_watched};
+pub use searching::{search, search_watched, search_with};
+pub use tables::Tables;
 pub use watch::{Unwatched, Watch};

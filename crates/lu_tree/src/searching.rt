@@ -10,6 +10,7 @@ ghost use Rattle.lu_machine.specs.Starts.{CanRun, IsStart};
 ghost use Rattle.lu_history.specs.Standing.{Agree};
 ghost use Rattle.lu_witness.specs.Caches.{SameButEntries};
 ghost use Rattle.lu_witness.specs.Witnesses.{IsMember};
+ghost use Rattle.lu_tree.specs.Tables.{AreTables};
 ghost use Rattle.lu_tree.specs.Trees.{Finds, MayFind, is_abandoned};
 ghost use Rattle.lu_tree.specs.Walks.{LeadsToNode};
 
@@ -17,6 +18,7 @@ use crate::ahead::Ahead;
 use crate::commuting::Commuting;
 use crate::found::Found;
 use crate::node::Node;
+use crate::tables::Tables;
 use crate::tally::Tally;
 use crate::walk::walk;
 use crate::watch::{Unwatched, Watch};
@@ -64,6 +66,100 @@ fn join(from: &[Move], path: Vec<Move>) -> Vec<Move>
     moves
 }
 
+/// Searches below a node, to which the schedule leads.
+fn search_below<'a, 't, T: SerialTree, W: Watch>(
+    alloc: Global,
+    component: &'a Component,
+    matrix: &'a Matrix,
+    tables: &Tables,
+    cache: &mut Cache<'t, T>,
+    node: Node<'a, 't, T>,
+    from: &Schedule,
+    bound: u16,
+    watch: &mut W,
+) -> Result<Found, AllocError>
+    requires of { CanRun component.now matrix.now }
+    requires limits { IsComponent component.now × IsMatrix matrix.now }
+    requires tables { AreTables component.now matrix.now tables.now }
+    requires few { bound ≤ 256 }
+    requires short { length from.now ≤ bound }
+    requires leads { LeadsToNode component.now matrix.now from.now node }
+    requires agree { Agree (progress node.machine) node.trail.history }
+    requires tree { cache.old.tree ≡ node.trail.tree }
+    requires running { W.is_stopped watch.old ≡ false }
+    ensures found { MayFind component.now matrix.now (T.members cache.old.tree)
+        from.now bound result }
+    ensures base { W.base watch.new ≡ W.base watch.old }
+    ensures cache { SameButEntries cache.old cache.new }
+    ensures stopped { W.is_stopped watch.new ≡ is_abandoned result }
+{
+    let moves = from.moves();
+    let left = bound - moves.len() as u16;
+    let ahead = Ahead {
+        alloc,
+        tables,
+        most: left,
+    };
+    let mut node = node;
+    let mut tally = Tally::new(alloc)?;
+    let mut commuting = Commuting::new(alloc, component, matrix)?;
+    let walked = walk(
+        cache,
+        watch,
+        &ahead,
+        &mut commuting,
+        left,
+        &mut node,
+        &mut tally,
+    );
+    if let Some(known) = walked {
+        return Ok(Found::Clean(known.counts));
+    }
+    if watch.stopped() {
+        return Ok(Found::Abandoned);
+    }
+    let why = node.why_bad(cache)?;
+    Ok(Found::Bad {
+        schedule: Schedule::new(join(moves, tally.path)),
+        why,
+    })
+}
+
+/// Searches as [`search_watched`] does, with tables that were made before. Whoever searches below
+/// many schedules makes them once.
+///
+/// # Errors
+///
+/// `AllocError` where memory was refused.
+pub fn search_with<'a, 't, T: SerialTree, W: Watch>(
+    alloc: Global,
+    component: &'a Component,
+    matrix: &'a Matrix,
+    tables: &Tables,
+    cache: &mut Cache<'t, T>,
+    from: &Schedule,
+    bound: u16,
+    watch: &mut W,
+) -> Result<Found, AllocError>
+    requires of { CanRun component.now matrix.now }
+    requires tables { AreTables component.now matrix.now tables.now }
+    requires few { bound ≤ 256 }
+    requires short { length from.now ≤ bound }
+    requires leads { (s : State) → IsStart component.now matrix.now s → IsSchedule s from.now }
+    requires running { W.is_stopped watch.old ≡ false }
+    ensures found { MayFind component.now matrix.now (T.members cache.old.tree)
+        from.now bound result }
+    ensures base { W.base watch.new ≡ W.base watch.old }
+    ensures cache { SameButEntries cache.old cache.new }
+    ensures stopped { W.is_stopped watch.new ≡ is_abandoned result }
+    ensures limits { IsComponent component.now × IsMatrix matrix.now }
+{
+    let node = node_after(alloc, component, matrix, cache.tree(), from.moves())?;
+    search_below(
+        alloc, component, matrix, tables, cache, node, from, bound, watch,
+    )
+}
+
 /// Searches as [`search`] does, over the tree of the cache, until the watch stops it. The watch is
 /// asked after each 64 further schedules that were judged good, or that are cut.
 ///
@@ -91,32 +187,11 @@ pub fn search_watched<'a, 't, T: SerialTree, W: Watch>(
     ensures stopped { W.is_stopped watch.new ≡ is_abandoned result }
     ensures limits { IsComponent component.now × IsMatrix matrix.now }
 {
-    let moves = from.moves();
-    let mut node = node_after(alloc, component, matrix, cache.tree(), moves)?;
-    let mut tally = Tally::new(alloc)?;
-    let left = bound - moves.len() as u16;
-    let ahead = Ahead::new(alloc, component, matrix, left)?;
-    let mut commuting = Commuting::new(alloc, component, matrix)?;
-    let walked = walk(
-        cache,
-        watch,
-        &ahead,
-        &mut commuting,
-        left,
-        &mut node,
-        &mut tally,
-    );
-    if let Some(known) = walked {
-        return Ok(Found::Clean(known.counts));
-    }
-    if watch.stopped() {
-        return Ok(Found::Abandoned);
-    }
-    let why = node.why_bad(cache)?;
-    Ok(Found::Bad {
-        schedule: Schedule::new(join(moves, tally.path)),
-        why,
-    })
+    let node = node_after(alloc, component, matrix, cache.tree(), from.moves())?;
+    let tables = Tables::new(alloc, component, matrix, bound)?;
+    search_below(
+        alloc, component, matrix, &tables, cache, node, from, bound, watch,
+    )
 }
 
 /// Searches the schedules that begin with `from`: answers the least one that is ended within the

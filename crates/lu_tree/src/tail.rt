@@ -1,6 +1,6 @@
 //! The last moves of a run, in any order.
 
-ghost use Rattle.std.specs.Prelude.{◌≡◌, ◌≢◌, ◌++◌, ◌+◌, ◌<◌, ◌≤◌, ◌^◌, IfSome, IsTrue, length, get_or, slice_set};
+ghost use Rattle.std.specs.Prelude.{◌≡◌, ◌≢◌, ◌++◌, ◌+◌, ◌<◌, ◌≤◌, ◌^◌, false, IfSome, IsTrue, length, get_or, slice_set};
 ghost use Rattle.lu_machine.specs.States.{progress};
 ghost use Rattle.lu_history.specs.Standing.{Agree};
 ghost use Rattle.lu_witness.specs.Caches.{SameButEntries};
@@ -112,7 +112,7 @@ fn is_judged_end<'t, T: SerialTree>(
 /// that is all that the order of their moves could change, and the end is good, it answers how many
 /// moves each thread makes: none where it is not certain, or takes more than `left` moves, or a
 /// thread touches more than it may.
-fn finish<'t, T: SerialTree>(
+fn finish<'t, const LONG: bool, T: SerialTree>(
     alloc: Global,
     cache: &mut Cache<'t, T>,
     look: Look,
@@ -120,7 +120,7 @@ fn finish<'t, T: SerialTree>(
     left: usize,
     node: &mut Node<'_, 't, T>,
 ) -> Option<Vec<usize>>
-    requires short { node.old.machine.component.local ≡ 0 }
+    requires one { LONG ≡ false → node.old.machine.component.local ≡ 0 }
     requires agree { Agree (progress node.old.machine) node.old.trail.history }
     requires tree { cache.old.tree ≡ node.old.trail.tree }
     requires within { t ≤ length node.old.machine.threads }
@@ -141,13 +141,13 @@ fn finish<'t, T: SerialTree>(
         };
     }
     if is_over(&node.machine, t) {
-        return finish(alloc, cache, look, t + 1, left, node);
+        return finish::<LONG, T>(alloc, cache, look, t + 1, left, node);
     }
     if left == 0 || !may_move(look, &node.machine, t) {
         return None;
     }
-    let undo = node.enter::<false>(Move { thread: t, pick: 0 });
-    let found = finish(alloc, cache, look, t, left - 1, node);
+    let undo = node.enter::<LONG>(Move { thread: t, pick: 0 });
+    let found = finish::<LONG, T>(alloc, cache, look, t, left - 1, node);
     node.leave(undo);
     match found {
         None => None,
@@ -157,20 +157,23 @@ fn finish<'t, T: SerialTree>(
 
 /// What to look for below the node, where a look may serve.
 fn look_at<'t, T: SerialTree>(
-    ahead: &Ahead,
+    ahead: &Ahead<'_>,
     left: usize,
     node: &mut Node<'_, 't, T>,
 ) -> Option<Look>
     ensures same { node.new ≡ node.old }
     ensures behind { IfSome result (λ look. StartsBehind look.judging node.old.trail.history) }
 {
-    if let Some(sharers) = ahead.horizon.last_sharers(&node.machine, left) {
+    if let Some(sharers) = ahead.tables.horizon.last_sharers(&node.machine, left) {
         return Some(Look {
             sharers,
             judging: Judging::OneVerdict,
         });
     }
-    let sharers = ahead.horizon.sharers(&node.machine, left)?;
+    let sharers = ahead
+        .tables
+        .horizon
+        .sharers(&node.machine, left == usize::from(ahead.most))?;
     match node.trail.returned(ahead.alloc) {
         Err(_) => None,
         Ok(ops) => Some(Look {
@@ -182,13 +185,13 @@ fn look_at<'t, T: SerialTree>(
 
 /// Where all schedules below the node end within `left` moves, complete and good, how many there
 /// are: none where that is not certain.
-fn complete_below<'t, T: SerialTree>(
+fn complete_below<'t, const LONG: bool, T: SerialTree>(
     cache: &mut Cache<'t, T>,
-    ahead: &Ahead,
+    ahead: &Ahead<'_>,
     left: usize,
     node: &mut Node<'_, 't, T>,
 ) -> Option<u64>
-    requires short { node.old.machine.component.local ≡ 0 }
+    requires one { LONG ≡ false → node.old.machine.component.local ≡ 0 }
     requires agree { Agree (progress node.old.machine) node.old.trail.history }
     requires tree { cache.old.tree ≡ node.old.trail.tree }
     ensures cache { SameButEntries cache.old cache.new }
@@ -198,29 +201,30 @@ fn complete_below<'t, T: SerialTree>(
     ensures tail { IfSome result (IsGoodTailOf T.members node.old left) }
 {
     let look = look_at(ahead, left, node)?;
-    let lengths = finish(ahead.alloc, cache, look, 0, left, node)?;
-    ahead.orders.interleavings(&lengths)
+    let lengths = finish::<LONG, T>(ahead.alloc, cache, look, 0, left, node)?;
+    ahead.tables.orders.interleavings(&lengths)
 }
 
 /// Where no schedule from the machine's state ends within `left` moves, how many are cut: none
 /// where that is not certain.
-fn cut_below(ahead: &Ahead, left: usize, machine: &Machine<'_>) -> Option<u64>
-    ensures { Serves ahead.now.horizon machine.now → IfSome result (IsCutBelow machine.now left) }
+fn cut_below(ahead: &Ahead<'_>, left: usize, machine: &Machine<'_>) -> Option<u64>
+    ensures { Serves ahead.now.tables.now.horizon machine.now →
+        IfSome result (IsCutBelow machine.now left) }
 {
-    let caps = ahead.horizon.caps(machine, left)?;
-    ahead.orders.orders_within(left, &caps)
+    let caps = ahead.tables.horizon.caps(machine, left)?;
+    ahead.tables.orders.orders_within(left, &caps)
 }
 
 /// How many schedules there are below the node, by a law: all of them are cut, or all end complete
 /// and good. None where neither is certain.
-pub(crate) fn counted_below<'t, T: SerialTree>(
+pub(crate) fn counted_below<'t, const LONG: bool, T: SerialTree>(
     cache: &mut Cache<'t, T>,
-    ahead: &Ahead,
+    ahead: &Ahead<'_>,
     left: u16,
     node: &mut Node<'_, 't, T>,
 ) -> Option<Counts>
-    requires short { node.old.machine.component.local ≡ 0 }
-    requires serves { Serves ahead.now.horizon node.old.machine }
+    requires one { LONG ≡ false → node.old.machine.component.local ≡ 0 }
+    requires serves { Serves ahead.now.tables.now.horizon node.old.machine }
     requires agree { Agree (progress node.old.machine) node.old.trail.history }
     requires tree { cache.old.tree ≡ node.old.trail.tree }
     ensures cache { SameButEntries cache.old cache.new }
@@ -236,7 +240,7 @@ pub(crate) fn counted_below<'t, T: SerialTree>(
             ..Counts::NONE
         });
     }
-    let complete = complete_below(cache, ahead, left, node)?;
+    let complete = complete_below::<LONG, T>(cache, ahead, left, node)?;
     Some(Counts {
         complete,
         ..Counts::NONE

@@ -73,44 +73,20 @@ fn end<'t, T: SerialTree, W: Watch>(
     }
 }
 
-/// How many schedules there are below the node, where that is known without a walk.
-#[inline(always)]
-fn known_below<'a, 't, const LONG: bool, T: SerialTree>(
-    cache: &mut Cache<'t, T>,
-    ahead: &Ahead,
-    left: u16,
-    node: &mut Node<'a, 't, T>,
-) -> Option<Counts>
-    requires serves { LONG ≡ false → Serves ahead.now.horizon node.old.machine }
-    requires agree { Agree (progress node.old.machine) node.old.trail.history }
-    requires tree { cache.old.tree ≡ node.old.trail.tree }
-    ensures cache { SameButEntries cache.old cache.new }
-    ensures tree { node.new.trail.tree ≡ node.old.trail.tree }
-    ensures machine { node.new.machine ≡ node.old.machine }
-    ensures history { node.new.trail.history ≡ node.old.trail.history }
-    ensures below { IfSome result (AreBelowNode T.members node.old left) }
-{
-    if LONG {
-        return None;
-    }
-    counted_below(cache, ahead, left, node)
-}
-
 /// Walks the schedules below the node, of no more than `left` moves, in order. Answers what is then
 /// known: none where the walk stops, at the first that is not found good, or where the watch stops
 /// it. It is then still there.
 pub(crate) fn walk<'a, 't, T: SerialTree, W: Watch>(
     cache: &mut Cache<'t, T>,
     watch: &mut W,
-    ahead: &Ahead,
+    ahead: &Ahead<'_>,
     commuting: &mut Commuting<'a>,
     left: u16,
     node: &mut Node<'a, 't, T>,
     tally: &mut Tally,
 ) -> Option<Known>
     requires few { left ≤ 256 }
-    requires serves { node.old.machine.component.local ≡ 0 →
-        Serves ahead.now.horizon node.old.machine }
+    requires serves { Serves ahead.now.tables.now.horizon node.old.machine }
     requires agree { Agree (progress node.old.machine) node.old.trail.history }
     requires tree { cache.old.tree ≡ node.old.trail.tree }
     requires running { W.is_stopped watch.old ≡ false }
@@ -161,7 +137,7 @@ pub(crate) fn walk<'a, 't, T: SerialTree, W: Watch>(
 fn walk_as<'a, 't, 'h, const LONG: bool, T: SerialTree, W: Watch>(
     cache: &mut Cache<'t, T>,
     watch: &mut W,
-    ahead: &Ahead,
+    ahead: &Ahead<'_>,
     commuting: &mut Commuting<'a>,
     left: u16,
     hints: &Hints<'h>,
@@ -170,7 +146,7 @@ fn walk_as<'a, 't, 'h, const LONG: bool, T: SerialTree, W: Watch>(
 ) -> Option<Known>
     requires few { left ≤ 256 }
     requires one { LONG ≡ false → node.old.machine.component.local ≡ 0 }
-    requires serves { LONG ≡ false → Serves ahead.now.horizon node.old.machine }
+    requires serves { Serves ahead.now.tables.now.horizon node.old.machine }
     requires agree { Agree (progress node.old.machine) node.old.trail.history }
     requires tree { cache.old.tree ≡ node.old.trail.tree }
     requires running { W.is_stopped watch.old ≡ false }
@@ -196,7 +172,7 @@ fn walk_as<'a, 't, 'h, const LONG: bool, T: SerialTree, W: Watch>(
         let counts = end(cache, watch, node, tally)?;
         return Some(Known::alone(commuting.alloc, counts));
     }
-    if let Some(counts) = known_below::<LONG, T>(cache, ahead, left, node) {
+    if let Some(counts) = counted_below::<LONG, T>(cache, ahead, left, node) {
         if !tally.pass_many(counts, watch) {
             return None;
         }

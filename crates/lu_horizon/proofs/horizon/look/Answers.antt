@@ -4,7 +4,7 @@ use Rattle.std.proofs.lemmas.Option.{slice_get-get_or}
 use Rattle.lu_component.specs.declared.instr.Instr.{Instr}
 use Rattle.lu_component.specs.declared.instr.Instr.TheVariants.{Set}
 use Rattle.lu_component.specs.declared.instr.Operand.TheVariants.{Reg}
-use Rattle.lu_horizon.specs.Code.{outlook_at}
+use Rattle.lu_horizon.specs.Code.{ahead_at}
 use Rattle.lu_horizon.specs.Tables.{outlook_of}
 use Rattle.lu_horizon.proofs.CodeLaws.{ahead_here}
 use Rattle.lu_horizon.proofs.SureLaws.{outlook_less, within_more}
@@ -22,9 +22,9 @@ loop-i-preserved c =
       many = length-set known place c.up_to-outlook.result ∙ c.loop-i.invariant.many;
       sure = λ matrix t k call old.
           (let before = c.loop-i.invariant.sure matrix t k call old in
-          let found = outlook_at c.args.component.now (outlook_of c.deref.result.now) c.args.rest place instr in
+          let found = ahead_at c.args.component.now c.args.code.now (outlook_of c.deref.result.now) c.args.rest place instr in
           places_set c.args.component.now matrix t k known place c.up_to-outlook.result (omega (arith, c.loop-i.invariant.many))
           (λ s a. outlook_less s t c.up_to-outlook.result found (within_more c.up_to-outlook.result c.certain.result found c.up_to-outlook.ensures c.certain.ensures)
-          (ahead_here c.args.component.now matrix t k place c.args.rest c.args.code.now (outlook_of c.deref.result.now) call (λ q x b. rw c.deref.ensures.value (before q x b)) instr stands s a))
+          (ahead_here c.args.component.now matrix t k c.args.rest c.args.code.now (outlook_of c.deref.result.now) call (λ q x b. rw c.deref.ensures.value (before q x b)) place instr stands s a))
           before);
     }

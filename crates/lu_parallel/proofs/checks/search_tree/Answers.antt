@@ -1,4 +1,4 @@
-use Rattle.std.proofs.Common.{IfOk, subst}
+use Rattle.std.proofs.Common.{subst}
 use Rattle.lu_witness.specs.Witnesses.{IsMember}
 use Rattle.lu_replay.specs.Reports.{IsFindingAgainst}
 use Rattle.lu_parallel.proofs.checks.search_tree.Goals as goal

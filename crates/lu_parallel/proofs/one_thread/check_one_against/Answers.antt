@@ -1,4 +1,4 @@
-use Rattle.std.proofs.Common.{ap, refl, sym, subst, ◌∙◌}
+use Rattle.std.proofs.Common.{ap, sym, subst, ◌∙◌}
 use Rattle.lu_report.specs.declared.report.Finding.{Finding}
 use Rattle.lu_report.specs.Parts.{Parts}
 use Rattle.lu_replay.specs.Reports.{IsFindingAgainst}

@@ -40,4 +40,4 @@ returns-in-Some-clause-rest g t c =
     let entered = rw c.in-Some.is at c.finish-found.ensures.rest in
     let rest : IsRest Set c.args.look after last c.args.t (c.args.left - 1) lengths = subst (λ x. IsRest (IsMember (g.T.SerialTree.members x)) c.args.look after last c.args.t (c.args.left - 1) lengths) c.enter-undo.ensures.tree entered in
     let yes : IsTrue c.may_move.result = search rules in
-    rw c.one_more.ensures (rest_move Set c.args.look s c.args.node.now.trail.history c.args.t after c.enter-undo.result.event c.requires.short c.enter-undo.ensures.step (c.may_move.ensures yes) c.args.left lengths last (omega (arith, c.if-left-eq0.false)) (omega (arith, c.threads-threads.ensures.value, c.requires.within, c.if-t-threads.false)) c.enter-undo.ensures.history rest)
+    rw c.one_more.ensures (rest_move Set c.args.look s c.args.node.now.trail.history c.args.t after c.enter-undo.result.event c.enter-undo.ensures.step (c.may_move.ensures yes) c.args.left lengths last (omega (arith, c.if-left-eq0.false)) (omega (arith, c.threads-threads.ensures.value, c.requires.within, c.if-t-threads.false)) c.enter-undo.ensures.history rest)

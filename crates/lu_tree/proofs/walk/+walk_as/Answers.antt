@@ -10,7 +10,7 @@ use Rattle.lu_witness.specs.Witnesses.{IsMember}
 use Rattle.lu_tree.specs.Known.{AreBeside, AreFrom, AreKnownBehind, IsHint, IsKnown, Moves, counts_of}
 use Rattle.lu_tree.specs.Walks.{AreBelow, Counted, StopsAt}
 use Rattle.lu_tree.proofs.Added.{AreAdded, added_all, added_more, added_none, added_turn, end_below, end_stops, stops_more, stops_there}
-use Rattle.lu_tree.proofs.CutBelow.{still_serves}
+use Rattle.lu_horizon.proofs.OwnLaws.{serves_next}
 use Rattle.lu_tree.proofs.KnownLaws.{behind_among, behind_here, behind_more, behind_same, beside_back, beside_moved, hints_on, known_alone, known_behind, known_below, known_with, none_behind}
 use Rattle.lu_tree.proofs.Walking.{ended_all, ended_first, ended_picked, ended_turn}
 use Rattle.lu_tree.proofs.walk.+walk_as.Goals as goal
@@ -39,10 +39,10 @@ loop-thread-init g t c =
     let s = c.args.node.now.machine in
     let h = c.args.node.now.trail.history in
     record {
-      machine = c.known_below.ensures.machine;
-      history = c.known_below.ensures.history;
-      tree = c.known_below.ensures.tree;
-      cache = c.known_below.ensures.cache;
+      machine = c.counted_below.ensures.machine;
+      history = c.counted_below.ensures.history;
+      tree = c.counted_below.ensures.tree;
+      cache = c.counted_below.ensures.cache;
       base = refl;
       running = c.requires.running;
       ready = c.requires.ready;
@@ -101,7 +101,7 @@ walk_as-walked-requires g t c =
     let home : c.hints-further.new.machine ≡ s = c.hints-further.ensures.machine ∙ i.machine in
     let step : Step s next r event = subst (λ x. Step x next r event) home c.enter-undo.ensures.step in
     let grown : k ≡ h ++ with_event event [] = c.enter-undo.ensures.history ∙ ap (λ x. x ++ with_event event []) i.history in
-    let serves = still_serves _ c.args.ahead.now.horizon s next r event c.requires.serves step in
+    let serves = serves_next c.args.ahead.now.tables.now.horizon s next r event c.requires.serves step in
     let beside : AreBeside r c.hints-further.new.self.other = beside_moved s c.hints-further.new.self.other r next event (subst (λ x. AreBeside x c.hints-further.new.self.other) i.machine c.hints-further.ensures.beside) step in
     let from = subst (λ x. AreFrom x c.args.hints.now c.loop-pick.known thread c.hints-further.result) i.machine c.hints-further.ensures.from in
     let hints = hints_on Set s h (c.args.left - 1) c.args.hints.now c.loop-pick.known thread pick c.hints-further.result c.requires.hints i.kids from r event step in
@@ -198,7 +198,7 @@ returns-in_err-counts-2-clause-stops g t c = λ is running.
     let s = c.args.node.now.machine in
     let h = c.args.node.now.trail.history in
     let i = c.loop-thread.invariant in
-    let home : c.known_below.new.node.machine ≡ c.args.node.now.machine = c.known_below.ensures.machine in
+    let home : c.counted_below.new.node.machine ≡ c.args.node.now.machine = c.counted_below.ensures.machine in
     let past : length s.threads ≤ c.loop-thread.thread = omega (arith, c.threads-thread-end.ensures.value, ap (λ (x : State). length x.threads) home) in
     let all : c.loop-thread.is_ended ≡ true = search rules in
     let none : HasNoMove s = ended_all s c.loop-thread.thread past (rw all at i.ended) in
@@ -215,7 +215,7 @@ returns-then-is_ended-clause-known g t c =
     let s = c.args.node.now.machine in
     let h = c.args.node.now.trail.history in
     let i = c.loop-thread.invariant in
-    let home : c.known_below.new.node.machine ≡ c.args.node.now.machine = c.known_below.ensures.machine in
+    let home : c.counted_below.new.node.machine ≡ c.args.node.now.machine = c.counted_below.ensures.machine in
     let past : length s.threads ≤ c.loop-thread.thread = omega (arith, c.threads-thread-end.ensures.value, ap (λ (x : State). length x.threads) home) in
     let all : c.loop-thread.is_ended ≡ true = search rules in
     let none : HasNoMove s = ended_all s c.loop-thread.thread past (rw all at i.ended) in
@@ -229,7 +229,7 @@ returns-clause-known g t c =
     let s = c.args.node.now.machine in
     let h = c.args.node.now.trail.history in
     let i = c.loop-thread.invariant in
-    let home : c.known_below.new.node.machine ≡ s = c.known_below.ensures.machine in
+    let home : c.counted_below.new.node.machine ≡ s = c.counted_below.ensures.machine in
     let past : length s.threads ≤ c.loop-thread.thread = omega (arith, c.threads-thread-end.ensures.value, ap (λ (x : State). length x.threads) home) in
     let is : c.loop-thread.is_ended ≡ false = search rules in
     let some : HasMove s = rw is at i.ended in

@@ -11,6 +11,6 @@ loop-t-preserved c = record {
 }
 
 pub returns : goal.returns
-returns c = λ s short is.
+returns c = λ s is.
     (let table : IsTable s.component s.matrix c.loop-t.threads.items = rw is.is c.loop-t.invariant.table in
-    record { numbers = table; own = start_own c.args.component.now c.args.matrix.now s short is })
+    record { numbers = table; own = start_own c.args.component.now c.args.matrix.now s is })

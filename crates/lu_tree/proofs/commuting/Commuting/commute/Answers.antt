@@ -1,14 +1,51 @@
-use Rattle.std.proofs.Common.{rules, ◌≡◌, subst}
-use Rattle.lu_tree.specs.Known.{HaveOneHistory, MadeBoth}
-use Rattle.lu_tree.proofs.KnownLaws.{commute_seen}
+use Rattle.std.proofs.Common.{rules, ◌≡◌, inl, inr, subst}
+use Rattle.lu_tree.specs.Known.{HaveOneHistory, MadeBoth, MoveNotBoth}
+use Rattle.lu_tree.proofs.KnownLaws.{commute_made, commute_quiet, commute_seen}
 use Rattle.lu_tree.proofs.commuting.Commuting.commute.Goals as goal
 
 pub returns-clause-commute : goal.returns-clause-commute
-returns-clause-commute g c = λ is.
-    (let s = c.args.machine.now in
-    let there : MadeBoth c.args.first c.args.second s c.make_both.new.machine c.in-Some.there = c.in-Some.ensures.made in
-    let back : c.take_back-2.new.machine ≡ s = search rules in
-    let here : MadeBoth c.args.second c.args.first s c.make_both-2.new.machine c.in-Some-make_both.here = subst (λ x. MadeBoth c.args.second c.args.first x c.make_both-2.new.machine c.in-Some-make_both.here) back c.in-Some-make_both.ensures.made in
-    let same : c.make_both-2.new.machine ≡ c.make_both.new.machine = search rules in
-    let one : HaveOneHistory c.in-Some.there c.in-Some-make_both.here = search rules in
-    commute_seen c.args.first c.args.second s c.make_both.new.machine c.make_both-2.new.machine c.in-Some.there c.in-Some-make_both.here there here same one)
+returns-clause-commute g c = (
+  λ is.
+      (let s = c.args.machine.now in
+      let there : MadeBoth c.args.first c.args.second s c.make_both.new.machine c.in-Some.there = c.in-Some.ensures.made in
+      let back : c.take_back-2.new.machine ≡ s = search rules in
+      let here : MadeBoth c.args.second c.args.first s c.make_both-2.new.machine c.in-Some-make_both.here = subst (λ x. MadeBoth c.args.second c.args.first x c.make_both-2.new.machine c.in-Some-make_both.here) back c.in-Some-make_both.ensures.made in
+      let same : c.make_both-2.new.machine ≡ c.make_both.new.machine = search rules in
+      let one : HaveOneHistory c.in-Some.there c.in-Some-make_both.here = search rules in
+      commute_seen c.args.first c.args.second s c.make_both.new.machine c.make_both-2.new.machine c.in-Some.there c.in-Some-make_both.here there here same one),
+  λ commute.
+      (let s = c.args.machine.now in
+      let there : MadeBoth c.args.first c.args.second s c.make_both.new.machine c.in-Some.there = c.in-Some.ensures.made in
+      let back : c.take_back-2.new.machine ≡ s = search rules in
+      let here : MadeBoth c.args.second c.args.first s c.make_both-2.new.machine c.in-Some-make_both.here = subst (λ x. MadeBoth c.args.second c.args.first x c.make_both-2.new.machine c.in-Some-make_both.here) back c.in-Some-make_both.ensures.made in
+      let made = commute_made c.args.first c.args.second s c.make_both.new.machine c.make_both-2.new.machine c.in-Some.there c.in-Some-make_both.here there here commute in
+      search rules),
+)
+
+pub returns-in_default-clause-commute : goal.returns-in_default-clause-commute
+returns-in_default-clause-commute g c = (
+  λ is. absurd (cc),
+  λ commute.
+      absurd (c.in_default.ensures.none commute.0 commute.1 commute.2 commute.3),
+)
+
+pub returns-then-is_some-2-clause-commute : goal.returns-then-is_some-2-clause-commute
+returns-then-is_some-2-clause-commute g c = (
+  λ is. absurd (cc),
+  λ commute.
+      (let quiet = commute_quiet c.args.first c.args.second c.args.machine.now c.make_both.new.machine c.in-Some.there c.in-Some.ensures.made commute in
+      elim quiet [
+        | inl none ↦ absurd (search rules)
+        | inr none ↦ absurd (search rules)
+      ]),
+)
+
+pub returns-in_default-make_both-clause-commute : goal.returns-in_default-make_both-clause-commute
+returns-in_default-make_both-clause-commute g c = (
+  λ is. absurd (cc),
+  λ commute.
+      (let s = c.args.machine.now in
+      let back : c.take_back-2.new.machine ≡ s = search rules in
+      let none : MoveNotBoth c.args.second c.args.first s = subst (MoveNotBoth c.args.second c.args.first) back c.in_default-make_both.ensures.none in
+      absurd (none commute.0 commute.2 commute.1 commute.4)),
+)

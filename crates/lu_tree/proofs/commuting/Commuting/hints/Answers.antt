@@ -15,7 +15,7 @@ loop-other-preserved g c =
       beside = subst (λ x. AreBeside x c.commute.new.self.other) i.machine c.commute.ensures.beside;
       from = elim c.if-commute.branch [
         | then-commute w ↦
-            (let commute : Commute c.loop-other.other c.args.thread s = subst (Commute c.loop-other.other c.args.thread) i.machine (c.commute.ensures.commute w.if-commute.true) in
+            (let commute : Commute c.loop-other.other c.args.thread s = subst (Commute c.loop-other.other c.args.thread) i.machine (c.commute.ensures.commute.0 w.if-commute.true) in
             let more = from_more s hints known c.args.thread c.loop-other.other c.in-Some.first.now c.in-Some-behind.below.now c.loop-other.found w.add.new.self i.from w.add.ensures commute c.in-Some.ensures c.in-Some-behind.ensures in
             subst (AreFrom s hints known c.args.thread) (sym w.found-is) more)
         | else-commute w ↦ subst (AreFrom s hints known c.args.thread) (sym w.found-is) i.from

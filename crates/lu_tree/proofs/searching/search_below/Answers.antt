@@ -1,51 +1,49 @@
 use Rattle.std.proofs.Common.{arith, ◌≡◌, ◌≤◌, ◌+◌, ◌-◌, ◌++◌, length, reverse, refl, sym, ◌∙◌, ap, subst}
-use Rattle.lu_component.specs.Component.{Declarations}
 use Rattle.lu_test.specs.Schedule.{AreMoves}
 use Rattle.lu_machine.specs.States.{State}
+use Rattle.lu_machine.specs.Runs.{Leads}
 use Rattle.lu_witness.specs.Goodness.{IsFirstBad, AreAllGood}
 use Rattle.lu_witness.specs.Witnesses.{IsMember}
 use Rattle.lu_tree.specs.Known.{counts_of}
 use Rattle.lu_tree.specs.Trees.{Below}
 use Rattle.lu_tree.specs.Walks.{IsBadAt, IsFirstAt}
-use Rattle.lu_horizon.proofs.OwnLaws.{leads_component, serves_end}
+use Rattle.lu_horizon.proofs.OwnLaws.{serves_end}
 use Rattle.lu_tree.proofs.Added.{first_bad, walk_passed, walk_stopped}
 use Rattle.lu_tree.proofs.KnownLaws.{known_below, leads_beside}
 use Rattle.lu_tree.proofs.Limits.{schedule_moves}
 use Rattle.lu_machine.proofs.Starting.{start_there}
-use Rattle.lu_tree.proofs.searching.search_watched.Goals as goal
+use Rattle.lu_tree.proofs.searching.search_below.Goals as goal
 
 pub returns-in-Some-clause-found : goal.returns-in-Some-clause-found
 returns-in-Some-clause-found g c = λ s is.
     (let moves = c.moves-moves.result.now in
-    let node = c.in_ok-node.node in
-    let tree : node.trail.tree ≡ c.args.cache.now.tree = c.in_ok-node.ensures.tree ∙ c.tree.ensures in
+    let node = c.args.node in
+    let tree : node.trail.tree ≡ c.args.cache.now.tree = sym c.requires.tree in
     let set = ap (λ x. g.T.SerialTree.members x) tree in
     let left = c.args.bound - length moves in
     let all : length moves + left ≡ c.args.bound = omega (arith, ap length c.moves-moves.ensures.moves) in
     let Set = IsMember (g.T.SerialTree.members node.trail.tree) in
     let known = c.in-Some.known in
     let below = known_below Set node.machine node.trail.history left known c.in-Some.ensures.known in
-    let good = walk_passed Set s c.args.bound left c.args.from.now moves node.machine node.trail.history c.moves-moves.ensures.moves all (c.in_ok-node.ensures.leads s is) (counts_of known) below in
+    let good = walk_passed Set s c.args.bound left c.args.from.now moves node.machine node.trail.history c.moves-moves.ensures.moves all (subst (λ u. Leads s u node.machine node.trail.history) (sym c.moves-moves.ensures.moves) (c.requires.leads s is)) (counts_of known) below in
     subst (λ x. AreAllGood (IsMember x) s c.args.bound (Below c.args.from.now) (counts_of known)) set good)
 
 pub walk-walked-requires-clause-serves : goal.walk-walked-requires-clause-serves
-walk-walked-requires-clause-serves g c = λ short.
-    (let there = start_there c.args.component.now c.args.matrix.now c.requires.of.settles in
+walk-walked-requires-clause-serves g c =
+    let there = start_there c.args.component.now c.args.matrix.now c.requires.of.settles in
     let start : State = there.0 in
     let moves = c.moves-moves.result.now in
-    let node = c.in_ok-node.node in
-    let leads = c.in_ok-node.ensures.leads start there.1 in
-    let begins : start.component ≡ c.args.component.now = ap (λ (x : State). x.component) there.1.is in
-    let same = leads_component start moves node.machine node.trail.history leads ∙ begins in
-    let serves = c.in_ok-ahead.ensures start (sym (ap (λ (x : Declarations). x.local) same) ∙ short) there.1 in
-    serves_end c.in_ok-ahead.ahead.horizon start moves node.machine node.trail.history leads serves)
+    let node = c.args.node in
+    let leads = subst (λ u. Leads start u node.machine node.trail.history) (sym c.moves-moves.ensures.moves) (c.requires.leads start there.1) in
+    let serves = c.requires.tables start there.1 in
+    serves_end c.args.tables.now.horizon start moves node.machine node.trail.history leads serves
 
 pub walk-walked-requires-clause-beside : goal.walk-walked-requires-clause-beside
 walk-walked-requires-clause-beside g c =
     let there = start_there c.args.component.now c.args.matrix.now c.requires.of.settles in
     let moves = c.moves-moves.result.now in
-    let node = c.in_ok-node.node in
-    let led = leads_beside there.0 moves node.machine node.trail.history (c.in_ok-node.ensures.leads there.0 there.1) in
+    let node = c.args.node in
+    let led = leads_beside there.0 moves node.machine node.trail.history (subst (λ u. Leads there.0 u node.machine node.trail.history) (sym c.moves-moves.ensures.moves) (c.requires.leads there.0 there.1)) in
     let other = c.in_ok-commuting.ensures in
     let component : there.0.component ≡ c.in_ok-commuting.commuting.other.component = ap (λ (x : State). x.component) there.1.is ∙ sym (ap (λ (x : State). x.component) other.is) in
     let matrix : there.0.matrix ≡ c.in_ok-commuting.commuting.other.matrix = ap (λ (x : State). x.matrix) there.1.is ∙ sym (ap (λ (x : State). x.matrix) other.is) in
@@ -56,8 +54,8 @@ why_bad-requires-clause-ended g c =
     let there = start_there c.args.component.now c.args.matrix.now c.requires.of.settles in
     let start : State = there.0 in
     let moves = c.moves-moves.result.now in
-    let node = c.in_ok-node.node in
-    let tree : node.trail.tree ≡ c.args.cache.now.tree = c.in_ok-node.ensures.tree ∙ c.tree.ensures in
+    let node = c.args.node in
+    let tree : node.trail.tree ≡ c.args.cache.now.tree = sym c.requires.tree in
     let set = ap (λ x. g.T.SerialTree.members x) tree in
     let left = c.args.bound - length moves in
     let all : length moves + left ≡ c.args.bound = omega (arith, ap length c.moves-moves.ensures.moves) in
@@ -66,16 +64,16 @@ why_bad-requires-clause-ended g c =
     let end = c.walk-walked.new.node.machine in
     let last = c.walk-walked.new.node.trail.history in
     let running = sym c.stopped.ensures ∙ c.if-stopped.false in
-    let first : IsFirstAt Set start c.args.bound (Below c.args.from.now) (c.args.from.now ++ reverse path) end last = walk_stopped Set start c.args.bound left c.args.from.now moves node.machine node.trail.history c.moves-moves.ensures.moves all (c.in_ok-node.ensures.leads start there.1) path end last (c.in_default.ensures.stops refl running) in
+    let first : IsFirstAt Set start c.args.bound (Below c.args.from.now) (c.args.from.now ++ reverse path) end last = walk_stopped Set start c.args.bound left c.args.from.now moves node.machine node.trail.history c.moves-moves.ensures.moves all (subst (λ u. Leads start u node.machine node.trail.history) (sym c.moves-moves.ensures.moves) (c.requires.leads start there.1)) path end last (c.in_default.ensures.stops refl running) in
     first.ended
 
-pub new-requires-4 : goal.new-requires-4
-new-requires-4 g c =
+pub new-requires-3 : goal.new-requires-3
+new-requires-3 g c =
     let there = start_there c.args.component.now c.args.matrix.now c.requires.of.settles in
     let start : State = there.0 in
     let moves = c.moves-moves.result.now in
-    let node = c.in_ok-node.node in
-    let tree : node.trail.tree ≡ c.args.cache.now.tree = c.in_ok-node.ensures.tree ∙ c.tree.ensures in
+    let node = c.args.node in
+    let tree : node.trail.tree ≡ c.args.cache.now.tree = sym c.requires.tree in
     let set = ap (λ x. g.T.SerialTree.members x) tree in
     let left = c.args.bound - length moves in
     let all : length moves + left ≡ c.args.bound = omega (arith, ap length c.moves-moves.ensures.moves) in
@@ -84,18 +82,18 @@ new-requires-4 g c =
     let end = c.walk-walked.new.node.machine in
     let last = c.walk-walked.new.node.trail.history in
     let running = sym c.stopped.ensures ∙ c.if-stopped.false in
-    let first : IsFirstAt Set start c.args.bound (Below c.args.from.now) (c.args.from.now ++ reverse path) end last = walk_stopped Set start c.args.bound left c.args.from.now moves node.machine node.trail.history c.moves-moves.ensures.moves all (c.in_ok-node.ensures.leads start there.1) path end last (c.in_default.ensures.stops refl running) in
+    let first : IsFirstAt Set start c.args.bound (Below c.args.from.now) (c.args.from.now ++ reverse path) end last = walk_stopped Set start c.args.bound left c.args.from.now moves node.machine node.trail.history c.moves-moves.ensures.moves all (subst (λ u. Leads start u node.machine node.trail.history) (sym c.moves-moves.ensures.moves) (c.requires.leads start there.1)) path end last (c.in_default.ensures.stops refl running) in
     let few = c.requires.few in
     let short : length (c.args.from.now ++ reverse path) ≤ c.args.bound = first.short in
-    let are : AreMoves (c.args.from.now ++ reverse path) = schedule_moves c.args.component.now c.args.matrix.now start c.in_ok-node.ensures.limits.0 c.in_ok-node.ensures.limits.1 there.1 (c.args.from.now ++ reverse path) end last first.leads (omega arith) in
+    let are : AreMoves (c.args.from.now ++ reverse path) = schedule_moves c.args.component.now c.args.matrix.now start c.requires.limits.0 c.requires.limits.1 there.1 (c.args.from.now ++ reverse path) end last first.leads (omega arith) in
     let joined = c.join.ensures ∙ ap (λ u. u ++ reverse path) c.moves-moves.ensures.moves in
     subst AreMoves (sym joined) are
 
 pub returns-clause-found : goal.returns-clause-found
 returns-clause-found g c = λ s is.
     (let moves = c.moves-moves.result.now in
-    let node = c.in_ok-node.node in
-    let tree : node.trail.tree ≡ c.args.cache.now.tree = c.in_ok-node.ensures.tree ∙ c.tree.ensures in
+    let node = c.args.node in
+    let tree : node.trail.tree ≡ c.args.cache.now.tree = sym c.requires.tree in
     let set = ap (λ x. g.T.SerialTree.members x) tree in
     let left = c.args.bound - length moves in
     let all : length moves + left ≡ c.args.bound = omega (arith, ap length c.moves-moves.ensures.moves) in
@@ -104,10 +102,10 @@ returns-clause-found g c = λ s is.
     let end = c.walk-walked.new.node.machine in
     let last = c.walk-walked.new.node.trail.history in
     let running = sym c.stopped.ensures ∙ c.if-stopped.false in
-    let first : IsFirstAt Set s c.args.bound (Below c.args.from.now) (c.args.from.now ++ reverse path) end last = walk_stopped Set s c.args.bound left c.args.from.now moves node.machine node.trail.history c.moves-moves.ensures.moves all (c.in_ok-node.ensures.leads s is) path end last (c.in_default.ensures.stops refl running) in
+    let first : IsFirstAt Set s c.args.bound (Below c.args.from.now) (c.args.from.now ++ reverse path) end last = walk_stopped Set s c.args.bound left c.args.from.now moves node.machine node.trail.history c.moves-moves.ensures.moves all (subst (λ u. Leads s u node.machine node.trail.history) (sym c.moves-moves.ensures.moves) (c.requires.leads s is)) path end last (c.in_default.ensures.stops refl running) in
     let walked = ap (λ x. g.T.SerialTree.members x) c.walk-walked.ensures.tree in
     let bad : IsBadAt Set end last c.in_ok-why.why = subst (λ x. IsBadAt (IsMember x) end last c.in_ok-why.why) walked c.in_ok-why.ensures.bad in
     let found : IsFirstBad Set s c.args.bound (Below c.args.from.now) (c.args.from.now ++ reverse path) c.in_ok-why.why = first_bad Set s c.args.bound (Below c.args.from.now) (c.args.from.now ++ reverse path) end last c.in_ok-why.why first bad in
     let joined = c.join.ensures ∙ ap (λ u. u ++ reverse path) c.moves-moves.ensures.moves in
-    let there = subst (λ u. IsFirstBad Set s c.args.bound (Below c.args.from.now) u c.in_ok-why.why) (sym (c.new-4.ensures ∙ joined)) found in
-    subst (λ x. IsFirstBad (IsMember x) s c.args.bound (Below c.args.from.now) c.new-4.result c.in_ok-why.why) set there)
+    let there = subst (λ u. IsFirstBad Set s c.args.bound (Below c.args.from.now) u c.in_ok-why.why) (sym (c.new-3.ensures ∙ joined)) found in
+    subst (λ x. IsFirstBad (IsMember x) s c.args.bound (Below c.args.from.now) c.new-3.result c.in_ok-why.why) set there)

@@ -1,0 +1,40 @@
+//! Tables by which schedules are counted that no walk visits.
+
+ghost use Rattle.std.specs.Prelude.{IfOk};
+ghost use Rattle.lu_tree.specs.Tables.{AreTables};
+
+use lu_component::Component;
+use lu_horizon::Horizon;
+use lu_tail::Orders;
+use lu_test::Matrix;
+use std::alloc::{AllocError, Global};
+
+/// How many moves of each thread of a component and a matrix are certain, and in how many orders
+/// moves of several threads can be made. Made once, for any number of searches.
+#[derive(Debug, Drop)]
+pub struct Tables {
+    pub(crate) horizon: Horizon,
+    pub(crate) orders: Orders,
+}
+
+impl Tables {
+    /// The tables of a component and a matrix, for searches up to a bound of 0 to 256 moves. A
+    /// search up to a greater bound is right too, but walks more.
+    ///
+    /// # Errors
+    ///
+    /// `AllocError` where memory was refused.
+    pub fn new(
+        alloc: Global,
+        component: &Component,
+        matrix: &Matrix,
+        bound: u16,
+    ) -> Result<Tables, AllocError>
+        ensures { IfOk result (AreTables component.now matrix.now) }
+    {
+        Ok(Tables {
+            horizon: Horizon::new(alloc, component, matrix, bound)?,
+            orders: Orders::new(alloc, bound)?,
+        })
+    }
+}
