@@ -2,15 +2,17 @@
 
 ghost use Rattle.lu_machine.specs.Starts.{CanRun};
 
-use crate::trees::{EMPTY, assert_counts, assert_settles, cut};
+use crate::trees::{EMPTY, assert_counts, assert_settles, beginning, cut};
 use lu_component::Component;
 use lu_examples::ROWS;
 use lu_horizon::{Horizon, is_unseen_at, stand_at};
 use lu_lang::read_component;
-use lu_machine::Machine;
+use lu_machine::{Counts, Machine};
+use lu_serial::{Learnt, learn};
 use lu_tail::Orders;
 use lu_test::{Matrix, Move, read_matrix};
-use lu_trie::Trie;
+use lu_tree::{Found, search};
+use lu_trie::{PackedTrie, SerialTree, Trie};
 use std::process::Abort;
 use std::test::Fail;
 
@@ -156,4 +158,103 @@ fn threads_stand_at_places(rt: HostRuntime) -> Result<(), Fail> {
     let matrix = read_matrix(rt.alloc(), &component, SPINS)?;
     assert_settles(&rt, &component, &matrix)?;
     stands(&rt, &component, &matrix)
+}
+
+/// Up to two local instructions run with a move, so each of these operations is four moves: its
+/// call, two of its own, and its return.
+const LONG: &[u8] = b"component long
+local 2
+word w 1 0
+op put 0
+set r0 1
+set r1 2
+set r2 3
+store w 0 r0
+return r0
+end
+op think 0
+set r0 1
+set r1 2
+set r2 3
+set r3 4
+set r4 5
+return r0
+end
+";
+
+/// Of two threads with four moves each.
+fn long_moves_ahead(
+    rt: &(impl AllocGlobal + Abort),
+    component: &Component,
+    matrix: &Matrix,
+) -> Result<(), Fail>
+    requires { CanRun component.now matrix.now }
+{
+    let horizon = Horizon::new(rt.alloc(), component, matrix, 40)?;
+    let machine = Machine::start(rt.alloc(), component, matrix)?;
+    let orders = Orders::new(rt.alloc(), 40)?;
+    assert_eq!(rt; cut_below(&horizon, &orders, &machine, 4), Some(16));
+    assert_eq!(rt; cut_below(&horizon, &orders, &machine, 5), Some(30));
+    assert_eq!(rt; cut_below(&horizon, &orders, &machine, 7), Some(70));
+    assert_eq!(rt; cut_below(&horizon, &orders, &machine, 8), None);
+    Ok(())
+}
+
+#[test]
+fn longer_moves_are_certain(rt: HostRuntime) -> Result<(), Fail> {
+    let component = read_component(rt.alloc(), LONG)?;
+    let matrix = read_matrix(rt.alloc(), &component, b"thread put\nthread think\n")?;
+    assert_settles(&rt, &component, &matrix)?;
+    long_moves_ahead(&rt, &component, &matrix)
+}
+
+/// How many schedules are complete, where all are, and good for the set of the tree.
+fn complete_over<T: SerialTree>(
+    rt: &(impl AllocGlobal + Abort),
+    component: &Component,
+    matrix: &Matrix,
+    tree: &T,
+) -> Result<u64, Fail>
+    requires { CanRun component.now matrix.now }
+{
+    let from = beginning(rt, component, matrix, EMPTY)?;
+    assert!(rt; from.moves().len() <= 40);
+    match search(rt.alloc(), component, matrix, tree, &from, 40)? {
+        Found::Clean(
+            Counts {
+                complete,
+                stuck: 0,
+                cut: 0,
+            },
+        ) => Ok(complete),
+        _ => panic!(rt; "not all are complete"),
+    }
+}
+
+/// The same for the set of all serial histories.
+fn complete_serially(
+    rt: &(impl AllocGlobal + Abort),
+    component: &Component,
+    matrix: &Matrix,
+) -> Result<u64, Fail>
+    requires { CanRun component.now matrix.now }
+{
+    match learn(rt.alloc(), rt.alloc(), component, matrix, 40)? {
+        Learnt::Set(set) => {
+            let packed = PackedTrie::pack(rt.alloc(), &set)?;
+            complete_over(rt, component, matrix, &&packed)
+        }
+        Learnt::Cut(_) | Learnt::Conflict { .. } => panic!(rt; "a serial offence"),
+    }
+}
+
+/// Four moves of each of three threads, in any order: 12! / (4! 4! 4!).
+#[test]
+fn tails_of_longer_moves_are_counted(rt: HostRuntime) -> Result<(), Fail> {
+    let component = read_component(rt.alloc(), LONG)?;
+    let matrix = b"thread think\nthread think\nthread think\n";
+    let matrix = read_matrix(rt.alloc(), &component, matrix)?;
+    assert_settles(&rt, &component, &matrix)?;
+    assert_eq!(rt; complete_serially(&rt, &component, &matrix)?, 34_650);
+    Ok(())
 }

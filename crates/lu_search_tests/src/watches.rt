@@ -2,6 +2,7 @@
 
 ghost use Rattle.std.specs.Prelude.{◌≡◌, false};
 ghost use Rattle.lu_machine.specs.Starts.{CanRun};
+ghost use Rattle.lu_tree.specs.Tables.{AreTables};
 
 use crate::trees::{assert_settles, beginning};
 use lu_component::Component;
@@ -10,7 +11,7 @@ use lu_lang::read_component;
 use lu_machine::Counts;
 use lu_serial::{Learnt, learn};
 use lu_test::{Matrix, read_matrix, write_schedule};
-use lu_tree::{Found, Unwatched, Watch, search_watched};
+use lu_tree::{Found, Tables, Unwatched, Watch, search_watched, search_with};
 use lu_trie::{PackedTrie, SerialTree, Trie};
 use lu_witness::{Cache, Why};
 use std::process::Abort;
@@ -142,6 +143,77 @@ fn a_watch_stops_at_its_third_question(rt: HostRuntime) -> Result<(), Fail> {
     assert!(rt; matches!(found, Found::Abandoned));
     assert_eq!(rt; watch.asked, 3);
     Ok(())
+}
+
+/// What is found below the schedule of this text within 40 moves.
+fn found_below<T: SerialTree>(
+    rt: &(impl AllocGlobal + Abort),
+    component: &Component,
+    matrix: &Matrix,
+    tables: &Tables,
+    tree: &T,
+    from: &[u8],
+) -> Result<Found, Fail>
+    requires of { CanRun component.now matrix.now }
+    requires tables { AreTables component.now matrix.now tables.now }
+{
+    let from = beginning(rt, component, matrix, from)?;
+    assert!(rt; from.moves().len() <= 40);
+    let mut cache = Cache::new(rt.alloc(), tree, 1)?;
+    Ok(search_with(
+        rt.alloc(),
+        component,
+        matrix,
+        tables,
+        &mut cache,
+        &from,
+        40,
+        &mut Unwatched,
+    )?)
+}
+
+/// One table for the whole tree and for its two halves.
+fn assert_halves<T: SerialTree>(
+    rt: &(impl AllocGlobal + Abort),
+    component: &Component,
+    matrix: &Matrix,
+    tree: &T,
+) -> Result<(), Fail>
+    requires { CanRun component.now matrix.now }
+{
+    let tables = Tables::new(rt.alloc(), component, matrix, 40)?;
+    let found = found_below(rt, component, matrix, &tables, tree, b"schedule\n")?;
+    assert!(rt; is_clean(&found, 2564));
+    let found = found_below(rt, component, matrix, &tables, tree, b"schedule 0\n")?;
+    assert!(rt; is_clean(&found, 1282));
+    let found = found_below(rt, component, matrix, &tables, tree, b"schedule 1\n")?;
+    assert!(rt; is_clean(&found, 1282));
+    Ok(())
+}
+
+/// The same over the packed set of all serial histories.
+fn parts_found(
+    rt: &(impl AllocGlobal + Abort),
+    component: &Component,
+    matrix: &Matrix,
+) -> Result<(), Fail>
+    requires { CanRun component.now matrix.now }
+{
+    match learn(rt.alloc(), rt.alloc(), component, matrix, 40)? {
+        Learnt::Set(set) => {
+            let packed = PackedTrie::pack(rt.alloc(), &set)?;
+            assert_halves(rt, component, matrix, &&packed)
+        }
+        Learnt::Cut(_) | Learnt::Conflict { .. } => panic!(rt; "a serial offence"),
+    }
+}
+
+#[test]
+fn one_table_serves_all_parts(rt: HostRuntime) -> Result<(), Fail> {
+    let component = read_component(rt.alloc(), ROWS.as_bytes())?;
+    let matrix = read_matrix(rt.alloc(), &component, EXCHANGES)?;
+    assert_settles(&rt, &component, &matrix)?;
+    parts_found(&rt, &component, &matrix)
 }
 
 /// Each of two threads can always move, so 12 moves are cut in 4,096 ways, which are counted
