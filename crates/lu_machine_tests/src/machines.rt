@@ -4,9 +4,9 @@ ghost use Rattle.std.specs.Prelude.{◌≡◌, OnOk};
 ghost use Rattle.lu_test.specs.Matrix.{IsOf};
 ghost use Rattle.lu_machine.specs.Starts.{CanRun};
 
-use lu_component::Component;
+use lu_component::{Component, Instr};
 use lu_lang::read_component;
-use lu_machine::{Counts, Event, Machine, Outcome, Status, settles};
+use lu_machine::{Counts, Event, Machine, Outcome, Status, is_local, settles};
 use lu_test::{Matrix, Move, read_matrix};
 use std::process::Abort;
 use std::test::Fail;
@@ -112,6 +112,14 @@ fn local_instructions_run_with_a_move(rt: HostRuntime) -> Result<(), Fail> {
     assert_eq!(rt; half, (returned(0, 0, 1), Status::Running));
     let all = played(&rt, COUNTER_OF_TWO_MOVES, matrix, &[0, 0, 1, 1, 0, 0, 1, 1])?;
     assert_eq!(rt; all, (returned(1, 0, 1), Status::Complete));
+    Ok(())
+}
+
+/// What jumps is local, and what takes a lock is not.
+#[test]
+fn some_instructions_are_local(rt: HostRuntime) -> Result<(), Fail> {
+    assert!(rt; is_local(&Instr::Jump(0)));
+    assert!(rt; !is_local(&Instr::Lock(0)));
     Ok(())
 }
 
