@@ -1,3 +1,4 @@
+mod Declared
 pub mod Placing
 pub mod Statements
 pub mod Drafts

@@ -1,7 +1,6 @@
 -- What an instruction's line says names what is there.
 use Rattle.std.proofs.Common.{◌≡◌, ℕ, ◌-◌, ◌^◌, ◌<◌, Bool, true, false, cond, List, [], ◌∷◌, length, Option, Some, None, Result, Ok, Err, refl, subst, ap, ◌∙◌, arith}
 use Rattle.std.specs.Prelude.{◌==◌, ◌&&◌, ◌||◌, not, nat_le, nat_lt, is_some}
-use Rattle.std.specs.List.{position, position_or_len}
 use Rattle.std.specs.Str.{bytes_eq}
 use Rattle.std.specs.Option.{unwrap_or}
 use Rattle.std.proofs.lemmas.Bool.{or_parts, and_parts, leb-true, ltb-true, ltb-false, not-false}
@@ -9,7 +8,6 @@ use Rattle.lu_text.specs.Names.{has_name_form, is_long}
 use Rattle.lu_text.specs.Numbers.{number_in, value_in, below}
 use Rattle.lu_text.specs.Words.{Word, one, two, three, five}
 use Rattle.lu_text.specs.Faults.{Tests, says}
-use Rattle.lu_text.proofs.NumberText.{value_small}
 use Rattle.lu_text.proofs.Says.{NoneHold, said}
 use Rattle.lu_component.specs.declared.instr.Operand.{Operand}
 use Rattle.lu_component.specs.declared.instr.Operand.TheVariants.{Num}

@@ -5,3 +5,4 @@ pub mod Grammar
 pub mod Sound
 pub mod ComponentText
 pub mod Laws
+pub mod Parts

@@ -1,12 +1,14 @@
 //! Reading of components, line by line.
 
-ghost use Rattle.std.specs.Prelude.{◌≡◌, ◌==◌, ◌<◌, ◌≤◌, ◌∷◌, List, IfOk, Ok, Some, None, length, map, nat_le, is_some};
+ghost use Rattle.std.specs.Prelude.{◌≡◌, ◌==◌, ◌<◌, ◌≤◌, ◌∷◌, ◌++◌, [], List, IfOk, Ok, Some, None, length, map, nat_le, is_some};
 ghost use Rattle.std.specs.Option.{option_map};
 ghost use Rattle.std.specs.List.{position, list_all};
 ghost use Rattle.std.specs.Str.{bytes_eq};
 ghost use Rattle.lu_text.specs.Lines.{text_if, texts};
 ghost use Rattle.lu_text.specs.Words.{one, two, three};
 ghost use Rattle.lu_text.specs.Faults.{Gives, OnLine, TellsFirst, meaning_of, meaning_of_lines};
+ghost use Rattle.lu_lang.specs.Draft.{Drafted};
+ghost use Rattle.lu_lang.specs.Parts.{PutsOnLine};
 ghost use Rattle.lu_lang.specs.Sound.{IsSoundDraft};
 ghost use Rattle.lu_lang.specs.Grammar as spec;
 ghost use Rattle.lu_lang.specs.Grammar.{component_grammar, inside, instr_line};
@@ -24,14 +26,10 @@ use lu_text::{
 };
 use std::alloc::{AllocError, Global};
 
-/// `component NAME`
-fn component_line(
-    alloc: Global,
-    line: usize,
-    mut draft: Draft,
-    words: &[&[u8]],
-) -> Result<Draft, LangFault>
-    ensures { OnLine line result (spec.component_line draft (one (texts words.now))) }
+/// The name of `component NAME`.
+fn name_in(alloc: Global, line: usize, words: &[&[u8]]) -> Result<Name, LangFault>
+    ensures { (d : Drafted) → PutsOnLine (λ name. record d { name = Some name })
+        line result (spec.component_line d (one (texts words.now))) }
 {
     let Some(name) = one(words) else {
         return Err(Fault::At(LangFaultKind::Form, line));
@@ -42,13 +40,26 @@ fn component_line(
     if is_long(name) {
         return Err(Fault::At(LangFaultKind::Limit, line));
     }
-    draft.name = Some(Name::new(alloc, name)?);
+    Ok(Name::new(alloc, name)?)
+}
+
+/// `component NAME`
+fn component_line(
+    alloc: Global,
+    line: usize,
+    mut draft: Draft,
+    words: &[&[u8]],
+) -> Result<Draft, LangFault>
+    ensures { OnLine line result (spec.component_line draft (one (texts words.now))) }
+{
+    draft.name = Some(name_in(alloc, line, words)?);
     Ok(draft)
 }
 
-/// `local L`
-fn local_line(line: usize, mut draft: Draft, words: &[&[u8]]) -> Result<Draft, LangFault>
-    ensures { OnLine line result (spec.local_line draft (one (texts words.now))) }
+/// The number of `local L`.
+fn local_in(line: usize, draft: &Draft, words: &[&[u8]]) -> Result<u8, LangFault>
+    ensures { PutsOnLine (λ most. record draft.now { local = Some most })
+        line result (spec.local_line draft.now (one (texts words.now))) }
 {
     let Some(most) = one(words) else {
         return Err(Fault::At(LangFaultKind::Form, line));
@@ -62,7 +73,14 @@ fn local_line(line: usize, mut draft: Draft, words: &[&[u8]]) -> Result<Draft, L
     if most > MOST_LOCAL {
         return Err(Fault::At(LangFaultKind::Limit, line));
     }
-    draft.local = Some(most as u8);
+    Ok(most as u8)
+}
+
+/// `local L`
+fn local_line(line: usize, mut draft: Draft, words: &[&[u8]]) -> Result<Draft, LangFault>
+    ensures { OnLine line result (spec.local_line draft (one (texts words.now))) }
+{
+    draft.local = Some(local_in(line, &draft, words)?);
     Ok(draft)
 }
 
@@ -70,6 +88,33 @@ fn has_most_arrays(draft: &Draft) -> bool
     ensures { result ≡ nat_le 16 (length draft.now.arrays) }
 {
     draft.arrays.len() >= MOST_ARRAYS
+}
+
+/// The array of `word NAME LEN INIT`.
+fn array_in(alloc: Global, line: usize, draft: &Draft, words: &[&[u8]]) -> Result<Array, LangFault>
+    ensures { PutsOnLine (λ array. record draft.now { arrays = draft.now.arrays ++ array ∷ [] })
+        line result (spec.array_line draft.now (three (texts words.now))) }
+{
+    let Some((name, len, init)) = three(words) else {
+        return Err(Fault::At(LangFaultKind::Form, line));
+    };
+    if !has_name_form(name) {
+        return Err(Fault::At(LangFaultKind::Form, line));
+    }
+    let (Some(len), Some(init)) = (value_in(len), value_in(init)) else {
+        return Err(Fault::At(LangFaultKind::Number, line));
+    };
+    if is_long(name) || has_most_arrays(draft) || len < 1 || len > MOST_CELLS {
+        return Err(Fault::At(LangFaultKind::Limit, line));
+    }
+    if array_number(draft, name).is_some() {
+        return Err(Fault::At(LangFaultKind::Name, line));
+    }
+    Ok(Array {
+        name: Name::new(alloc, name)?,
+        len: len as u8,
+        init,
+    })
 }
 
 /// `word NAME LEN INIT`
@@ -81,26 +126,8 @@ fn array_line(
 ) -> Result<Draft, LangFault>
     ensures { OnLine line result (spec.array_line draft (three (texts words.now))) }
 {
-    let Some((name, len, init)) = three(words) else {
-        return Err(Fault::At(LangFaultKind::Form, line));
-    };
-    if !has_name_form(name) {
-        return Err(Fault::At(LangFaultKind::Form, line));
-    }
-    let (Some(len), Some(init)) = (value_in(len), value_in(init)) else {
-        return Err(Fault::At(LangFaultKind::Number, line));
-    };
-    if is_long(name) || has_most_arrays(&draft) || len < 1 || len > MOST_CELLS {
-        return Err(Fault::At(LangFaultKind::Limit, line));
-    }
-    if array_number(&draft, name).is_some() {
-        return Err(Fault::At(LangFaultKind::Name, line));
-    }
-    draft.arrays.push(Array {
-        name: Name::new(alloc, name)?,
-        len: len as u8,
-        init,
-    })?;
+    let array = array_in(alloc, line, &draft, words)?;
+    draft.arrays.push(array)?;
     Ok(draft)
 }
 
@@ -108,6 +135,26 @@ fn has_most_locks(draft: &Draft) -> bool
     ensures { result ≡ nat_le 8 (length draft.now.locks) }
 {
     draft.locks.len() >= MOST_LOCKS
+}
+
+/// The name of `lock NAME`, outside an operation.
+fn lock_in(alloc: Global, line: usize, draft: &Draft, words: &[&[u8]]) -> Result<Name, LangFault>
+    ensures { PutsOnLine (λ lock. record draft.now { locks = draft.now.locks ++ lock ∷ [] })
+        line result (spec.lock_line draft.now (one (texts words.now))) }
+{
+    let Some(name) = one(words) else {
+        return Err(Fault::At(LangFaultKind::Form, line));
+    };
+    if !has_name_form(name) {
+        return Err(Fault::At(LangFaultKind::Form, line));
+    }
+    if is_long(name) || has_most_locks(draft) {
+        return Err(Fault::At(LangFaultKind::Limit, line));
+    }
+    if lock_number(draft, name).is_some() {
+        return Err(Fault::At(LangFaultKind::Name, line));
+    }
+    Ok(Name::new(alloc, name)?)
 }
 
 /// `lock NAME`, outside an operation
@@ -119,19 +166,8 @@ fn lock_line(
 ) -> Result<Draft, LangFault>
     ensures { OnLine line result (spec.lock_line draft (one (texts words.now))) }
 {
-    let Some(name) = one(words) else {
-        return Err(Fault::At(LangFaultKind::Form, line));
-    };
-    if !has_name_form(name) {
-        return Err(Fault::At(LangFaultKind::Form, line));
-    }
-    if is_long(name) || has_most_locks(&draft) {
-        return Err(Fault::At(LangFaultKind::Limit, line));
-    }
-    if lock_number(&draft, name).is_some() {
-        return Err(Fault::At(LangFaultKind::Name, line));
-    }
-    draft.locks.push(Name::new(alloc, name)?)?;
+    let lock = lock_in(alloc, line, &draft, words)?;
+    draft.locks.push(lock)?;
     Ok(draft)
 }
 
@@ -139,6 +175,34 @@ fn has_most_operations(draft: &Draft) -> bool
     ensures { result ≡ nat_le 16 (length draft.now.operations) }
 {
     draft.operations.len() >= MOST_OPS
+}
+
+/// The operation that `op NAME ARGS` begins.
+fn op_in(alloc: Global, line: usize, draft: &Draft, words: &[&[u8]]) -> Result<OpenOp, LangFault>
+    ensures { PutsOnLine (λ op. record draft.now { begun = Some op })
+        line result (spec.op_line draft.now (two (texts words.now))) }
+{
+    let Some((name, args)) = two(words) else {
+        return Err(Fault::At(LangFaultKind::Form, line));
+    };
+    if !has_name_form(name) {
+        return Err(Fault::At(LangFaultKind::Form, line));
+    }
+    let Some(args) = value_in(args) else {
+        return Err(Fault::At(LangFaultKind::Number, line));
+    };
+    if is_long(name) || has_most_operations(draft) || args > MOST_ARGUMENTS {
+        return Err(Fault::At(LangFaultKind::Limit, line));
+    }
+    if operation_place(&draft.operations, name).is_some() {
+        return Err(Fault::At(LangFaultKind::Name, line));
+    }
+    Ok(OpenOp {
+        name: Name::new(alloc, name)?,
+        args: args as u8,
+        statements: Vec::new(alloc),
+        labels: Vec::new(alloc),
+    })
 }
 
 /// `op NAME ARGS`
@@ -150,27 +214,7 @@ fn op_line(
 ) -> Result<Draft, LangFault>
     ensures { OnLine line result (spec.op_line draft (two (texts words.now))) }
 {
-    let Some((name, args)) = two(words) else {
-        return Err(Fault::At(LangFaultKind::Form, line));
-    };
-    if !has_name_form(name) {
-        return Err(Fault::At(LangFaultKind::Form, line));
-    }
-    let Some(args) = value_in(args) else {
-        return Err(Fault::At(LangFaultKind::Number, line));
-    };
-    if is_long(name) || has_most_operations(&draft) || args > MOST_ARGUMENTS {
-        return Err(Fault::At(LangFaultKind::Limit, line));
-    }
-    if operation_place(&draft.operations, name).is_some() {
-        return Err(Fault::At(LangFaultKind::Name, line));
-    }
-    draft.begun = Some(OpenOp {
-        name: Name::new(alloc, name)?,
-        args: args as u8,
-        statements: Vec::new(alloc),
-        labels: Vec::new(alloc),
-    });
+    draft.begun = Some(op_in(alloc, line, &draft, words)?);
     Ok(draft)
 }
 
@@ -256,15 +300,11 @@ fn place_fault(op: &OpenOp, label: Option<&[u8]>) -> Option<LangFaultKind>
     }
 }
 
-/// The open operation with one more instruction.
-fn with_statement(
-    alloc: Global,
-    mut op: OpenOp,
-    label: Option<&[u8]>,
-    statement: Statement,
-) -> Result<OpenOp, AllocError>
+/// The open operation with the label of the instruction that comes next.
+fn with_label(alloc: Global, mut op: OpenOp, label: Option<&[u8]>) -> Result<OpenOp, AllocError>
     requires { spec.place_fault op (text_if label) ≡ None }
-    ensures { IfOk result (λ next. next ≡ spec.with_statement op (text_if label.entry) statement) }
+    ensures { IfOk result (λ next.
+        next ≡ record op { labels = spec.with_label op (text_if label.entry) }) }
 {
     if let Some(label) = label {
         let place = op.statements.len() as u8;
@@ -273,8 +313,45 @@ fn with_statement(
             place,
         })?;
     }
+    Ok(op)
+}
+
+/// The open operation with one more instruction.
+fn with_statement(
+    alloc: Global,
+    op: OpenOp,
+    label: Option<&[u8]>,
+    statement: Statement,
+) -> Result<OpenOp, AllocError>
+    requires { spec.place_fault op (text_if label) ≡ None }
+    ensures { IfOk result (λ next. next ≡ spec.with_statement op (text_if label.entry) statement) }
+{
+    let mut op = with_label(alloc, op, label)?;
     op.statements.push(statement)?;
     Ok(op)
+}
+
+/// The open operation with the label and the instruction of a line.
+fn with_instr(
+    alloc: Global,
+    line: usize,
+    draft: &Draft,
+    op: OpenOp,
+    label: Option<&[u8]>,
+    word: &[u8],
+    rest: &[&[u8]],
+) -> Result<OpenOp, LangFault>
+    ensures { PutsOnLine (λ next. record draft.now { begun = Some next })
+        line result (instr_line draft.now op (text_if label.entry) word.now (texts rest.now)) }
+{
+    let fault = place_fault(&op, label);
+    match statement(alloc, draft, keyword_in(word), rest)? {
+        Err(kind) => Err(Fault::At(sooner(fault, kind), line)),
+        Ok(statement) => match fault {
+            Some(kind) => Err(Fault::At(kind, line)),
+            None => Ok(with_statement(alloc, op, label, statement)?),
+        },
+    }
 }
 
 /// A label or none, and an instruction.
@@ -290,17 +367,8 @@ fn instr_line(
     ensures { OnLine line result
         (instr_line draft op (text_if label.entry) word.now (texts rest.now)) }
 {
-    let fault = place_fault(&op, label);
-    match statement(alloc, &draft, keyword_in(word), rest)? {
-        Err(kind) => Err(Fault::At(sooner(fault, kind), line)),
-        Ok(statement) => match fault {
-            Some(kind) => Err(Fault::At(kind, line)),
-            None => {
-                draft.begun = Some(with_statement(alloc, op, label, statement)?);
-                Ok(draft)
-            }
-        },
-    }
+    draft.begun = Some(with_instr(alloc, line, &draft, op, label, word, rest)?);
+    Ok(draft)
 }
 
 /// An instruction behind a label.
@@ -314,10 +382,10 @@ fn read_labelled(
 ) -> Result<Draft, LangFault>
     ensures { OnLine line result (spec.labelled draft op label.now (texts words.now)) }
 {
-    match words {
-        [] => Err(Fault::At(LangFaultKind::Form, line)),
-        [word, rest @ ..] => instr_line(alloc, line, draft, op, Some(label), word, rest),
-    }
+    let Some((word, rest)) = words.split_first() else {
+        return Err(Fault::At(LangFaultKind::Form, line));
+    };
+    instr_line(alloc, line, draft, op, Some(label), word, rest)
 }
 
 fn is_last(statement: &Statement) -> bool
@@ -414,6 +482,24 @@ fn op_of(alloc: Global, op: OpenOp) -> Result<Op, AllocError>
     })
 }
 
+/// The operation that `end` closes.
+fn closed_op(alloc: Global, line: usize, op: OpenOp, words: &[&[u8]]) -> Result<Op, LangFault>
+    ensures { (d : Drafted) → PutsOnLine
+        (λ done. record d { operations = d.operations ++ done ∷ []; begun = None })
+        line result (spec.end_line d op (texts words.now)) }
+{
+    if !words.is_empty() {
+        return Err(Fault::At(LangFaultKind::Form, line));
+    }
+    if !ends_well(&op) {
+        return Err(Fault::At(LangFaultKind::Flow, line));
+    }
+    if !are_there(&op) {
+        return Err(Fault::At(LangFaultKind::Name, line));
+    }
+    Ok(op_of(alloc, op)?)
+}
+
 /// `end`
 fn end_line(
     alloc: Global,
@@ -425,16 +511,7 @@ fn end_line(
     requires { draft.begun ≡ None }
     ensures { OnLine line result (spec.end_line draft op (texts words.now)) }
 {
-    if !words.is_empty() {
-        return Err(Fault::At(LangFaultKind::Form, line));
-    }
-    if !ends_well(&op) {
-        return Err(Fault::At(LangFaultKind::Flow, line));
-    }
-    if !are_there(&op) {
-        return Err(Fault::At(LangFaultKind::Name, line));
-    }
-    draft.operations.push(op_of(alloc, op)?)?;
+    draft.operations.push(closed_op(alloc, line, op, words)?)?;
     Ok(draft)
 }
 
@@ -500,9 +577,9 @@ fn by_state(
 fn by_words(alloc: Global, line: usize, draft: Draft, words: &[&[u8]]) -> Result<Draft, LangFault>
     ensures { OnLine line result (spec.by_words draft (texts words.now)) }
 {
-    match words {
-        [] => Ok(draft),
-        [word, rest @ ..] => by_state(alloc, line, draft, word, rest),
+    match words.split_first() {
+        None => Ok(draft),
+        Some((word, rest)) => by_state(alloc, line, draft, word, rest),
     }
 }
 

@@ -1,12 +1,13 @@
 //! Writing of components: their canonical text.
 
-ghost use Rattle.std.specs.Prelude.{◌≡◌, IfOk, string_bytes};
-ghost use Rattle.std.specs.List.{list_any, flat_map};
+ghost use Rattle.std.specs.Prelude.{◌≡◌, ◌∷◌, [], IfOk, string_bytes};
+ghost use Rattle.std.specs.List.{list_any, flat_map, join_with_byte};
 ghost use Rattle.lu_text.specs.Writing.{IsTextOf, Writes};
+ghost use Rattle.lu_component.specs.Operands.{operand_word};
 ghost use Rattle.lu_lang.specs.ComponentText as spec;
 ghost use Rattle.lu_lang.specs.Grammar.{component_grammar};
 
-use lu_component::{Array, Component, Instr, Op};
+use lu_component::{Array, Component, Instr, Op, Operand};
 use lu_text::Name;
 use std::alloc::{AllocError, Global};
 
@@ -32,6 +33,27 @@ pub fn lock_name(component: &Component, number: u8) -> &str
     }
 }
 
+/// Adds the words of `store W i v`, `await W i v` or `awaitne W i v` at the end of a text, with one
+/// space between them.
+fn write_cell(
+    text: &mut String,
+    component: &Component,
+    word: &str,
+    array: u8,
+    index: Operand,
+    value: Operand,
+) -> Result<(), AllocError>
+    ensures { Writes result text.old text.new (join_with_byte 32
+        (word.now ∷ spec.array_word component.now array
+        ∷ operand_word index ∷ operand_word value ∷ [])) }
+{
+    write!(
+        text,
+        "{word} {} {index} {value}",
+        array_name(component, array)
+    )
+}
+
 /// Adds an instruction's words at the end of a text, with one space between them, as they stand in
 /// the component's canonical text.
 ///
@@ -42,25 +64,21 @@ pub fn write_instr(text: &mut String, component: &Component, instr: Instr) -> Re
     ensures { Writes result text.old text.new (spec.spelled component.now instr) }
 {
     match instr {
-        Instr::Set { to, value } => write!(text, "set r{to} {value}")?,
+        Instr::Set { to, value } => write!(text, "set r{to} {value}"),
         Instr::Compute {
             arithmetic,
             to,
             left,
             right,
-        } => write!(text, "{} r{to} {left} {right}", arithmetic.word())?,
+        } => write!(text, "{} r{to} {left} {right}", arithmetic.word()),
         Instr::Load { to, array, index } => {
-            write!(text, "load r{to} {} {index}", array_name(component, array))?
+            write!(text, "load r{to} {} {index}", array_name(component, array))
         }
         Instr::Store {
             array,
             index,
             value,
-        } => write!(
-            text,
-            "store {} {index} {value}",
-            array_name(component, array)
-        )?,
+        } => write_cell(text, component, "store", array, index, value),
         Instr::Cas {
             to,
             array,
@@ -71,33 +89,24 @@ pub fn write_instr(text: &mut String, component: &Component, instr: Instr) -> Re
             text,
             "cas r{to} {} {index} {expected} {desired}",
             array_name(component, array)
-        )?,
-        Instr::Lock(lock) => write!(text, "lock {}", lock_name(component, lock))?,
-        Instr::Unlock(lock) => write!(text, "unlock {}", lock_name(component, lock))?,
+        ),
+        Instr::Lock(lock) => write!(text, "lock {}", lock_name(component, lock)),
+        Instr::Unlock(lock) => write!(text, "unlock {}", lock_name(component, lock)),
         Instr::Await {
             array,
             index,
             value,
-        } => write!(
-            text,
-            "await {} {index} {value}",
-            array_name(component, array)
-        )?,
+        } => write_cell(text, component, "await", array, index, value),
         Instr::AwaitNot {
             array,
             index,
             value,
-        } => write!(
-            text,
-            "awaitne {} {index} {value}",
-            array_name(component, array)
-        )?,
-        Instr::Pick { to, count } => write!(text, "pick r{to} {count}")?,
-        Instr::Jump(target) => write!(text, "jump L{target}")?,
-        Instr::JumpIfZero { value, target } => write!(text, "jz {value} L{target}")?,
-        Instr::Return(value) => write!(text, "return {value}")?,
+        } => write_cell(text, component, "awaitne", array, index, value),
+        Instr::Pick { to, count } => write!(text, "pick r{to} {count}"),
+        Instr::Jump(target) => write!(text, "jump L{target}"),
+        Instr::JumpIfZero { value, target } => write!(text, "jz {value} L{target}"),
+        Instr::Return(value) => write!(text, "return {value}"),
     }
-    Ok(())
 }
 
 /// Whether an instruction is a jump to this place.
