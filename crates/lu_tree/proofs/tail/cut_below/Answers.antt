@@ -10,7 +10,7 @@ returns c = λ serves.
     (let s = c.args.machine.now in
     let left = c.args.left in
     let caps = c.in_ok-caps.caps.items in
-    let numbers : IfSome c.orders_within.result (λ n. n ≡ capped (orders_within left caps)) = rw c.deref.ensures.0 at c.orders_within.ensures in
+    let numbers : IfSome c.orders_within.result (λ n. n ≡ capped (orders_within left caps)) = rw c.deref.ensures.0 at c.orders_within.ensures.number in
     some_more (λ n. n ≡ capped (orders_within left caps)) (IsCutBelow s left) c.orders_within.result
     (λ n is. record { caps = caps; are = c.in_ok-caps.ensures serves; number = is })
     numbers)

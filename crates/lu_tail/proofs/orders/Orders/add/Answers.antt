@@ -15,7 +15,7 @@ loop-behind-preserved c =
       many = length-set row moves number ∙ c.loop-behind.invariant.many;
       done = λ others are i le past. elim (cases_eq i moves) [
         | inl same ↦
-            (let now : number ≡ capped (with_one others c.args.cap moves) = c.in_ok-row.ensures others (λ j few. c.loop-behind.invariant.rest others are j (omega arith)) in
+            (let now : number ≡ capped (with_one others c.args.cap moves) = c.in_ok-row.ensures.number others (λ j few. c.loop-behind.invariant.rest others are j (omega arith)) in
             rw (same, get_or-set_same row moves number 0 within) now)
         | inr other ↦ rw (get_or-set_other row moves i number 0 other) (c.loop-behind.invariant.done others are i le (omega arith))
       ];

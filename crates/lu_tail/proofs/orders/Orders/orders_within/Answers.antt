@@ -22,8 +22,8 @@ loop-behind-preserved c =
       numbers = numbers_more caps b c.args.left c.add.new.row (omega arith) (rw (← c.from-cap.ensures) (c.add.ensures.numbers (search rules) (λ j. orders_within j (drop (length caps - b) caps)) i.numbers));
     }
 
-pub returns : goal.returns
-returns c =
+pub returns-clause-number : goal.returns-clause-number
+returns-clause-number c =
     let caps = c.args.caps.now in
     let whole : length caps - c.loop-behind.behind ≡ 0 = omega arith in
     let number = c.loop-behind.invariant.numbers c.args.left (omega arith) in
