@@ -1,5 +1,5 @@
 -- Answers to serial runs and to removals.
-use Rattle.std.proofs.Common.{◌≡◌, ℕ, subst, List, Result, Ok, Err, inl, inr, refl}
+use Rattle.std.proofs.Common.{◌≡◌, ℕ, subst, List, Result, Ok, Err, inl, inr}
 use Rattle.std.specs.Prelude.{IfOk}
 use Rattle.lu_component.specs.Component.{Declarations}
 use Rattle.lu_test.specs.Matrix.{Matrix}

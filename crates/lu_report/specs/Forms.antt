@@ -5,7 +5,6 @@ use Rattle.lu_test.specs.Schedule.{AreMoves}
 use Rattle.lu_test.specs.ScheduleText.{schedule_text}
 use Rattle.lu_machine.specs.declared.counts.Counts.{Counts}
 use Rattle.lu_history.specs.declared.serial.SerialOutcome.{SerialOutcome}
-use Rattle.lu_history.specs.declared.serial.SerialOutcome.TheVariants as serial
 use Rattle.lu_witness.specs.declared.judgement.Why.{Why}
 use Rattle.lu_report.specs.declared.report.Finding.{Finding}
 use Rattle.lu_report.specs.declared.report.Finding.TheVariants.{SerialCut, Nondeterministic, Fail, Pass}

@@ -1,8 +1,6 @@
 -- The numbers of orders by the first move.
 use Rattle.std.proofs.Common.{◌≡◌, ℕ, zero, suc, ◌+◌, ◌-◌, ◌*◌, ◌^◌, ◌<◌, ◌≤◌, List, [], ◌∷◌, ◌++◌, get_or, slice_set, length, length-append, replicate, drop, refl, sym, ◌∙◌, ap, inl, inr, arith}
 use Rattle.std.proofs.Math.Nat.{le-mul_of_pos_right, mul-add, mul-zero, mul_comm, one-mul}
-use Rattle.std.proofs.Math.ListN.{get_or-append}
-use Rattle.std.proofs.Math.Seq.{get_or-append_seam}
 use Rattle.std.proofs.lemmas.Bool.{cases_lt}
 use Rattle.lu_machine.specs.Sums.{capped}
 use Rattle.lu_tail.specs.Orders.{AreRows, IsRow, all_moves, orders, interleavings, led_by, led_below}
@@ -166,18 +164,6 @@ pub interleavings_more : (n : ℕ) (ns : List ℕ) (all of before number : ℕ) 
 interleavings_more n ns all of before number a x y z =
     let x' : of ≡ capped (orders n (all_moves ns)) = rw (← a) x in
     z ∙ (ap (λ (w : ℕ). capped (w * before)) x' ∙ (ap (λ (w : ℕ). capped (capped (orders n (all_moves ns)) * w)) y ∙ capped_product (orders n (all_moves ns)) (interleavings ns)))
-
--- the rows so far are of this length
-abbrev pub AreLong : ℕ → List (List ℕ) → Type 0
-AreLong n rows = (a : ℕ) → a < length rows → length (get_or rows a []) ≡ n
-
-pub lengths_push : (n : ℕ) (rows : List (List ℕ)) (row : List ℕ) → AreLong n rows → length row ≡ n → AreLong n (rows ++ row ∷ [])
-lengths_push n rows row are is a within =
-    let all = length-append rows (row ∷ []) in
-    elim (cases_lt a (length rows)) [
-      | inl few ↦ rw (get_or-append rows (row ∷ []) [] a few) (are a few)
-      | inr last ↦ (let e : a ≡ length rows = omega arith in rw (e, get_or-append_seam rows row [] []) is)
-    ]
 
 -- no thread makes more moves than all together, nor do those from one on
 pub moves_from : (ns : List ℕ) (k : ℕ) → all_moves (drop k ns) ≤ all_moves ns

@@ -3,11 +3,11 @@ use Rattle.std.proofs.Common.{◌≡◌, ℕ, ◌+◌, ◌^◌, ◌<◌, ◌≤�
 use Rattle.std.specs.Prelude.{◌==◌, ◌||◌, ◌&&◌, not, nat_le, nat_lt, is_some, drop, sum_by, All, IfOk, slice_get, codes}
 use Rattle.std.specs.List.{filter_map, list_all, AllByRecursion}
 use Rattle.std.specs.Str.{bytes_eq}
-use Rattle.std.specs.Option.{unwrap_or, option_map, option_map_or, option_and_then}
+use Rattle.std.specs.Option.{option_map, option_map_or, option_and_then}
 use Rattle.std.proofs.lemmas.Bool.{and_parts, or_parts, leb-false, ltb-false, not-false, eqb-true}
-use Rattle.std.proofs.lemmas.List.{length-append, length-map}
+use Rattle.std.proofs.lemmas.List.{length-append}
 use Rattle.std.proofs.lemmas.List.Elements.{All-nil, All-from_recursion}
-use Rattle.std.proofs.lemmas.List.Sums.{sum_by-append, AllPass-from_list_all}
+use Rattle.std.proofs.lemmas.List.Sums.{sum_by-append}
 use Rattle.std.proofs.lemmas.Option.{slice_get_cases}
 use Rattle.lu_text.specs.Lines.{is_allowed}
 use Rattle.lu_text.specs.Numbers.{value_in}
@@ -18,9 +18,8 @@ use Rattle.lu_text.proofs.Says.{said}
 use Rattle.lu_text.proofs.Reading.{line_ok}
 use Rattle.lu_text.proofs.Written.{All-last}
 use Rattle.lu_component.specs.declared.component.Op.{Op}
-use Rattle.lu_component.specs.Component.{Declarations, IsComponent, IsOp, operation_place}
+use Rattle.lu_component.specs.Component.{Declarations, IsComponent, IsOp}
 use Rattle.lu_text.proofs.NumberText.{value_small}
-use Rattle.lu_component.proofs.Named.{place_small}
 use Rattle.lu_test.specs.declared.matrix.Call.{Call}
 use Rattle.lu_test.specs.declared.matrix_fault.MatrixFaultKind.{MatrixFaultKind}
 use Rattle.lu_test.specs.declared.matrix_fault.MatrixFaultKind.TheVariants.{Byte, Form, UnknownOp, Arguments, Number, Limit}

@@ -1,7 +1,7 @@
 //! Tables by which schedules are counted that no walk visits.
 
 ghost use Rattle.std.specs.Prelude.{IfOk};
-ghost use Rattle.lu_tree.specs.Tables.{AreTables};
+ghost use Rattle.lu_tree.specs.Tables.{AreTables, CountOrdersUpTo};
 
 use lu_component::Component;
 use lu_horizon::Horizon;
@@ -30,7 +30,8 @@ impl Tables {
         matrix: &Matrix,
         bound: u16,
     ) -> Result<Tables, AllocError>
-        ensures { IfOk result (AreTables component.now matrix.now) }
+        ensures tables { IfOk result (AreTables component.now matrix.now) }
+        ensures orders { IfOk result (CountOrdersUpTo bound) }
     {
         Ok(Tables {
             horizon: Horizon::new(alloc, component, matrix, bound)?,

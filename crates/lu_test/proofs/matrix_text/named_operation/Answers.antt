@@ -1,7 +1,5 @@
-use Rattle.std.proofs.Common.{◌∙◌, ap, arith}
-use Rattle.std.proofs.Common.{get_or}
+use Rattle.std.proofs.Common.{◌∙◌, ap}
 use Rattle.lu_text.specs.Lines.{texts}
-use Rattle.lu_component.specs.Component.{operation_place}
 use Rattle.lu_test.specs.MatrixText.{named_operation}
 use Rattle.lu_test.proofs.Parts.{first_named}
 use Rattle.lu_test.proofs.matrix_text.named_operation.Goals as goal

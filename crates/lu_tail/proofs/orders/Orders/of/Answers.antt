@@ -17,6 +17,6 @@ returns-in-Some-clause-answers c = λ a_within b_within.
     (let read = c.in-Some.ensures.lookup in
     let got : c.in-Some.row.now ≡ get_or c.self.inside.rows.items c.args.a [] = rw (c.deref.ensures.value) at (read.3.1 []) in
     let rows = ap length c.self.view_is in
-    let long : length (get_or c.self.inside.rows.items c.args.a []) ≡ length c.self.inside.rows.items = c.self.invariant.1 c.args.a (omega (arith, a_within)) in
+    let long : length (get_or c.self.inside.rows.items c.args.a []) ≡ length c.self.inside.rows.items = c.self.invariant.1 c.args.a [] (omega (arith, a_within)) in
     let wide = ap length got in
     c.at.ensures.answers (omega (arith, b_within)))
