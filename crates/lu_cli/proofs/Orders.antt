@@ -2,7 +2,7 @@
 use Rattle.std.proofs.Common.{◌≡◌, ℕ, ◌^◌, Bool, true, false, List, [], ◌∷◌, length, Option, Some, None, Result, Ok, Err, refl, sym, ap, subst, ◌⊎◌, inl, inr}
 use Rattle.std.specs.Prelude.{IfOk, IsErrOf, codes, nat_lt, unwrap_or, ◌&&◌}
 use Rattle.std.specs.Str.{bytes_eq}
-use Rattle.std.specs.Option.{ok_or}
+use Rattle.std.specs.Option.{ok_or, option_map}
 use Rattle.std.specs.Result.{result_ok}
 use Rattle.std.specs.List.{list_all}
 use Rattle.std.specs.Char.{digit_value}
@@ -17,7 +17,7 @@ use Rattle.clap.proofs.OnLiterals.{clap_on_literals}
 use Rattle.clap.proofs.WalkLemmas.{both}
 use Rattle.lu_cli.specs.declared.order.Order.{Order}
 use Rattle.lu_cli.specs.declared.order.ArgsFault.TheVariants.{Refused}
-use Rattle.lu_cli.specs.Args.{flag_said, lineup, number_by, number_said, order_without, order_in, order_of}
+use Rattle.lu_cli.specs.Args.{flag_said, lineup, number_by, number_said, order_by, order_without, order_in, order_of}
 
 pub lineup_is_simple : is_simple lineup ≡ true
 unfolding clap_on_literals
@@ -109,3 +109,12 @@ faulty app words kind e faults other =
       | inl memory ↦ absurd (other memory)
       | inr among ↦ no_order kind (fault_of lineup words) _ among
     ]
+
+-- the order of a name and of rows that are those of the same entry
+pub order_entered : {S : Type 0} (name_of : S → Text) (rows_of : S → List Row) (entered : Option S) (name : Text) (rows : List Row) → Some name ≡ option_map name_of entered
+    → Some rows ≡ option_map {T = Text × List Row} (λ e. e.1) (option_map (λ s. (name_of s, rows_of s)) entered) → order_by name rows ≡ order_in (option_map (λ s. (name_of s, rows_of s)) entered)
+order_entered name_of rows_of None name rows named rowed = absurd cc
+order_entered name_of rows_of (Some s) name rows named rowed =
+    let same : name ≡ name_of s = cc in
+    let also : rows ≡ rows_of s = cc in
+    rw (same, also) refl

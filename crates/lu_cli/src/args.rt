@@ -1,19 +1,27 @@
 //! What the command line asks for.
 
-ghost use Rattle.std.specs.Prelude.{◌≡◌, ◌≤◌, false, IfOk, IsErrOf, Some, None, map};
-ghost use Rattle.clap.specs.Words.{app_of, found_of, rows_of, rule_of, subcommand_rows_of};
-ghost use Rattle.clap.specs.declared.builder.command.Command.TheViews.{out-Command};
+ghost use Rattle.std.specs.Prelude.{◌≡◌, ◌≤◌, false, pos, IfOk, IsErrOf, Some, None, map};
+ghost use Rattle.clap.specs.Words.{App, Rule, found_of, new_app, rows_of, rule_of, subcommand_rows_of, with_rule, with_subcommand};
+ghost use Rattle.clap.specs.declared.builder.value_parser.ValueParser.TheVariants.{Signed};
 ghost use Rattle.lu_cli.specs.Args as spec;
-ghost use Rattle.lu_cli.specs.Args.{lineup, order_of};
+ghost use Rattle.lu_cli.specs.Args.{IsApp, lineup, order_of};
 
 use crate::order::{ArgsFault, CampaignOptions, Order};
-use clap::builder::ValueParserFactory;
+use clap::builder::{ValueParser, ValueParserFactory};
 use clap::error::ErrorKind;
 use clap::{Arg, ArgAction, ArgMatches, Command};
 use lu_parallel::Options;
 use lu_report::{Bounds, MOST_MOVES};
 use std::alloc::{AllocError, Global};
 use std::convert::AsStr;
+
+/// What reads a number from `least` to `most`.
+fn number_parser<'a>(least: u8, most: u16) -> ValueParser<'a>
+    requires { least ≤ most }
+    ensures { result ≡ Signed (pos least) (pos most) }
+{
+    clap::value_parser!(u16).range(least as i64..=most as i64)
+}
 
 /// An option `--NAME N`.
 fn number_option<'a>(
@@ -29,7 +37,7 @@ fn number_option<'a>(
 {
     Arg::new(alloc, name)
         .long(name)
-        .value_parser(clap::value_parser!(u16).range(least as i64..=most as i64))
+        .value_parser(number_parser(least, most))
         .default_value(default)
 }
 
@@ -41,85 +49,95 @@ fn flag<'a>(alloc: Global, name: &'a str) -> Arg<'a>
     Arg::new(alloc, name).long(name).action(ArgAction::SetTrue)
 }
 
+/// A command with one more option, where the command could be made.
+fn with_option<'a>(
+    command: Result<Command<'a>, AllocError>,
+    option: Arg<'a>,
+) -> Result<Command<'a>, AllocError>
+    requires local { option.global ≡ false }
+    ensures { (app : App) → (rule : Rule) → IfOk command.entry (IsApp app)
+        → rule_of option.entry ≡ rule → IfOk result (IsApp (with_rule app rule)) }
+{
+    command?.arg(option)
+}
+
+/// A program with one more command, where both could be made.
+fn with_command<'a>(
+    program: Result<Command<'a>, AllocError>,
+    command: Result<Command<'a>, AllocError>,
+) -> Result<Command<'a>, AllocError>
+    ensures { (app sub : App) → IfOk program.entry (IsApp app) → IfOk command.entry (IsApp sub)
+        → IfOk result (IsApp (with_subcommand app sub.top)) }
+{
+    program?.subcommand(command?)
+}
+
+/// A command without options.
+fn bare_command<'a>(alloc: Global, name: &'a str) -> Result<Command<'a>, AllocError>
+    ensures { IfOk result (IsApp (new_app name.entry.now)) }
+{
+    Ok(Command::new(alloc, name))
+}
+
 /// A command with the options `--bound` and `--serial`.
 fn with_bounds<'a>(alloc: Global, name: &'a str) -> Result<Command<'a>, AllocError>
-    ensures app { IfOk result (λ command. app_of command ≡ spec.bounded name.entry.now) }
-    ensures local { IfOk result (λ command. (out-Command command).has_globals ≡ false) }
+    ensures { IfOk result (IsApp (spec.bounded name.entry.now)) }
 {
-    Command::new(alloc, name)
-        .arg(number_option(alloc, "bound", 0, MOST_MOVES, "40"))?
-        .arg(number_option(alloc, "serial", 1, MOST_MOVES, "40"))
+    let command = bare_command(alloc, name);
+    let command = with_option(command, number_option(alloc, "bound", 0, MOST_MOVES, "40"));
+    with_option(command, number_option(alloc, "serial", 1, MOST_MOVES, "40"))
 }
 
 fn check_command<'a>(alloc: Global) -> Result<Command<'a>, AllocError>
-    ensures app { IfOk result (λ command. app_of command ≡ spec.check_command) }
-    ensures local { IfOk result (λ command. (out-Command command).has_globals ≡ false) }
+    ensures { IfOk result (IsApp spec.check_command) }
 {
-    with_bounds(alloc, "check")?
-        .arg(number_option(alloc, "workers", 1, 16, "1"))?
-        .arg(number_option(alloc, "depth", 0, 8, "4"))?
-        .arg(flag(alloc, "spec"))
+    let command = with_bounds(alloc, "check");
+    let command = with_option(command, number_option(alloc, "workers", 1, 16, "1"));
+    let command = with_option(command, number_option(alloc, "depth", 0, 8, "4"));
+    with_option(command, flag(alloc, "spec"))
 }
 
 fn campaign_command<'a>(alloc: Global) -> Result<Command<'a>, AllocError>
-    ensures app { IfOk result (λ command. app_of command ≡ spec.campaign_command) }
-    ensures local { IfOk result (λ command. (out-Command command).has_globals ≡ false) }
+    ensures { IfOk result (IsApp spec.campaign_command) }
 {
-    with_bounds(alloc, "campaign")?
-        .arg(number_option(alloc, "threads", 1, 8, "2"))?
-        .arg(number_option(alloc, "calls", 1, 8, "1"))
+    let command = with_bounds(alloc, "campaign");
+    let command = with_option(command, number_option(alloc, "threads", 1, 8, "2"));
+    with_option(command, number_option(alloc, "calls", 1, 8, "1"))
 }
 
-fn replay_command<'a>(alloc: Global) -> Command<'a>
-    ensures app { app_of result ≡ spec.replay_command }
-    ensures local { (out-Command result).has_globals ≡ false }
+/// The program without its commands. It takes the words behind its name.
+fn bare_program<'a>(alloc: Global) -> Result<Command<'a>, AllocError>
+    ensures { IfOk result (IsApp spec.program) }
 {
-    Command::new(alloc, "replay")
-}
-
-fn trace_command<'a>(alloc: Global) -> Command<'a>
-    ensures app { app_of result ≡ spec.trace_command }
-    ensures local { (out-Command result).has_globals ≡ false }
-{
-    Command::new(alloc, "trace")
-}
-
-fn refute_command<'a>(alloc: Global) -> Command<'a>
-    ensures app { app_of result ≡ spec.refute_command }
-    ensures local { (out-Command result).has_globals ≡ false }
-{
-    Command::new(alloc, "refute")
+    Ok(
+        Command::new(alloc, "lineup")
+            .no_binary_name(true)
+            .subcommand_required(true),
+    )
 }
 
 /// The program with the commands that play a schedule.
 fn schedule_commands<'a>(alloc: Global) -> Result<Command<'a>, AllocError>
-    ensures app { IfOk result (λ command. app_of command ≡ spec.schedule_commands) }
-    ensures local { IfOk result (λ command. (out-Command command).has_globals ≡ false) }
+    ensures { IfOk result (IsApp spec.schedule_commands) }
 {
-    Command::new(alloc, "lineup")
-        .no_binary_name(true)
-        .subcommand_required(true)
-        .subcommand(replay_command(alloc))?
-        .subcommand(trace_command(alloc))
+    let program = with_command(bare_program(alloc), bare_command(alloc, "replay"));
+    with_command(program, bare_command(alloc, "trace"))
 }
 
 /// The program with the commands that look at one matrix.
 fn single_commands<'a>(alloc: Global) -> Result<Command<'a>, AllocError>
-    ensures app { IfOk result (λ command. app_of command ≡ spec.single_commands) }
-    ensures local { IfOk result (λ command. (out-Command command).has_globals ≡ false) }
+    ensures { IfOk result (IsApp spec.single_commands) }
 {
-    schedule_commands(alloc)?
-        .subcommand(with_bounds(alloc, "serial")?)?
-        .subcommand(check_command(alloc)?)
+    let program = with_command(schedule_commands(alloc), with_bounds(alloc, "serial"));
+    with_command(program, check_command(alloc))
 }
 
 fn lineup_command<'a>(alloc: Global) -> Result<Command<'a>, AllocError>
-    ensures { IfOk result (λ command. app_of command ≡ lineup) }
+    ensures { IfOk result (IsApp lineup) }
 {
-    single_commands(alloc)?
-        .subcommand(refute_command(alloc))?
-        .subcommand(with_bounds(alloc, "shrink")?)?
-        .subcommand(campaign_command(alloc)?)
+    let program = with_command(single_commands(alloc), bare_command(alloc, "refute"));
+    let program = with_command(program, with_bounds(alloc, "shrink"));
+    with_command(program, campaign_command(alloc))
 }
 
 fn number_in(given: &ArgMatches<'_>, name: &str) -> Option<u16>
@@ -187,33 +205,28 @@ fn check_in(given: &ArgMatches<'_>) -> Option<Order>
     Some(check_order(options, flag_in(given, "spec")))
 }
 
+/// The order of a command's name and of what is given to the command.
+fn order_by(name: &str, given: &ArgMatches<'_>) -> Option<Order>
+    ensures { result ≡ spec.order_by name.now (rows_of (found_of given.now)) }
+{
+    match name {
+        "replay" => Some(Order::Replay),
+        "trace" => Some(Order::Trace),
+        "serial" => bounds_in(given).map(Order::Serial),
+        "check" => check_in(given),
+        "refute" => Some(Order::Refute),
+        "shrink" => bounds_in(given).map(Order::Shrink),
+        "campaign" => campaign_in(given).map(Order::Campaign),
+        _ => None,
+    }
+}
+
 /// The order of a parse.
 fn order_in(matches: &ArgMatches<'_>) -> Option<Order>
     ensures { result ≡ spec.order_in (subcommand_rows_of matches.now) }
 {
     let (name, given) = matches.subcommand()?;
-    if name == "replay" {
-        return Some(Order::Replay);
-    }
-    if name == "trace" {
-        return Some(Order::Trace);
-    }
-    if name == "serial" {
-        return Some(Order::Serial(bounds_in(given)?));
-    }
-    if name == "check" {
-        return check_in(given);
-    }
-    if name == "refute" {
-        return Some(Order::Refute);
-    }
-    if name == "shrink" {
-        return Some(Order::Shrink(bounds_in(given)?));
-    }
-    if name == "campaign" {
-        return Some(Order::Campaign(campaign_in(given)?));
-    }
-    None
+    order_by(name, given)
 }
 
 /// What the words behind the program's name ask for. The definitions of the command line are those

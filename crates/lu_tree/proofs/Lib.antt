@@ -13,3 +13,4 @@ mod Finishing
 mod OrderSets
 mod NeverStopped
 mod KnownLaws
+mod Leaving

@@ -3,6 +3,8 @@
 ghost use Rattle.std.specs.Prelude.{◌≡◌, ◌≤◌, ◌+◌, ◌++◌, false, length, reverse, vec_capacity, IfOk, OnOk};
 ghost use Rattle.lu_component.specs.Component.{IsComponent};
 ghost use Rattle.lu_test.specs.Matrix.{IsMatrix};
+ghost use Rattle.lu_test.specs.Schedule.{AreMoves};
+ghost use Rattle.lu_machine.specs.Ends.{IsEnded};
 ghost use Rattle.lu_machine.specs.States.{State, progress};
 ghost use Rattle.lu_machine.specs.Runs.{Leads};
 ghost use Rattle.lu_machine.specs.Schedules.{IsSchedule};
@@ -12,6 +14,7 @@ ghost use Rattle.lu_witness.specs.Caches.{SameButEntries};
 ghost use Rattle.lu_witness.specs.Witnesses.{IsMember};
 ghost use Rattle.lu_tree.specs.Tables.{AreTables};
 ghost use Rattle.lu_tree.specs.Trees.{Finds, MayFind, is_abandoned};
+ghost use Rattle.lu_tree.specs.Walked.{IsBadFound};
 ghost use Rattle.lu_tree.specs.Walks.{LeadsToNode};
 
 use crate::ahead::Ahead;
@@ -66,6 +69,28 @@ fn join(from: &[Move], path: Vec<Move>) -> Vec<Move>
     moves
 }
 
+/// The schedule of these moves and of the path, at whose end a walk stopped, and why it is bad.
+fn found_bad<'t, T: SerialTree>(
+    cache: &mut Cache<'t, T>,
+    from: &[Move],
+    path: Vec<Move>,
+    node: &mut Node<'_, 't, T>,
+) -> Result<Found, AllocError>
+    requires agree { Agree (progress node.old.machine) node.old.trail.history }
+    requires tree { cache.old.tree ≡ node.old.trail.tree }
+    requires ended { IsEnded node.old.machine }
+    requires room { length from.now + length path.items ≤ vec_capacity path }
+    requires moves { AreMoves (from.now ++ reverse path.items) }
+    ensures cache { SameButEntries cache.old cache.new }
+    ensures bad { IfOk result (IsBadFound T.members node.old (from.now ++ reverse path.items)) }
+{
+    let why = node.why_bad(cache)?;
+    Ok(Found::Bad {
+        schedule: Schedule::new(join(from, path)),
+        why,
+    })
+}
+
 /// Searches below a node, to which the schedule leads.
 fn search_below<'a, 't, T: SerialTree, W: Watch>(
     alloc: Global,
@@ -73,7 +98,7 @@ fn search_below<'a, 't, T: SerialTree, W: Watch>(
     matrix: &'a Matrix,
     tables: &Tables,
     cache: &mut Cache<'t, T>,
-    node: Node<'a, 't, T>,
+    node: &mut Node<'a, 't, T>,
     from: &Schedule,
     bound: u16,
     watch: &mut W,
@@ -83,9 +108,9 @@ fn search_below<'a, 't, T: SerialTree, W: Watch>(
     requires tables { AreTables component.now matrix.now tables.now }
     requires few { bound ≤ 256 }
     requires short { length from.now ≤ bound }
-    requires leads { LeadsToNode component.now matrix.now from.now node }
-    requires agree { Agree (progress node.machine) node.trail.history }
-    requires tree { cache.old.tree ≡ node.trail.tree }
+    requires leads { LeadsToNode component.now matrix.now from.now node.old }
+    requires agree { Agree (progress node.old.machine) node.old.trail.history }
+    requires tree { cache.old.tree ≡ node.old.trail.tree }
     requires running { W.is_stopped watch.old ≡ false }
     ensures found { MayFind component.now matrix.now (T.members cache.old.tree)
         from.now bound result }
@@ -93,36 +118,22 @@ fn search_below<'a, 't, T: SerialTree, W: Watch>(
     ensures cache { SameButEntries cache.old cache.new }
     ensures stopped { W.is_stopped watch.new ≡ is_abandoned result }
 {
-    let moves = from.moves();
-    let left = bound - moves.len() as u16;
+    let left = bound - from.moves().len() as u16;
     let ahead = Ahead {
         alloc,
         tables,
         most: left,
     };
-    let mut node = node;
     let mut tally = Tally::new(alloc)?;
     let mut commuting = Commuting::new(alloc, component, matrix)?;
-    let walked = walk(
-        cache,
-        watch,
-        &ahead,
-        &mut commuting,
-        left,
-        &mut node,
-        &mut tally,
-    );
+    let walked = walk(cache, watch, &ahead, &mut commuting, left, node, &mut tally);
     if let Some(known) = walked {
         return Ok(Found::Clean(known.counts));
     }
     if watch.stopped() {
         return Ok(Found::Abandoned);
     }
-    let why = node.why_bad(cache)?;
-    Ok(Found::Bad {
-        schedule: Schedule::new(join(moves, tally.path)),
-        why,
-    })
+    found_bad(cache, from.moves(), tally.path, node)
 }
 
 /// Searches as [`search_watched`] does, with tables that were made before. Whoever searches below
@@ -154,9 +165,9 @@ pub fn search_with<'a, 't, T: SerialTree, W: Watch>(
     ensures stopped { W.is_stopped watch.new ≡ is_abandoned result }
     ensures limits { IsComponent component.now × IsMatrix matrix.now }
 {
-    let node = node_after(alloc, component, matrix, cache.tree(), from.moves())?;
+    let mut node = node_after(alloc, component, matrix, cache.tree(), from.moves())?;
     search_below(
-        alloc, component, matrix, tables, cache, node, from, bound, watch,
+        alloc, component, matrix, tables, cache, &mut node, from, bound, watch,
     )
 }
 
@@ -187,10 +198,10 @@ pub fn search_watched<'a, 't, T: SerialTree, W: Watch>(
     ensures stopped { W.is_stopped watch.new ≡ is_abandoned result }
     ensures limits { IsComponent component.now × IsMatrix matrix.now }
 {
-    let node = node_after(alloc, component, matrix, cache.tree(), from.moves())?;
+    let mut node = node_after(alloc, component, matrix, cache.tree(), from.moves())?;
     let tables = Tables::new(alloc, component, matrix, bound)?;
     search_below(
-        alloc, component, matrix, &tables, cache, node, from, bound, watch,
+        alloc, component, matrix, &tables, cache, &mut node, from, bound, watch,
     )
 }
 

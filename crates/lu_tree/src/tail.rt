@@ -1,6 +1,6 @@
 //! The last moves of a run, in any order.
 
-ghost use Rattle.std.specs.Prelude.{◌≡◌, ◌≢◌, ◌++◌, ◌+◌, ◌<◌, ◌≤◌, ◌^◌, false, IfSome, IsTrue, length, get_or, slice_set};
+ghost use Rattle.std.specs.Prelude.{◌≡◌, ◌≢◌, ◌++◌, ◌+◌, ◌<◌, ◌≤◌, ◌^◌, ℕ, false, IfSome, IsTrue, length, get_or, slice_set};
 ghost use Rattle.lu_machine.specs.States.{progress};
 ghost use Rattle.lu_history.specs.Standing.{Agree};
 ghost use Rattle.lu_witness.specs.Caches.{SameButEntries};
@@ -108,6 +108,30 @@ fn is_judged_end<'t, T: SerialTree>(
     }
 }
 
+/// No moves of any thread, where all of them are over and the end is good.
+#[inline(always)]
+fn no_moves<'t, T: SerialTree>(
+    alloc: Global,
+    cache: &mut Cache<'t, T>,
+    look: Look,
+    node: &mut Node<'_, 't, T>,
+) -> Option<Vec<usize>>
+    requires agree { Agree (progress node.old.machine) node.old.trail.history }
+    requires tree { cache.old.tree ≡ node.old.trail.tree }
+    ensures cache { SameButEntries cache.old cache.new }
+    ensures same { node.new ≡ node.old }
+    ensures rest { IfSome result (λ ns. (t left : ℕ) → length node.old.machine.threads ≤ t
+        → IsRestOf T.members node.old look t left ns.items) }
+{
+    if !is_judged_end(alloc, cache, look.judging, node) {
+        return None;
+    }
+    match vec![in alloc; 0; usize::from(node.machine.threads())] {
+        Ok(lengths) => Some(lengths),
+        Err(_) => None,
+    }
+}
+
 /// Runs thread `t` and those behind it to their ends, one after the other, and takes it back. Where
 /// that is all that the order of their moves could change, and the end is good, it answers how many
 /// moves each thread makes: none where it is not certain, or takes more than `left` moves, or a
@@ -125,20 +149,12 @@ fn finish<'t, const LONG: bool, T: SerialTree>(
     requires tree { cache.old.tree ≡ node.old.trail.tree }
     requires within { t ≤ length node.old.machine.threads }
     ensures cache { SameButEntries cache.old cache.new }
-    ensures tree { node.new.trail.tree ≡ node.old.trail.tree }
-    ensures machine { node.new.machine ≡ node.old.machine }
-    ensures history { node.new.trail.history ≡ node.old.trail.history }
+    ensures same { node.new ≡ node.old }
     ensures rest { IfSome result (λ ns. IsRestOf T.members node.old look t left ns.items) }
 {
     let threads = node.machine.threads();
     if t == threads {
-        if !is_judged_end(alloc, cache, look.judging, node) {
-            return None;
-        }
-        return match vec![in alloc; 0; usize::from(threads)] {
-            Ok(lengths) => Some(lengths),
-            Err(_) => None,
-        };
+        return no_moves(alloc, cache, look, node);
     }
     if is_over(&node.machine, t) {
         return finish::<LONG, T>(alloc, cache, look, t + 1, left, node);
@@ -195,9 +211,7 @@ fn complete_below<'t, const LONG: bool, T: SerialTree>(
     requires agree { Agree (progress node.old.machine) node.old.trail.history }
     requires tree { cache.old.tree ≡ node.old.trail.tree }
     ensures cache { SameButEntries cache.old cache.new }
-    ensures tree { node.new.trail.tree ≡ node.old.trail.tree }
-    ensures machine { node.new.machine ≡ node.old.machine }
-    ensures history { node.new.trail.history ≡ node.old.trail.history }
+    ensures same { node.new ≡ node.old }
     ensures tail { IfSome result (IsGoodTailOf T.members node.old left) }
 {
     let look = look_at(ahead, left, node)?;
@@ -228,9 +242,7 @@ pub(crate) fn counted_below<'t, const LONG: bool, T: SerialTree>(
     requires agree { Agree (progress node.old.machine) node.old.trail.history }
     requires tree { cache.old.tree ≡ node.old.trail.tree }
     ensures cache { SameButEntries cache.old cache.new }
-    ensures tree { node.new.trail.tree ≡ node.old.trail.tree }
-    ensures machine { node.new.machine ≡ node.old.machine }
-    ensures history { node.new.trail.history ≡ node.old.trail.history }
+    ensures same { node.new ≡ node.old }
     ensures below { IfSome result (AreBelowNode T.members node.old left) }
 {
     let left = usize::from(left);

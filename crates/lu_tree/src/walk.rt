@@ -1,14 +1,15 @@
 //! The walk over the schedules below a node.
 
-ghost use Rattle.std.specs.Prelude.{◌≡◌, ◌≤◌, ◌-◌, false, is_some, length, vec_capacity, IfNone, IfSome};
+ghost use Rattle.std.specs.Prelude.{◌≡◌, ◌≤◌, ◌-◌, false, true, [], is_some, IfNone, IfSome};
 ghost use Rattle.lu_machine.specs.States.{progress};
 ghost use Rattle.lu_machine.specs.Ends.{IsEnded};
 ghost use Rattle.lu_horizon.specs.Tables.{Serves};
 ghost use Rattle.lu_history.specs.Standing.{Agree};
 ghost use Rattle.lu_witness.specs.Caches.{SameButEntries};
 ghost use Rattle.lu_witness.specs.Witnesses.{IsMember};
-ghost use Rattle.lu_tree.specs.Known.{AreBeside, AreHints, IsKnownNode};
-ghost use Rattle.lu_tree.specs.Walks.{AreBelowNode, IsCounted, IsReady, Stopped};
+ghost use Rattle.lu_tree.specs.Known.{AreBeside, AreHints, counts_of, kids_of};
+ghost use Rattle.lu_tree.specs.Walked.{IsCountedAlone, Passed, StaysBelow};
+ghost use Rattle.lu_tree.specs.Walks.{IsReady, Stopped};
 
 use crate::ahead::Ahead;
 use crate::commuting::Commuting;
@@ -21,16 +22,18 @@ use lu_machine::{Counts, Status};
 use lu_test::Move;
 use lu_trie::SerialTree;
 use lu_witness::Cache;
+use std::alloc::Global;
 
-/// Ends a schedule here, which is cut, or is ended and has to be good. Answers its numbers: none
-/// where it is not found good, or the watch stops the walk.
+/// Ends a schedule here, which is cut, or is ended and has to be good. Answers what is then known:
+/// none where it is not found good, or the watch stops the walk.
 #[inline(always)]
 fn end<'t, T: SerialTree, W: Watch>(
+    alloc: Global,
     cache: &mut Cache<'t, T>,
     watch: &mut W,
     node: &mut Node<'_, 't, T>,
     tally: &mut Tally,
-) -> Option<Counts>
+) -> Option<Known>
     requires agree { Agree (progress node.old.machine) node.old.trail.history }
     requires tree { cache.old.tree ≡ node.old.trail.tree }
     requires running { W.is_stopped watch.old ≡ false }
@@ -39,7 +42,7 @@ fn end<'t, T: SerialTree, W: Watch>(
     ensures base { W.base watch.new ≡ W.base watch.old }
     ensures path { tally.new.path ≡ tally.old.path }
     ensures running { IfSome result (λ _. W.is_stopped watch.new ≡ false) }
-    ensures counted { IfSome result (IsCounted T.members node.old) }
+    ensures counted { IfSome result (IsCountedAlone T.members node.old) }
     ensures ended { IfNone result (W.is_stopped watch.new ≡ false → IsEnded node.old.machine) }
 {
     let counts = match node.machine.status() {
@@ -67,7 +70,25 @@ fn end<'t, T: SerialTree, W: Watch>(
         }
     };
     if tally.pass(watch) {
-        Some(counts)
+        Some(Known::alone(alloc, counts))
+    } else {
+        None
+    }
+}
+
+/// Passes the schedules below a node, which are so many. Answers what is then known: none where the
+/// watch stops the walk.
+#[inline(always)]
+fn pass<W: Watch>(alloc: Global, counts: Counts, watch: &mut W, tally: &mut Tally) -> Option<Known>
+    requires running { W.is_stopped watch.old ≡ false }
+    ensures base { W.base watch.new ≡ W.base watch.old }
+    ensures path { tally.new.path ≡ tally.old.path }
+    ensures running { IfSome result (λ _. W.is_stopped watch.new ≡ false) }
+    ensures alone { IfSome result (λ known. (counts_of known ≡ counts) × (kids_of known ≡ [])) }
+    ensures stopped { IfNone result (W.is_stopped watch.new ≡ true) }
+{
+    if tally.pass_many(counts, watch) {
+        Some(Known::alone(alloc, counts))
     } else {
         None
     }
@@ -94,16 +115,9 @@ pub(crate) fn walk<'a, 't, T: SerialTree, W: Watch>(
     requires beside { AreBeside node.old.machine commuting.old.other }
     ensures cache { SameButEntries cache.old cache.new }
     ensures base { W.base watch.new ≡ W.base watch.old }
-    ensures tree { node.new.trail.tree ≡ node.old.trail.tree }
-    ensures agree { Agree (progress node.new.machine) node.new.trail.history }
-    ensures machine { IfSome result (λ _. node.new.machine ≡ node.old.machine) }
-    ensures history { IfSome result (λ _. node.new.trail.history ≡ node.old.trail.history) }
-    ensures running { IfSome result (λ _. W.is_stopped watch.new ≡ false) }
-    ensures ready { IfSome result (λ _. IsReady tally.new) }
-    ensures known { IfSome result (IsKnownNode T.members node.old left) }
-    ensures room { 256 ≤ vec_capacity tally.new.path }
-    ensures path { length tally.new.path.items ≤ left }
-    ensures beside { IfSome result (λ _. AreBeside node.old.machine commuting.new.other) }
+    ensures stays { StaysBelow node.old left tally.new node.new }
+    ensures passed { IfSome result (Passed T.members node.old left (W.is_stopped watch.new)
+        tally.new commuting.new.other node.new) }
     ensures stops { Stopped T.members node.old left (is_some result) (W.is_stopped watch.new)
         tally.new node.new }
 {
@@ -155,28 +169,17 @@ fn walk_as<'a, 't, 'h, const LONG: bool, T: SerialTree, W: Watch>(
     requires hints { AreHints T.members node.old (left - 1) hints.now }
     ensures cache { SameButEntries cache.old cache.new }
     ensures base { W.base watch.new ≡ W.base watch.old }
-    ensures tree { node.new.trail.tree ≡ node.old.trail.tree }
-    ensures agree { Agree (progress node.new.machine) node.new.trail.history }
-    ensures machine { IfSome result (λ _. node.new.machine ≡ node.old.machine) }
-    ensures history { IfSome result (λ _. node.new.trail.history ≡ node.old.trail.history) }
-    ensures running { IfSome result (λ _. W.is_stopped watch.new ≡ false) }
-    ensures ready { IfSome result (λ _. IsReady tally.new) }
-    ensures known { IfSome result (IsKnownNode T.members node.old left) }
-    ensures room { 256 ≤ vec_capacity tally.new.path }
-    ensures path { length tally.new.path.items ≤ left }
-    ensures beside { IfSome result (λ _. AreBeside node.old.machine commuting.new.other) }
+    ensures stays { StaysBelow node.old left tally.new node.new }
+    ensures passed { IfSome result (Passed T.members node.old left (W.is_stopped watch.new)
+        tally.new commuting.new.other node.new) }
     ensures stops { Stopped T.members node.old left (is_some result) (W.is_stopped watch.new)
         tally.new node.new }
 {
     if left == 0 {
-        let counts = end(cache, watch, node, tally)?;
-        return Some(Known::alone(commuting.alloc, counts));
+        return end(commuting.alloc, cache, watch, node, tally);
     }
     if let Some(counts) = counted_below::<LONG, T>(cache, ahead, left, node) {
-        if !tally.pass_many(counts, watch) {
-            return None;
-        }
-        return Some(Known::alone(commuting.alloc, counts));
+        return pass(commuting.alloc, counts, watch, tally);
     }
     let mut is_ended = true;
     let mut known = Known::alone(commuting.alloc, Counts::NONE);
@@ -214,8 +217,7 @@ fn walk_as<'a, 't, 'h, const LONG: bool, T: SerialTree, W: Watch>(
         }
     }
     if is_ended {
-        let counts = end(cache, watch, node, tally)?;
-        return Some(Known::alone(commuting.alloc, counts));
+        return end(commuting.alloc, cache, watch, node, tally);
     }
     Some(known.told())
 }

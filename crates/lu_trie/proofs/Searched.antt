@@ -1,15 +1,17 @@
 -- What a search among the kids of a node finds.
-use Rattle.std.proofs.Common.{◌≡◌, ℕ, ◌+◌, ◌<◌, List, length, get_or, Result, Ok, Err, IfOk, IfErr, sym, ap, ◌∙◌, subst, arith}
+use Rattle.std.proofs.Common.{◌≡◌, ◌≢◌, ℕ, ◌+◌, ◌<◌, List, length, get_or, Result, Ok, Err, IfOk, IfErr, Option, None, Some, IfSome, IfNone, MatchOption, sym, ap, ◌∙◌, subst, arith}
+use Rattle.std.specs.List.{All, AllWithin, HoldsAt}
 use Rattle.std.specs.List.Sorted.{IsSearchInRange, IsBinarySearchResult, IsNonDecreasingBy, IsSortedBy}
 use Rattle.std.specs.Ordering.{ordering_index, ordering_reverse, is_lt}
 use Rattle.std.specs.declared.cmp.Ordering.{Ordering}
 use Rattle.std.specs.declared.cmp.Ordering.TheVariants.{Less}
+use Rattle.std.proofs.lemmas.List.Elements.{All-from_all_within}
 use Rattle.std.proofs.lemmas.List.Sorted.{searchable_from_sorted}
 use Rattle.std.proofs.lemmas.Map.Keys.{Less-from_sorted}
 use Rattle.std.proofs.Math.ListN.{get_or-map, length-map}
 use Rattle.lu_history.specs.declared.serial.SerialOp.{SerialOp}
 use Rattle.lu_history.specs.Order.{op_cmp}
-use Rattle.lu_trie.specs.Branches.{Branch, labels, AreBranches, IsBranchAt, IsGapFor}
+use Rattle.lu_trie.specs.Branches.{Branch, labels, AreBranches, IsBranchAt, IsGapFor, IsKidOf}
 use Rattle.lu_trie.proofs.Ops.{ops_total, exact_ops}
 
 module _ (kids : List (Branch)) (is : AreBranches kids) where
@@ -41,3 +43,16 @@ module _ (kids : List (Branch)) (is : AreBranches kids) where
             greater_after = λ j d le lt. sym (each (get_or kids j d)) ∙ parts.1 j d le lt;
           };
         }
+
+-- a search over all kids for the first one of a thread
+module _ (kids : List Branch) (t : ℕ) where
+  abbrev pub IsFirstOf : Option ℕ → Type 0
+  IsFirstOf r = MatchOption r (AllWithin (λ kid. kid.0.thread ≢ t) kids 0 (length kids)) (λ i. (i < length kids) × HoldsAt (λ kid. kid.0.thread ≡ t) kids i × AllWithin (λ kid. kid.0.thread ≢ t) kids 0 i)
+
+  pub some_of : (r : Option ℕ) → IsFirstOf r → IfSome r (IsKidOf kids t)
+  some_of None first = tt
+  some_of (Some i) first = (first.0, first.1)
+
+  pub none_of : (r : Option ℕ) → IsFirstOf r → IfNone r (All (λ kid. kid.0.thread ≢ t) kids)
+  none_of None first = All-from_all_within (λ kid. kid.0.thread ≢ t) kids first
+  none_of (Some i) first = tt

@@ -2,8 +2,9 @@
 
 ghost use Rattle.std.specs.Prelude.{◌≡◌, ◌<◌, ◌++◌, List, [], length, slice_index_or, IfOk};
 ghost use Rattle.lu_history.specs.declared.serial.SerialOp.{SerialOp};
-ghost use Rattle.lu_trie.specs.Branches.{IsBranching};
-ghost use Rattle.lu_trie.specs.Packed.{members_of};
+ghost use Rattle.lu_trie.specs.Members.{AllSerial};
+ghost use Rattle.lu_trie.specs.Branches.{AreBranches, IsBranching, members_from};
+ghost use Rattle.lu_trie.specs.Packed.{AllBelow, members_of, resolve};
 
 use crate::tree::SerialTree;
 use crate::trie::Trie;
@@ -45,6 +46,29 @@ impl<A: Allocator> Model for Table<A> {
     ghost invariant = { λ t. ArePacked t.links.items [] t.nodes.items };
 }
 
+impl<A: Allocator> Table<A> {
+    /// Adds a node that has these links, and answers its place.
+    fn push_node(&mut self, ends: bool, links: &[(SerialOp, usize)]) -> Result<usize, AllocError>
+        requires below { AllBelow (length self.old) links.now }
+        requires branches { AreBranches (resolve self.old links.now) }
+        requires serial { AllSerial (members_from ends (resolve self.old links.now)) }
+        ensures grows { (more : List (List (List SerialOp))) × (self.new ≡ self.old ++ more) }
+        ensures place { IfOk result (λ place. place < length self.new) }
+        ensures members { IfOk result (λ place. slice_index_or self.new place []
+            ≡ members_from ends (resolve self.old links.now)) }
+    {
+        let first = self.links.len();
+        self.links.extend_from_slice(links)?;
+        let place = self.nodes.len();
+        self.nodes.push(Node {
+            ends,
+            first,
+            count: links.len(),
+        })?;
+        Ok(place)
+    }
+}
+
 impl<B: Allocator> Trie<B> {
     /// Adds the trie's nodes to a table, and answers the place of its root. It may have added some
     /// where memory is refused.
@@ -58,15 +82,7 @@ impl<B: Allocator> Trie<B> {
             let place = below.add_to(table)?;
             links.push((*label, place))?;
         }
-        let first = table.links.len();
-        table.links.extend_from_slice(&links)?;
-        let place = table.nodes.len();
-        table.nodes.push(Node {
-            ends: self.ends,
-            first,
-            count: links.len(),
-        })?;
-        Ok(place)
+        table.push_node(self.ends, &links)
     }
 }
 

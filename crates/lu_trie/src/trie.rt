@@ -173,10 +173,5 @@ fn of_thread<A: Allocator>(kids: &[(SerialOp, Trie<A>)], thread: u8) -> Option<u
     ensures some { IfSome result (IsKidOf kids.now thread) }
     ensures none { IfNone result (All (λ kid. kid.0.thread ≢ thread) kids.now) }
 {
-    for (i, (label, _)) in kids.iter().enumerate() {
-        if label.thread == thread {
-            return Some(i);
-        }
-    }
-    None
+    kids.iter().position(|(label, _)| label.thread == thread)
 }

@@ -6,15 +6,15 @@ use Rattle.lu_cli.proofs.args.read_order.Goals.{in-OutOfMemory, in_default-kind}
 pub returns-in-Err-clause-refused : goal.returns-in-Err-clause-refused
 returns-in-Err-clause-refused g c = λ h. elim c.match-kind.branch [
   | in-OutOfMemory w ↦ (let x = w.result-is in absurd cc)
-  | in_default-kind w ↦ faulty _ _ _ c.in-Ok.ensures c.in-Err.ensures.kinds (λ e. w.in_default-kind.not-OutOfMemory (c.kind.ensures ∙ e))
+  | in_default-kind w ↦ faulty _ _ _ c.in-Ok.ensures.shape c.in-Err.ensures.kinds (λ e. w.in_default-kind.not-OutOfMemory (c.kind.ensures ∙ e))
 ]
 
 pub returns-clause-found : goal.returns-clause-found
 returns-clause-found g c =
     let parse = c.in-Ok-try_get_matches_from.ensures in
-    rw c.ok_or.ensures.value (order_found c.order_in.result _ (order_is _ _ _ _ c.in-Ok.ensures parse.kinds (λ s. (parse.matches s).1) c.order_in.ensures))
+    rw c.ok_or.ensures.value (order_found c.order_in.result _ (order_is _ _ _ _ c.in-Ok.ensures.shape parse.kinds (λ s. (parse.matches s).1) c.order_in.ensures))
 
 pub returns-clause-refused : goal.returns-clause-refused
 returns-clause-refused g c =
     let parse = c.in-Ok-try_get_matches_from.ensures in
-    rw c.ok_or.ensures.value (order_refused c.order_in.result _ (order_is _ _ _ _ c.in-Ok.ensures parse.kinds (λ s. (parse.matches s).1) c.order_in.ensures))
+    rw c.ok_or.ensures.value (order_refused c.order_in.result _ (order_is _ _ _ _ c.in-Ok.ensures.shape parse.kinds (λ s. (parse.matches s).1) c.order_in.ensures))

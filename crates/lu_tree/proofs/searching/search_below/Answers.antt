@@ -2,13 +2,14 @@ use Rattle.std.proofs.Common.{arith, ◌≡◌, ◌≤◌, ◌+◌, ◌-◌, ◌
 use Rattle.lu_test.specs.Schedule.{AreMoves}
 use Rattle.lu_machine.specs.States.{State}
 use Rattle.lu_machine.specs.Runs.{Leads}
-use Rattle.lu_witness.specs.Goodness.{IsFirstBad, AreAllGood}
+use Rattle.lu_witness.specs.Goodness.{AreAllGood}
 use Rattle.lu_witness.specs.Witnesses.{IsMember}
 use Rattle.lu_tree.specs.Known.{counts_of}
 use Rattle.lu_tree.specs.Trees.{Below}
-use Rattle.lu_tree.specs.Walks.{IsBadAt, IsFirstAt}
+use Rattle.lu_tree.specs.Walks.{IsFirstAt}
 use Rattle.lu_horizon.proofs.OwnLaws.{serves_end}
-use Rattle.lu_tree.proofs.Added.{first_bad, walk_passed, walk_stopped}
+use Rattle.lu_tree.proofs.Added.{walk_passed, walk_stopped}
+use Rattle.lu_tree.proofs.Leaving.{bad_found, bad_not_abandoned}
 use Rattle.lu_tree.proofs.KnownLaws.{known_below, leads_beside}
 use Rattle.lu_tree.proofs.Limits.{schedule_moves}
 use Rattle.lu_machine.proofs.Starting.{start_there}
@@ -16,96 +17,91 @@ use Rattle.lu_tree.proofs.searching.search_below.Goals as goal
 
 pub returns-in-Some-clause-found : goal.returns-in-Some-clause-found
 returns-in-Some-clause-found g c = λ s is.
-    (let moves = c.moves-moves.result.now in
-    let node = c.args.node in
+    (let moves = c.moves.result.now in
+    let node = c.args.node.now in
     let tree : node.trail.tree ≡ c.args.cache.now.tree = sym c.requires.tree in
     let set = ap (λ x. g.T.SerialTree.members x) tree in
     let left = c.args.bound - length moves in
-    let all : length moves + left ≡ c.args.bound = omega (arith, ap length c.moves-moves.ensures.moves) in
+    let all : length moves + left ≡ c.args.bound = omega (arith, ap length c.moves.ensures.moves) in
     let Set = IsMember (g.T.SerialTree.members node.trail.tree) in
     let known = c.in-Some.known in
-    let below = known_below Set node.machine node.trail.history left known c.in-Some.ensures.known in
-    let good = walk_passed Set s c.args.bound left c.args.from.now moves node.machine node.trail.history c.moves-moves.ensures.moves all (subst (λ u. Leads s u node.machine node.trail.history) (sym c.moves-moves.ensures.moves) (c.requires.leads s is)) (counts_of known) below in
+    let below = known_below Set node.machine node.trail.history left known c.in-Some.ensures.passed.known in
+    let good = walk_passed Set s c.args.bound left c.args.from.now moves node.machine node.trail.history c.moves.ensures.moves all (subst (λ u. Leads s u node.machine node.trail.history) (sym c.moves.ensures.moves) (c.requires.leads s is)) (counts_of known) below in
     subst (λ x. AreAllGood (IsMember x) s c.args.bound (Below c.args.from.now) (counts_of known)) set good)
 
 pub walk-walked-requires-clause-serves : goal.walk-walked-requires-clause-serves
 walk-walked-requires-clause-serves g c =
     let there = start_there c.args.component.now c.args.matrix.now c.requires.of.settles in
     let start : State = there.0 in
-    let moves = c.moves-moves.result.now in
-    let node = c.args.node in
-    let leads = subst (λ u. Leads start u node.machine node.trail.history) (sym c.moves-moves.ensures.moves) (c.requires.leads start there.1) in
+    let moves = c.moves.result.now in
+    let node = c.args.node.now in
+    let leads = subst (λ u. Leads start u node.machine node.trail.history) (sym c.moves.ensures.moves) (c.requires.leads start there.1) in
     let serves = c.requires.tables start there.1 in
     serves_end c.args.tables.now.horizon start moves node.machine node.trail.history leads serves
 
 pub walk-walked-requires-clause-beside : goal.walk-walked-requires-clause-beside
 walk-walked-requires-clause-beside g c =
     let there = start_there c.args.component.now c.args.matrix.now c.requires.of.settles in
-    let moves = c.moves-moves.result.now in
-    let node = c.args.node in
-    let led = leads_beside there.0 moves node.machine node.trail.history (subst (λ u. Leads there.0 u node.machine node.trail.history) (sym c.moves-moves.ensures.moves) (c.requires.leads there.0 there.1)) in
+    let moves = c.moves.result.now in
+    let node = c.args.node.now in
+    let led = leads_beside there.0 moves node.machine node.trail.history (subst (λ u. Leads there.0 u node.machine node.trail.history) (sym c.moves.ensures.moves) (c.requires.leads there.0 there.1)) in
     let other = c.in_ok-commuting.ensures in
     let component : there.0.component ≡ c.in_ok-commuting.commuting.other.component = ap (λ (x : State). x.component) there.1.is ∙ sym (ap (λ (x : State). x.component) other.is) in
     let matrix : there.0.matrix ≡ c.in_ok-commuting.commuting.other.matrix = ap (λ (x : State). x.matrix) there.1.is ∙ sym (ap (λ (x : State). x.matrix) other.is) in
     (sym led.0 ∙ component, sym led.1 ∙ matrix)
 
-pub why_bad-requires-clause-ended : goal.why_bad-requires-clause-ended
-why_bad-requires-clause-ended g c =
+pub found_bad-requires-clause-ended : goal.found_bad-requires-clause-ended
+found_bad-requires-clause-ended g c =
     let there = start_there c.args.component.now c.args.matrix.now c.requires.of.settles in
     let start : State = there.0 in
-    let moves = c.moves-moves.result.now in
-    let node = c.args.node in
-    let tree : node.trail.tree ≡ c.args.cache.now.tree = sym c.requires.tree in
-    let set = ap (λ x. g.T.SerialTree.members x) tree in
+    let moves = c.moves.result.now in
+    let node = c.args.node.now in
     let left = c.args.bound - length moves in
-    let all : length moves + left ≡ c.args.bound = omega (arith, ap length c.moves-moves.ensures.moves) in
+    let all : length moves + left ≡ c.args.bound = omega (arith, ap length c.moves.ensures.moves) in
     let Set = IsMember (g.T.SerialTree.members node.trail.tree) in
     let path = c.walk-walked.new.tally.path.items in
     let end = c.walk-walked.new.node.machine in
     let last = c.walk-walked.new.node.trail.history in
     let running = sym c.stopped.ensures ∙ c.if-stopped.false in
-    let first : IsFirstAt Set start c.args.bound (Below c.args.from.now) (c.args.from.now ++ reverse path) end last = walk_stopped Set start c.args.bound left c.args.from.now moves node.machine node.trail.history c.moves-moves.ensures.moves all (subst (λ u. Leads start u node.machine node.trail.history) (sym c.moves-moves.ensures.moves) (c.requires.leads start there.1)) path end last (c.in_default.ensures.stops refl running) in
+    let first : IsFirstAt Set start c.args.bound (Below c.args.from.now) (c.args.from.now ++ reverse path) end last = walk_stopped Set start c.args.bound left c.args.from.now moves node.machine node.trail.history c.moves.ensures.moves all (subst (λ u. Leads start u node.machine node.trail.history) (sym c.moves.ensures.moves) (c.requires.leads start there.1)) path end last (c.in_default.ensures.stops refl running) in
     first.ended
 
-pub new-requires-3 : goal.new-requires-3
-new-requires-3 g c =
+pub found_bad-requires-clause-moves : goal.found_bad-requires-clause-moves
+found_bad-requires-clause-moves g c =
     let there = start_there c.args.component.now c.args.matrix.now c.requires.of.settles in
     let start : State = there.0 in
-    let moves = c.moves-moves.result.now in
-    let node = c.args.node in
-    let tree : node.trail.tree ≡ c.args.cache.now.tree = sym c.requires.tree in
-    let set = ap (λ x. g.T.SerialTree.members x) tree in
+    let moves = c.moves.result.now in
+    let node = c.args.node.now in
     let left = c.args.bound - length moves in
-    let all : length moves + left ≡ c.args.bound = omega (arith, ap length c.moves-moves.ensures.moves) in
+    let all : length moves + left ≡ c.args.bound = omega (arith, ap length c.moves.ensures.moves) in
     let Set = IsMember (g.T.SerialTree.members node.trail.tree) in
     let path = c.walk-walked.new.tally.path.items in
     let end = c.walk-walked.new.node.machine in
     let last = c.walk-walked.new.node.trail.history in
     let running = sym c.stopped.ensures ∙ c.if-stopped.false in
-    let first : IsFirstAt Set start c.args.bound (Below c.args.from.now) (c.args.from.now ++ reverse path) end last = walk_stopped Set start c.args.bound left c.args.from.now moves node.machine node.trail.history c.moves-moves.ensures.moves all (subst (λ u. Leads start u node.machine node.trail.history) (sym c.moves-moves.ensures.moves) (c.requires.leads start there.1)) path end last (c.in_default.ensures.stops refl running) in
+    let first : IsFirstAt Set start c.args.bound (Below c.args.from.now) (c.args.from.now ++ reverse path) end last = walk_stopped Set start c.args.bound left c.args.from.now moves node.machine node.trail.history c.moves.ensures.moves all (subst (λ u. Leads start u node.machine node.trail.history) (sym c.moves.ensures.moves) (c.requires.leads start there.1)) path end last (c.in_default.ensures.stops refl running) in
     let few = c.requires.few in
     let short : length (c.args.from.now ++ reverse path) ≤ c.args.bound = first.short in
     let are : AreMoves (c.args.from.now ++ reverse path) = schedule_moves c.args.component.now c.args.matrix.now start c.requires.limits.0 c.requires.limits.1 there.1 (c.args.from.now ++ reverse path) end last first.leads (omega arith) in
-    let joined = c.join.ensures ∙ ap (λ u. u ++ reverse path) c.moves-moves.ensures.moves in
-    subst AreMoves (sym joined) are
+    subst (λ u. AreMoves (u ++ reverse path)) (sym c.moves-2.ensures.moves) are
 
 pub returns-clause-found : goal.returns-clause-found
 returns-clause-found g c = λ s is.
-    (let moves = c.moves-moves.result.now in
-    let node = c.args.node in
-    let tree : node.trail.tree ≡ c.args.cache.now.tree = sym c.requires.tree in
-    let set = ap (λ x. g.T.SerialTree.members x) tree in
+    (let moves = c.moves.result.now in
+    let node = c.args.node.now in
     let left = c.args.bound - length moves in
-    let all : length moves + left ≡ c.args.bound = omega (arith, ap length c.moves-moves.ensures.moves) in
+    let all : length moves + left ≡ c.args.bound = omega (arith, ap length c.moves.ensures.moves) in
     let Set = IsMember (g.T.SerialTree.members node.trail.tree) in
     let path = c.walk-walked.new.tally.path.items in
     let end = c.walk-walked.new.node.machine in
     let last = c.walk-walked.new.node.trail.history in
     let running = sym c.stopped.ensures ∙ c.if-stopped.false in
-    let first : IsFirstAt Set s c.args.bound (Below c.args.from.now) (c.args.from.now ++ reverse path) end last = walk_stopped Set s c.args.bound left c.args.from.now moves node.machine node.trail.history c.moves-moves.ensures.moves all (subst (λ u. Leads s u node.machine node.trail.history) (sym c.moves-moves.ensures.moves) (c.requires.leads s is)) path end last (c.in_default.ensures.stops refl running) in
-    let walked = ap (λ x. g.T.SerialTree.members x) c.walk-walked.ensures.tree in
-    let bad : IsBadAt Set end last c.in_ok-why.why = subst (λ x. IsBadAt (IsMember x) end last c.in_ok-why.why) walked c.in_ok-why.ensures.bad in
-    let found : IsFirstBad Set s c.args.bound (Below c.args.from.now) (c.args.from.now ++ reverse path) c.in_ok-why.why = first_bad Set s c.args.bound (Below c.args.from.now) (c.args.from.now ++ reverse path) end last c.in_ok-why.why first bad in
-    let joined = c.join.ensures ∙ ap (λ u. u ++ reverse path) c.moves-moves.ensures.moves in
-    let there = subst (λ u. IsFirstBad Set s c.args.bound (Below c.args.from.now) u c.in_ok-why.why) (sym (c.new-3.ensures ∙ joined)) found in
-    subst (λ x. IsFirstBad (IsMember x) s c.args.bound (Below c.args.from.now) c.new-3.result c.in_ok-why.why) set there)
+    let first : IsFirstAt Set s c.args.bound (Below c.args.from.now) (c.args.from.now ++ reverse path) end last = walk_stopped Set s c.args.bound left c.args.from.now moves node.machine node.trail.history c.moves.ensures.moves all (subst (λ u. Leads s u node.machine node.trail.history) (sym c.moves.ensures.moves) (c.requires.leads s is)) path end last (c.in_default.ensures.stops refl running) in
+    let walked = ap (λ x. g.T.SerialTree.members x) c.walk-walked.ensures.stays.tree in
+    let set = ap (λ x. g.T.SerialTree.members x) (sym c.requires.tree) in
+    bad_found g.T.SerialTree.members c.args.cache.now.tree c.walk-walked.new.node s c.args.bound c.args.from.now (c.args.from.now ++ reverse path) (c.moves-2.result.now ++ reverse path) (ap (λ u. u ++ reverse path) c.moves-2.ensures.moves) (walked ∙ set) (subst (λ x. IsFirstAt (IsMember x) s c.args.bound (Below c.args.from.now) (c.args.from.now ++ reverse path) end last) set first) c.found_bad.result c.found_bad.ensures.bad)
+
+pub returns-clause-stopped : goal.returns-clause-stopped
+returns-clause-stopped g c =
+    let running = sym c.stopped.ensures ∙ c.if-stopped.false in
+    running ∙ sym (bad_not_abandoned g.T.SerialTree.members c.walk-walked.new.node _ c.found_bad.result c.found_bad.ensures.bad)

@@ -1,17 +1,19 @@
-use Rattle.std.proofs.Common.{rules, arith, ◌≡◌, ◌+◌, ◌-◌, IsTrue, length, subst}
+use Rattle.std.proofs.Common.{rules, arith, ◌+◌, ◌-◌, ◌∙◌, IsTrue, ap, subst}
+use Rattle.lu_machine.specs.Undoes.{restored}
 use Rattle.lu_witness.specs.Witnesses.{IsMember}
 use Rattle.lu_tree.specs.Tails.{IsRest}
-use Rattle.lu_tree.proofs.Finishing.{few_moves, rest_end, rest_move, rest_turn, some_more, zeros}
+use Rattle.lu_tree.proofs.Finishing.{few_moves, rest_move, rest_turn, some_more}
+use Rattle.lu_tree.proofs.Leaving.{same_node}
 use Rattle.lu_tree.proofs.tail.+finish.Goals as goal
 
-pub returns-in-Ok-clause-rest : goal.returns-in-Ok-clause-rest
-returns-in-Ok-clause-rest g t c =
+pub returns-then-t-threads-clause-rest : goal.returns-then-t-threads-clause-rest
+returns-then-t-threads-clause-rest g t c =
     let Set = IsMember (g.T.SerialTree.members c.args.node.now.trail.tree) in
     let s = c.args.node.now.machine in
-    let yes : IsTrue c.is_judged_end.result = search rules in
-    let ends = c.is_judged_end.ensures.judged yes in
-    let is : c.in-Ok.lengths.items ≡ zeros (length s.threads) = search rules in
-    rest_end Set c.args.look s c.args.node.now.trail.history c.args.t c.args.left c.in-Ok.lengths.items is (omega (arith, c.threads-threads.ensures.value)) ends.0 ends.1
+    let h = c.args.node.now.trail.history in
+    some_more _ (λ ns. IsRest Set c.args.look s h c.args.t c.args.left ns.items) c.no_moves.result
+    (λ ns rest. rest c.args.t c.args.left (omega (arith, c.threads-threads.ensures.value)))
+    c.no_moves.ensures.rest
 
 pub returns-then-is_over-clause-rest : goal.returns-then-is_over-clause-rest
 returns-then-is_over-clause-rest g t c =
@@ -41,3 +43,19 @@ returns-in-Some-clause-rest g t c =
     let rest : IsRest Set c.args.look after last c.args.t (c.args.left - 1) lengths = subst (λ x. IsRest (IsMember (g.T.SerialTree.members x)) c.args.look after last c.args.t (c.args.left - 1) lengths) c.enter-undo.ensures.tree entered in
     let yes : IsTrue c.may_move.result = search rules in
     rw c.one_more.ensures (rest_move Set c.args.look s c.args.node.now.trail.history c.args.t after c.enter-undo.result.event c.enter-undo.ensures.step (c.may_move.ensures yes) c.args.left lengths last (omega (arith, c.if-left-eq0.false)) (omega (arith, c.threads-threads.ensures.value, c.requires.within, c.if-t-threads.false)) c.enter-undo.ensures.history rest)
+
+pub returns-in-None-clause-same : goal.returns-in-None-clause-same
+returns-in-None-clause-same g t c =
+    let same = c.finish-found.ensures.same in
+    same_node c.leave.new.self c.args.node.now
+    (c.leave.ensures.machine ∙ (ap (λ n. restored c.enter-undo.result n.machine) same ∙ c.enter-undo.ensures.back))
+    (c.leave.ensures.tree ∙ (ap (λ n. n.trail.tree) same ∙ c.enter-undo.ensures.tree))
+    (c.leave.ensures.history c.args.node.now.trail.history (ap (λ n. n.trail.history) same ∙ c.enter-undo.ensures.history))
+
+pub returns-in-Some-clause-same : goal.returns-in-Some-clause-same
+returns-in-Some-clause-same g t c =
+    let same = c.finish-found.ensures.same in
+    same_node c.leave.new.self c.args.node.now
+    (c.leave.ensures.machine ∙ (ap (λ n. restored c.enter-undo.result n.machine) same ∙ c.enter-undo.ensures.back))
+    (c.leave.ensures.tree ∙ (ap (λ n. n.trail.tree) same ∙ c.enter-undo.ensures.tree))
+    (c.leave.ensures.history c.args.node.now.trail.history (ap (λ n. n.trail.history) same ∙ c.enter-undo.ensures.history))

@@ -12,26 +12,9 @@ use Rattle.lu_tree.specs.Walks.{AreBelow, Counted, StopsAt}
 use Rattle.lu_tree.proofs.Added.{AreAdded, added_all, added_more, added_none, added_turn, end_below, end_stops, stops_more, stops_there}
 use Rattle.lu_horizon.proofs.OwnLaws.{serves_next}
 use Rattle.lu_tree.proofs.KnownLaws.{behind_among, behind_here, behind_more, behind_same, beside_back, beside_moved, hints_on, known_alone, known_behind, known_below, known_with, none_behind}
+use Rattle.lu_tree.proofs.Leaving.{ready_still, some_both, stays_home, where_none}
 use Rattle.lu_tree.proofs.Walking.{ended_all, ended_first, ended_picked, ended_turn}
 use Rattle.lu_tree.proofs.walk.+walk_as.Goals as goal
-
-pub returns-in_err-counts-clause-stops : goal.returns-in_err-counts-clause-stops
-returns-in_err-counts-clause-stops g t c = λ is running.
-    (let Set = IsMember (g.T.SerialTree.members c.args.node.now.trail.tree) in
-    let s = c.args.node.now.machine in
-    let h = c.args.node.now.trail.history in
-    let none = ap (λ p. p.items) c.end.ensures.path ∙ c.requires.ready.empty in
-    let over : IsEnded s = c.in_err-counts.ensures.ended running in
-    let stops = end_stops Set s h c.args.left (inr (search rules)) over c.end.new.tally.path.items none in
-    stops_there Set s h c.args.left c.end.new.tally.path.items c.end.new.tally.path.items s c.end.new.node.machine h c.end.new.node.trail.history refl (ap (λ n. n.machine) c.end.ensures.node) (ap (λ n. n.trail.history) c.end.ensures.node) stops)
-
-pub returns-then-left-eq0-clause-known : goal.returns-then-left-eq0-clause-known
-returns-then-left-eq0-clause-known g t c =
-    let Set = IsMember (g.T.SerialTree.members c.args.node.now.trail.tree) in
-    let s = c.args.node.now.machine in
-    let h = c.args.node.now.trail.history in
-    let below = end_below Set s h c.args.left (inr (search rules)) c.in_ok-counts.counts c.in_ok-counts.ensures.counted in
-    known_alone Set s h c.args.left c.alone.result c.in_ok-counts.counts c.alone.ensures.counts c.alone.ensures.kids below
 
 pub loop-thread-init : goal.loop-thread-init
 loop-thread-init g t c =
@@ -39,9 +22,9 @@ loop-thread-init g t c =
     let s = c.args.node.now.machine in
     let h = c.args.node.now.trail.history in
     record {
-      machine = c.counted_below.ensures.machine;
-      history = c.counted_below.ensures.history;
-      tree = c.counted_below.ensures.tree;
+      machine = (ap (λ n. n.machine) c.counted_below.ensures.same);
+      history = (ap (λ n. n.trail.history) c.counted_below.ensures.same);
+      tree = (ap (λ n. n.trail.tree) c.counted_below.ensures.same);
       cache = c.counted_below.ensures.cache;
       base = refl;
       running = c.requires.running;
@@ -77,9 +60,9 @@ loop-pick-preserved-in-Some-behind_one_of g t c =
       history = i.history;
       tree = i.tree;
       cache = i.cache;
-      base = c.pass_many-in-Some-behind_one_of.ensures.base ∙ i.base;
-      running = c.pass_many-in-Some-behind_one_of.ensures.running (search rules);
-      ready = record { room = subst (λ p. 256 ≤ vec_capacity p) (sym c.pass_many-in-Some-behind_one_of.ensures.path) i.ready.room; empty = ap (λ p. p.items) c.pass_many-in-Some-behind_one_of.ensures.path ∙ i.ready.empty };
+      base = c.pass_many.ensures.base ∙ i.base;
+      running = c.pass_many.ensures.running (search rules);
+      ready = record { room = subst (λ p. 256 ≤ vec_capacity p) (sym c.pass_many.ensures.path) i.ready.room; empty = ap (λ p. p.items) c.pass_many.ensures.path ∙ i.ready.empty };
       beside = i.beside;
       ended = ended_picked s next able;
       counted = subst (AreAdded Set s h c.args.left (record { thread = thread; pick = pick + 1 })) (sym c.add.ensures.counts) more;
@@ -139,7 +122,7 @@ loop-pick-preserved g t c =
     let s = c.args.node.now.machine in
     let h = c.args.node.now.trail.history in
     let i = c.loop-pick.invariant in
-    let w = c.in-Some-walked.ensures in
+    let w = c.in-Some-walked.ensures.passed in
     let thread = c.loop-thread.thread in
     let pick = c.loop-pick.pick in
     let next : Move = record { thread = thread; pick = pick } in
@@ -162,7 +145,7 @@ loop-pick-preserved g t c =
     record {
       machine = c.leave.ensures.machine ∙ (ap (restored c.enter-undo.result) w.machine ∙ (c.enter-undo.ensures.back ∙ home));
       history = c.leave.ensures.history c.loop-pick.node.trail.history (w.history ∙ c.enter-undo.ensures.history) ∙ i.history;
-      tree = c.leave.ensures.tree ∙ c.walk_as-walked.ensures.tree ∙ c.enter-undo.ensures.tree ∙ i.tree;
+      tree = c.leave.ensures.tree ∙ c.walk_as-walked.ensures.stays.tree ∙ c.enter-undo.ensures.tree ∙ i.tree;
       cache = record { tree_is = c.walk_as-walked.ensures.cache.tree_is ∙ i.cache.tree_is; capacity = c.walk_as-walked.ensures.cache.capacity ∙ i.cache.capacity };
       base = c.walk_as-walked.ensures.base ∙ i.base;
       running = w.running;
@@ -192,48 +175,168 @@ loop-thread-preserved g t c =
       kids = i.kids;
     }
 
-pub returns-in_err-counts-2-clause-stops : goal.returns-in_err-counts-2-clause-stops
-returns-in_err-counts-2-clause-stops g t c = λ is running.
+pub returns-then-left-eq0-clause-stays : goal.returns-then-left-eq0-clause-stays
+returns-then-left-eq0-clause-stays g t c =
+    let node = c.end.ensures.node in
+    stays_home c.args.node.now c.end.new.node c.args.left c.end.new.tally (ap (λ n. n.trail.tree) node) (ap (λ n. n.machine) node) (ap (λ n. n.trail.history) node) c.requires.agree (ready_still c.args.tally.now c.end.new.tally c.end.ensures.path c.requires.ready)
+
+pub returns-then-left-eq0-clause-passed : goal.returns-then-left-eq0-clause-passed
+returns-then-left-eq0-clause-passed g t c =
+    let Set = IsMember (g.T.SerialTree.members c.args.node.now.trail.tree) in
+    let s = c.args.node.now.machine in
+    let h = c.args.node.now.trail.history in
+    let node = c.end.ensures.node in
+    some_both _ _ _ c.end.result
+    (λ known running alone. record {
+      machine = ap (λ n. n.machine) node;
+      history = ap (λ n. n.trail.history) node;
+      running = running;
+      ready = ready_still c.args.tally.now c.end.new.tally c.end.ensures.path c.requires.ready;
+      beside = c.requires.beside;
+      known = known_alone Set s h c.args.left known (counts_of known) refl alone.1 (end_below Set s h c.args.left (inr (search rules)) (counts_of known) alone.0);
+    })
+    c.end.ensures.running c.end.ensures.counted
+
+pub returns-then-left-eq0-clause-stops : goal.returns-then-left-eq0-clause-stops
+returns-then-left-eq0-clause-stops g t c = λ is running.
+    (let Set = IsMember (g.T.SerialTree.members c.args.node.now.trail.tree) in
+    let s = c.args.node.now.machine in
+    let h = c.args.node.now.trail.history in
+    let path = c.end.new.tally.path.items in
+    let none = ap (λ p. p.items) c.end.ensures.path ∙ c.requires.ready.empty in
+    let over : IsEnded s = where_none _ c.end.result is c.end.ensures.ended running in
+    let stops = end_stops Set s h c.args.left (inr (search rules)) over path none in
+    stops_there Set s h c.args.left path path s c.end.new.node.machine h c.end.new.node.trail.history refl (ap (λ n. n.machine) c.end.ensures.node) (ap (λ n. n.trail.history) c.end.ensures.node) stops)
+
+pub returns-in-Some-clause-stays : goal.returns-in-Some-clause-stays
+returns-in-Some-clause-stays g t c =
+    let there = c.counted_below.ensures in
+    stays_home c.args.node.now c.counted_below.new.node c.args.left c.pass.new.tally (ap (λ n. n.trail.tree) there.same) (ap (λ n. n.machine) there.same) (ap (λ n. n.trail.history) there.same) c.requires.agree (ready_still c.args.tally.now c.pass.new.tally c.pass.ensures.path c.requires.ready)
+
+pub returns-in-Some-clause-passed : goal.returns-in-Some-clause-passed
+returns-in-Some-clause-passed g t c =
+    let Set = IsMember (g.T.SerialTree.members c.args.node.now.trail.tree) in
+    let s = c.args.node.now.machine in
+    let h = c.args.node.now.trail.history in
+    let there = c.counted_below.ensures in
+    some_both _ _ _ c.pass.result
+    (λ known running alone. record {
+      machine = (ap (λ n. n.machine) there.same);
+      history = (ap (λ n. n.trail.history) there.same);
+      running = running;
+      ready = ready_still c.args.tally.now c.pass.new.tally c.pass.ensures.path c.requires.ready;
+      beside = c.requires.beside;
+      known = known_alone Set s h c.args.left known c.in-Some.counts alone.0 alone.1 c.in-Some.ensures.below;
+    })
+    c.pass.ensures.running c.pass.ensures.alone
+
+pub returns-in-Some-clause-stops : goal.returns-in-Some-clause-stops
+returns-in-Some-clause-stops g t c = λ is running.
+    (let stopped = where_none _ c.pass.result is c.pass.ensures.stopped in
+    absurd (cc))
+
+pub returns-then-is_ended-clause-passed : goal.returns-then-is_ended-clause-passed
+returns-then-is_ended-clause-passed g t c =
+    let Set = IsMember (g.T.SerialTree.members c.args.node.now.trail.tree) in
+    let s = c.args.node.now.machine in
+    let h = c.args.node.now.trail.history in
+    let i = c.loop-thread.invariant in
+    let home : c.counted_below.new.node.machine ≡ s = (ap (λ n. n.machine) c.counted_below.ensures.same) in
+    let past : length s.threads ≤ c.loop-thread.thread = omega (arith, c.threads-thread-end.ensures.value, ap (λ (x : State). length x.threads) home) in
+    let all : c.loop-thread.is_ended ≡ true = search rules in
+    let none : HasNoMove s = ended_all s c.loop-thread.thread past (rw all at i.ended) in
+    let node = c.end-then-is_ended.ensures.node in
+    some_both _ _ _ c.end-then-is_ended.result
+    (λ known running alone. record {
+      machine = ap (λ n. n.machine) node ∙ i.machine;
+      history = ap (λ n. n.trail.history) node ∙ i.history;
+      running = running;
+      ready = ready_still c.loop-thread.tally c.end-then-is_ended.new.tally c.end-then-is_ended.ensures.path i.ready;
+      beside = i.beside;
+      known =
+          (let counted : Counted Set s h (counts_of known) = rw (← i.tree, ← i.machine, ← i.history) alone.0 in
+          known_alone Set s h c.args.left known (counts_of known) refl alone.1 (end_below Set s h c.args.left (inl none) (counts_of known) counted));
+    })
+    c.end-then-is_ended.ensures.running c.end-then-is_ended.ensures.counted
+
+pub returns-then-is_ended-clause-stops : goal.returns-then-is_ended-clause-stops
+returns-then-is_ended-clause-stops g t c = λ is running.
     (let Set = IsMember (g.T.SerialTree.members c.args.node.now.trail.tree) in
     let s = c.args.node.now.machine in
     let h = c.args.node.now.trail.history in
     let i = c.loop-thread.invariant in
-    let home : c.counted_below.new.node.machine ≡ c.args.node.now.machine = c.counted_below.ensures.machine in
+    let home : c.counted_below.new.node.machine ≡ s = (ap (λ n. n.machine) c.counted_below.ensures.same) in
     let past : length s.threads ≤ c.loop-thread.thread = omega (arith, c.threads-thread-end.ensures.value, ap (λ (x : State). length x.threads) home) in
     let all : c.loop-thread.is_ended ≡ true = search rules in
     let none : HasNoMove s = ended_all s c.loop-thread.thread past (rw all at i.ended) in
+    let node = c.end-then-is_ended.ensures.node in
     let path = c.end-then-is_ended.new.tally.path.items in
     let empty : path ≡ [] = ap (λ p. p.items) c.end-then-is_ended.ensures.path ∙ i.ready.empty in
-    let over : IsEnded s = rw (← i.machine) (c.in_err-counts-2.ensures.ended running) in
+    let over : IsEnded s = rw (← i.machine) (where_none _ c.end-then-is_ended.result is c.end-then-is_ended.ensures.ended running) in
     let stops = end_stops Set s h c.args.left (inl none) over path empty in
-    let node = c.end-then-is_ended.ensures.node in
     stops_there Set s h c.args.left path path s c.end-then-is_ended.new.node.machine h c.end-then-is_ended.new.node.trail.history refl (ap (λ n. n.machine) node ∙ i.machine) (ap (λ n. n.trail.history) node ∙ i.history) stops)
 
-pub returns-then-is_ended-clause-known : goal.returns-then-is_ended-clause-known
-returns-then-is_ended-clause-known g t c =
+pub returns-clause-passed : goal.returns-clause-passed
+returns-clause-passed g t c =
     let Set = IsMember (g.T.SerialTree.members c.args.node.now.trail.tree) in
     let s = c.args.node.now.machine in
     let h = c.args.node.now.trail.history in
     let i = c.loop-thread.invariant in
-    let home : c.counted_below.new.node.machine ≡ c.args.node.now.machine = c.counted_below.ensures.machine in
-    let past : length s.threads ≤ c.loop-thread.thread = omega (arith, c.threads-thread-end.ensures.value, ap (λ (x : State). length x.threads) home) in
-    let all : c.loop-thread.is_ended ≡ true = search rules in
-    let none : HasNoMove s = ended_all s c.loop-thread.thread past (rw all at i.ended) in
-    let counted : Counted Set s h c.in_ok-counts-2.counts = rw (← i.tree, ← i.machine, ← i.history) (c.in_ok-counts-2.ensures.counted) in
-    let below = end_below Set s h c.args.left (inl none) c.in_ok-counts-2.counts counted in
-    known_alone Set s h c.args.left c.alone-then-is_ended.result c.in_ok-counts-2.counts c.alone-then-is_ended.ensures.counts c.alone-then-is_ended.ensures.kids below
-
-pub returns-clause-known : goal.returns-clause-known
-returns-clause-known g t c =
-    let Set = IsMember (g.T.SerialTree.members c.args.node.now.trail.tree) in
-    let s = c.args.node.now.machine in
-    let h = c.args.node.now.trail.history in
-    let i = c.loop-thread.invariant in
-    let home : c.counted_below.new.node.machine ≡ s = c.counted_below.ensures.machine in
+    let home : c.counted_below.new.node.machine ≡ s = (ap (λ n. n.machine) c.counted_below.ensures.same) in
     let past : length s.threads ≤ c.loop-thread.thread = omega (arith, c.threads-thread-end.ensures.value, ap (λ (x : State). length x.threads) home) in
     let is : c.loop-thread.is_ended ≡ false = search rules in
     let some : HasMove s = rw is at i.ended in
     let room : 1 ≤ c.args.left = omega arith in
     let all = added_all Set s h c.args.left c.loop-thread.thread past some room (counts_of c.loop-thread.known) i.counted in
     let below = subst (AreBelow Set s h c.args.left) (sym c.told.ensures.counts) all in
-    known_with Set s h c.args.left c.told.result room below (behind_among Set s h (c.args.left - 1) c.loop-thread.known c.told.result c.told.ensures.kids i.kids)
+    record {
+      machine = i.machine;
+      history = i.history;
+      running = i.running;
+      ready = i.ready;
+      beside = i.beside;
+      known = known_with Set s h c.args.left c.told.result room below (behind_among Set s h (c.args.left - 1) c.loop-thread.known c.told.result c.told.ensures.kids i.kids);
+    }
+
+pub loop-pick-init : goal.loop-pick-init
+loop-pick-init g t c =
+    let i = c.loop-thread.invariant in
+    record {
+      machine = i.machine;
+      history = i.history;
+      tree = i.tree;
+      cache = i.cache;
+      base = i.base;
+      running = i.running;
+      ready = i.ready;
+      beside = i.beside;
+      ended = i.ended;
+      counted = i.counted;
+      kids = i.kids;
+    }
+
+pub returns-then-not-pass_many-clause-stays : goal.returns-then-not-pass_many-clause-stays
+returns-then-not-pass_many-clause-stays g t c =
+    let i = c.loop-pick.invariant in
+    stays_home c.args.node.now c.loop-pick.node c.args.left c.pass_many.new.self i.tree i.machine i.history c.requires.agree (ready_still c.loop-pick.tally c.pass_many.new.self c.pass_many.ensures.path i.ready)
+
+pub returns-then-is_ended-clause-stays : goal.returns-then-is_ended-clause-stays
+returns-then-is_ended-clause-stays g t c =
+    let i = c.loop-thread.invariant in
+    let node = c.end-then-is_ended.ensures.node in
+    stays_home c.args.node.now c.end-then-is_ended.new.node c.args.left c.end-then-is_ended.new.tally (ap (λ n. n.trail.tree) node ∙ i.tree) (ap (λ n. n.machine) node ∙ i.machine) (ap (λ n. n.trail.history) node ∙ i.history) c.requires.agree (ready_still c.loop-thread.tally c.end-then-is_ended.new.tally c.end-then-is_ended.ensures.path i.ready)
+
+pub returns-clause-stays : goal.returns-clause-stays
+returns-clause-stays g t c =
+    let i = c.loop-thread.invariant in
+    stays_home c.args.node.now c.loop-thread.node c.args.left c.loop-thread.tally i.tree i.machine i.history c.requires.agree i.ready
+
+pub returns-in_default-walked-clause-stays : goal.returns-in_default-walked-clause-stays
+returns-in_default-walked-clause-stays g t c =
+    let below = c.walk_as-walked.ensures.stays in
+    record {
+      tree = below.tree ∙ c.enter-undo.ensures.tree ∙ c.loop-pick.invariant.tree;
+      agree = below.agree;
+      room = rw c.push_reserved.ensures.capacity below.room;
+      short = omega (arith, ap length c.push_reserved.ensures.items);
+    }

@@ -1,4 +1,4 @@
-use Rattle.std.proofs.Common.{rules, ◌≡◌, inl, inr, subst}
+use Rattle.std.proofs.Common.{rules, ◌≡◌, ◌∙◌, inl, inr, subst}
 use Rattle.lu_tree.specs.Known.{HaveOneHistory, MadeBoth, MoveNotBoth}
 use Rattle.lu_tree.proofs.KnownLaws.{commute_made, commute_quiet, commute_seen}
 use Rattle.lu_tree.proofs.commuting.Commuting.commute.Goals as goal
@@ -8,7 +8,7 @@ returns-clause-commute g c = (
   λ is.
       (let s = c.args.machine.now in
       let there : MadeBoth c.args.first c.args.second s c.make_both.new.machine c.in-Some.there = c.in-Some.ensures.made in
-      let back : c.take_back-2.new.machine ≡ s = search rules in
+      let back : c.take_back-2.new.machine ≡ s = c.take_back-2.ensures ∙ there.back in
       let here : MadeBoth c.args.second c.args.first s c.make_both-2.new.machine c.in-Some-make_both.here = subst (λ x. MadeBoth c.args.second c.args.first x c.make_both-2.new.machine c.in-Some-make_both.here) back c.in-Some-make_both.ensures.made in
       let same : c.make_both-2.new.machine ≡ c.make_both.new.machine = search rules in
       let one : HaveOneHistory c.in-Some.there c.in-Some-make_both.here = search rules in
@@ -16,7 +16,7 @@ returns-clause-commute g c = (
   λ commute.
       (let s = c.args.machine.now in
       let there : MadeBoth c.args.first c.args.second s c.make_both.new.machine c.in-Some.there = c.in-Some.ensures.made in
-      let back : c.take_back-2.new.machine ≡ s = search rules in
+      let back : c.take_back-2.new.machine ≡ s = c.take_back-2.ensures ∙ there.back in
       let here : MadeBoth c.args.second c.args.first s c.make_both-2.new.machine c.in-Some-make_both.here = subst (λ x. MadeBoth c.args.second c.args.first x c.make_both-2.new.machine c.in-Some-make_both.here) back c.in-Some-make_both.ensures.made in
       let made = commute_made c.args.first c.args.second s c.make_both.new.machine c.make_both-2.new.machine c.in-Some.there c.in-Some-make_both.here there here commute in
       search rules),
@@ -45,7 +45,7 @@ returns-in_default-make_both-clause-commute g c = (
   λ is. absurd (cc),
   λ commute.
       (let s = c.args.machine.now in
-      let back : c.take_back-2.new.machine ≡ s = search rules in
+      let back : c.take_back-2.new.machine ≡ s = c.take_back-2.ensures ∙ c.in-Some.ensures.made.back in
       let none : MoveNotBoth c.args.second c.args.first s = subst (MoveNotBoth c.args.second c.args.first) back c.in_default-make_both.ensures.none in
       absurd (none commute.0 commute.2 commute.1 commute.4)),
 )

@@ -1,7 +1,9 @@
-use Rattle.std.proofs.Common.{◌<◌, ◌++◌, [], ◌∷◌, length, take, refl, ap, sym, ◌∙◌, arith, rules}
+use Rattle.std.proofs.Common.{◌≡◌, ◌<◌, ◌++◌, [], ◌∷◌, length, slice_index_or, take, IfOk, refl, ap, subst, sym, ◌∙◌, arith, rules}
 use Rattle.std.proofs.lemmas.List.{take_more, take_all}
-use Rattle.lu_trie.specs.declared.packed.Node.{Node}
-use Rattle.lu_trie.proofs.FlatTrees.{grown_same, grown_more, kid_lighter, linked_more, packed-links, kept, added_packed, added_view, added_place, added_in_range}
+use Rattle.lu_trie.specs.Members.{AllSerial}
+use Rattle.lu_trie.specs.Branches.{AreBranches, members_from}
+use Rattle.lu_trie.specs.Packed.{AllBelow, resolve}
+use Rattle.lu_trie.proofs.FlatTrees.{grown_same, grown_more, kid_lighter, linked_more}
 use Rattle.lu_trie.proofs.trie.Trie.+add_to.Goals as goal
 
 pub returns-in_err-clone-clause-grows : goal.returns-in_err-clone-clause-grows
@@ -40,76 +42,27 @@ loop-label-preserved g t c =
       done = more.done;
     }
 
-pub invariant_of-table-in_err-push-2 : goal.invariant_of-table-in_err-push-2
-invariant_of-table-in_err-push-2 g t c =
-    let links = c.table-2.inside.links in
-    let nodes = c.table-2.inside.nodes in
-    let own = c.loop-label.links in
-    let inv = c.loop-label.invariant in
-    let linked = c.in_ok-extend_from_slice.ensures.items ∙ ap (λ x. links.items ++ x) c.deref.ensures.value in
-    rw (c.in_err-push-2.ensures.items, linked) (packed-links links.items own.items [] nodes.items c.table-2.invariant)
+pub push_node-requires-clause-below : goal.push_node-requires-clause-below
+push_node-requires-clause-below g t c = subst (AllBelow (length c.loop-label.table)) (sym c.deref.ensures.value) c.loop-label.invariant.below
 
-pub returns-in_err-push-2-clause-grows : goal.returns-in_err-push-2-clause-grows
-returns-in_err-push-2-clause-grows g t c =
-    let links = c.table-2.inside.links in
-    let nodes = c.table-2.inside.nodes in
-    let own = c.loop-label.links in
-    let inv = c.loop-label.invariant in
-    let linked = c.in_ok-extend_from_slice.ensures.items ∙ ap (λ x. links.items ++ x) c.deref.ensures.value in
-    rw (c.in_err-push-2.ensures.items, linked) (inv.grown.0, kept links.items own.items nodes.items c.loop-label.table c.table-2.view_is c.table-2.invariant ∙ inv.grown.1)
-
-pub invariant_of-table-2 : goal.invariant_of-table-2
-invariant_of-table-2 g t c =
-    let links = c.table-2.inside.links in
-    let nodes = c.table-2.inside.nodes in
-    let own = c.loop-label.links in
-    let inv = c.loop-label.invariant in
-    let linked = c.in_ok-extend_from_slice.ensures.items ∙ ap (λ x. links.items ++ x) c.deref.ensures.value in
+pub push_node-requires-clause-branches : goal.push_node-requires-clause-branches
+push_node-requires-clause-branches g t c =
     let items = c.deref-label-items.result.now in
-    let done = inv.done ∙ take_all c.loop-label.label-index items (omega arith) ∙ c.deref-label-items.ensures.value in
-    let first = c.len-first.ensures ∙ links.ok.0 in
-    let count = c.len-2.ensures ∙ own.ok.0 in
-    let node : Node = record { ends = c.self.inside.ends; first = c.len-first.result; count = c.len-2.result } in
-    rw (c.in_ok-push-2.ensures.items, linked) (added_packed links.items own.items nodes.items c.loop-label.table c.table-2.view_is c.table-2.invariant node c.self.inside.kids.items first count inv.below done c.self.invariant.are c.self.invariant.serial)
+    let done = c.loop-label.invariant.done ∙ take_all c.loop-label.label-index items (omega arith) ∙ c.deref-label-items.ensures.value in
+    subst AreBranches (sym (ap (resolve c.loop-label.table) c.deref.ensures.value ∙ done)) c.self.invariant.are
+
+pub push_node-requires-clause-serial : goal.push_node-requires-clause-serial
+push_node-requires-clause-serial g t c =
+    let items = c.deref-label-items.result.now in
+    let done = c.loop-label.invariant.done ∙ take_all c.loop-label.label-index items (omega arith) ∙ c.deref-label-items.ensures.value in
+    subst (λ bs. AllSerial (members_from c.self.inside.ends bs)) (sym (ap (resolve c.loop-label.table) c.deref.ensures.value ∙ done)) c.self.invariant.serial
 
 pub returns-clause-grows : goal.returns-clause-grows
-returns-clause-grows g t c =
-    let links = c.table-2.inside.links in
-    let nodes = c.table-2.inside.nodes in
-    let own = c.loop-label.links in
-    let inv = c.loop-label.invariant in
-    let linked = c.in_ok-extend_from_slice.ensures.items ∙ ap (λ x. links.items ++ x) c.deref.ensures.value in
-    let items = c.deref-label-items.result.now in
-    let done = inv.done ∙ take_all c.loop-label.label-index items (omega arith) ∙ c.deref-label-items.ensures.value in
-    let first = c.len-first.ensures ∙ links.ok.0 in
-    let count = c.len-2.ensures ∙ own.ok.0 in
-    let node : Node = record { ends = c.self.inside.ends; first = c.len-first.result; count = c.len-2.result } in
-    rw (c.in_ok-push-2.ensures.items, linked, added_view links.items own.items nodes.items c.loop-label.table c.table-2.view_is c.table-2.invariant node c.self.inside.kids.items first count inv.below done c.self.invariant.are c.self.invariant.serial) (grown_more c.args.table.now c.loop-label.table _ inv.grown (_, refl))
-
-pub returns-clause-place : goal.returns-clause-place
-returns-clause-place g t c =
-    let links = c.table-2.inside.links in
-    let nodes = c.table-2.inside.nodes in
-    let own = c.loop-label.links in
-    let inv = c.loop-label.invariant in
-    let linked = c.in_ok-extend_from_slice.ensures.items ∙ ap (λ x. links.items ++ x) c.deref.ensures.value in
-    let items = c.deref-label-items.result.now in
-    let done = inv.done ∙ take_all c.loop-label.label-index items (omega arith) ∙ c.deref-label-items.ensures.value in
-    let first = c.len-first.ensures ∙ links.ok.0 in
-    let count = c.len-2.ensures ∙ own.ok.0 in
-    let node : Node = record { ends = c.self.inside.ends; first = c.len-first.result; count = c.len-2.result } in
-    rw (c.in_ok-push-2.ensures.items, linked, added_view links.items own.items nodes.items c.loop-label.table c.table-2.view_is c.table-2.invariant node c.self.inside.kids.items first count inv.below done c.self.invariant.are c.self.invariant.serial, c.len-place.ensures, nodes.ok.0) (added_in_range links.items own.items nodes.items c.loop-label.table c.table-2.view_is c.table-2.invariant node c.self.inside.kids.items first count inv.below done c.self.invariant.are c.self.invariant.serial)
+returns-clause-grows g t c = grown_more _ _ _ c.loop-label.invariant.grown c.push_node.ensures.grows
 
 pub returns-clause-members : goal.returns-clause-members
 returns-clause-members g t c =
-    let links = c.table-2.inside.links in
-    let nodes = c.table-2.inside.nodes in
-    let own = c.loop-label.links in
-    let inv = c.loop-label.invariant in
-    let linked = c.in_ok-extend_from_slice.ensures.items ∙ ap (λ x. links.items ++ x) c.deref.ensures.value in
     let items = c.deref-label-items.result.now in
-    let done = inv.done ∙ take_all c.loop-label.label-index items (omega arith) ∙ c.deref-label-items.ensures.value in
-    let first = c.len-first.ensures ∙ links.ok.0 in
-    let count = c.len-2.ensures ∙ own.ok.0 in
-    let node : Node = record { ends = c.self.inside.ends; first = c.len-first.result; count = c.len-2.result } in
-    rw (c.in_ok-push-2.ensures.items, linked, added_view links.items own.items nodes.items c.loop-label.table c.table-2.view_is c.table-2.invariant node c.self.inside.kids.items first count inv.below done c.self.invariant.are c.self.invariant.serial, c.len-place.ensures, nodes.ok.0) (added_place links.items own.items nodes.items c.loop-label.table c.table-2.view_is c.table-2.invariant node c.self.inside.kids.items first count inv.below done c.self.invariant.are c.self.invariant.serial ∙ c.self.view_is)
+    let done = c.loop-label.invariant.done ∙ take_all c.loop-label.label-index items (omega arith) ∙ c.deref-label-items.ensures.value in
+    let same = ap (resolve c.loop-label.table) c.deref.ensures.value ∙ done in
+    subst (λ hs. IfOk c.push_node.result (λ place. slice_index_or c.push_node.new.self place [] ≡ hs)) (ap (members_from c.self.inside.ends) same ∙ c.self.view_is) c.push_node.ensures.members

@@ -1,0 +1,47 @@
+-- What a walk below a node leaves behind.
+use Rattle.std.specs.Prelude.{◌≡◌, ◌≤◌, Bool, false, ℕ, List, [], length, vec_capacity}
+use Rattle.lu_test.specs.declared.schedule.Move.{Move}
+use Rattle.lu_machine.specs.States.{State, progress}
+use Rattle.lu_history.specs.Standing.{Agree}
+use Rattle.lu_history.specs.declared.serial.SerialOp.{SerialOp}
+use Rattle.lu_tree.specs.declared.found.Found.{Found}
+use Rattle.lu_tree.specs.declared.found.Found.TheVariants.{Clean, Bad, Abandoned}
+use Rattle.lu_tree.specs.declared.known.Known.{Known}
+use Rattle.lu_tree.specs.declared.node.Node.{Node}
+use Rattle.lu_tree.specs.declared.tally.Tally.{Tally}
+use Rattle.lu_tree.specs.Known.{AreBeside, IsKnownNode, counts_of, kids_of}
+use Rattle.lu_tree.specs.Walks.{IsBadEnd, IsCounted, IsReady}
+
+-- The walk ends at a node over the same tree, whose history is that of its machine. The path by
+-- which it went on is no longer than the moves that were left, and has room for any.
+pub record StaysBelow {T Place : Type 0} (node : Node T Place) (left : ℕ) (tally : Tally)
+    (end : Node T Place) : Type 0 where
+  pub tree : end.trail.tree ≡ node.trail.tree
+  pub agree : Agree (progress end.machine) end.trail.history
+  pub room : 256 ≤ vec_capacity tally.path
+  pub short : length tally.path.items ≤ left
+
+-- The walk passed: it is back at the node, can go on, and this is known below the node.
+pub record Passed {T Place : Type 0} (members : T → List (List SerialOp)) (node : Node T Place)
+    (left : ℕ) (stopped : Bool) (tally : Tally) (other : State) (end : Node T Place)
+    (below : Known) : Type 0 where
+  pub machine : end.machine ≡ node.machine
+  pub history : end.trail.history ≡ node.trail.history
+  pub running : stopped ≡ false
+  pub ready : IsReady tally
+  pub beside : AreBeside node.machine other
+  pub known : IsKnownNode members node left below
+
+-- the numbers of a schedule that is cut at the node, or ends there, and nothing of states that
+-- follow
+abbrev pub IsCountedAlone : {T Place : Type 0} → (T → List (List SerialOp)) → Node T Place → Known
+    → Type 0
+IsCountedAlone members node known =
+    IsCounted members node (counts_of known) × (kids_of known ≡ [])
+
+-- this schedule is answered, which ends at the node and is not good, and why it is not
+abbrev pub IsBadFound : {T Place : Type 0} → (T → List (List SerialOp)) → Node T Place → List Move
+    → Found → Type 0
+IsBadFound members node u (Bad schedule why) = (schedule ≡ u) × IsBadEnd members node why
+IsBadFound members node u (Clean counts) = ⊥
+IsBadFound members node u Abandoned = ⊥
