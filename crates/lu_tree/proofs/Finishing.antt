@@ -1,5 +1,5 @@
 -- Threads that are run to their ends one after the other, and what that says of all orders.
-use Rattle.std.proofs.Common.{◌≡◌, ℕ, zero, suc, ◌+◌, ◌-◌, ◌<◌, ◌≤◌, ◌⊎◌, true, List, [], ◌∷◌, ◌++◌, Option, Some, None, IfSome, MatchOption, slice_get, slice_set, get_or, length, replicate, refl, sym, ◌∙◌, ap, subst, inl, inr, arith, append_assoc}
+use Rattle.std.proofs.Common.{◌≡◌, ℕ, zero, suc, ◌+◌, ◌-◌, ◌<◌, ◌≤◌, ◌⊎◌, true, List, [], ◌∷◌, ◌++◌, Option, Some, None, MatchOption, slice_get, slice_set, get_or, length, replicate, refl, sym, ◌∙◌, ap, subst, inl, inr, arith, append_assoc}
 use Rattle.std.proofs.lemmas.Bool.{cases_eq, cases_lt}
 use Rattle.std.proofs.lemmas.Bool.Decides.{nat_tests}
 use Rattle.std.proofs.lemmas.List.{append-nil, get_or-set_same, get_or-set_other, length-set}
@@ -212,11 +212,6 @@ module _ (Set : List SerialOp → Type 0) (look : Look) (s : State) (h : List Ev
       solo_at : (j : ℕ) → j < length s.threads → (c : (j < length s.threads) ⊎ (length s.threads ≤ j)) → Solo ((sharing_of look.sharers).sees j) ((sharing_of look.sharers).keeps j) j (events_at j c) (get_or ns j 0) s
       solo_at j lt (inl lt') = (has j lt').1
       solo_at j lt (inr past) = absurd (omega arith)
-
--- what holds of a value where there is one
-pub some_more : {A : Type 0} (P Q : A → Type 0) (o : Option A) → ((x : A) → P x → Q x) → IfSome o P → IfSome o Q
-some_more P Q None f h = tt
-some_more P Q (Some x) f h = f x h
 
 -- below such a state
 pub tail_all : (start : State) (Set : List SerialOp → Type 0) (bound left n : ℕ) (u : List Move) (s : State) (h : List Event) → Agree (progress s) h → Leads start u s h → length u + left ≡ bound → IsGoodTail Set s h left n → AreAllGood Set start bound (Below u) (completes n)

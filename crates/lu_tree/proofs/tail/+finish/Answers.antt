@@ -1,8 +1,9 @@
-use Rattle.std.proofs.Common.{rules, arith, ◌+◌, ◌-◌, ◌∙◌, IsTrue, ap, subst}
+use Rattle.std.proofs.Common.{rules, arith, ◌-◌, ◌∙◌, IsTrue, ap, subst}
+use Rattle.std.proofs.lemmas.Option.{IfSome_then}
 use Rattle.lu_machine.specs.Undoes.{restored}
 use Rattle.lu_witness.specs.Witnesses.{IsMember}
 use Rattle.lu_tree.specs.Tails.{IsRest}
-use Rattle.lu_tree.proofs.Finishing.{few_moves, rest_move, rest_turn, some_more}
+use Rattle.lu_tree.proofs.Finishing.{few_moves, rest_move, rest_turn}
 use Rattle.lu_tree.proofs.Leaving.{same_node}
 use Rattle.lu_tree.proofs.tail.+finish.Goals as goal
 
@@ -11,9 +12,8 @@ returns-then-t-threads-clause-rest g t c =
     let Set = IsMember (g.T.SerialTree.members c.args.node.now.trail.tree) in
     let s = c.args.node.now.machine in
     let h = c.args.node.now.trail.history in
-    some_more _ (λ ns. IsRest Set c.args.look s h c.args.t c.args.left ns.items) c.no_moves.result
+    IfSome_then c.no_moves.result {Q = λ ns. IsRest Set c.args.look s h c.args.t c.args.left ns.items} c.no_moves.ensures.rest
     (λ ns rest. rest c.args.t c.args.left (omega (arith, c.threads-threads.ensures.value)))
-    c.no_moves.ensures.rest
 
 pub returns-then-is_over-clause-rest : goal.returns-then-is_over-clause-rest
 returns-then-is_over-clause-rest g t c =
@@ -21,9 +21,8 @@ returns-then-is_over-clause-rest g t c =
     let s = c.args.node.now.machine in
     let h = c.args.node.now.trail.history in
     let yes : IsTrue c.is_over.result = search rules in
-    some_more (λ ns. IsRest Set c.args.look s h (c.args.t + 1) c.args.left ns.items) (λ ns. IsRest Set c.args.look s h c.args.t c.args.left ns.items) c.finish.result
+    IfSome_then c.finish.result {Q = λ ns. IsRest Set c.args.look s h c.args.t c.args.left ns.items} c.finish.ensures.rest
     (λ ns rest. rest_turn Set c.args.look s h c.args.t c.args.left ns.items (c.is_over.ensures yes) rest)
-    c.finish.ensures.rest
 
 pub one_more-requires-clause-few : goal.one_more-requires-clause-few
 one_more-requires-clause-few g t c =

@@ -1,9 +1,10 @@
 use Rattle.std.proofs.Common.{◌≡◌, IfSome}
+use Rattle.std.proofs.lemmas.Option.{IfSome_then}
 use Rattle.lu_machine.specs.Sums.{capped}
 use Rattle.lu_tail.specs.Orders.{interleavings}
 use Rattle.lu_witness.specs.Witnesses.{IsMember}
 use Rattle.lu_tree.specs.Tails.{IsGoodTail, IsRest}
-use Rattle.lu_tree.proofs.Finishing.{rest_all, some_more}
+use Rattle.lu_tree.proofs.Finishing.{rest_all}
 use Rattle.lu_tree.proofs.tail.complete_below.Goals as goal
 
 pub returns-clause-tail : goal.returns-clause-tail
@@ -14,6 +15,5 @@ returns-clause-tail g c =
     let lengths = c.in_ok-lengths.lengths.items in
     let numbers : IfSome c.interleavings.result (λ n. n ≡ capped (interleavings lengths)) = rw c.deref.ensures.value at c.interleavings.ensures.number in
     let rest : IsRest Set c.in_ok-look.look s h 0 c.args.left lengths = rw c.look_at.ensures.same at c.in_ok-lengths.ensures.rest in
-    some_more (λ n. n ≡ capped (interleavings lengths)) (IsGoodTail Set s h c.args.left) c.interleavings.result
+    IfSome_then c.interleavings.result {Q = IsGoodTail Set s h c.args.left} numbers
     (λ n is. rest_all Set c.in_ok-look.look s h c.args.left n lengths c.in_ok-look.ensures.behind rest is)
-    numbers

@@ -1,8 +1,8 @@
 use Rattle.std.proofs.Common.{◌≡◌, IfSome}
+use Rattle.std.proofs.lemmas.Option.{IfSome_then}
 use Rattle.lu_machine.specs.Sums.{capped}
 use Rattle.lu_tail.specs.Orders.{orders_within}
 use Rattle.lu_tree.specs.Tails.{IsCutBelow}
-use Rattle.lu_tree.proofs.Finishing.{some_more}
 use Rattle.lu_tree.proofs.tail.cut_below.Goals as goal
 
 pub returns : goal.returns
@@ -11,6 +11,5 @@ returns c = λ serves.
     let left = c.args.left in
     let caps = c.in_ok-caps.caps.items in
     let numbers : IfSome c.orders_within.result (λ n. n ≡ capped (orders_within left caps)) = rw c.deref.ensures.0 at c.orders_within.ensures.number in
-    some_more (λ n. n ≡ capped (orders_within left caps)) (IsCutBelow s left) c.orders_within.result
-    (λ n is. record { caps = caps; are = c.in_ok-caps.ensures serves; number = is })
-    numbers)
+    IfSome_then c.orders_within.result {Q = IsCutBelow s left} numbers
+    (λ n is. record { caps = caps; are = c.in_ok-caps.ensures serves; number = is }))
