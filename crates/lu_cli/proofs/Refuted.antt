@@ -2,6 +2,7 @@
 use Rattle.std.proofs.Common.{ℕ, zero, suc, List, [], ◌∷◌, sym, subst, arith, inl, inr, refl, Result, Ok, Err, Option, Some, None}
 use Rattle.std.specs.Prelude.{All, IfSome}
 use Rattle.std.proofs.lemmas.List.Elements.{All-take}
+use Rattle.std.proofs.lemmas.Option.{IfSome_then}
 use Rattle.lu_component.specs.Component.{Declarations}
 use Rattle.lu_test.specs.declared.matrix.Call.{Call}
 use Rattle.lu_test.specs.declared.schedule.Move.{Move}
@@ -39,13 +40,9 @@ example_of c matrix Set example of is = subst (λ (m : Matrix). IsOf m c) (sym i
 -- ---- texts
 
 -- what is said of an answer is said of another's kind too
-pub some_more : (P Q : Answer → Type 0) → ((a : Answer) → P a → Q a) → (o : Option Answer) → IfSome o P → IfSome o Q
-some_more P Q h None is = tt
-some_more P Q h (Some a) is = h a is
-
 pub answered_more : (P Q : Answer → Type 0) → ((a : Answer) → P a → Q a) → (result : Result Answer Refusal) → Answered P result → Answered Q result
 answered_more P Q h (Ok a) is = h a is
-answered_more P Q h (Err e) is = some_more P Q h (refusal_answer e) is
+answered_more P Q h (Err e) is = IfSome_then (refusal_answer e) {P = P} {Q = Q} is h
 
 pub report_refused : (text : List ℕ) (fault : Fault ReportFaultKind) (IsAnswer : Parts → Answer → Type 0) → IsFault text fault → IfSome (line_answer report_code_of fault) (ToReport text IsAnswer)
 report_refused text (At kind n) IsAnswer is = inr (kind, n, is, refl)

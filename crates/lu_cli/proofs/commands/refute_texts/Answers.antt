@@ -1,9 +1,10 @@
 use Rattle.std.proofs.Common.{inl}
+use Rattle.std.proofs.lemmas.Option.{IfSome_then}
 use Rattle.std.proofs.lemmas.Result.{err_from_is_err_and}
 use Rattle.lu_spec.specs.Codes.{spec_code_of}
 use Rattle.lu_cli.specs.Refusals.{line_answer}
 use Rattle.lu_cli.specs.Replies.{IsRefuted, IsRefutedBy, ToSpec}
-use Rattle.lu_cli.proofs.Refuted.{answered_more, report_refused, some_more, spec_refused}
+use Rattle.lu_cli.proofs.Refuted.{answered_more, report_refused, spec_refused}
 use Rattle.lu_cli.proofs.commands.refute_texts.Goals as goal
 
 pub returns-in_err-report : goal.returns-in_err-report
@@ -20,8 +21,8 @@ returns-in_err-specification c =
     let answers = IsRefuted c.args.component.now c.args.matrix.now c.in_ok-report.report in
     let refused = spec_refused c.args.matrix.now c.args.specification.now fault answers c.in_err-specification.ensures.fault in
     rw (p.1, p.2)
-    (some_more (ToSpec c.args.matrix.now c.args.specification.now answers) (IsRefutedBy c.args.component.now c.args.matrix.now c.args.report.now c.args.specification.now)
-    (λ a is. inl (c.in_ok-report.report, c.in_ok-report.ensures.found, is)) (line_answer spec_code_of fault) refused)
+    (IfSome_then (line_answer spec_code_of fault) {Q = IsRefutedBy c.args.component.now c.args.matrix.now c.args.report.now c.args.specification.now} refused
+    (λ a is. inl (c.in_ok-report.report, c.in_ok-report.ensures.found, is)))
 
 pub returns : goal.returns
 returns c =
