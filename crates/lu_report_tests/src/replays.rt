@@ -1,28 +1,19 @@
 //! Replays of small components, with their texts.
 
-ghost use Rattle.std.specs.Prelude.{OnOk};
-ghost use Rattle.lu_test.specs.Matrix.{IsOf};
-ghost use Rattle.lu_machine.specs.Starts.{CanRun};
-
-use lu_lang::{Component, read_component};
-use lu_machine::settles;
-use lu_replay::{ReplayFault, replay, write_replay};
-use lu_test::{Matrix, read_matrix, read_schedule};
+use lu_cases::case_of;
+use lu_replay::{Replay, ReplayFault, replay, write_replay};
+use lu_test::read_schedule;
 use std::process::Abort;
 use std::test::Fail;
 
-/// The setup of the matrix settles.
-pub(crate) fn assert_settles(
-    rt: &(impl AllocGlobal + Abort),
-    component: &Component,
-    matrix: &Matrix,
-) -> Result<(), Fail>
-    requires { IsOf matrix.now component.now }
-    ensures { OnOk result (CanRun component.now matrix.now) }
-{
-    match settles(rt.alloc(), component, matrix)? {
-        None => Ok(()),
-        Some(call) => panic!(rt; "call {call} of the setup does not end"),
+/// The text of a replay, or the fault that stands in its place.
+fn text_of(
+    rt: &impl AllocGlobal,
+    replay: Result<Replay, ReplayFault>,
+) -> Result<Result<String, ReplayFault>, Fail> {
+    match replay {
+        Ok(replay) => Ok(Ok(write_replay(rt.alloc(), &replay)?)),
+        Err(fault) => Ok(Err(fault)),
     }
 }
 
@@ -33,15 +24,12 @@ fn shown(
     matrix: &[u8],
     schedule: &[u8],
 ) -> Result<Result<String, ReplayFault>, Fail> {
-    let alloc = rt.alloc();
-    let component = read_component(alloc, component)?;
-    let matrix = read_matrix(alloc, &component, matrix)?;
-    assert_settles(rt, &component, &matrix)?;
-    let schedule = read_schedule(alloc, schedule)?;
-    match replay(alloc, &component, &matrix, &schedule) {
-        Ok(replay) => Ok(Ok(write_replay(alloc, &replay)?)),
-        Err(fault) => Ok(Err(fault)),
-    }
+    let case = case_of(rt, component, matrix)?;
+    let schedule = read_schedule(rt.alloc(), schedule)?;
+    text_of(
+        rt,
+        replay(rt.alloc(), &case.component, &case.matrix, &schedule),
+    )
 }
 
 const COUNTER: &[u8] = b"component c

@@ -1,14 +1,15 @@
 //! Reports written, read and confirmed.
 
-use crate::replays::assert_settles;
+ghost use Rattle.lu_machine.specs.Starts.{CanRun};
+
+use lu_cases::{Case, case_of};
 use lu_history::SerialOutcome;
-use lu_lang::read_component;
 use lu_machine::Counts;
 use lu_replay::{confirm, confirm_against, set_or_offence};
 use lu_report::{Finding, Report, ReportFaultKind, read_report, write_report};
 use lu_serial::learn;
 use lu_spec::read_spec;
-use lu_test::{Schedule, read_matrix, write_schedule};
+use lu_test::{Schedule, write_schedule};
 use lu_text::Fault;
 use std::alloc::AllocError;
 use std::process::Abort;
@@ -30,36 +31,46 @@ fn again(rt: &impl AllocGlobal, text: &[u8]) -> Result<String, Fail> {
     Ok(write_report(rt.alloc(), &report)?)
 }
 
+/// Each of these texts is read and written as it was.
+fn assert_again(rt: &(impl AllocGlobal + Abort), texts: &[&[u8]]) -> Result<(), Fail> {
+    for text in texts {
+        assert_eq!(rt; again(rt, text)?.as_bytes(), *text);
+    }
+    Ok(())
+}
+
 #[test]
 fn failures_again(rt: HostRuntime) -> Result<(), Fail> {
-    assert_eq!(rt; again(&rt, LOST)?.as_bytes(), LOST);
-    let stuck = b"lineup report 1\nbound 0\nserial 256\nfail stuck 7\nschedule\n";
-    assert_eq!(rt; again(&rt, stuck)?.as_bytes(), stuck.as_slice());
-    Ok(())
+    assert_again(
+        &rt,
+        &[
+            LOST,
+            b"lineup report 1\nbound 0\nserial 256\nfail stuck 7\nschedule\n",
+        ],
+    )
 }
 
 #[test]
 fn offences_again(rt: HostRuntime) -> Result<(), Fail> {
-    let cut = b"lineup report 1\nbound 40\nserial 4\nserial-cut\nschedule 0 0 0 0 0\n";
-    assert_eq!(rt; again(&rt, cut)?.as_bytes(), cut.as_slice());
-    let returned =
-        b"lineup report 1\nbound 40\nserial 4\nnondeterministic\nschedule 0 0:1 0 0 0\nbefore 0\nearlier ret 0\n";
-    assert_eq!(rt; again(&rt, returned)?.as_bytes(), returned.as_slice());
-    let trapped =
-        b"lineup report 1\nbound 40\nserial 4\nnondeterministic\nschedule 7\nbefore 15\nearlier trap\n";
-    assert_eq!(rt; again(&rt, trapped)?.as_bytes(), trapped.as_slice());
-    let stuck =
-        b"lineup report 1\nbound 40\nserial 4\nnondeterministic\nschedule 7\nbefore 15\nearlier stuck\n";
-    assert_eq!(rt; again(&rt, stuck)?.as_bytes(), stuck.as_slice());
-    Ok(())
+    assert_again(
+        &rt,
+        &[
+            b"lineup report 1\nbound 40\nserial 4\nserial-cut\nschedule 0 0 0 0 0\n",
+            b"lineup report 1\nbound 40\nserial 4\nnondeterministic\nschedule 0 0:1 0 0 0\nbefore 0\nearlier ret 0\n",
+            b"lineup report 1\nbound 40\nserial 4\nnondeterministic\nschedule 7\nbefore 15\nearlier trap\n",
+            b"lineup report 1\nbound 40\nserial 4\nnondeterministic\nschedule 7\nbefore 15\nearlier stuck\n",
+        ],
+    )
 }
 
 #[test]
 fn a_pass_again(rt: HostRuntime) -> Result<(), Fail> {
-    let pass =
-        b"lineup report 1\nbound 256\nserial 1\npass\ncomplete 18446744073709551615\nstuck 0\ncut 1\n";
-    assert_eq!(rt; again(&rt, pass)?.as_bytes(), pass.as_slice());
-    Ok(())
+    assert_again(
+        &rt,
+        &[
+            b"lineup report 1\nbound 256\nserial 1\npass\ncomplete 18446744073709551615\nstuck 0\ncut 1\n",
+        ],
+    )
 }
 
 #[test]
@@ -88,28 +99,49 @@ fn fault_line(rt: &impl AllocGlobal, text: &[u8]) -> Result<Option<usize>, Alloc
     }
 }
 
+/// Each of these texts has its fault on the line beside it.
+fn assert_faults(rt: &(impl AllocGlobal + Abort), faults: &[(&[u8], usize)]) -> Result<(), Fail> {
+    for (text, line) in faults {
+        assert_eq!(rt; fault_line(rt, text)?, Some(*line));
+    }
+    Ok(())
+}
+
 #[test]
 fn faults(rt: HostRuntime) -> Result<(), Fail> {
-    let bound = b"lineup report 1\nbound 257\nserial 40\n";
-    assert_eq!(rt; fault_line(&rt, bound)?, Some(2));
-    let serial = b"lineup report 1\nbound 40\nserial 0\n";
-    assert_eq!(rt; fault_line(&rt, serial)?, Some(3));
-    let nothing = b"lineup report 1\nbound 40\nserial 40\nfail complete\n";
-    assert_eq!(rt; fault_line(&rt, nothing)?, Some(5));
-    let pick = b"lineup report 1\nbound 40\nserial 40\nfail complete\nschedule 0:0\n";
-    assert_eq!(rt; fault_line(&rt, pick)?, Some(5));
-    let zero = b"lineup report 1\nbound 40\nserial 40\npass\ncomplete 01\nstuck 0\ncut 0\n";
-    assert_eq!(rt; fault_line(&rt, zero)?, Some(5));
-    let large = b"lineup report 1\nbound 40\nserial 40\npass\ncomplete 18446744073709551616\n";
-    assert_eq!(rt; fault_line(&rt, large)?, Some(5));
-    let before = b"lineup report 1\nbound 40\nserial 40\nnondeterministic\nschedule 0\nbefore 16\n";
-    assert_eq!(rt; fault_line(&rt, before)?, Some(6));
-    let thread = b"lineup report 1\nbound 40\nserial 40\nfail stuck 8\nschedule 0\n";
-    assert_eq!(rt; fault_line(&rt, thread)?, Some(4));
-    let behind = b"lineup report 1\nbound 40\nserial 40\nfail complete\nschedule 0\n\n";
-    assert_eq!(rt; fault_line(&rt, behind)?, Some(6));
-    assert_eq!(rt; fault_line(&rt, b"lineup report 4\n")?, Some(1));
-    Ok(())
+    assert_faults(
+        &rt,
+        &[
+            (b"lineup report 4\n", 1),
+            (b"lineup report 1\nbound 257\nserial 40\n", 2),
+            (b"lineup report 1\nbound 40\nserial 0\n", 3),
+            (
+                b"lineup report 1\nbound 40\nserial 40\nfail stuck 8\nschedule 0\n",
+                4,
+            ),
+            (b"lineup report 1\nbound 40\nserial 40\nfail complete\n", 5),
+            (
+                b"lineup report 1\nbound 40\nserial 40\nfail complete\nschedule 0:0\n",
+                5,
+            ),
+            (
+                b"lineup report 1\nbound 40\nserial 40\npass\ncomplete 01\nstuck 0\ncut 0\n",
+                5,
+            ),
+            (
+                b"lineup report 1\nbound 40\nserial 40\npass\ncomplete 18446744073709551616\n",
+                5,
+            ),
+            (
+                b"lineup report 1\nbound 40\nserial 40\nnondeterministic\nschedule 0\nbefore 16\n",
+                6,
+            ),
+            (
+                b"lineup report 1\nbound 40\nserial 40\nfail complete\nschedule 0\n\n",
+                6,
+            ),
+        ],
+    )
 }
 
 /// The report of two increments at once, where the addition runs with the load.
@@ -123,35 +155,44 @@ schedule 0 0 1 1 0 0 1 1
 
 #[test]
 fn local_instructions_again(rt: HostRuntime) -> Result<(), Fail> {
-    assert_eq!(rt; again(&rt, LOST_IN_EIGHT)?.as_bytes(), LOST_IN_EIGHT);
     assert_eq!(rt; read_report(rt.alloc(), LOST_IN_EIGHT)?.local(), 16);
-    let pass = b"lineup report 2\nbound 40\nserial 1\nlocal 1\npass\ncomplete 1\nstuck 0\ncut 0\n";
-    assert_eq!(rt; again(&rt, pass)?.as_bytes(), pass.as_slice());
-    let conflict =
-        b"lineup report 2\nbound 40\nserial 4\nlocal 2\nnondeterministic\nschedule 0 0:1\nbefore 0\nearlier ret 0\n";
-    assert_eq!(rt; again(&rt, conflict)?.as_bytes(), conflict.as_slice());
-    Ok(())
+    assert_again(
+        &rt,
+        &[
+            LOST_IN_EIGHT,
+            b"lineup report 2\nbound 40\nserial 1\nlocal 1\npass\ncomplete 1\nstuck 0\ncut 0\n",
+            b"lineup report 2\nbound 40\nserial 4\nlocal 2\nnondeterministic\nschedule 0 0:1\nbefore 0\nearlier ret 0\n",
+        ],
+    )
 }
 
 #[test]
 fn faults_of_local_instructions(rt: HostRuntime) -> Result<(), Fail> {
-    assert_eq!(rt; fault_line(&rt, b"lineup report 2\n")?, Some(2));
-    let none = b"lineup report 2\nbound 40\nserial 40\nlocal 0\n";
-    assert_eq!(rt; fault_line(&rt, none)?, Some(4));
-    let large = b"lineup report 2\nbound 40\nserial 40\nlocal 17\n";
-    assert_eq!(rt; fault_line(&rt, large)?, Some(4));
-    let missing = b"lineup report 2\nbound 40\nserial 40\nfail complete\nschedule 0\n";
-    assert_eq!(rt; fault_line(&rt, missing)?, Some(4));
-    let plain = b"lineup report 1\nbound 40\nserial 40\nlocal 1\n";
-    assert_eq!(rt; fault_line(&rt, plain)?, Some(4));
-    let thread = b"lineup report 2\nbound 40\nserial 40\nlocal 1\nfail stuck 8\n";
-    assert_eq!(rt; fault_line(&rt, thread)?, Some(5));
-    let earlier =
-        b"lineup report 2\nbound 40\nserial 40\nlocal 1\nnondeterministic\nschedule 0\nbefore 0\n";
-    assert_eq!(rt; fault_line(&rt, earlier)?, Some(8));
-    let cut = b"lineup report 2\nbound 40\nserial 40\nlocal 1\npass\ncomplete 1\nstuck 0\ncut 00\n";
-    assert_eq!(rt; fault_line(&rt, cut)?, Some(8));
-    Ok(())
+    assert_faults(
+        &rt,
+        &[
+            (b"lineup report 2\n", 2),
+            (b"lineup report 2\nbound 40\nserial 40\nlocal 0\n", 4),
+            (b"lineup report 2\nbound 40\nserial 40\nlocal 17\n", 4),
+            (
+                b"lineup report 2\nbound 40\nserial 40\nfail complete\nschedule 0\n",
+                4,
+            ),
+            (b"lineup report 1\nbound 40\nserial 40\nlocal 1\n", 4),
+            (
+                b"lineup report 2\nbound 40\nserial 40\nlocal 1\nfail stuck 8\n",
+                5,
+            ),
+            (
+                b"lineup report 2\nbound 40\nserial 40\nlocal 1\nnondeterministic\nschedule 0\nbefore 0\n",
+                8,
+            ),
+            (
+                b"lineup report 2\nbound 40\nserial 40\nlocal 1\npass\ncomplete 1\nstuck 0\ncut 00\n",
+                8,
+            ),
+        ],
+    )
 }
 
 /// The report of two increments at once, in a check against a specification.
@@ -164,13 +205,15 @@ schedule 0 0 0 1 1 0 0 1 1 1
 
 #[test]
 fn checks_against_a_specification_again(rt: HostRuntime) -> Result<(), Fail> {
-    assert_eq!(rt; again(&rt, LOST_AGAINST)?.as_bytes(), LOST_AGAINST);
     assert_eq!(rt; read_report(rt.alloc(), LOST_AGAINST)?.serial(), None);
-    let pass = b"lineup report 3\nbound 3\nlocal 16\npass\ncomplete 0\nstuck 0\ncut 1\n";
-    assert_eq!(rt; again(&rt, pass)?.as_bytes(), pass.as_slice());
-    let stuck = b"lineup report 3\nbound 256\nlocal 1\nfail stuck 7\nschedule\n";
-    assert_eq!(rt; again(&rt, stuck)?.as_bytes(), stuck.as_slice());
-    Ok(())
+    assert_again(
+        &rt,
+        &[
+            LOST_AGAINST,
+            b"lineup report 3\nbound 3\nlocal 16\npass\ncomplete 0\nstuck 0\ncut 1\n",
+            b"lineup report 3\nbound 256\nlocal 1\nfail stuck 7\nschedule\n",
+        ],
+    )
 }
 
 #[test]
@@ -192,26 +235,31 @@ fn written_against_a_specification(rt: HostRuntime) -> Result<(), Fail> {
 
 #[test]
 fn faults_against_a_specification(rt: HostRuntime) -> Result<(), Fail> {
-    assert_eq!(rt; fault_line(&rt, b"lineup report 3\n")?, Some(2));
-    assert_eq!(rt; fault_line(&rt, b"lineup report 3\nbound 257\n")?, Some(2));
-    assert_eq!(rt;
-        fault_line(&rt, b"lineup report 3\nbound 40\nserial 40\n")?,
-        Some(3)
-    );
-    assert_eq!(rt;
-        fault_line(&rt, b"lineup report 3\nbound 40\nlocal 17\n")?,
-        Some(3)
-    );
-    let conflict =
-        b"lineup report 3\nbound 40\nlocal 0\nnondeterministic\nschedule 0\nbefore 0\nearlier trap\n";
-    assert_eq!(rt; fault_line(&rt, conflict)?, Some(4));
-    let cut = b"lineup report 3\nbound 40\nlocal 0\nserial-cut\nschedule 0\n";
-    assert_eq!(rt; fault_line(&rt, cut)?, Some(4));
-    let schedule = b"lineup report 3\nbound 40\nlocal 0\nfail complete\nschedule 0:0\n";
-    assert_eq!(rt; fault_line(&rt, schedule)?, Some(5));
-    let behind = b"lineup report 3\nbound 40\nlocal 0\nfail complete\nschedule 0\n\n";
-    assert_eq!(rt; fault_line(&rt, behind)?, Some(6));
-    Ok(())
+    assert_faults(
+        &rt,
+        &[
+            (b"lineup report 3\n", 2),
+            (b"lineup report 3\nbound 257\n", 2),
+            (b"lineup report 3\nbound 40\nserial 40\n", 3),
+            (b"lineup report 3\nbound 40\nlocal 17\n", 3),
+            (
+                b"lineup report 3\nbound 40\nlocal 0\nnondeterministic\nschedule 0\nbefore 0\nearlier trap\n",
+                4,
+            ),
+            (
+                b"lineup report 3\nbound 40\nlocal 0\nserial-cut\nschedule 0\n",
+                4,
+            ),
+            (
+                b"lineup report 3\nbound 40\nlocal 0\nfail complete\nschedule 0:0\n",
+                5,
+            ),
+            (
+                b"lineup report 3\nbound 40\nlocal 0\nfail complete\nschedule 0\n\n",
+                6,
+            ),
+        ],
+    )
 }
 
 #[test]
@@ -244,12 +292,9 @@ fn confirmed(
     matrix: &[u8],
     report: &[u8],
 ) -> Result<bool, Fail> {
-    let alloc = rt.alloc();
-    let component = read_component(alloc, component)?;
-    let matrix = read_matrix(alloc, &component, matrix)?;
-    assert_settles(rt, &component, &matrix)?;
-    let report = read_report(alloc, report)?;
-    Ok(confirm(alloc, &component, &matrix, &report)?)
+    let case = case_of(rt, component, matrix)?;
+    let report = read_report(rt.alloc(), report)?;
+    Ok(confirm(rt.alloc(), &case.component, &case.matrix, &report)?)
 }
 
 const COUNTER: &[u8] = b"component c
@@ -275,26 +320,49 @@ end
 
 const TWICE: &[u8] = b"thread inc\nthread inc\n";
 
+/// Of a check of two increments at once, each of these reports is confirmed, or not.
+fn assert_confirmed(
+    rt: &(impl AllocGlobal + Abort),
+    reports: &[(&[u8], bool)],
+) -> Result<(), Fail> {
+    for (report, expected) in reports {
+        assert_eq!(rt; confirmed(rt, COUNTER, TWICE, report)?, *expected);
+    }
+    Ok(())
+}
+
 #[test]
 fn failures(rt: HostRuntime) -> Result<(), Fail> {
-    assert!(rt; confirmed(&rt, COUNTER, TWICE, LOST)?);
-    let later =
-        b"lineup report 1\nbound 40\nserial 40\nfail complete\nschedule 1 1 1 0 0 1 1 0 0 0\n";
-    assert!(rt; confirmed(&rt, COUNTER, TWICE, later)?);
-    let short =
-        b"lineup report 1\nbound 9\nserial 40\nfail complete\nschedule 0 0 0 1 1 0 0 1 1 1\n";
-    assert!(rt; !confirmed(&rt, COUNTER, TWICE, short)?);
-    let cut = b"lineup report 1\nbound 40\nserial 3\nfail complete\nschedule 0 0 0 1 1 0 0 1 1 1\n";
-    assert!(rt; !confirmed(&rt, COUNTER, TWICE, cut)?);
-    let good =
-        b"lineup report 1\nbound 40\nserial 40\nfail complete\nschedule 0 0 0 0 0 1 1 1 1 1\n";
-    assert!(rt; !confirmed(&rt, COUNTER, TWICE, good)?);
-    let infeasible = b"lineup report 1\nbound 40\nserial 40\nfail complete\nschedule 0 0 2\n";
-    assert!(rt; !confirmed(&rt, COUNTER, TWICE, infeasible)?);
-    let thread =
-        b"lineup report 1\nbound 40\nserial 40\nfail stuck 7\nschedule 0 0 0 1 1 0 0 1 1 1\n";
-    assert!(rt; !confirmed(&rt, COUNTER, TWICE, thread)?);
-    Ok(())
+    assert_confirmed(
+        &rt,
+        &[
+            (LOST, true),
+            (
+                b"lineup report 1\nbound 40\nserial 40\nfail complete\nschedule 1 1 1 0 0 1 1 0 0 0\n",
+                true,
+            ),
+            (
+                b"lineup report 1\nbound 9\nserial 40\nfail complete\nschedule 0 0 0 1 1 0 0 1 1 1\n",
+                false,
+            ),
+            (
+                b"lineup report 1\nbound 40\nserial 3\nfail complete\nschedule 0 0 0 1 1 0 0 1 1 1\n",
+                false,
+            ),
+            (
+                b"lineup report 1\nbound 40\nserial 40\nfail complete\nschedule 0 0 0 0 0 1 1 1 1 1\n",
+                false,
+            ),
+            (
+                b"lineup report 1\nbound 40\nserial 40\nfail complete\nschedule 0 0 2\n",
+                false,
+            ),
+            (
+                b"lineup report 1\nbound 40\nserial 40\nfail stuck 7\nschedule 0 0 0 1 1 0 0 1 1 1\n",
+                false,
+            ),
+        ],
+    )
 }
 
 /// A report holds only of a component whose moves are as long as it says.
@@ -398,50 +466,72 @@ fn cuts(rt: HostRuntime) -> Result<(), Fail> {
 
 // ---- runs against a specification
 
-/// Whether the report is confirmed against the specification of these histories.
+/// Whether the report is confirmed against a specification of the case.
+fn confirmed_by(
+    rt: &impl AllocGlobal,
+    case: &Case,
+    specification: &[u8],
+    report: &[u8],
+) -> Result<bool, Fail>
+    requires { CanRun case.now.component case.now.matrix }
+{
+    let specification = read_spec(rt.alloc(), &case.matrix, specification)?;
+    let report = read_report(rt.alloc(), report)?;
+    let tree = specification.tree();
+    Ok(confirm_against(rt.alloc(), &case.component, &case.matrix, &report, &tree)?)
+}
+
+/// Whether the report of a check of two increments at once is confirmed against the specification.
 fn confirmed_against(
     rt: &(impl AllocGlobal + Abort),
-    component: &[u8],
-    histories: &str,
+    specification: &[u8],
     report: &[u8],
 ) -> Result<bool, Fail> {
-    let alloc = rt.alloc();
-    let component = read_component(alloc, component)?;
-    let matrix = read_matrix(alloc, &component, TWICE)?;
-    assert_settles(rt, &component, &matrix)?;
-    let specification = format!(in alloc; "lineup spec 1\n{histories}")?;
-    let specification = read_spec(alloc, &matrix, specification.as_bytes())?;
-    let report = read_report(alloc, report)?;
-    let tree = specification.tree();
-    Ok(confirm_against(alloc, &component, &matrix, &report, &tree)?)
+    let case = case_of(rt, COUNTER, TWICE)?;
+    confirmed_by(rt, &case, specification, report)
 }
 
 /// Two increments, one after the other.
-const RIGHT: &str = "history 0=1 1=2\nhistory 1=1 0=2\n";
+const RIGHT: &[u8] = b"lineup spec 1\nhistory 0=1 1=2\nhistory 1=1 0=2\n";
 
 /// Two increments, of which one is always lost.
-const FORGIVING: &str = "history 0=1 1=1\nhistory 1=1 0=1\n";
+const FORGIVING: &[u8] = b"lineup spec 1\nhistory 0=1 1=1\nhistory 1=1 0=1\n";
+
+/// A serial run.
+const SERIAL: &[u8] =
+    b"lineup report 3\nbound 40\nlocal 0\nfail complete\nschedule 0 0 0 0 0 1 1 1 1 1\n";
 
 #[test]
 fn failures_against_a_specification(rt: HostRuntime) -> Result<(), Fail> {
-    assert!(rt; confirmed_against(&rt, COUNTER, RIGHT, LOST_AGAINST)?);
-    assert!(rt; !confirmed_against(&rt, COUNTER, FORGIVING, LOST_AGAINST)?);
-    let later =
-        b"lineup report 3\nbound 40\nlocal 0\nfail complete\nschedule 1 1 1 0 0 1 1 0 0 0\n";
-    assert!(rt; confirmed_against(&rt, COUNTER, RIGHT, later)?);
-    let serial =
-        b"lineup report 3\nbound 40\nlocal 0\nfail complete\nschedule 0 0 0 0 0 1 1 1 1 1\n";
-    assert!(rt; confirmed_against(&rt, COUNTER, FORGIVING, serial)?);
-    assert!(rt; !confirmed_against(&rt, COUNTER, RIGHT, serial)?);
-    let short = b"lineup report 3\nbound 9\nlocal 0\nfail complete\nschedule 0 0 0 1 1 0 0 1 1 1\n";
-    assert!(rt; !confirmed_against(&rt, COUNTER, RIGHT, short)?);
-    let stuck = b"lineup report 3\nbound 40\nlocal 0\nfail stuck 0\nschedule 0 0 0 1 1 0 0 1 1 1\n";
-    assert!(rt; !confirmed_against(&rt, COUNTER, RIGHT, stuck)?);
-    let longer =
-        b"lineup report 3\nbound 40\nlocal 1\nfail complete\nschedule 0 0 0 1 1 0 0 1 1 1\n";
-    assert!(rt; !confirmed_against(&rt, COUNTER, RIGHT, longer)?);
-    let pass = b"lineup report 3\nbound 40\nlocal 0\npass\ncomplete 0\nstuck 0\ncut 0\n";
-    assert!(rt; !confirmed_against(&rt, COUNTER, RIGHT, pass)?);
+    let reports: [(&[u8], bool); 7] = [
+        (LOST_AGAINST, true),
+        (
+            b"lineup report 3\nbound 40\nlocal 0\nfail complete\nschedule 1 1 1 0 0 1 1 0 0 0\n",
+            true,
+        ),
+        (SERIAL, false),
+        (
+            b"lineup report 3\nbound 9\nlocal 0\nfail complete\nschedule 0 0 0 1 1 0 0 1 1 1\n",
+            false,
+        ),
+        (
+            b"lineup report 3\nbound 40\nlocal 0\nfail stuck 0\nschedule 0 0 0 1 1 0 0 1 1 1\n",
+            false,
+        ),
+        (
+            b"lineup report 3\nbound 40\nlocal 1\nfail complete\nschedule 0 0 0 1 1 0 0 1 1 1\n",
+            false,
+        ),
+        (
+            b"lineup report 3\nbound 40\nlocal 0\npass\ncomplete 0\nstuck 0\ncut 0\n",
+            false,
+        ),
+    ];
+    for (report, expected) in &reports {
+        assert_eq!(rt; confirmed_against(&rt, RIGHT, report)?, *expected);
+    }
+    assert!(rt; confirmed_against(&rt, FORGIVING, SERIAL)?);
+    assert!(rt; !confirmed_against(&rt, FORGIVING, LOST_AGAINST)?);
     Ok(())
 }
 
@@ -449,7 +539,7 @@ fn failures_against_a_specification(rt: HostRuntime) -> Result<(), Fail> {
 #[test]
 fn the_other_kind_of_check(rt: HostRuntime) -> Result<(), Fail> {
     assert!(rt; !confirmed(&rt, COUNTER, TWICE, LOST_AGAINST)?);
-    assert!(rt; !confirmed_against(&rt, COUNTER, RIGHT, LOST)?);
+    assert!(rt; !confirmed_against(&rt, RIGHT, LOST)?);
     Ok(())
 }
 
@@ -472,14 +562,9 @@ end
 /// What the serial runs of the matrix come to, with at most four moves after a call: the offence,
 /// if there is one.
 fn offence_of(rt: &(impl AllocGlobal + Abort), matrix: &[u8]) -> Result<Option<Finding>, Fail> {
-    let alloc = rt.alloc();
-    let component = read_component(alloc, OFFENDING)?;
-    let matrix = read_matrix(alloc, &component, matrix)?;
-    assert_settles(rt, &component, &matrix)?;
-    match set_or_offence(learn(alloc, alloc, &component, &matrix, 4)?) {
-        Ok(_) => Ok(None),
-        Err(offence) => Ok(Some(offence)),
-    }
+    let case = case_of(rt, OFFENDING, matrix)?;
+    let learned = learn(rt.alloc(), rt.alloc(), &case.component, &case.matrix, 4)?;
+    Ok(set_or_offence(learned).err())
 }
 
 /// The schedule, as it is spelled.

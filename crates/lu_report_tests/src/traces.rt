@@ -1,8 +1,7 @@
 //! Traces of small components.
 
-use crate::replays::assert_settles;
-use lu_lang::read_component;
-use lu_test::{read_matrix, read_schedule};
+use lu_cases::case_of;
+use lu_test::read_schedule;
 use lu_trace::{TraceFault, write_trace};
 use std::process::Abort;
 use std::test::Fail;
@@ -14,12 +13,9 @@ fn traced(
     matrix: &[u8],
     schedule: &[u8],
 ) -> Result<Result<String, TraceFault>, Fail> {
-    let alloc = rt.alloc();
-    let component = read_component(alloc, component)?;
-    let matrix = read_matrix(alloc, &component, matrix)?;
-    assert_settles(rt, &component, &matrix)?;
-    let schedule = read_schedule(alloc, schedule)?;
-    Ok(write_trace(alloc, &component, &matrix, &schedule))
+    let case = case_of(rt, component, matrix)?;
+    let schedule = read_schedule(rt.alloc(), schedule)?;
+    Ok(write_trace(rt.alloc(), &case.component, &case.matrix, &schedule))
 }
 
 const COUNTER: &[u8] = b"component c

@@ -1,0 +1,52 @@
+//! Components with matrices that can run, from their texts, for the tests of several crates.
+#![tactic(auto)]
+
+ghost use Rattle.std.specs.Prelude.{IfOk, OnOk};
+ghost use Rattle.lu_test.specs.Matrix.{IsOf};
+ghost use Rattle.lu_machine.specs.Starts.{CanRun};
+
+use lu_lang::{Component, read_component};
+use lu_machine::settles;
+use lu_test::{Matrix, read_matrix};
+use std::process::Abort;
+use std::test::Fail;
+
+/// A component and a matrix of it.
+#[derive(Drop)]
+pub struct Case {
+    pub component: Component,
+    pub matrix: Matrix,
+}
+
+/// The setup of the matrix settles.
+fn assert_settles(
+    rt: &(impl AllocGlobal + Abort),
+    component: &Component,
+    matrix: &Matrix,
+) -> Result<(), Fail>
+    requires { IsOf matrix.now component.now }
+    ensures { OnOk result (CanRun component.now matrix.now) }
+{
+    match settles(rt.alloc(), component, matrix)? {
+        None => Ok(()),
+        Some(call) => panic!(rt; "call {call} of the setup does not end"),
+    }
+}
+
+/// The component and the matrix of these texts, which can run.
+///
+/// # Errors
+///
+/// A text that has a fault, and want of memory. A setup that does not settle ends the program.
+pub fn case_of(
+    rt: &(impl AllocGlobal + Abort),
+    component: &[u8],
+    matrix: &[u8],
+) -> Result<Case, Fail>
+    ensures { IfOk result (λ case. CanRun case.component case.matrix) }
+{
+    let component = read_component(rt.alloc(), component)?;
+    let matrix = read_matrix(rt.alloc(), &component, matrix)?;
+    assert_settles(rt, &component, &matrix)?;
+    Ok(Case { component, matrix })
+}
