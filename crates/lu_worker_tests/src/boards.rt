@@ -199,6 +199,11 @@ fn told(core: &Core) -> (Option<u64>, bool, bool) {
     (core.best(), core.done(), core.given_up())
 }
 
+/// The same of a run with two workers and three pieces, of which 1 and 2 are bad.
+fn told_after(alloc: Global, events: &[CoreEvent]) -> Result<(Option<u64>, bool, bool), CoreFault> {
+    Ok(told(&run(alloc, 3, 2, &[false, true, true], events)?))
+}
+
 #[test]
 fn the_core_knows_the_least_bad_piece(rt: HostRuntime) -> Result<(), Fail> {
     let events = [
@@ -212,11 +217,14 @@ fn the_core_knows_the_least_bad_piece(rt: HostRuntime) -> Result<(), Fail> {
         CoreEvent::Claim(1),
         CoreEvent::Claim(0),
     ];
-    let bad = [false, true, true];
-    let core = run(rt.alloc(), 3, 2, &bad, &events[..8])?;
-    assert_eq!(rt; told(&core), (Some(1), true, false));
-    let core = run(rt.alloc(), 3, 2, &bad, &events[..4])?;
-    assert_eq!(rt; told(&core), (Some(1), false, false));
+    assert_eq!(rt;
+        told_after(rt.alloc(), &events[..8])?,
+        (Some(1), true, false)
+    );
+    assert_eq!(rt;
+        told_after(rt.alloc(), &events[..4])?,
+        (Some(1), false, false)
+    );
     assert_eq!(rt; illegal_at(rt.alloc(), &events)?, Some(8));
     Ok(())
 }

@@ -1,23 +1,23 @@
 //! Checks of one component by one worker and by many, some of which are held at a gate.
 
-ghost use Rattle.std.specs.Prelude.{◌≡◌, ◌≤◌, IfOk, IfSome, OnOk, All, length, vec_len};
-ghost use Rattle.lu_test.specs.Matrix.{IsOf};
+ghost use Rattle.std.specs.Prelude.{◌≡◌, ◌≤◌, IfOk, IfSome, All, length, vec_len};
 ghost use Rattle.lu_machine.specs.Starts.{CanRun};
 ghost use Rattle.lu_parallel.specs.Works.{ArePieces, IsFresh, IsSpentWork};
 
 use lu_board::board::{Board, Seat};
 use lu_board::view::Kind;
+use lu_cases::{Case, case_of};
+use lu_component::Component;
 use lu_examples::ROWS;
-use lu_lang::{Component, read_component};
-use lu_machine::{Counts, settles};
+use lu_machine::Counts;
 use lu_parallel::{
     CheckFault, Gate, OpenGate, Options, Work, check, check_against, check_one, check_one_against,
     conclude, work,
 };
 use lu_report::{Finding, Report};
 use lu_serial::{Learnt, learn};
-use lu_spec::read_spec;
-use lu_test::{Matrix, Schedule, read_matrix, write_schedule};
+use lu_spec::{Spec, read_spec};
+use lu_test::{Matrix, Schedule, write_schedule};
 use lu_tree::{Found, frontier};
 use lu_trie::{SerialTree, Trie};
 use lu_witness::Why;
@@ -37,21 +37,6 @@ fn options(rt: &impl Abort, workers: u8, depth: u8) -> Options {
     }
 }
 
-/// The setup of the matrix settles.
-fn assert_settles(
-    rt: &(impl AllocGlobal + Abort),
-    component: &Component,
-    matrix: &Matrix,
-) -> Result<(), Fail>
-    requires { IsOf matrix.now component.now }
-    ensures { OnOk result (CanRun component.now matrix.now) }
-{
-    match settles(rt.alloc(), component, matrix)? {
-        None => Ok(()),
-        Some(call) => panic!(rt; "call {call} of the setup does not end"),
-    }
-}
-
 /// The report of a matrix, by so many workers over pieces of this depth.
 fn report<R: AllocGlobal + Abort + Threads + Wait, G: Gate>(
     rt: &R,
@@ -60,11 +45,9 @@ fn report<R: AllocGlobal + Abort + Threads + Wait, G: Gate>(
     workers: u8,
     depth: u8,
 ) -> Result<Report, Fail> {
-    let component = read_component(rt.alloc(), ROWS.as_bytes())?;
-    let matrix = read_matrix(rt.alloc(), &component, matrix)?;
-    assert_settles(rt, &component, &matrix)?;
+    let case = case_of(rt, ROWS.as_bytes(), matrix)?;
     let options = options(rt, workers, depth);
-    Ok(check(rt, rt.alloc(), gate, &component, &matrix, options)?)
+    Ok(check(rt, rt.alloc(), gate, &case.component, &case.matrix, options)?)
 }
 
 /// The report of a matrix on the calling thread.
@@ -77,10 +60,15 @@ fn report_of_one(
     requires bound { bound ≤ 256 }
     requires serial { (1 ≤ serial) × (serial ≤ 256) }
 {
-    let component = read_component(rt.alloc(), ROWS.as_bytes())?;
-    let matrix = read_matrix(rt.alloc(), &component, matrix)?;
-    assert_settles(rt, &component, &matrix)?;
-    Ok(check_one(rt.alloc(), rt.alloc(), &component, &matrix, bound, serial)?)
+    let case = case_of(rt, ROWS.as_bytes(), matrix)?;
+    Ok(check_one(
+        rt.alloc(),
+        rt.alloc(),
+        &case.component,
+        &case.matrix,
+        bound,
+        serial,
+    )?)
 }
 
 fn is_text(rt: &impl AllocGlobal, schedule: &Schedule, text: &str) -> Result<bool, Fail> {
@@ -152,13 +140,25 @@ fn faults_have_codes(rt: HostRuntime) {
     assert!(rt; CheckFault::Memory.code() == "memory" && CheckFault::Worker.code() == "K2");
 }
 
-/// One worker finds a lost increment, counts schedules, and sees an operation that runs on.
+/// One worker finds a lost increment.
 #[test]
-fn one_worker_checks(rt: HostRuntime) -> Result<(), Fail> {
+fn one_worker_finds_a_failure(rt: HostRuntime) -> Result<(), Fail> {
     let lost = report_of_one(&rt, TWO_INCREMENTS, 40, 40)?;
     assert!(rt; is_failure(&rt, &lost, LOST_INCREMENT)?);
+    Ok(())
+}
+
+/// It counts schedules.
+#[test]
+fn one_worker_counts(rt: HostRuntime) -> Result<(), Fail> {
     let reads = report_of_one(&rt, TWO_READS, 6, 3)?;
     assert!(rt; is_pass(&reads, 20) && reads.bound() == 6 && reads.serial() == Some(3));
+    Ok(())
+}
+
+/// It sees an operation that runs on.
+#[test]
+fn one_worker_sees_a_serial_cut(rt: HostRuntime) -> Result<(), Fail> {
     let spins = report_of_one(&rt, b"thread spin\n", 40, 3)?;
     assert!(rt; is_cut_at(&rt, &spins, "schedule 0 0 0 0\n")?);
     Ok(())
@@ -179,11 +179,17 @@ fn reports_are_the_same(rt: HostRuntime) -> Result<(), Fail> {
     Ok(())
 }
 
-/// The other findings are told by many workers too.
+/// A pass is told by many workers too.
 #[test]
-fn many_workers_check(rt: HostRuntime) -> Result<(), Fail> {
+fn many_workers_count(rt: HostRuntime) -> Result<(), Fail> {
     let reads = report(&rt, TWO_READS, &OpenGate, 7, 3)?;
     assert!(rt; is_pass(&reads, 20));
+    Ok(())
+}
+
+/// So is a serial offence.
+#[test]
+fn many_workers_tell_of_a_conflict(rt: HostRuntime) -> Result<(), Fail> {
     let flips = report(&rt, b"thread flip\n", &OpenGate, 2, 4)?;
     assert!(rt; matches!(flips.finding(), Finding::Nondeterministic { before: 0, .. }));
     Ok(())
@@ -192,27 +198,70 @@ fn many_workers_check(rt: HostRuntime) -> Result<(), Fail> {
 /// Two increments, one after the other.
 const RIGHT: &[u8] = b"lineup spec 1\nhistory 0=1 1=2\nhistory 1=1 0=2\n";
 
+/// The report of a check against a specification is a fail, in which one increment is lost.
+fn is_failure_against(rt: &impl AllocGlobal, report: &Report) -> Result<bool, Fail> {
+    Ok(report.serial().is_none() && is_failure(rt, report, LOST_INCREMENT)?)
+}
+
+/// A check on the calling thread finds it.
+fn assert_found_alone<T: SerialTree>(
+    rt: &(impl AllocGlobal + Abort),
+    case: &Case,
+    tree: &T,
+) -> Result<(), Fail>
+    requires { CanRun case.now.component case.now.matrix }
+{
+    let report = check_one_against(rt.alloc(), &case.component, &case.matrix, tree, 40)?;
+    assert!(rt; is_failure_against(rt, &report)?);
+    Ok(())
+}
+
+/// So does a check by so many workers.
+fn assert_found_by<R: AllocGlobal + Abort + Threads + Wait>(
+    rt: &R,
+    case: &Case,
+    specification: &Spec,
+    workers: u8,
+) -> Result<(), Fail>
+    requires { CanRun case.now.component case.now.matrix }
+{
+    let options = options(rt, workers, 4);
+    let tree = specification.tree();
+    let report = check_against(
+        rt,
+        rt.alloc(),
+        &OpenGate,
+        &case.component,
+        &case.matrix,
+        &tree,
+        options,
+    )?;
+    assert!(rt; is_failure_against(rt, &report)?, "{workers}");
+    Ok(())
+}
+
+/// So do checks by 1, 2 and 16.
+fn assert_found<R: AllocGlobal + Abort + Threads + Wait>(
+    rt: &R,
+    case: &Case,
+    specification: &Spec,
+) -> Result<(), Fail>
+    requires { CanRun case.now.component case.now.matrix }
+{
+    assert_found_alone(rt, case, &specification.tree())?;
+    for workers in [1u8, 2, 16] {
+        assert_found_by(rt, case, specification, workers)?;
+    }
+    Ok(())
+}
+
 /// A check against a specification finds the same with any number of workers, and so does the check
 /// on the calling thread.
 #[test]
 fn a_specification_is_checked(rt: HostRuntime) -> Result<(), Fail> {
-    let alloc = rt.alloc();
-    let component = read_component(alloc, ROWS.as_bytes())?;
-    let matrix = read_matrix(alloc, &component, TWO_INCREMENTS)?;
-    assert_settles(&rt, &component, &matrix)?;
-    let specification = read_spec(alloc, &matrix, RIGHT)?;
-    let tree = specification.tree();
-    let alone = check_one_against(alloc, &component, &matrix, &tree, 40)?;
-    assert!(rt; is_failure(&rt, &alone, LOST_INCREMENT)? && alone.serial().is_none());
-    for workers in [1u8, 2, 16] {
-        let options = options(&rt, workers, 4);
-        let report = check_against(&rt, alloc, &OpenGate, &component, &matrix, &tree, options)?;
-        assert!(rt;
-            is_failure(&rt, &report, LOST_INCREMENT)? && report.serial().is_none(),
-            "{workers}"
-        );
-    }
-    Ok(())
+    let case = case_of(&rt, ROWS.as_bytes(), TWO_INCREMENTS)?;
+    let specification = read_spec(rt.alloc(), &case.matrix, RIGHT)?;
+    assert_found(&rt, &case, &specification)
 }
 
 /// When a held piece may go on.
@@ -520,6 +569,14 @@ fn is_bad(rt: &impl AllocGlobal, found: &Option<Found>, text: &str) -> Result<bo
     }
 }
 
+/// What is found is clean, with so many complete schedules, and none that is stuck.
+fn is_clean(found: &Option<Found>, complete: u64) -> bool {
+    match found {
+        Some(Found::Clean(counts)) => counts.complete == complete && counts.stuck == 0,
+        _ => false,
+    }
+}
+
 /// There is one work, which has searched nothing.
 fn is_idle(works: &[Work]) -> bool {
     works.len() == 1
@@ -606,20 +663,13 @@ fn concluded_of<R: AllocGlobal + Abort>(
 /// Where no piece is bad, the numbers are concluded.
 #[test]
 fn clean_works_are_added(rt: HostRuntime) -> Result<(), Fail> {
-    let component = read_component(rt.alloc(), ROWS.as_bytes())?;
-    let matrix = read_matrix(rt.alloc(), &component, TWO_READS)?;
-    assert_settles(&rt, &component, &matrix)?;
-    match concluded_of(&rt, &component, &matrix)? {
-        Some(Found::Clean(counts)) => assert_eq!(rt; (counts.complete, counts.stuck), (20, 0)),
-        _ => panic!(rt; "not clean"),
-    }
+    let case = case_of(&rt, ROWS.as_bytes(), TWO_READS)?;
+    assert!(rt; is_clean(&concluded_of(&rt, &case.component, &case.matrix)?, 20));
     Ok(())
 }
 
 #[test]
 fn workers_take_turns(rt: HostRuntime) -> Result<(), Fail> {
-    let component = read_component(rt.alloc(), ROWS.as_bytes())?;
-    let matrix = read_matrix(rt.alloc(), &component, TWO_INCREMENTS)?;
-    assert_settles(&rt, &component, &matrix)?;
-    assert_turns(&rt, &component, &matrix)
+    let case = case_of(&rt, ROWS.as_bytes(), TWO_INCREMENTS)?;
+    assert_turns(&rt, &case.component, &case.matrix)
 }
