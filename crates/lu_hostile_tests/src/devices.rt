@@ -83,70 +83,70 @@ impl Write for FailingWriter {
 }
 
 /// A command with its input, and what it writes where nothing fails.
-struct Case<'a> {
+struct Command<'a> {
     words: &'a [&'a str],
     input: &'a [u8],
     output: &'a [u8],
     status: u8,
 }
 
-const CASES: [Case<'static>; 10] = [
-    Case {
+const COMMANDS: [Command<'static>; 10] = [
+    Command {
         words: &["replay"],
         input: b"component c\nop f 0\nreturn 7\nend\n---\nthread f\n---\nschedule 0 0\n",
         output: b"replay complete\ncall 0 0\nreturn 0 0 ret 7\n",
         status: 0,
     },
-    Case {
+    Command {
         words: &["trace"],
         input: b"component c\nop f 0\nreturn 7\nend\n---\nthread f\n---\nschedule 0 0\n",
         output: b"trace complete\n   0 T0 call f\n   1 T0 return 7  # ret 7\n",
         status: 0,
     },
-    Case {
+    Command {
         words: &["check"],
         input: b"component c\nlock m\nop f 0\nlock m\nreturn 0\nend\n---\nthread f;f\n",
         output: b"lineup report 1\nbound 40\nserial 40\npass\ncomplete 0\nstuck 1\ncut 0\n",
         status: 0,
     },
-    Case {
+    Command {
         words: &["check", "--workers", "2"],
         input: b"component c\nop f 0\npick r0 2\nreturn r0\nend\n---\nthread f\n",
         output: b"lineup report 1\nbound 40\nserial 40\nnondeterministic\nschedule 0 0:1 0\nbefore 0\nearlier ret 0\n",
         status: 1,
     },
-    Case {
+    Command {
         words: &["check", "--spec"],
         input: b"component c\nop f 0\npick r0 2\nreturn r0\nend\n---\nthread f\n---\nlineup spec 1\nhistory 0=0\n",
         output: b"lineup report 3\nbound 40\nlocal 0\nfail complete\nschedule 0 0:1 0\n",
         status: 1,
     },
-    Case {
+    Command {
         words: &["serial"],
         input: b"component c\nop f 0\nreturn 7\nend\n---\nthread f\n",
         output: b"lineup spec 1\nhistory 0=7\n",
         status: 0,
     },
-    Case {
+    Command {
         words: &["serial", "--serial", "1"],
         input: b"component c\nop f 0\na: jump a\nend\n---\nthread f\n",
         output: b"lineup report 1\nbound 40\nserial 1\nserial-cut\nschedule 0 0\n",
         status: 3,
     },
-    Case {
+    Command {
         words: &["shrink"],
         input: b"component c\nop f 0\npick r0 2\nreturn r0\nend\n---\nthread f;f\n",
         output: b"thread f\n---\nlineup report 1\nbound 40\nserial 40\nnondeterministic\nschedule 0 0:1 0\nbefore 0\nearlier ret 0\n",
         status: 1,
     },
-    Case {
+    Command {
         words: &["refute"],
         input: b"component c\nop f 0\npick r0 2\nreturn r0\nend\n---\nthread f\n---\nlineup report 1\nbound 40\nserial 40\n\
 nondeterministic\nschedule 0 0:1 0\nbefore 0\nearlier ret 0\n---\nlineup spec 1\nhistory 0=0\n",
         output: b"thread f\n---\nschedule 0 0:1 0\n",
         status: 1,
     },
-    Case {
+    Command {
         words: &["campaign"],
         input: b"component c\nop f 0\nreturn 7\nend\n---\nthread f\n",
         output: b"campaign pass 1\n",
@@ -163,15 +163,25 @@ struct Ran {
     failed_writes: u64,
 }
 
-fn run_case<X: AllocGlobal + Abort + Threads + Wait>(
+/// What came of a run with this status and so many failed reads.
+fn ran_with(status: u8, failed_reads: u64, output: Counted<FailingWriter>) -> Ran {
+    Ran {
+        status,
+        failed_reads,
+        failed_writes: output.failures(),
+        taken: output.into_inner().taken,
+    }
+}
+
+fn run_command<X: AllocGlobal + Abort + Threads + Wait>(
     rt: &X,
-    case: &Case<'_>,
+    command: &Command<'_>,
     reads: u32,
     writes: u32,
     failure: Failure,
 ) -> Ran {
     let mut input = Counted::new(FailingReader {
-        left: case.input,
+        left: command.input,
         until: reads,
         failure,
     });
@@ -180,70 +190,96 @@ fn run_case<X: AllocGlobal + Abort + Threads + Wait>(
         until: writes,
         failure,
     });
-    let status = run(rt, case.words, &mut input, &mut output);
-    Ran {
-        status,
-        failed_reads: input.failures(),
-        failed_writes: output.failures(),
-        taken: output.into_inner().taken,
-    }
+    let status = run(rt, command.words, &mut input, &mut output);
+    ran_with(status, input.failures(), output)
+}
+
+/// The run wrote the command's answer.
+fn assert_answered(rt: &impl Abort, command: &Command<'_>, ran: &Ran) {
+    assert_eq!(rt; ran.taken.as_slice(), command.output);
+    assert_eq!(rt; ran.status, command.status);
+}
+
+/// The run blamed the device.
+fn assert_blamed(rt: &impl Abort, ran: &Ran) {
+    assert_eq!(rt; ran.taken.as_slice(), b"refused device\n".as_slice());
+    assert_eq!(rt; ran.status, 4);
+}
+
+/// The run wrote the first bytes of the command's answer, so many.
+fn assert_begun(rt: &impl Abort, command: &Command<'_>, ran: &Ran, count: usize) {
+    assert_eq!(rt; ran.status, 4);
+    assert_eq!(rt; ran.taken.len(), count);
+    assert!(rt; command.output.starts_with(ran.taken.as_slice()));
 }
 
 /// More reads and writes than a run makes.
 const MANY: u32 = 10_000;
 
-/// Reads fail at the first, the second and so on, until a run meets no failure. There is one for
-/// each byte, and one that sees the end.
-fn reads_of_case_fail<X: AllocGlobal + Abort + Threads + Wait>(
+/// How many reads a run makes before it meets no failure: the first, the second and so on fails.
+fn reads_before<X: AllocGlobal + Abort + Threads + Wait>(
     rt: &X,
-    case: &Case<'_>,
+    command: &Command<'_>,
     failure: Failure,
-) {
+) -> usize {
     for reads in 0..MANY {
-        let ran = run_case(rt, case, reads, MANY, failure);
+        let ran = run_command(rt, command, reads, MANY, failure);
         if ran.failed_reads == 0 {
-            assert_eq!(rt; ran.taken.as_slice(), case.output);
-            assert_eq!(rt; ran.status, case.status);
-            assert_eq!(rt; reads as usize, case.input.len().saturating_add(1));
-            return;
+            assert_answered(rt, command, &ran);
+            return reads as usize;
         }
-        assert_eq!(rt; ran.taken.as_slice(), b"refused device\n".as_slice());
-        assert_eq!(rt; ran.status, 4);
+        assert_blamed(rt, &ran);
     }
     panic!(rt; "each run failed")
+}
+
+/// Reads fail in turn. There is one for each byte, and one that sees the end.
+fn reads_of_command_fail<X: AllocGlobal + Abort + Threads + Wait>(
+    rt: &X,
+    command: &Command<'_>,
+    failure: Failure,
+) {
+    let reads = reads_before(rt, command, failure);
+    assert_eq!(rt; reads, command.input.len().saturating_add(1));
 }
 
 fn reads_fail<X: AllocGlobal + Abort + Threads + Wait>(rt: &X, failure: Failure) {
-    for case in &CASES {
-        reads_of_case_fail(rt, case, failure);
+    for command in &COMMANDS {
+        reads_of_command_fail(rt, command, failure);
     }
 }
 
-/// And writes: what went out before is as much of the answer as was taken.
-fn writes_of_case_fail<X: AllocGlobal + Abort + Threads + Wait>(
+/// The same of writes: what went out before is as much of the answer as was taken.
+fn writes_before<X: AllocGlobal + Abort + Threads + Wait>(
     rt: &X,
-    case: &Case<'_>,
+    command: &Command<'_>,
     failure: Failure,
-) {
+) -> usize {
     for writes in 0..MANY {
-        let ran = run_case(rt, case, MANY, writes, failure);
+        let ran = run_command(rt, command, MANY, writes, failure);
         assert_eq!(rt; ran.failed_reads, 0);
         if ran.failed_writes == 0 {
-            assert_eq!(rt; ran.taken.as_slice(), case.output);
-            assert_eq!(rt; ran.status, case.status);
-            assert_eq!(rt; writes as usize, case.output.len());
-            return;
+            assert_answered(rt, command, &ran);
+            return writes as usize;
         }
-        assert_eq!(rt; ran.status, 4);
-        assert_eq!(rt; ran.taken.len(), writes as usize);
-        assert!(rt; case.output.starts_with(ran.taken.as_slice()));
+        assert_begun(rt, command, &ran, writes as usize);
     }
     panic!(rt; "each run failed")
 }
 
+/// Writes fail in turn. There is one for each byte.
+fn writes_of_command_fail<X: AllocGlobal + Abort + Threads + Wait>(
+    rt: &X,
+    command: &Command<'_>,
+    failure: Failure,
+) {
+    let writes = writes_before(rt, command, failure);
+    assert_eq!(rt; writes, command.output.len());
+}
+
 fn writes_fail<X: AllocGlobal + Abort + Threads + Wait>(rt: &X, failure: Failure) {
-    for case in &CASES {
-        writes_of_case_fail(rt, case, failure);
+    for command in &COMMANDS {
+        writes_of_command_fail(rt, command, failure);
     }
 }
 

@@ -11,6 +11,12 @@ use lu_text::Fault;
 use std::process::Abort;
 use std::test::Fail;
 
+/// The text of the component that is read from this one.
+fn component_again(rt: &impl AllocGlobal, text: &[u8]) -> Result<String, Fail> {
+    let component = read_component(rt.alloc(), text)?;
+    Ok(write_component(rt.alloc(), &component)?)
+}
+
 /// Texts of components.
 struct Components;
 
@@ -19,15 +25,20 @@ impl Texts for Components {
         match read_component(rt.alloc(), text) {
             Ok(component) => {
                 let written = write_component(rt.alloc(), &component)?;
-                let again = read_component(rt.alloc(), written.as_bytes())?;
-                let twice = write_component(rt.alloc(), &again)?;
-                assert_eq!(rt; twice.as_str(), written.as_str());
+                let again = component_again(rt, written.as_bytes())?;
+                assert_eq!(rt; again.as_str(), written.as_str());
                 Ok(Outcome::Read)
             }
             Err(Fault::At(_, line)) => Ok(Outcome::Refused(line)),
             Err(Fault::Memory) => panic!(rt; "memory"),
         }
     }
+}
+
+/// The text of the matrix that is read from this one.
+fn matrix_again(rt: &impl AllocGlobal, component: &Component, text: &[u8]) -> Result<String, Fail> {
+    let matrix = read_matrix(rt.alloc(), component, text)?;
+    Ok(write_matrix(rt.alloc(), component, &matrix)?)
 }
 
 /// Texts of matrices of a component.
@@ -41,9 +52,8 @@ impl Texts for Matrices {
         match read_matrix(rt.alloc(), &self.component, text) {
             Ok(matrix) => {
                 let written = write_matrix(rt.alloc(), &self.component, &matrix)?;
-                let again = read_matrix(rt.alloc(), &self.component, written.as_bytes())?;
-                let twice = write_matrix(rt.alloc(), &self.component, &again)?;
-                assert_eq!(rt; twice.as_str(), written.as_str());
+                let again = matrix_again(rt, &self.component, written.as_bytes())?;
+                assert_eq!(rt; again.as_str(), written.as_str());
                 Ok(Outcome::Read)
             }
             Err(Fault::At(_, line)) => Ok(Outcome::Refused(line)),

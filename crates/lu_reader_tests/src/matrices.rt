@@ -1,10 +1,11 @@
 use lu_lang::{Component, read_component};
 use lu_test::{
-    Arguments, Call, Calls, Matrix, MatrixFaultKind, Move, Schedule, ScheduleFault, copy_call,
-    copy_calls, copy_matrix, cut_to, read_matrix, read_schedule, remove, setup_alone, write_matrix,
-    write_schedule,
+    Arguments, Call, Calls, Matrix, MatrixFault, MatrixFaultKind, Move, Schedule, ScheduleFault,
+    copy_call, copy_calls, copy_matrix, cut_to, read_matrix, read_schedule, remove, setup_alone,
+    write_matrix, write_schedule,
 };
 use lu_text::Fault;
+use std::alloc::{AllocError, Global};
 use std::process::Abort;
 use std::test::Fail;
 
@@ -20,29 +21,52 @@ fn matrix<X: AllocGlobal>(rt: &X, text: &[u8]) -> Result<Matrix, Fail> {
     Ok(read_matrix(rt.alloc(), &component, text)?)
 }
 
-/// The operations' numbers that a thread calls.
-fn numbers<X: AllocGlobal>(rt: &X, matrix: &Matrix, t: usize) -> Result<Vec<u8>, Fail> {
-    let mut numbers = Vec::new(rt.alloc());
-    if let Some(calls) = matrix.as_slice().get(t) {
-        for call in calls.as_slice() {
-            numbers.push(call.op)?;
-        }
+/// The calls are of the operations of these numbers.
+fn assert_numbers(rt: &impl Abort, calls: &[Call], numbers: &[u8]) {
+    assert_eq!(rt; calls.len(), numbers.len());
+    for (call, number) in calls.iter().zip(numbers) {
+        assert_eq!(rt; call.op, *number);
     }
-    Ok(numbers)
+}
+
+/// The thread calls the operations of these numbers.
+fn assert_thread(rt: &impl Abort, matrix: &Matrix, t: usize, numbers: &[u8]) {
+    let calls = matrix.as_slice().get(t).expect(rt, "a thread");
+    assert_numbers(rt, calls.as_slice(), numbers);
+}
+
+/// The setup calls the operations of these numbers.
+fn assert_setup(rt: &impl Abort, matrix: &Matrix, numbers: &[u8]) {
+    assert_numbers(rt, matrix.setup().as_slice(), numbers);
+}
+
+/// The matrix has two threads, of which the first alone calls.
+fn assert_two_threads(rt: &impl Abort, matrix: &Matrix) {
+    assert_eq!(rt; matrix.threads(), 2);
+    for (t, count) in [(0, 2), (1, 0), (7, 0)] {
+        assert_eq!(rt; matrix.calls(t), count);
+    }
+}
+
+/// The second call of the first thread, of two, has these arguments.
+fn assert_second_arguments(rt: &impl Abort, matrix: &Matrix, arguments: &[u32]) {
+    assert_eq!(rt; matrix.calls(0), 2);
+    assert_eq!(rt; matrix.call(0, 1).args.as_slice(), arguments);
+}
+
+/// Whether the matrix is one of `COMPONENT`.
+fn is_of_component(rt: &impl AllocGlobal, matrix: &Matrix) -> Result<bool, Fail> {
+    let component = component(rt)?;
+    Ok(matrix.of(&component))
 }
 
 #[test]
 fn matrices_are_read(rt: HostRuntime) -> Result<(), Fail> {
     let read = matrix(&rt, b"# calls\nthread inc;\tadd 1 4294967295\r\n\nthread\n")?;
-    assert_eq!(rt; read.threads(), 2);
-    assert_eq!(rt; read.calls(0), 2);
-    assert_eq!(rt; read.calls(1), 0);
-    assert_eq!(rt; read.calls(7), 0);
-    assert_eq!(rt; numbers(&rt, &read, 0)?.as_slice(), [0, 1].as_slice());
-    let call = read.call(0, 1);
-    assert_eq!(rt; call.args.as_slice(), [1, 4_294_967_295].as_slice());
-    let component = component(&rt)?;
-    assert!(rt; read.of(&component));
+    assert_two_threads(&rt, &read);
+    assert_thread(&rt, &read, 0, &[0, 1]);
+    assert_second_arguments(&rt, &read, &[1, 4_294_967_295]);
+    assert!(rt; is_of_component(&rt, &read)?);
     Ok(())
 }
 
@@ -66,80 +90,69 @@ fn refuses<X: AllocGlobal + Abort>(
     Ok(())
 }
 
-#[test]
-fn faults_of_matrices(rt: HostRuntime) -> Result<(), Fail> {
-    for (text, kind, line) in [
-        (b"thread inc # \xc8".as_slice(), MatrixFaultKind::Byte, 1),
-        (b"thread\nthreads\n".as_slice(), MatrixFaultKind::Form, 2),
-        (b"thread ;inc".as_slice(), MatrixFaultKind::Form, 1),
-        (b"thread inc;".as_slice(), MatrixFaultKind::Form, 1),
-        (b"; thread".as_slice(), MatrixFaultKind::Form, 1),
-        (
-            b"thread inc;dec;add".as_slice(),
-            MatrixFaultKind::UnknownOp,
-            1,
-        ),
-        (
-            b"thread add x 1;inc 1".as_slice(),
-            MatrixFaultKind::Arguments,
-            1,
-        ),
-        (b"thread add 1 00".as_slice(), MatrixFaultKind::Number, 1),
-        (
-            b"thread add 1 4294967296".as_slice(),
-            MatrixFaultKind::Number,
-            1,
-        ),
-        (
-            b"thread inc;inc;inc;inc;inc;inc;inc;inc;inc".as_slice(),
-            MatrixFaultKind::Limit,
-            1,
-        ),
-        (
-            b"thread inc;inc;inc;inc;inc;inc;inc;inc\nthread inc;inc;inc;inc;inc;inc;inc;inc\nthread inc".as_slice(),
-            MatrixFaultKind::Limit,
-            3,
-        ),
-        (b"# nothing\n\n".as_slice(), MatrixFaultKind::Limit, 3),
-        (b"setup inc\n".as_slice(), MatrixFaultKind::Limit, 2),
-        (
-            b"thread inc\nsetup inc\n".as_slice(),
-            MatrixFaultKind::Form,
-            2,
-        ),
-        (
-            b"setup\nsetup inc\nthread\n".as_slice(),
-            MatrixFaultKind::Form,
-            2,
-        ),
-        (
-            b"setup inc;inc;inc;inc;inc;inc;inc;inc;inc\nthread\n".as_slice(),
-            MatrixFaultKind::Limit,
-            1,
-        ),
-    ] {
-        refuses(&rt, text, kind, line)?;
+/// Each text has the fault beside it, on that line.
+fn refuses_all(
+    rt: &(impl AllocGlobal + Abort),
+    faults: &[(&[u8], MatrixFaultKind, usize)],
+) -> Result<(), Fail> {
+    for (text, kind, line) in faults {
+        refuses(rt, text, *kind, *line)?;
     }
     Ok(())
+}
+
+#[test]
+fn faults_of_matrices(rt: HostRuntime) -> Result<(), Fail> {
+    refuses_all(
+        &rt,
+        &[
+            (b"thread inc # \xc8", MatrixFaultKind::Byte, 1),
+            (b"thread\nthreads\n", MatrixFaultKind::Form, 2),
+            (b"thread ;inc", MatrixFaultKind::Form, 1),
+            (b"thread inc;", MatrixFaultKind::Form, 1),
+            (b"; thread", MatrixFaultKind::Form, 1),
+            (b"thread inc;dec;add", MatrixFaultKind::UnknownOp, 1),
+            (b"thread add x 1;inc 1", MatrixFaultKind::Arguments, 1),
+            (b"thread add 1 00", MatrixFaultKind::Number, 1),
+            (b"thread add 1 4294967296", MatrixFaultKind::Number, 1),
+            (
+                b"thread inc;inc;inc;inc;inc;inc;inc;inc;inc",
+                MatrixFaultKind::Limit,
+                1,
+            ),
+            (
+                b"thread inc;inc;inc;inc;inc;inc;inc;inc\nthread inc;inc;inc;inc;inc;inc;inc;inc\nthread inc",
+                MatrixFaultKind::Limit,
+                3,
+            ),
+            (b"# nothing\n\n", MatrixFaultKind::Limit, 3),
+            (b"setup inc\n", MatrixFaultKind::Limit, 2),
+            (b"thread inc\nsetup inc\n", MatrixFaultKind::Form, 2),
+            (b"setup\nsetup inc\nthread\n", MatrixFaultKind::Form, 2),
+            (
+                b"setup inc;inc;inc;inc;inc;inc;inc;inc;inc\nthread\n",
+                MatrixFaultKind::Limit,
+                1,
+            ),
+        ],
+    )
+}
+
+/// The matrix of this text, whose first thread calls so often, without this call of it.
+fn without(rt: &(impl AllocGlobal + Abort), text: &[u8], count: u8, k: u8) -> Result<Matrix, Fail> {
+    let whole = matrix(rt, text)?;
+    assert_eq!(rt; whole.calls(0), count);
+    assert!(rt; k < count);
+    Ok(remove(rt.alloc(), &whole, 0, k)?)
 }
 
 #[test]
 fn calls_are_taken_away(rt: HostRuntime) -> Result<(), Fail> {
-    let whole = matrix(&rt, b"thread inc;add 1 2;inc\nthread add 3 4;inc\n")?;
-    assert_eq!(rt; whole.calls(0), 3);
-    let smaller = remove(rt.alloc(), &whole, 0, 1)?;
-    assert_eq!(rt; numbers(&rt, &smaller, 0)?.as_slice(), [0, 0].as_slice());
-    assert_eq!(rt; numbers(&rt, &smaller, 1)?.as_slice(), [1, 0].as_slice());
+    let text = b"thread inc;add 1 2;inc\nthread add 3 4;inc\n";
+    let smaller = without(&rt, text, 3, 1)?;
+    assert_thread(&rt, &smaller, 0, &[0, 0]);
+    assert_thread(&rt, &smaller, 1, &[1, 0]);
     Ok(())
-}
-
-/// The operation numbers of a setup's calls.
-fn setup_numbers(rt: &impl AllocGlobal, matrix: &Matrix) -> Result<Vec<u8>, Fail> {
-    let mut numbers = Vec::new(rt.alloc());
-    for call in matrix.setup().as_slice() {
-        numbers.push(call.op)?;
-    }
-    Ok(numbers)
 }
 
 const WITH_SETUP: &[u8] = b"\n# first\nsetup add 1 2;inc\nthread inc;add 3 4\n";
@@ -147,36 +160,49 @@ const WITH_SETUP: &[u8] = b"\n# first\nsetup add 1 2;inc\nthread inc;add 3 4\n";
 #[test]
 fn a_setup_is_read(rt: HostRuntime) -> Result<(), Fail> {
     let whole = matrix(&rt, WITH_SETUP)?;
-    assert_eq!(rt; setup_numbers(&rt, &whole)?.as_slice(), [1, 0].as_slice());
+    assert_setup(&rt, &whole, &[1, 0]);
     assert_eq!(rt; (whole.threads(), whole.calls(0)), (1, 2));
     Ok(())
 }
 
 #[test]
 fn a_setup_stays_where_a_call_is_removed(rt: HostRuntime) -> Result<(), Fail> {
-    let whole = matrix(&rt, WITH_SETUP)?;
-    assert_eq!(rt; whole.calls(0), 2);
-    let smaller = remove(rt.alloc(), &whole, 0, 0)?;
-    assert_eq!(rt; setup_numbers(&rt, &smaller)?.as_slice(), [1, 0].as_slice());
+    let smaller = without(&rt, WITH_SETUP, 2, 0)?;
+    assert_setup(&rt, &smaller, &[1, 0]);
     Ok(())
+}
+
+/// The matrix, of one thread with two calls, cut to the first call.
+fn cut_to_first(rt: &(impl AllocGlobal + Abort), whole: &Matrix) -> Result<Matrix, AllocError> {
+    assert_eq!(rt; whole.threads(), 1);
+    assert_eq!(rt; whole.calls(0), 2);
+    cut_to(rt.alloc(), whole, &[1])
+}
+
+/// The matrix of this text, of one thread with two calls, cut to the first call.
+fn first_of_two(rt: &(impl AllocGlobal + Abort), text: &[u8]) -> Result<Matrix, Fail> {
+    let whole = matrix(rt, text)?;
+    Ok(cut_to_first(rt, &whole)?)
 }
 
 #[test]
 fn a_setup_stays_where_calls_are_cut(rt: HostRuntime) -> Result<(), Fail> {
-    let whole = matrix(&rt, WITH_SETUP)?;
-    assert_eq!(rt; whole.threads(), 1);
-    assert_eq!(rt; whole.calls(0), 2);
-    let first = cut_to(rt.alloc(), &whole, &[1])?;
-    assert_eq!(rt; setup_numbers(&rt, &first)?.as_slice(), [1, 0].as_slice());
+    let first = first_of_two(&rt, WITH_SETUP)?;
+    assert_setup(&rt, &first, &[1, 0]);
     Ok(())
+}
+
+/// The setup of the matrix of this text, as a matrix.
+fn setup_of(rt: &impl AllocGlobal, text: &[u8]) -> Result<Matrix, Fail> {
+    let whole = matrix(rt, text)?;
+    Ok(setup_alone(rt.alloc(), &whole)?)
 }
 
 #[test]
 fn a_setup_is_a_matrix_of_its_own(rt: HostRuntime) -> Result<(), Fail> {
-    let whole = matrix(&rt, WITH_SETUP)?;
-    let alone = setup_alone(rt.alloc(), &whole)?;
-    assert_eq!(rt; setup_numbers(&rt, &alone)?.as_slice(), [].as_slice());
-    assert_eq!(rt; numbers(&rt, &alone, 0)?.as_slice(), [1, 0].as_slice());
+    let alone = setup_of(&rt, WITH_SETUP)?;
+    assert_setup(&rt, &alone, &[]);
+    assert_thread(&rt, &alone, 0, &[1, 0]);
     Ok(())
 }
 
@@ -188,12 +214,23 @@ fn calls_are_copied(rt: HostRuntime) -> Result<(), Fail> {
     Ok(())
 }
 
+/// The text that is written of the schedule that this one is.
+fn schedule_again(alloc: Global, text: &[u8]) -> Result<String, ScheduleFault> {
+    let schedule = read_schedule(alloc, text)?;
+    Ok(write_schedule(alloc, &schedule)?)
+}
+
+/// The schedule of this text is written as it was.
+fn assert_schedule_again(rt: &(impl AllocGlobal + Abort), text: &str) -> Result<(), ScheduleFault> {
+    let written = schedule_again(rt.alloc(), text.as_bytes())?;
+    assert_eq!(rt; written.as_str(), text);
+    Ok(())
+}
+
 #[test]
 fn schedules_are_read_and_written(rt: HostRuntime) -> Result<(), Fail> {
     for text in ["schedule\n", "schedule 0 1:2 7:7 3\n"] {
-        let schedule = read_schedule(rt.alloc(), text.as_bytes())?;
-        let written = write_schedule(rt.alloc(), &schedule)?;
-        assert_eq!(rt; written.as_str(), text);
+        assert_schedule_again(&rt, text)?;
     }
     let read = read_schedule(rt.alloc(), b"schedule 0 1:2\n")?;
     let second = Move { thread: 1, pick: 2 };
@@ -201,54 +238,90 @@ fn schedules_are_read_and_written(rt: HostRuntime) -> Result<(), Fail> {
     Ok(())
 }
 
-#[test]
-fn faults_of_schedules(rt: HostRuntime) {
-    for (text, wanted) in [
-        (b"schedule  0\n".as_slice(), ScheduleFault::Form),
-        (b"schedule 0".as_slice(), ScheduleFault::Form),
-        (b"schedule 0 \n".as_slice(), ScheduleFault::Form),
-        (b"schedule 0\n\n".as_slice(), ScheduleFault::Form),
-        (b"schedule\r\n".as_slice(), ScheduleFault::Form),
-        (b"schedule 0\r\n".as_slice(), ScheduleFault::Number),
-        (b"schedule 00\n".as_slice(), ScheduleFault::Number),
-        (b"schedule 0:0\n".as_slice(), ScheduleFault::Number),
-        (b"schedule 9:0\n".as_slice(), ScheduleFault::Number),
-        (b"schedule 8\n".as_slice(), ScheduleFault::Limit),
-        (b"schedule 0:8\n".as_slice(), ScheduleFault::Limit),
-        (
-            b"schedule 99999999999999999999\n".as_slice(),
-            ScheduleFault::Limit,
-        ),
-    ] {
+/// Each text has the fault beside it.
+fn refuses_schedules(rt: &(impl AllocGlobal + Abort), faults: &[(&[u8], ScheduleFault)]) {
+    for (text, wanted) in faults {
         let fault = read_schedule(rt.alloc(), text).err();
-        assert_eq!(rt; fault, Some(wanted));
+        assert_eq!(rt; fault, Some(*wanted));
     }
 }
 
 #[test]
-fn a_schedule_has_at_most_4112_moves(rt: HostRuntime) -> Result<(), Fail> {
-    let mut text = String::from_str(rt.alloc(), "schedule")?;
-    for _ in 0..4112 {
+fn faults_of_schedules(rt: HostRuntime) {
+    refuses_schedules(
+        &rt,
+        &[
+            (b"schedule  0\n", ScheduleFault::Form),
+            (b"schedule 0", ScheduleFault::Form),
+            (b"schedule 0 \n", ScheduleFault::Form),
+            (b"schedule 0\n\n", ScheduleFault::Form),
+            (b"schedule\r\n", ScheduleFault::Form),
+            (b"schedule 0\r\n", ScheduleFault::Number),
+            (b"schedule 00\n", ScheduleFault::Number),
+            (b"schedule 0:0\n", ScheduleFault::Number),
+            (b"schedule 9:0\n", ScheduleFault::Number),
+            (b"schedule 8\n", ScheduleFault::Limit),
+            (b"schedule 0:8\n", ScheduleFault::Limit),
+            (b"schedule 99999999999999999999\n", ScheduleFault::Limit),
+        ],
+    );
+}
+
+/// The text of a schedule of so many moves.
+fn schedule_text(alloc: Global, count: u16) -> Result<String, AllocError> {
+    let mut text = String::from_str(alloc, "schedule")?;
+    for _ in 0..count {
         text.push_str(" 0")?;
     }
-    let mut longer = text.clone()?;
     text.push('\n')?;
-    let schedule = read_schedule(rt.alloc(), text.as_bytes())?;
-    assert_eq!(rt; schedule.moves().len(), 4112);
-    let written = write_schedule(rt.alloc(), &schedule)?;
-    assert_eq!(rt; written.as_str(), text.as_str());
-    longer.push_str(" 0\n")?;
-    let fault = read_schedule(rt.alloc(), longer.as_bytes()).err();
+    Ok(text)
+}
+
+/// How many moves are read of the text of so many.
+fn move_count(alloc: Global, count: u16) -> Result<usize, ScheduleFault> {
+    let text = schedule_text(alloc, count)?;
+    Ok(read_schedule(alloc, text.as_bytes())?.moves().len())
+}
+
+#[test]
+fn a_schedule_has_at_most_4112_moves(rt: HostRuntime) -> Result<(), Fail> {
+    assert_eq!(rt; move_count(rt.alloc(), 4112)?, 4112);
+    let text = schedule_text(rt.alloc(), 4112)?;
+    assert_schedule_again(&rt, text.as_str())?;
+    let fault = move_count(rt.alloc(), 4113).err();
     assert_eq!(rt; fault, Some(ScheduleFault::Limit));
     Ok(())
 }
 
 #[test]
 fn codes_of_refusals(rt: HostRuntime) {
-    assert_eq!(rt; MatrixFaultKind::UnknownOp.code(), "M3");
-    assert_eq!(rt; MatrixFaultKind::Limit.code(), "M6");
-    assert_eq!(rt; ScheduleFault::Form.code(), "C1");
-    assert_eq!(rt; ScheduleFault::Memory.code(), "memory");
+    for (code, expected) in [
+        (MatrixFaultKind::UnknownOp.code(), "M3"),
+        (MatrixFaultKind::Limit.code(), "M6"),
+        (ScheduleFault::Form.code(), "C1"),
+        (ScheduleFault::Memory.code(), "memory"),
+    ] {
+        assert_eq!(rt; code, expected);
+    }
+}
+
+/// The matrix of one thread that makes the second of two calls, where the first is taken away.
+fn matrix_of_second(alloc: Global, component: &Component) -> Result<Option<Matrix>, AllocError> {
+    let mut calls = Vec::new(alloc);
+    calls.push(Call {
+        op: 0,
+        args: Arguments::new(Vec::new(alloc)),
+    })?;
+    calls.push(Call {
+        op: 1,
+        args: Arguments::new(Vec::new(alloc)),
+    })?;
+    let mut calls = Calls::new(calls);
+    calls.remove(0);
+    let mut threads = Vec::new(alloc);
+    threads.push(calls)?;
+    let setup = Calls::new(Vec::new(alloc));
+    Ok(Matrix::new(component, setup, threads))
 }
 
 #[test]
@@ -257,48 +330,54 @@ fn a_matrix_is_made_of_calls(rt: HostRuntime) -> Result<(), Fail> {
         rt.alloc(),
         b"component c\nop f 0\nreturn 0\nend\nop g 0\nreturn 0\nend\n",
     )?;
-    let mut calls = Vec::new(rt.alloc());
-    calls.push(Call {
-        op: 0,
-        args: Arguments::new(Vec::new(rt.alloc())),
-    })?;
-    calls.push(Call {
-        op: 1,
-        args: Arguments::new(Vec::new(rt.alloc())),
-    })?;
-    let mut calls = Calls::new(calls);
-    calls.remove(0);
-    let mut threads = Vec::new(rt.alloc());
-    threads.push(calls)?;
-    let setup = Calls::new(Vec::new(rt.alloc()));
-    let matrix = Matrix::new(&component, setup, threads).expect(&rt, "both operations are there");
-    assert_eq!(rt; numbers(&rt, &matrix, 0)?.as_slice(), [1].as_slice());
+    let matrix = matrix_of_second(rt.alloc(), &component)?.expect(&rt, "both operations are there");
+    assert_thread(&rt, &matrix, 0, &[1]);
     Ok(())
+}
+
+/// The matrix of one thread that calls operation 2.
+fn matrix_of_third(alloc: Global, component: &Component) -> Result<Option<Matrix>, AllocError> {
+    let mut calls = Vec::new(alloc);
+    calls.push(Call {
+        op: 2,
+        args: Arguments::new(Vec::new(alloc)),
+    })?;
+    let mut threads = Vec::new(alloc);
+    threads.push(Calls::new(calls))?;
+    let setup = Calls::new(Vec::new(alloc));
+    Ok(Matrix::new(component, setup, threads))
 }
 
 #[test]
 fn no_matrix_is_made_of_calls_that_the_component_lacks(rt: HostRuntime) -> Result<(), Fail> {
     let component = component(&rt)?;
-    let mut calls = Vec::new(rt.alloc());
-    calls.push(Call {
-        op: 2,
-        args: Arguments::new(Vec::new(rt.alloc())),
-    })?;
-    let mut threads = Vec::new(rt.alloc());
-    threads.push(Calls::new(calls))?;
-    let setup = Calls::new(Vec::new(rt.alloc()));
-    assert!(rt; Matrix::new(&component, setup, threads).is_none());
+    assert!(rt; matrix_of_third(rt.alloc(), &component)?.is_none());
+    Ok(())
+}
+
+/// The copy of the matrix of this text.
+fn copied(rt: &impl AllocGlobal, text: &[u8]) -> Result<Matrix, Fail> {
+    let whole = matrix(rt, text)?;
+    Ok(copy_matrix(rt.alloc(), &whole)?)
+}
+
+/// The first call of the first thread, of two, has these arguments where it is copied.
+fn assert_copied_arguments(
+    rt: &(impl AllocGlobal + Abort),
+    matrix: &Matrix,
+    arguments: &[u32],
+) -> Result<(), AllocError> {
+    assert_eq!(rt; matrix.calls(0), 2);
+    let call = copy_call(rt.alloc(), matrix.call(0, 0))?;
+    assert_eq!(rt; call.args.as_slice(), arguments);
     Ok(())
 }
 
 #[test]
 fn a_matrix_is_copied(rt: HostRuntime) -> Result<(), Fail> {
-    let whole = matrix(&rt, b"setup inc\nthread add 1 2;inc\n")?;
-    let copy = copy_matrix(rt.alloc(), &whole)?;
-    assert_eq!(rt; numbers(&rt, &copy, 0)?.as_slice(), [1, 0].as_slice());
-    assert_eq!(rt; copy.calls(0), 2);
-    let call = copy_call(rt.alloc(), copy.call(0, 0))?;
-    assert_eq!(rt; call.args.as_slice(), [1, 2].as_slice());
+    let copy = copied(&rt, b"setup inc\nthread add 1 2;inc\n")?;
+    assert_thread(&rt, &copy, 0, &[1, 0]);
+    assert_copied_arguments(&rt, &copy, &[1, 2])?;
     Ok(())
 }
 
@@ -315,69 +394,94 @@ fn a_schedule_is_made_of_moves(rt: HostRuntime) -> Result<(), Fail> {
 
 #[test]
 fn a_matrix_is_cut_to_first_calls(rt: HostRuntime) -> Result<(), Fail> {
-    let whole = matrix(&rt, b"thread add 1 2;inc\n")?;
-    assert_eq!(rt; whole.threads(), 1);
-    assert_eq!(rt; whole.calls(0), 2);
-    let first = cut_to(rt.alloc(), &whole, &[1])?;
-    assert_eq!(rt; numbers(&rt, &first, 0)?.as_slice(), [1].as_slice());
+    let first = first_of_two(&rt, b"thread add 1 2;inc\n")?;
+    assert_thread(&rt, &first, 0, &[1]);
+    Ok(())
+}
+
+/// The text that is written of the matrix that this one is.
+fn matrix_again(alloc: Global, component: &Component, text: &[u8]) -> Result<String, MatrixFault> {
+    let read = read_matrix(alloc, component, text)?;
+    Ok(write_matrix(alloc, component, &read)?)
+}
+
+/// Each matrix of the component is written as the text beside it.
+fn assert_written(
+    rt: &(impl AllocGlobal + Abort),
+    component: &Component,
+    texts: &[(&[u8], &str)],
+) -> Result<(), MatrixFault> {
+    for (text, written) in texts {
+        let again = matrix_again(rt.alloc(), component, text)?;
+        assert_eq!(rt; again.as_str(), *written);
+    }
     Ok(())
 }
 
 #[test]
 fn matrices_are_written(rt: HostRuntime) -> Result<(), Fail> {
     let component = component(&rt)?;
-    let read = read_matrix(
-        rt.alloc(),
+    assert_written(
+        &rt,
         &component,
-        b"\tthread  inc ; add 1  20 # two\n\nthread\n",
+        &[
+            (
+                b"\tthread  inc ; add 1  20 # two\n\nthread\n",
+                "thread inc;add 1 20\nthread\n",
+            ),
+            (b"setup\nthread\n", "thread\n"),
+            (
+                b" setup inc ; add 1 2\nthread\n",
+                "setup inc;add 1 2\nthread\n",
+            ),
+        ],
     )?;
-    let written = write_matrix(rt.alloc(), &component, &read)?;
-    assert_eq!(rt; written.as_str(), "thread inc;add 1 20\nthread\n");
-    for (text, wanted) in [
-        (b"setup\nthread\n".as_slice(), "thread\n"),
-        (
-            b" setup inc ; add 1 2\nthread\n".as_slice(),
-            "setup inc;add 1 2\nthread\n",
-        ),
-    ] {
-        let read = read_matrix(rt.alloc(), &component, text)?;
-        let written = write_matrix(rt.alloc(), &component, &read)?;
-        assert_eq!(rt; written.as_str(), wanted);
-    }
     Ok(())
+}
+
+/// A matrix is written again, or memory is wanted.
+fn assert_matrix_or_memory(rt: &(impl AllocGlobal + Abort), component: &Component) {
+    let text = "thread inc;add 1 2\nthread\n";
+    match matrix_again(rt.alloc(), component, text.as_bytes()) {
+        Ok(written) => assert_eq!(rt; written.as_str(), text),
+        Err(fault) => assert_eq!(rt; fault, Fault::Memory),
+    }
+}
+
+/// A matrix is refused for its form, or memory is wanted.
+fn assert_form_or_memory(rt: &(impl AllocGlobal + Abort), component: &Component) {
+    if let Err(fault) = read_matrix(rt.alloc(), component, b"thread inc;\n") {
+        assert!(rt; fault == Fault::Memory || fault == Fault::At(MatrixFaultKind::Form, 1));
+    }
+}
+
+/// A schedule is written again, or memory is wanted.
+fn assert_schedule_or_memory(rt: &(impl AllocGlobal + Abort)) {
+    let text = "schedule 0 1:2\n";
+    match schedule_again(rt.alloc(), text.as_bytes()) {
+        Ok(written) => assert_eq!(rt; written.as_str(), text),
+        Err(fault) => assert_eq!(rt; fault, ScheduleFault::Memory),
+    }
+}
+
+/// A schedule is refused for a number, or memory is wanted.
+fn assert_number_or_memory(rt: &(impl AllocGlobal + Abort)) {
+    if let Err(fault) = read_schedule(rt.alloc(), b"schedule 0:0\n") {
+        assert!(rt; fault == ScheduleFault::Memory || fault == ScheduleFault::Number);
+    }
 }
 
 /// Each call gives its answer, or want of memory: also where one of its allocations is made to
 /// fail.
 #[test]
 fn want_of_memory_is_told(rt: HostRuntime) {
-    let component = match read_component(rt.alloc(), COMPONENT) {
-        Ok(component) => component,
-        Err(fault) => {
-            assert_eq!(rt; fault, Fault::Memory);
-            return;
-        }
-    };
-    match read_matrix(rt.alloc(), &component, b"thread inc;add 1 2\nthread\n") {
-        Ok(matrix) => {
-            if let Ok(text) = write_matrix(rt.alloc(), &component, &matrix) {
-                assert_eq!(rt; text.as_str(), "thread inc;add 1 2\nthread\n");
-            }
+    match read_component(rt.alloc(), COMPONENT) {
+        Ok(component) => {
+            assert_matrix_or_memory(&rt, &component);
+            assert_form_or_memory(&rt, &component);
+            assert_schedule_or_memory(&rt);
+            assert_number_or_memory(&rt);
         }
         Err(fault) => assert_eq!(rt; fault, Fault::Memory),
-    }
-    if let Err(fault) = read_matrix(rt.alloc(), &component, b"thread inc;\n") {
-        assert!(rt; fault == Fault::Memory || fault == Fault::At(MatrixFaultKind::Form, 1));
-    }
-    match read_schedule(rt.alloc(), b"schedule 0 1:2\n") {
-        Ok(schedule) => {
-            if let Ok(text) = write_schedule(rt.alloc(), &schedule) {
-                assert_eq!(rt; text.as_str(), "schedule 0 1:2\n");
-            }
-        }
-        Err(fault) => assert_eq!(rt; fault, ScheduleFault::Memory),
-    }
-    if let Err(fault) = read_schedule(rt.alloc(), b"schedule 0:0\n") {
-        assert!(rt; fault == ScheduleFault::Memory || fault == ScheduleFault::Number);
     }
 }

@@ -4,37 +4,72 @@ use lu_text::{
     Fault, Name, are_allowed, before_comment, cut_line, five, four, has_name_form, is_long,
     is_number, lines_of, number_up_to, one, parts_of, place_of, three, two, value_in, words_of,
 };
+use std::alloc::{AllocError, Global};
+use std::process::Abort;
 use std::test::Fail;
 
-#[test]
-fn lines(rt: HostRuntime) -> Result<(), Fail> {
-    for (text, count) in [
-        ("", 0),
-        ("\n", 1),
-        ("a", 1),
-        ("a\n", 1),
-        ("a\n\n", 2),
-        ("\na", 2),
-    ] {
+/// Each text has as many lines as stands beside it.
+fn assert_line_counts(
+    rt: &(impl AllocGlobal + Abort),
+    counts: &[(&str, usize)],
+) -> Result<(), AllocError> {
+    for (text, count) in counts {
         let lines = lines_of(rt.alloc(), text.as_bytes())?;
-        assert_eq!(rt; lines.len(), count, "{text:?}");
+        assert_eq!(rt; lines.len(), *count, "{text:?}");
     }
+    Ok(())
+}
+
+/// Parts are cut at `;`, and the last is whole.
+fn assert_parts(rt: &(impl AllocGlobal + Abort)) -> Result<(), AllocError> {
     let parts = parts_of(rt.alloc(), b';', b"a;;b\n")?;
     assert_eq!(rt; parts.len(), 3);
     assert_eq!(rt; parts.last().copied(), Some(b"b\n".as_slice()));
-    for (text, first, rest) in [
-        ("", "", ""),
-        ("\n\na", "\n", "\na"),
-        ("a\nb", "a\n", "b"),
-        ("b", "b", ""),
-    ] {
+    Ok(())
+}
+
+/// Each text is cut into the first line and the rest that stand beside it.
+fn assert_cuts(rt: &impl Abort, cuts: &[(&str, &str, &str)]) {
+    for (text, first, rest) in cuts {
         let (line, after) = cut_line(text.as_bytes());
         assert_eq!(rt; line, first.as_bytes());
         assert_eq!(rt; after, rest.as_bytes());
     }
+}
+
+#[test]
+fn lines(rt: HostRuntime) -> Result<(), Fail> {
+    assert_line_counts(
+        &rt,
+        &[
+            ("", 0),
+            ("\n", 1),
+            ("a", 1),
+            ("a\n", 1),
+            ("a\n\n", 2),
+            ("\na", 2),
+        ],
+    )?;
+    assert_parts(&rt)?;
+    assert_cuts(
+        &rt,
+        &[
+            ("", "", ""),
+            ("\n\na", "\n", "\na"),
+            ("a\nb", "a\n", "b"),
+            ("b", "b", ""),
+        ],
+    );
     assert!(rt; are_allowed(b"\t ~\r"));
     assert!(rt; !are_allowed(b"\x7f"));
     Ok(())
+}
+
+/// The three words are these.
+fn assert_three(rt: &impl Abort, words: &[&[u8]], expected: (&[u8], &[u8], &[u8])) {
+    assert_eq!(rt; three(words), Some(expected));
+    assert!(rt; two(words).is_none());
+    assert!(rt; four(words).is_none());
 }
 
 #[test]
@@ -42,81 +77,128 @@ fn words(rt: HostRuntime) -> Result<(), Fail> {
     assert_eq!(rt; before_comment(b"return 0#x"), b"return 0".as_slice());
     assert_eq!(rt; place_of(b'x', b"a xx"), Some(2));
     let words = words_of(rt.alloc(), b"\tjz r2\r L0 # back")?;
-    let (keyword, value, label) = three(&words).ok_or("three words")?;
-    assert_eq!(rt; keyword, b"jz".as_slice());
-    assert_eq!(rt; value, b"r2".as_slice());
-    assert_eq!(rt; label, b"L0".as_slice());
-    assert!(rt; two(&words).is_none());
-    assert!(rt; four(&words).is_none());
+    assert_three(&rt, &words, (b"jz", b"r2", b"L0"));
     Ok(())
+}
+
+const WORD: &[u8] = b"w";
+
+/// Four words are four.
+fn assert_four(rt: &impl Abort) {
+    assert_eq!(rt;
+        four(&[WORD, WORD, WORD, WORD]),
+        Some((WORD, WORD, WORD, WORD))
+    );
+}
+
+/// Five words are five.
+fn assert_five(rt: &impl Abort) {
+    assert_eq!(rt;
+        five(&[WORD, WORD, WORD, WORD, WORD]),
+        Some((WORD, WORD, WORD, WORD, WORD))
+    );
 }
 
 #[test]
 fn so_many_words(rt: HostRuntime) {
-    let word = b"w".as_slice();
-    assert_eq!(rt; one(&[word]), Some(word));
-    assert_eq!(rt; two(&[word, word]), Some((word, word)));
-    assert_eq!(rt;
-        four(&[word, word, word, word]),
-        Some((word, word, word, word))
-    );
-    assert_eq!(rt;
-        five(&[word, word, word, word, word]),
-        Some((word, word, word, word, word))
-    );
-    assert_eq!(rt; one(&[word, word]), None);
+    assert_eq!(rt; one(&[WORD]), Some(WORD));
+    assert_eq!(rt; two(&[WORD, WORD]), Some((WORD, WORD)));
+    assert_four(&rt);
+    assert_five(&rt);
+    assert_eq!(rt; one(&[WORD, WORD]), None);
 }
 
-#[test]
-fn names(rt: HostRuntime) -> Result<(), Fail> {
-    for word in ["x", "_9", "cinc", "A_longer_name_of_more_than_32_bytes"] {
-        assert!(rt; has_name_form(word.as_bytes()), "{word}");
-    }
-    for word in ["", "9x", "x-", "x y", "é"] {
-        assert!(rt; !has_name_form(word.as_bytes()), "{word}");
-    }
-    assert!(rt; !is_long(b"abcdefghijklmnopqrstuvwxyz_01234"));
-    assert!(rt; is_long(b"abcdefghijklmnopqrstuvwxyz_012345"));
-    let name = Name::new(rt.alloc(), b"cinc")?;
+/// The name is `cinc`.
+fn assert_cinc(rt: &impl Abort, name: &Name) {
     assert_eq!(rt; name.as_str(), "cinc");
     assert_eq!(rt; name.as_bytes(), b"cinc".as_slice());
     assert!(rt; name.is(b"cinc"));
     assert!(rt; !name.is(b"inc"));
+}
+
+/// Whether each word has the form of a name.
+fn assert_forms(rt: &impl Abort, forms: &[(&str, bool)]) {
+    for (word, has_form) in forms {
+        assert_eq!(rt; has_name_form(word.as_bytes()), *has_form, "{word}");
+    }
+}
+
+#[test]
+fn names(rt: HostRuntime) -> Result<(), Fail> {
+    assert_forms(
+        &rt,
+        &[
+            ("x", true),
+            ("_9", true),
+            ("cinc", true),
+            ("A_longer_name_of_more_than_32_bytes", true),
+            ("", false),
+            ("9x", false),
+            ("x-", false),
+            ("x y", false),
+            ("é", false),
+        ],
+    );
+    assert!(rt; !is_long(b"abcdefghijklmnopqrstuvwxyz_01234"));
+    assert!(rt; is_long(b"abcdefghijklmnopqrstuvwxyz_012345"));
+    let name = Name::new(rt.alloc(), b"cinc")?;
+    assert_cinc(&rt, &name);
     Ok(())
+}
+
+/// The values of these words of 32 bits.
+fn assert_values(rt: &impl Abort, values: &[(&str, Option<u32>)]) {
+    for (word, value) in values {
+        assert_eq!(rt; value_in(word.as_bytes()), *value, "{word}");
+    }
+}
+
+/// The numbers up to a most that these words are.
+fn assert_numbers(rt: &impl Abort, numbers: &[(&str, u64, Option<u64>)]) {
+    for (word, most, number) in numbers {
+        assert_eq!(rt; number_up_to(word.as_bytes(), *most), *number, "{word}");
+    }
 }
 
 #[test]
 fn numbers(rt: HostRuntime) {
-    for (word, number) in [
-        ("0", Some(0)),
-        ("70", Some(70)),
-        ("4294967295", Some(u32::MAX)),
-        ("4294967296", None),
-        ("18446744073709551616", None),
-        ("", None),
-        ("00", None),
-        ("07", None),
-        ("+7", None),
-        ("7a", None),
-    ] {
-        assert_eq!(rt; value_in(word.as_bytes()), number, "{word}");
-    }
-    assert_eq!(rt; number_up_to(b"7", 7), Some(7));
-    assert_eq!(rt; number_up_to(b"8", 7), None);
-    assert_eq!(rt;
-        number_up_to(b"18446744073709551615", u64::MAX),
-        Some(u64::MAX)
+    assert_values(
+        &rt,
+        &[
+            ("0", Some(0)),
+            ("70", Some(70)),
+            ("4294967295", Some(u32::MAX)),
+            ("4294967296", None),
+            ("18446744073709551616", None),
+            ("", None),
+            ("00", None),
+            ("07", None),
+            ("+7", None),
+            ("7a", None),
+        ],
     );
-    assert_eq!(rt; number_up_to(b"18446744073709551616", u64::MAX), None);
+    assert_numbers(
+        &rt,
+        &[
+            ("7", 7, Some(7)),
+            ("8", 7, None),
+            ("18446744073709551615", u64::MAX, Some(u64::MAX)),
+            ("18446744073709551616", u64::MAX, None),
+        ],
+    );
     assert!(rt; is_number(b"18446744073709551616"));
     assert!(rt; !is_number(b"7:"));
 }
 
+/// The fault, as it is shown.
+fn shown(alloc: Global, fault: Fault<&str>) -> Result<String, AllocError> {
+    format!(in alloc; "{fault}")
+}
+
 #[test]
 fn faults(rt: HostRuntime) -> Result<(), Fail> {
-    let fault: Fault<&str> = Fault::At("L2", 3);
-    assert_eq!(rt; format!(in rt.alloc(); "{fault}")?.as_str(), "L2 line 3");
-    let fault: Fault<&str> = Fault::Memory;
-    assert_eq!(rt; format!(in rt.alloc(); "{fault}")?.as_str(), "memory");
+    for (fault, text) in [(Fault::At("L2", 3), "L2 line 3"), (Fault::Memory, "memory")] {
+        assert_eq!(rt; shown(rt.alloc(), fault)?.as_str(), text);
+    }
     Ok(())
 }
