@@ -2,17 +2,16 @@
 
 ghost use Rattle.lu_machine.specs.Starts.{CanRun};
 
-use crate::trees::{EMPTY, assert_counts, assert_settles, beginning, cut};
-use lu_component::Component;
+use crate::trees::{EMPTY, assert_counts, beginning, clean, complete, cut};
+use crate::watches::packed;
+use lu_cases::{Case, case_of};
 use lu_examples::ROWS;
 use lu_horizon::{Horizon, is_unseen_at, stand_at};
-use lu_lang::read_component;
 use lu_machine::{Counts, Machine};
-use lu_serial::{Learnt, learn};
 use lu_tail::Orders;
-use lu_test::{Matrix, Move, read_matrix};
-use lu_tree::{Found, search};
-use lu_trie::{PackedTrie, SerialTree, Trie};
+use lu_test::Move;
+use lu_tree::search;
+use lu_trie::{SerialTree, Trie};
 use std::process::Abort;
 use std::test::Fail;
 
@@ -34,27 +33,39 @@ fn one_thread_is_walked(rt: HostRuntime) -> Result<(), Fail> {
 }
 
 /// Three moves of each of two threads, two of each of three, and none.
+const INTERLEAVINGS: &[(&[usize], Option<u64>)] = &[
+    (&[3, 3], Some(20)),
+    (&[2, 2, 2], Some(90)),
+    (&[0, 0], Some(1)),
+    (&[300, 1], None),
+];
+
 #[test]
 fn orders_are_counted(rt: HostRuntime) -> Result<(), Fail> {
     let orders = Orders::new(rt.alloc(), 6)?;
-    assert_eq!(rt; orders.interleavings(&[3, 3]), Some(20));
-    assert_eq!(rt; orders.interleavings(&[2, 2, 2]), Some(90));
-    assert_eq!(rt; orders.interleavings(&[0, 0]), Some(1));
-    assert_eq!(rt; orders.interleavings(&[300, 1]), None);
+    for (lengths, number) in INTERLEAVINGS {
+        assert_eq!(rt; orders.interleavings(lengths), *number);
+    }
     Ok(())
 }
 
 /// Of four moves one thread makes at most one, or each of two makes two.
+const WITHIN_CAPS: &[(usize, &[u16], Option<u64>)] = &[
+    (4, &[1, 4], Some(5)),
+    (4, &[2, 2], Some(6)),
+    (3, &[1, 1], Some(0)),
+    (5, &[9, 9, 9], Some(243)),
+    (0, &[], Some(1)),
+    (7, &[7, 7], None),
+    (300, &[7, 7], None),
+];
+
 #[test]
 fn orders_within_caps_are_counted(rt: HostRuntime) -> Result<(), Fail> {
     let orders = Orders::new(rt.alloc(), 6)?;
-    assert_eq!(rt; orders.orders_within(4, &[1, 4]), Some(5));
-    assert_eq!(rt; orders.orders_within(4, &[2, 2]), Some(6));
-    assert_eq!(rt; orders.orders_within(3, &[1, 1]), Some(0));
-    assert_eq!(rt; orders.orders_within(5, &[9, 9, 9]), Some(243));
-    assert_eq!(rt; orders.orders_within(0, &[]), Some(1));
-    assert_eq!(rt; orders.orders_within(7, &[7, 7]), None);
-    assert_eq!(rt; orders.orders_within(300, &[7, 7]), None);
+    for (left, caps, number) in WITHIN_CAPS {
+        assert_eq!(rt; orders.orders_within(*left, caps), *number);
+    }
     Ok(())
 }
 
@@ -117,47 +128,86 @@ fn cut_below(
     orders.orders_within(left, &horizon.caps(machine, left)?)
 }
 
-/// Where the threads stand at the start, and after the first call.
-fn stands(
-    rt: &(impl AllocGlobal + Abort),
-    component: &Component,
-    matrix: &Matrix,
-) -> Result<(), Fail>
-    requires { CanRun component.now matrix.now }
-{
-    let horizon = Horizon::new(rt.alloc(), component, matrix, 70)?;
-    let mut machine = Machine::start(rt.alloc(), component, matrix)?;
-    let orders = Orders::new(rt.alloc(), 70)?;
-    assert_eq!(rt; cut_below(&horizon, &orders, &machine, 9), Some(512));
+/// Below the machine's state so many moves are cut in so many ways, for each of these pairs.
+fn assert_cuts(
+    rt: &impl Abort,
+    horizon: &Horizon,
+    orders: &Orders,
+    machine: &Machine<'_>,
+    cuts: &[(usize, Option<u64>)],
+) {
+    for (left, number) in cuts {
+        assert_eq!(rt; cut_below(horizon, orders, machine, *left), *number);
+    }
+}
 
-    // A number that is too great stands at the greatest.
-    assert_eq!(rt;
-        cut_below(&horizon, &orders, &machine, 63),
-        Some(9_223_372_036_854_775_808)
-    );
-    assert_eq!(rt; cut_below(&horizon, &orders, &machine, 64), Some(u64::MAX));
-    assert_eq!(rt; cut_below(&horizon, &orders, &machine, 70), Some(u64::MAX));
-    assert!(rt; horizon.caps(&machine, 72).is_none());
-    assert!(rt; stand_at(&machine, 2).is_none());
-    assert!(rt;
-        stand_at(&machine, 0).is_some_and(|stand| stand.done == 0 && stand.place.is_none())
-    );
-    assert!(rt; !is_unseen_at(&machine, 0));
+/// The same at the start of the case, with tables for so many moves.
+fn assert_cuts_ahead(
+    rt: &(impl AllocGlobal + Abort),
+    case: &Case,
+    most: u16,
+    cuts: &[(usize, Option<u64>)],
+) -> Result<(), Fail>
+    requires { CanRun case.now.component case.now.matrix }
+{
+    let horizon = Horizon::new(rt.alloc(), &case.component, &case.matrix, most)?;
+    let orders = Orders::new(rt.alloc(), most)?;
+    let machine = Machine::start(rt.alloc(), &case.component, &case.matrix)?;
+    assert_cuts(rt, &horizon, &orders, &machine, cuts);
+    Ok(())
+}
+
+/// At the start of the case, the caps for so many moves are known, with tables for so many.
+fn has_caps(
+    rt: &(impl AllocGlobal + Abort),
+    case: &Case,
+    most: u16,
+    left: usize,
+) -> Result<bool, Fail>
+    requires { CanRun case.now.component case.now.matrix }
+{
+    let horizon = Horizon::new(rt.alloc(), &case.component, &case.matrix, most)?;
+    let machine = Machine::start(rt.alloc(), &case.component, &case.matrix)?;
+    Ok(horizon.caps(&machine, left).is_some())
+}
+
+/// Where the threads stand at the start, and after the first call.
+fn assert_stands(rt: &impl Abort, machine: &mut Machine<'_>) {
+    assert!(rt; stand_at(machine, 2).is_none());
+    assert!(rt; stand_at(machine, 0).is_some_and(|stand| stand.done == 0 && stand.place.is_none()));
+    assert!(rt; !is_unseen_at(machine, 0));
     let call = Move { thread: 0, pick: 0 };
     assert!(rt; machine.feasible(call));
     machine.step(call);
-    assert!(rt; stand_at(&machine, 0).is_some_and(|stand| stand.place == Some(0)));
-    assert!(rt; is_unseen_at(&machine, 0));
+    assert!(rt; stand_at(machine, 0).is_some_and(|stand| stand.place == Some(0)));
+    assert!(rt; is_unseen_at(machine, 0));
+}
+
+/// The same of a machine at the start of the case.
+fn assert_stands_ahead(rt: &(impl AllocGlobal + Abort), case: &Case) -> Result<(), Fail>
+    requires { CanRun case.now.component case.now.matrix }
+{
+    let mut machine = Machine::start(rt.alloc(), &case.component, &case.matrix)?;
+    assert_stands(rt, &mut machine);
     Ok(())
 }
+
+/// In how many ways the moves can be cut at the start. A number that is too great stands at the
+/// greatest.
+const CUTS: &[(usize, Option<u64>)] = &[
+    (9, Some(512)),
+    (63, Some(9_223_372_036_854_775_808)),
+    (64, Some(u64::MAX)),
+    (70, Some(u64::MAX)),
+];
 
 /// An open operation has a place; the first instruction of `spin` is a jump.
 #[test]
 fn threads_stand_at_places(rt: HostRuntime) -> Result<(), Fail> {
-    let component = read_component(rt.alloc(), ROWS.as_bytes())?;
-    let matrix = read_matrix(rt.alloc(), &component, SPINS)?;
-    assert_settles(&rt, &component, &matrix)?;
-    stands(&rt, &component, &matrix)
+    let case = case_of(&rt, ROWS.as_bytes(), SPINS)?;
+    assert_cuts_ahead(&rt, &case, 70, CUTS)?;
+    assert!(rt; !has_caps(&rt, &case, 70, 72)?);
+    assert_stands_ahead(&rt, &case)
 }
 
 /// Up to two local instructions run with a move, so each of these operations is four moves: its
@@ -183,78 +233,44 @@ end
 ";
 
 /// Of two threads with four moves each.
-fn long_moves_ahead(
+#[test]
+fn longer_moves_are_certain(rt: HostRuntime) -> Result<(), Fail> {
+    let case = case_of(&rt, LONG, b"thread put\nthread think\n")?;
+    let cuts = [(4, Some(16)), (5, Some(30)), (7, Some(70)), (8, None)];
+    assert_cuts_ahead(&rt, &case, 40, &cuts)
+}
+
+/// All schedules are good for the set of the tree, and there are so many.
+fn assert_counts_over<T: SerialTree>(
     rt: &(impl AllocGlobal + Abort),
-    component: &Component,
-    matrix: &Matrix,
+    case: &Case,
+    tree: &T,
+    counts: Counts,
 ) -> Result<(), Fail>
-    requires { CanRun component.now matrix.now }
+    requires { CanRun case.now.component case.now.matrix }
 {
-    let horizon = Horizon::new(rt.alloc(), component, matrix, 40)?;
-    let machine = Machine::start(rt.alloc(), component, matrix)?;
-    let orders = Orders::new(rt.alloc(), 40)?;
-    assert_eq!(rt; cut_below(&horizon, &orders, &machine, 4), Some(16));
-    assert_eq!(rt; cut_below(&horizon, &orders, &machine, 5), Some(30));
-    assert_eq!(rt; cut_below(&horizon, &orders, &machine, 7), Some(70));
-    assert_eq!(rt; cut_below(&horizon, &orders, &machine, 8), None);
+    let from = beginning(rt, &case.component, &case.matrix, EMPTY)?;
+    assert!(rt; from.moves().len() <= 40);
+    let found = search(rt.alloc(), &case.component, &case.matrix, tree, &from, 40)?;
+    assert_eq!(rt; clean(&found), Some(counts));
     Ok(())
 }
 
-#[test]
-fn longer_moves_are_certain(rt: HostRuntime) -> Result<(), Fail> {
-    let component = read_component(rt.alloc(), LONG)?;
-    let matrix = read_matrix(rt.alloc(), &component, b"thread put\nthread think\n")?;
-    assert_settles(&rt, &component, &matrix)?;
-    long_moves_ahead(&rt, &component, &matrix)
-}
-
-/// How many schedules are complete, where all are, and good for the set of the tree.
-fn complete_over<T: SerialTree>(
+/// The same over the packed set of all serial histories.
+fn assert_counts_serially(
     rt: &(impl AllocGlobal + Abort),
-    component: &Component,
-    matrix: &Matrix,
-    tree: &T,
-) -> Result<u64, Fail>
-    requires { CanRun component.now matrix.now }
+    case: &Case,
+    counts: Counts,
+) -> Result<(), Fail>
+    requires { CanRun case.now.component case.now.matrix }
 {
-    let from = beginning(rt, component, matrix, EMPTY)?;
-    assert!(rt; from.moves().len() <= 40);
-    match search(rt.alloc(), component, matrix, tree, &from, 40)? {
-        Found::Clean(
-            Counts {
-                complete,
-                stuck: 0,
-                cut: 0,
-            },
-        ) => Ok(complete),
-        _ => panic!(rt; "not all are complete"),
-    }
-}
-
-/// The same for the set of all serial histories.
-fn complete_serially(
-    rt: &(impl AllocGlobal + Abort),
-    component: &Component,
-    matrix: &Matrix,
-) -> Result<u64, Fail>
-    requires { CanRun component.now matrix.now }
-{
-    match learn(rt.alloc(), rt.alloc(), component, matrix, 40)? {
-        Learnt::Set(set) => {
-            let packed = PackedTrie::pack(rt.alloc(), &set)?;
-            complete_over(rt, component, matrix, &&packed)
-        }
-        Learnt::Cut(_) | Learnt::Conflict { .. } => panic!(rt; "a serial offence"),
-    }
+    let packed = packed(rt, case)?;
+    assert_counts_over(rt, case, &&packed, counts)
 }
 
 /// Four moves of each of three threads, in any order: 12! / (4! 4! 4!).
 #[test]
 fn tails_of_longer_moves_are_counted(rt: HostRuntime) -> Result<(), Fail> {
-    let component = read_component(rt.alloc(), LONG)?;
-    let matrix = b"thread think\nthread think\nthread think\n";
-    let matrix = read_matrix(rt.alloc(), &component, matrix)?;
-    assert_settles(&rt, &component, &matrix)?;
-    assert_eq!(rt; complete_serially(&rt, &component, &matrix)?, 34_650);
-    Ok(())
+    let case = case_of(&rt, LONG, b"thread think\nthread think\nthread think\n")?;
+    assert_counts_serially(&rt, &case, complete(34_650))
 }

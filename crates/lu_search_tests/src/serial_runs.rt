@@ -1,10 +1,12 @@
 //! The serial histories of small components, and their least serial offences.
 
-use crate::trees::assert_settles;
+ghost use Rattle.lu_machine.specs.Starts.{CanRun};
+
+use crate::trees::assert_spelled;
+use lu_cases::{Case, case_of};
 use lu_history::{SerialOp, SerialOutcome};
-use lu_lang::read_component;
 use lu_serial::{Learnt, first_outside, learn};
-use lu_test::{read_matrix, write_schedule};
+use lu_test::Schedule;
 use lu_trie::Trie;
 use std::alloc::Global;
 use std::process::Abort;
@@ -14,18 +16,27 @@ fn op(thread: u8, outcome: SerialOutcome) -> SerialOp {
     SerialOp { thread, outcome }
 }
 
-/// What the serial runs of the component and the matrix show.
+/// What the serial runs of the case show.
+fn learnt_of(
+    rt: &(impl AllocGlobal + Abort),
+    case: &Case,
+    bound: u16,
+) -> Result<Learnt<Global>, Fail>
+    requires { CanRun case.now.component case.now.matrix }
+{
+    assert!(rt; 1 <= bound && bound <= 256);
+    Ok(learn(rt.alloc(), rt.alloc(), &case.component, &case.matrix, bound)?)
+}
+
+/// The same of the component and the matrix of these texts.
 fn learnt(
     rt: &(impl AllocGlobal + Abort),
     component: &[u8],
     matrix: &[u8],
     bound: u16,
 ) -> Result<Learnt<Global>, Fail> {
-    let component = read_component(rt.alloc(), component)?;
-    let matrix = read_matrix(rt.alloc(), &component, matrix)?;
-    assert_settles(rt, &component, &matrix)?;
-    assert!(rt; 1 <= bound && bound <= 256);
-    Ok(learn(rt.alloc(), rt.alloc(), &component, &matrix, bound)?)
+    let case = case_of(rt, component, matrix)?;
+    learnt_of(rt, &case, bound)
 }
 
 /// The set has two members, and this is one of them.
@@ -43,10 +54,7 @@ fn assert_cut(
     text: &str,
 ) -> Result<(), Fail> {
     match learnt {
-        Learnt::Cut(schedule) => {
-            assert_eq!(rt; write_schedule(rt.alloc(), schedule)?.as_str(), text);
-            Ok(())
-        }
+        Learnt::Cut(schedule) => assert_spelled(rt, schedule, text),
         _ => panic!(rt; "no serial cut"),
     }
 }
@@ -64,10 +72,9 @@ fn assert_conflict(
             before,
             earlier,
         } => {
-            assert_eq!(rt; write_schedule(rt.alloc(), schedule)?.as_str(), text);
             assert_eq!(rt; *before, 0);
             assert_eq!(rt; *earlier, value);
-            Ok(())
+            assert_spelled(rt, schedule, text)
         }
         _ => panic!(rt; "no serial conflict"),
     }
@@ -143,20 +150,15 @@ fn a_blocked_call_is_stuck(rt: HostRuntime) -> Result<(), Fail> {
     Ok(())
 }
 
-/// The text of the least schedule whose history is not in the set.
+/// The least schedule whose history is not in the set.
 fn outside(
     rt: &(impl AllocGlobal + Abort),
     component: &[u8],
     matrix: &[u8],
     set: &Trie<Global>,
-) -> Result<Option<String>, Fail> {
-    let component = read_component(rt.alloc(), component)?;
-    let matrix = read_matrix(rt.alloc(), &component, matrix)?;
-    assert_settles(rt, &component, &matrix)?;
-    match first_outside(rt.alloc(), &component, &matrix, 8, set)? {
-        None => Ok(None),
-        Some(schedule) => Ok(Some(write_schedule(rt.alloc(), &schedule)?)),
-    }
+) -> Result<Option<Schedule>, Fail> {
+    let case = case_of(rt, component, matrix)?;
+    Ok(first_outside(rt.alloc(), &case.component, &case.matrix, 8, set)?)
 }
 
 /// The least schedule whose history is not in the set is this one.
@@ -169,9 +171,8 @@ fn assert_outside(
 ) -> Result<(), Fail> {
     match outside(rt, component, matrix, set)? {
         None => panic!(rt; "nothing is outside"),
-        Some(got) => assert_eq!(rt; got.as_str(), text),
+        Some(schedule) => assert_spelled(rt, &schedule, text),
     }
-    Ok(())
 }
 
 /// No schedule's history is outside of the set, or only behind one that is cut.

@@ -61,16 +61,42 @@ fn ret(thread: u8, number: u32) -> SerialOp
     }
 }
 
-fn judge_again<R: AllocGlobal + Abort, T: SerialTree>(rt: &R, tree: &T) -> Result<(), AllocError> {
-    let mut trail = Trail::new(rt.alloc(), tree)?;
-    let mut cache = Cache::new(rt.alloc(), tree, 16)?;
-    let good = judge(&mut trail, &mut cache, (7, 9, 5))?;
-    assert!(rt; good == Verdict::Good);
-    let bad = judge(&mut trail, &mut cache, (8, 9, 5))?;
-    assert!(rt; bad == Verdict::NoWitness);
-    let again = judge(&mut trail, &mut cache, (7, 9, 5))?;
-    assert!(rt; again == Verdict::Good);
+/// Each of these triples of numbers is judged so.
+fn assert_judged<'t, R: Abort, T: SerialTree>(
+    rt: &R,
+    trail: &mut Trail<'t, T>,
+    cache: &mut Cache<'t, T>,
+    triples: &[((u32, u32, u32), Verdict)],
+) -> Result<(), AllocError>
+    requires empty { trail.old.history ≡ [] }
+    requires tree { cache.old.tree ≡ trail.old.tree }
+{
+    for triple in triples {
+        assert!(rt; judge(trail, cache, triple.0)? == triple.1);
+    }
     Ok(())
+}
+
+/// The same with a new trail.
+fn judge_again_with<'t, R: AllocGlobal + Abort, T: SerialTree>(
+    rt: &R,
+    tree: &'t T,
+    cache: &mut Cache<'t, T>,
+) -> Result<(), AllocError>
+    requires { cache.old.tree ≡ tree.now }
+{
+    let mut trail = Trail::new(rt.alloc(), tree)?;
+    let triples = [
+        ((7, 9, 5), Verdict::Good),
+        ((8, 9, 5), Verdict::NoWitness),
+        ((7, 9, 5), Verdict::Good),
+    ];
+    assert_judged(rt, &mut trail, cache, &triples)
+}
+
+fn judge_again<R: AllocGlobal + Abort, T: SerialTree>(rt: &R, tree: &T) -> Result<(), AllocError> {
+    let mut cache = Cache::new(rt.alloc(), tree, 16)?;
+    judge_again_with(rt, tree, &mut cache)
 }
 
 #[test]
@@ -81,24 +107,54 @@ fn verdicts_are_the_same_again(rt: HostRuntime) -> Result<(), Fail> {
     Ok(())
 }
 
-fn judge_many<R: AllocGlobal + Abort, T: SerialTree>(rt: &R, tree: &T) -> Result<(), AllocError> {
-    let mut trail = Trail::new(rt.alloc(), tree)?;
-    let mut cache = Cache::new(rt.alloc(), tree, 16)?;
+/// The last of 270,000 triples of numbers, none twice, that is judged good.
+fn last_good<'t, T: SerialTree>(
+    trail: &mut Trail<'t, T>,
+    cache: &mut Cache<'t, T>,
+) -> Result<u32, AllocError>
+    requires empty { trail.old.history ≡ [] }
+    requires tree { cache.old.tree ≡ trail.old.tree }
+    ensures empty { IfOk result (λ _. trail.new.history ≡ []) }
+    ensures tree { IfOk result (λ _. cache.new.tree ≡ trail.new.tree) }
+{
     let mut good = 0u32;
     for number in 0..270_000 {
-        let verdict = judge(
-            &mut trail,
-            &mut cache,
-            (number / 4096, number / 64 % 64, number % 64),
-        )?;
-        if verdict == Verdict::Good {
+        let numbers = (number / 4096, number / 64 % 64, number % 64);
+        if judge(trail, cache, numbers)? == Verdict::Good {
             good = number;
         }
     }
-    assert_eq!(rt; good, 7 * 4096 + 9 * 64 + 5);
-    let again = judge(&mut trail, &mut cache, (7, 9, 5))?;
-    assert!(rt; again == Verdict::Good);
-    Ok(())
+    Ok(good)
+}
+
+/// One of them is good, also when it is judged again.
+fn assert_last_good<'t, R: Abort, T: SerialTree>(
+    rt: &R,
+    trail: &mut Trail<'t, T>,
+    cache: &mut Cache<'t, T>,
+) -> Result<(), AllocError>
+    requires empty { trail.old.history ≡ [] }
+    requires tree { cache.old.tree ≡ trail.old.tree }
+{
+    assert_eq!(rt; last_good(trail, cache)?, 7 * 4096 + 9 * 64 + 5);
+    assert_judged(rt, trail, cache, &[((7, 9, 5), Verdict::Good)])
+}
+
+/// The same with a new trail.
+fn judge_many_with<'t, R: AllocGlobal + Abort, T: SerialTree>(
+    rt: &R,
+    tree: &'t T,
+    cache: &mut Cache<'t, T>,
+) -> Result<(), AllocError>
+    requires { cache.old.tree ≡ tree.now }
+{
+    let mut trail = Trail::new(rt.alloc(), tree)?;
+    assert_last_good(rt, &mut trail, cache)
+}
+
+fn judge_many<R: AllocGlobal + Abort, T: SerialTree>(rt: &R, tree: &T) -> Result<(), AllocError> {
+    let mut cache = Cache::new(rt.alloc(), tree, 16)?;
+    judge_many_with(rt, tree, &mut cache)
 }
 
 #[test]

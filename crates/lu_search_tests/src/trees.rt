@@ -2,17 +2,17 @@
 //! by hand, and its frontiers.
 
 ghost use Rattle.std.specs.Prelude.{◌≡◌, IfOk, OnOk};
-ghost use Rattle.lu_test.specs.Matrix.{IsOf};
 ghost use Rattle.lu_machine.specs.States.{State};
 ghost use Rattle.lu_machine.specs.Schedules.{IsSchedule};
 ghost use Rattle.lu_machine.specs.Starts.{CanRun, IsStart};
 ghost use Rattle.lu_history.specs.declared.serial.SerialOutcome.TheVariants.{Ret};
 
+use lu_cases::{Case, case_of};
+use lu_component::Component;
 use lu_examples::ROWS;
 use lu_history::{SerialOp, SerialOutcome};
-use lu_lang::{Component, read_component};
-use lu_machine::{Counts, Machine, settles};
-use lu_test::{Matrix, Schedule, read_matrix, read_schedule, write_schedule};
+use lu_machine::{Counts, Machine};
+use lu_test::{Matrix, Move, Schedule, read_schedule, write_schedule};
 use lu_tree::{Found, frontier, search};
 use lu_trie::Trie;
 use lu_witness::Why;
@@ -20,19 +20,23 @@ use std::alloc::{AllocError, Global};
 use std::process::Abort;
 use std::test::Fail;
 
-/// The setup of the matrix settles.
-pub(crate) fn assert_settles(
+/// Each of the moves is feasible.
+fn assert_feasible(
     rt: &(impl AllocGlobal + Abort),
     component: &Component,
     matrix: &Matrix,
+    moves: &[Move],
 ) -> Result<(), Fail>
-    requires { IsOf matrix.now component.now }
-    ensures { OnOk result (CanRun component.now matrix.now) }
+    requires { CanRun component.now matrix.now }
+    ensures { (s : State) → IsStart component.now matrix.now s →
+        OnOk result (IsSchedule s moves.now) }
 {
-    match settles(rt.alloc(), component, matrix)? {
-        None => Ok(()),
-        Some(call) => panic!(rt; "call {call} of the setup does not end"),
+    let mut machine = Machine::start(rt.alloc(), component, matrix)?;
+    for next in moves {
+        assert!(rt; machine.feasible(*next), "{next:?}");
+        machine.step(*next);
     }
+    Ok(())
 }
 
 /// The schedule of this text, each move of which is feasible.
@@ -46,11 +50,7 @@ pub(crate) fn beginning(
     ensures { (s : State) → IsStart component.now matrix.now s → IfOk result (IsSchedule s) }
 {
     let schedule = read_schedule(rt.alloc(), text)?;
-    let mut machine = Machine::start(rt.alloc(), component, matrix)?;
-    for next in schedule.moves() {
-        assert!(rt; machine.feasible(*next), "{next:?}");
-        machine.step(*next);
-    }
+    assert_feasible(rt, component, matrix, schedule.moves())?;
     Ok(schedule)
 }
 
@@ -107,18 +107,24 @@ fn either(
 /// What is found over the set.
 fn found_over(
     rt: &(impl AllocGlobal + Abort),
-    component: &Component,
-    matrix: &Matrix,
+    case: &Case,
     set: &Trie<Global>,
     from: &[u8],
     bound: u16,
 ) -> Result<Found, Fail>
-    requires { CanRun component.now matrix.now }
+    requires { CanRun case.now.component case.now.matrix }
 {
-    let from = beginning(rt, component, matrix, from)?;
+    let from = beginning(rt, &case.component, &case.matrix, from)?;
     assert!(rt; bound <= 256);
     assert!(rt; from.moves().len() <= usize::from(bound));
-    Ok(search(rt.alloc(), component, matrix, &set, &from, bound)?)
+    Ok(search(
+        rt.alloc(),
+        &case.component,
+        &case.matrix,
+        &set,
+        &from,
+        bound,
+    )?)
 }
 
 /// What is found over the set among the schedules of the matrix that begin so.
@@ -129,10 +135,16 @@ fn found(
     from: &[u8],
     bound: u16,
 ) -> Result<Found, Fail> {
-    let component = read_component(rt.alloc(), ROWS.as_bytes())?;
-    let matrix = read_matrix(rt.alloc(), &component, matrix)?;
-    assert_settles(rt, &component, &matrix)?;
-    found_over(rt, &component, &matrix, set, from, bound)
+    let case = case_of(rt, ROWS.as_bytes(), matrix)?;
+    found_over(rt, &case, set, from, bound)
+}
+
+/// How many schedules are found where all of them are good.
+pub(crate) fn clean(found: &Found) -> Option<Counts> {
+    match found {
+        Found::Clean(counts) => Some(*counts),
+        Found::Bad { .. } | Found::Abandoned => None,
+    }
 }
 
 /// All schedules of the matrix that begin so are good, and there are so many.
@@ -144,11 +156,36 @@ pub(crate) fn assert_counts(
     bound: u16,
     counts: Counts,
 ) -> Result<(), Fail> {
-    match found(rt, matrix, set, from, bound)? {
-        Found::Clean(got) => assert_eq!(rt; got, counts),
-        Found::Bad { .. } | Found::Abandoned => panic!(rt; "a bad schedule"),
-    }
+    let found = found(rt, matrix, set, from, bound)?;
+    assert_eq!(rt; clean(&found), Some(counts));
     Ok(())
+}
+
+/// The schedule is spelled so.
+pub(crate) fn assert_spelled(
+    rt: &(impl AllocGlobal + Abort),
+    schedule: &Schedule,
+    text: &str,
+) -> Result<(), Fail> {
+    let spelled = write_schedule(rt.alloc(), schedule)?;
+    assert_eq!(rt; spelled.as_str(), text);
+    Ok(())
+}
+
+/// What is found is a bad schedule: this one, for this reason.
+pub(crate) fn assert_found_bad(
+    rt: &(impl AllocGlobal + Abort),
+    found: &Found,
+    text: &str,
+    reason: Why,
+) -> Result<(), Fail> {
+    match found {
+        Found::Clean(_) | Found::Abandoned => panic!(rt; "no bad schedule"),
+        Found::Bad { schedule, why } => {
+            assert_eq!(rt; *why, reason);
+            assert_spelled(rt, schedule, text)
+        }
+    }
 }
 
 /// The least bad schedule of the matrix that begins so is this one, for this reason.
@@ -160,18 +197,11 @@ fn assert_bad(
     text: &str,
     reason: Why,
 ) -> Result<(), Fail> {
-    match found(rt, matrix, set, from, 40)? {
-        Found::Clean(_) | Found::Abandoned => panic!(rt; "no bad schedule"),
-        Found::Bad { schedule, why } => {
-            let got = write_schedule(rt.alloc(), &schedule)?;
-            assert_eq!(rt; got.as_str(), text);
-            assert_eq!(rt; why, reason);
-        }
-    }
-    Ok(())
+    let found = found(rt, matrix, set, from, 40)?;
+    assert_found_bad(rt, &found, text, reason)
 }
 
-fn complete(complete: u64) -> Counts {
+pub(crate) fn complete(complete: u64) -> Counts {
     Counts {
         complete,
         ..Counts::NONE
@@ -229,22 +259,38 @@ fn gets_below(rt: HostRuntime) -> Result<(), Fail> {
 
 const THREE_GETS: &[u8] = b"thread get\nthread get\nthread get\n";
 
-/// Three gets that return 0, in every order but that of the threads.
-fn three_gets(rt: &(impl AllocGlobal + Abort)) -> Result<Trie<Global>, Fail> {
+/// A history of three calls: the thread of each, and what it returns.
+type Three = ((u8, u32), (u8, u32), (u8, u32));
+
+/// Adds these histories.
+fn insert_all(set: &mut Trie<Global>, histories: &[Three]) -> Result<(), AllocError> {
+    for (first, second, last) in histories {
+        insert_three(set, *first, *second, ret(last.0, last.1))?;
+    }
+    Ok(())
+}
+
+/// The set of these histories.
+fn set_of(rt: &(impl AllocGlobal + Abort), histories: &[Three]) -> Result<Trie<Global>, Fail> {
     let mut set = Trie::new(rt.alloc());
-    insert_three(&mut set, (0, 0), (2, 0), ret(1, 0))?;
-    insert_three(&mut set, (1, 0), (0, 0), ret(2, 0))?;
-    insert_three(&mut set, (1, 0), (2, 0), ret(0, 0))?;
-    insert_three(&mut set, (2, 0), (0, 0), ret(1, 0))?;
-    insert_three(&mut set, (2, 0), (1, 0), ret(0, 0))?;
+    insert_all(&mut set, histories)?;
     Ok(set)
 }
+
+/// Three gets that return 0, in every order but that of the threads.
+const THREE_GETS_SET: &[Three] = &[
+    ((0, 0), (2, 0), (1, 0)),
+    ((1, 0), (0, 0), (2, 0)),
+    ((1, 0), (2, 0), (0, 0)),
+    ((2, 0), (0, 0), (1, 0)),
+    ((2, 0), (1, 0), (0, 0)),
+];
 
 /// Nine moves, of which each thread makes three. No thread writes, so they are counted by one look
 /// at the set.
 #[test]
 fn readers(rt: HostRuntime) -> Result<(), Fail> {
-    let mut set = three_gets(&rt)?;
+    let mut set = set_of(&rt, THREE_GETS_SET)?;
     insert_three(&mut set, (0, 0), (1, 0), ret(2, 0))?;
     assert_counts(&rt, THREE_GETS, &set, EMPTY, 40, complete(1680))?;
     assert_counts(&rt, THREE_GETS, &set, EMPTY, 9, complete(1680))?;
@@ -257,7 +303,7 @@ fn readers(rt: HostRuntime) -> Result<(), Fail> {
 /// other is bad.
 #[test]
 fn readers_in_an_order_too_many(rt: HostRuntime) -> Result<(), Fail> {
-    let set = three_gets(&rt)?;
+    let set = set_of(&rt, THREE_GETS_SET)?;
     let least = "schedule 0 0 0 1 1 1 2 2 2\n";
     assert_bad(&rt, THREE_GETS, &set, EMPTY, least, Why::Complete)
 }
@@ -326,21 +372,19 @@ fn traps(rt: HostRuntime) -> Result<(), Fail> {
 }
 
 /// `get` returns 1 where `put` stands before it, and else 0.
-fn all_orders(rt: &(impl AllocGlobal + Abort)) -> Result<Trie<Global>, Fail> {
-    let mut set = Trie::new(rt.alloc());
-    insert_three(&mut set, (0, 0), (1, 0), ret(2, 1))?;
-    insert_three(&mut set, (0, 0), (2, 0), ret(1, 0))?;
-    insert_three(&mut set, (1, 0), (0, 0), ret(2, 1))?;
-    insert_three(&mut set, (1, 0), (2, 1), ret(0, 0))?;
-    insert_three(&mut set, (2, 0), (0, 0), ret(1, 0))?;
-    insert_three(&mut set, (2, 0), (1, 0), ret(0, 0))?;
-    Ok(set)
-}
+const ALL_ORDERS: &[Three] = &[
+    ((0, 0), (1, 0), (2, 1)),
+    ((0, 0), (2, 0), (1, 0)),
+    ((1, 0), (0, 0), (2, 1)),
+    ((1, 0), (2, 1), (0, 0)),
+    ((2, 0), (0, 0), (1, 0)),
+    ((2, 0), (1, 0), (0, 0)),
+];
 
 /// Some serial history has these outcomes: only precedence refuses it.
 #[test]
 fn overtaken(rt: HostRuntime) -> Result<(), Fail> {
-    let set = all_orders(&rt)?;
+    let set = set_of(&rt, ALL_ORDERS)?;
     let matrix = b"thread hold\nthread put\nthread get\n";
     let least = "schedule 0 0 1 1 0 0 1 1 2 2 2\n";
     assert_bad(&rt, matrix, &set, EMPTY, least, Why::Complete)
@@ -357,34 +401,47 @@ fn exchanges(rt: HostRuntime) -> Result<(), Fail> {
     assert_counts(&rt, matrix, &set, EMPTY, 40, complete(EXCHANGES))
 }
 
-/// Three exchanges return 1, 2 and 3, in any order. Most of their moves commute: so many schedules
-/// could not be walked one by one.
+/// Three exchanges return 1, 2 and 3, in any order.
+const THREE_EXCHANGES: &[Three] = &[
+    ((0, 1), (1, 2), (2, 3)),
+    ((0, 1), (2, 2), (1, 3)),
+    ((1, 1), (0, 2), (2, 3)),
+    ((1, 1), (2, 2), (0, 3)),
+    ((2, 1), (0, 2), (1, 3)),
+    ((2, 1), (1, 2), (0, 3)),
+];
+
+/// Most of their moves commute: so many schedules could not be walked one by one.
 #[test]
 fn exchanges_of_three(rt: HostRuntime) -> Result<(), Fail> {
-    let mut set = Trie::new(rt.alloc());
-    insert_three(&mut set, (0, 1), (1, 2), ret(2, 3))?;
-    insert_three(&mut set, (0, 1), (2, 2), ret(1, 3))?;
-    insert_three(&mut set, (1, 1), (0, 2), ret(2, 3))?;
-    insert_three(&mut set, (1, 1), (2, 2), ret(0, 3))?;
-    insert_three(&mut set, (2, 1), (0, 2), ret(1, 3))?;
-    insert_three(&mut set, (2, 1), (1, 2), ret(0, 3))?;
+    let set = set_of(&rt, THREE_EXCHANGES)?;
     let matrix = b"thread cinc\nthread cinc\nthread cinc\n";
     assert_counts(&rt, matrix, &set, EMPTY, 30, complete(25_046_026_296))
 }
 
 /// The pieces of a frontier.
+fn pieces_of(
+    rt: &(impl AllocGlobal + Abort),
+    case: &Case,
+    bound: u16,
+    depth: u8,
+) -> Result<Vec<Schedule>, Fail>
+    requires { CanRun case.now.component case.now.matrix }
+{
+    assert!(rt; bound <= 256);
+    assert!(rt; depth <= 8);
+    Ok(frontier(rt.alloc(), &case.component, &case.matrix, bound, depth)?)
+}
+
+/// The same for the matrix of this text.
 fn pieces(
     rt: &(impl AllocGlobal + Abort),
     matrix: &[u8],
     bound: u16,
     depth: u8,
 ) -> Result<Vec<Schedule>, Fail> {
-    assert!(rt; bound <= 256);
-    assert!(rt; depth <= 8);
-    let component = read_component(rt.alloc(), ROWS.as_bytes())?;
-    let matrix = read_matrix(rt.alloc(), &component, matrix)?;
-    assert_settles(rt, &component, &matrix)?;
-    Ok(frontier(rt.alloc(), &component, &matrix, bound, depth)?)
+    let case = case_of(rt, ROWS.as_bytes(), matrix)?;
+    pieces_of(rt, &case, bound, depth)
 }
 
 /// The frontier has so many pieces, and each of them has so many moves.
@@ -416,9 +473,7 @@ fn frontiers(rt: HostRuntime) -> Result<(), Fail> {
 fn ended_piece(rt: HostRuntime) -> Result<(), Fail> {
     let pieces = pieces(&rt, b"thread take\n", 40, 4)?;
     assert!(rt; pieces.len() == 1);
-    let text = write_schedule(rt.alloc(), &pieces[0])?;
-    assert_eq!(rt; text.as_str(), "schedule 0\n");
-    Ok(())
+    assert_spelled(&rt, &pieces[0], "schedule 0\n")
 }
 
 /// Six moves of eight threads would be 262,144 schedules.

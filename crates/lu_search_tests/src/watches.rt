@@ -1,19 +1,21 @@
 //! Searches that a watch may call off.
 
 ghost use Rattle.std.specs.Prelude.{◌≡◌, false};
-ghost use Rattle.lu_machine.specs.Starts.{CanRun};
+ghost use Rattle.lu_machine.specs.States.{State};
+ghost use Rattle.lu_machine.specs.Schedules.{IsSchedule};
+ghost use Rattle.lu_machine.specs.Starts.{CanRun, IsStart};
 ghost use Rattle.lu_tree.specs.Tables.{AreTables};
 
-use crate::trees::{assert_settles, beginning};
-use lu_component::Component;
+use crate::trees::{EMPTY, assert_found_bad, beginning, clean, complete, cut};
+use lu_cases::{Case, case_of};
 use lu_examples::ROWS;
-use lu_lang::read_component;
 use lu_machine::Counts;
 use lu_serial::{Learnt, learn};
-use lu_test::{Matrix, read_matrix, write_schedule};
+use lu_test::Schedule;
 use lu_tree::{Found, Tables, Unwatched, Watch, search_watched, search_with};
 use lu_trie::{PackedTrie, SerialTree, Trie};
 use lu_witness::{Cache, Why};
+use std::alloc::Global;
 use std::process::Abort;
 use std::test::Fail;
 
@@ -58,23 +60,22 @@ fn stops_at(last: u32) -> Patience
 /// What is found among all schedules within the bound, over the tree, with a cache of one verdict.
 fn found_watched<T: SerialTree, W: Watch>(
     rt: &(impl AllocGlobal + Abort),
-    component: &Component,
-    matrix: &Matrix,
+    case: &Case,
     tree: &T,
     bound: u16,
     watch: &mut W,
 ) -> Result<Found, Fail>
-    requires of { CanRun component.now matrix.now }
+    requires of { CanRun case.now.component case.now.matrix }
     requires running { W.is_stopped watch.old ≡ false }
 {
-    let from = beginning(rt, component, matrix, b"schedule\n")?;
+    let from = beginning(rt, &case.component, &case.matrix, EMPTY)?;
     assert!(rt; bound <= 256);
     assert!(rt; from.moves().len() <= usize::from(bound));
     let mut cache = Cache::new(rt.alloc(), tree, 1)?;
     Ok(search_watched(
         rt.alloc(),
-        component,
-        matrix,
+        &case.component,
+        &case.matrix,
         &mut cache,
         &from,
         bound,
@@ -82,7 +83,41 @@ fn found_watched<T: SerialTree, W: Watch>(
     )?)
 }
 
-/// The same over the packed set of all serial histories of the matrix.
+/// The set of all serial histories of the case.
+fn all_serial(rt: &(impl AllocGlobal + Abort), case: &Case) -> Result<Trie<Global>, Fail>
+    requires { CanRun case.now.component case.now.matrix }
+{
+    match learn(rt.alloc(), rt.alloc(), &case.component, &case.matrix, 40)? {
+        Learnt::Set(set) => Ok(set),
+        Learnt::Cut(_) | Learnt::Conflict { .. } => panic!(rt; "a serial offence"),
+    }
+}
+
+/// The same, packed.
+pub(crate) fn packed(
+    rt: &(impl AllocGlobal + Abort),
+    case: &Case,
+) -> Result<PackedTrie<Global>, Fail>
+    requires { CanRun case.now.component case.now.matrix }
+{
+    let set = all_serial(rt, case)?;
+    Ok(PackedTrie::pack(rt.alloc(), &set)?)
+}
+
+/// What is found over the packed set of all serial histories.
+fn found_over<W: Watch>(
+    rt: &(impl AllocGlobal + Abort),
+    case: &Case,
+    watch: &mut W,
+) -> Result<Found, Fail>
+    requires of { CanRun case.now.component case.now.matrix }
+    requires running { W.is_stopped watch.old ≡ false }
+{
+    let packed = packed(rt, case)?;
+    found_watched(rt, case, &&packed, 40, watch)
+}
+
+/// The same of the matrix of this text.
 fn found_serially<W: Watch>(
     rt: &(impl AllocGlobal + Abort),
     matrix: &[u8],
@@ -90,48 +125,18 @@ fn found_serially<W: Watch>(
 ) -> Result<Found, Fail>
     requires { W.is_stopped watch.old ≡ false }
 {
-    let component = read_component(rt.alloc(), ROWS.as_bytes())?;
-    let matrix = read_matrix(rt.alloc(), &component, matrix)?;
-    assert_settles(rt, &component, &matrix)?;
-    match learn(rt.alloc(), rt.alloc(), &component, &matrix, 40)? {
-        Learnt::Set(set) => {
-            let packed = PackedTrie::pack(rt.alloc(), &set)?;
-            found_watched(rt, &component, &matrix, &&packed, 40, watch)
-        }
-        Learnt::Cut(_) | Learnt::Conflict { .. } => panic!(rt; "a serial offence"),
-    }
+    let case = case_of(rt, ROWS.as_bytes(), matrix)?;
+    found_over(rt, &case, watch)
 }
 
 const EXCHANGES: &[u8] = b"thread cinc\nthread cinc\n";
-
-fn is_clean(found: &Found, complete: u64) -> bool {
-    let counts = Counts {
-        complete,
-        ..Counts::NONE
-    };
-    match found {
-        Found::Clean(got) => *got == counts,
-        Found::Bad { .. } | Found::Abandoned => false,
-    }
-}
-
-fn is_cut(found: &Found, cut: u64) -> bool {
-    let counts = Counts {
-        cut,
-        ..Counts::NONE
-    };
-    match found {
-        Found::Clean(got) => *got == counts,
-        Found::Bad { .. } | Found::Abandoned => false,
-    }
-}
 
 /// 2,564 schedules are 40 times 64 and some more.
 #[test]
 fn a_watch_is_asked_after_each_64(rt: HostRuntime) -> Result<(), Fail> {
     let mut watch = stops_at(0);
     let found = found_serially(&rt, EXCHANGES, &mut watch)?;
-    assert!(rt; is_clean(&found, 2564));
+    assert_eq!(rt; clean(&found), Some(complete(2564)));
     assert_eq!(rt; watch.asked, 40);
     Ok(())
 }
@@ -145,75 +150,98 @@ fn a_watch_stops_at_its_third_question(rt: HostRuntime) -> Result<(), Fail> {
     Ok(())
 }
 
-/// What is found below the schedule of this text within 40 moves.
+/// What is found below the schedule within 40 moves, with a cache of one verdict.
 fn found_below<T: SerialTree>(
     rt: &(impl AllocGlobal + Abort),
-    component: &Component,
-    matrix: &Matrix,
+    case: &Case,
     tables: &Tables,
     tree: &T,
-    from: &[u8],
+    from: &Schedule,
 ) -> Result<Found, Fail>
-    requires of { CanRun component.now matrix.now }
-    requires tables { AreTables component.now matrix.now tables.now }
+    requires of { CanRun case.now.component case.now.matrix }
+    requires tables { AreTables case.now.component case.now.matrix tables.now }
+    requires leads { (s : State) → IsStart case.now.component case.now.matrix s →
+        IsSchedule s from.now }
 {
-    let from = beginning(rt, component, matrix, from)?;
     assert!(rt; from.moves().len() <= 40);
     let mut cache = Cache::new(rt.alloc(), tree, 1)?;
     Ok(search_with(
         rt.alloc(),
-        component,
-        matrix,
+        &case.component,
+        &case.matrix,
         tables,
         &mut cache,
-        &from,
+        from,
         40,
         &mut Unwatched,
     )?)
 }
 
-/// One table for the whole tree and for its two halves.
-fn assert_halves<T: SerialTree>(
+/// All schedules below the one of this text are good, and there are so many.
+fn assert_below<T: SerialTree>(
     rt: &(impl AllocGlobal + Abort),
-    component: &Component,
-    matrix: &Matrix,
+    case: &Case,
+    tables: &Tables,
     tree: &T,
+    from: &[u8],
+    counts: Counts,
 ) -> Result<(), Fail>
-    requires { CanRun component.now matrix.now }
+    requires of { CanRun case.now.component case.now.matrix }
+    requires tables { AreTables case.now.component case.now.matrix tables.now }
 {
-    let tables = Tables::new(rt.alloc(), component, matrix, 40)?;
-    let found = found_below(rt, component, matrix, &tables, tree, b"schedule\n")?;
-    assert!(rt; is_clean(&found, 2564));
-    let found = found_below(rt, component, matrix, &tables, tree, b"schedule 0\n")?;
-    assert!(rt; is_clean(&found, 1282));
-    let found = found_below(rt, component, matrix, &tables, tree, b"schedule 1\n")?;
-    assert!(rt; is_clean(&found, 1282));
+    let from = beginning(rt, &case.component, &case.matrix, from)?;
+    let found = found_below(rt, case, tables, tree, &from)?;
+    assert_eq!(rt; clean(&found), Some(counts));
     Ok(())
 }
 
-/// The same over the packed set of all serial histories.
-fn parts_found(
+/// The whole tree and its two halves: where each begins, and how many complete schedules it has.
+const PARTS: &[(&[u8], u64)] = &[
+    (EMPTY, 2564),
+    (b"schedule 0\n", 1282),
+    (b"schedule 1\n", 1282),
+];
+
+/// Each of the parts has as many.
+fn assert_parts<T: SerialTree>(
     rt: &(impl AllocGlobal + Abort),
-    component: &Component,
-    matrix: &Matrix,
+    case: &Case,
+    tables: &Tables,
+    tree: &T,
 ) -> Result<(), Fail>
-    requires { CanRun component.now matrix.now }
+    requires of { CanRun case.now.component case.now.matrix }
+    requires tables { AreTables case.now.component case.now.matrix tables.now }
 {
-    match learn(rt.alloc(), rt.alloc(), component, matrix, 40)? {
-        Learnt::Set(set) => {
-            let packed = PackedTrie::pack(rt.alloc(), &set)?;
-            assert_halves(rt, component, matrix, &&packed)
-        }
-        Learnt::Cut(_) | Learnt::Conflict { .. } => panic!(rt; "a serial offence"),
+    for (from, count) in PARTS {
+        assert_below(rt, case, tables, tree, from, complete(*count))?;
     }
+    Ok(())
+}
+
+/// One table for the whole tree and for its two halves.
+fn assert_halves<T: SerialTree>(
+    rt: &(impl AllocGlobal + Abort),
+    case: &Case,
+    tree: &T,
+) -> Result<(), Fail>
+    requires { CanRun case.now.component case.now.matrix }
+{
+    let tables = Tables::new(rt.alloc(), &case.component, &case.matrix, 40)?;
+    assert_parts(rt, case, &tables, tree)
+}
+
+/// The same over the packed set of all serial histories.
+fn assert_halves_serially(rt: &(impl AllocGlobal + Abort), case: &Case) -> Result<(), Fail>
+    requires { CanRun case.now.component case.now.matrix }
+{
+    let packed = packed(rt, case)?;
+    assert_halves(rt, case, &&packed)
 }
 
 #[test]
 fn one_table_serves_all_parts(rt: HostRuntime) -> Result<(), Fail> {
-    let component = read_component(rt.alloc(), ROWS.as_bytes())?;
-    let matrix = read_matrix(rt.alloc(), &component, EXCHANGES)?;
-    assert_settles(&rt, &component, &matrix)?;
-    parts_found(&rt, &component, &matrix)
+    let case = case_of(&rt, ROWS.as_bytes(), EXCHANGES)?;
+    assert_halves_serially(&rt, &case)
 }
 
 /// Each of two threads can always move, so 12 moves are cut in 4,096 ways, which are counted
@@ -221,23 +249,32 @@ fn one_table_serves_all_parts(rt: HostRuntime) -> Result<(), Fail> {
 fn words_found(rt: &(impl AllocGlobal + Abort), watch: &mut Patience) -> Result<Found, Fail>
     requires { watch.old.stopped ≡ false }
 {
-    let component = read_component(rt.alloc(), ROWS.as_bytes())?;
-    let matrix = read_matrix(rt.alloc(), &component, b"thread spin\nthread spin\n")?;
-    assert_settles(rt, &component, &matrix)?;
+    let case = case_of(rt, ROWS.as_bytes(), b"thread spin\nthread spin\n")?;
     let set = Trie::new(rt.alloc());
-    found_watched(rt, &component, &matrix, &&set, 12, watch)
+    found_watched(rt, &case, &&set, 12, watch)
+}
+
+/// A watch that does not stop the search is asked after each 64 of them.
+fn assert_words_counted(rt: &(impl AllocGlobal + Abort)) -> Result<(), Fail> {
+    let mut watch = stops_at(0);
+    let found = words_found(rt, &mut watch)?;
+    assert_eq!(rt; clean(&found), Some(cut(4096)));
+    assert_eq!(rt; watch.asked, 64);
+    Ok(())
+}
+
+/// A watch that stops at its last question ends the search.
+fn assert_words_abandoned(rt: &(impl AllocGlobal + Abort)) -> Result<(), Fail> {
+    let mut watch = stops_at(64);
+    let found = words_found(rt, &mut watch)?;
+    assert!(rt; matches!(found, Found::Abandoned));
+    Ok(())
 }
 
 #[test]
 fn a_watch_is_asked_of_what_is_counted(rt: HostRuntime) -> Result<(), Fail> {
-    let mut watch = stops_at(0);
-    let found = words_found(&rt, &mut watch)?;
-    assert!(rt; is_cut(&found, 4096));
-    assert_eq!(rt; watch.asked, 64);
-    let mut watch = stops_at(64);
-    let found = words_found(&rt, &mut watch)?;
-    assert!(rt; matches!(found, Found::Abandoned));
-    Ok(())
+    assert_words_counted(&rt)?;
+    assert_words_abandoned(&rt)
 }
 
 /// The least bad schedule, and why it is bad.
@@ -247,36 +284,35 @@ fn assert_bad(
     text: &str,
     reason: Why,
 ) -> Result<(), Fail> {
-    match found_serially(rt, matrix, &mut Unwatched)? {
-        Found::Bad { schedule, why } => {
-            let got = write_schedule(rt.alloc(), &schedule)?;
-            assert_eq!(rt; got.as_str(), text);
-            assert_eq!(rt; why, reason);
-        }
-        Found::Clean(_) | Found::Abandoned => panic!(rt; "no bad schedule"),
-    }
-    Ok(())
+    let found = found_serially(rt, matrix, &mut Unwatched)?;
+    assert_found_bad(rt, &found, text, reason)
 }
+
+/// Matrices, with the least bad schedule of each and why it is bad.
+const BAD: &[(&[u8], &str, Why)] = &[
+    (
+        b"thread inc\nthread inc\n",
+        "schedule 0 0 0 1 1 0 0 1 1 1\n",
+        Why::Complete,
+    ),
+    (
+        b"thread hold\nthread put\nthread get\n",
+        "schedule 0 0 1 1 0 0 1 1 2 2 2\n",
+        Why::Complete,
+    ),
+    (
+        b"thread take\nthread mn\nthread nm\n",
+        "schedule 0 1 1 2 2\n",
+        Why::Stuck(1),
+    ),
+];
 
 #[test]
 fn searches_over_packed_sets(rt: HostRuntime) -> Result<(), Fail> {
-    let lost = "schedule 0 0 0 1 1 0 0 1 1 1\n";
-    assert_bad(&rt, b"thread inc\nthread inc\n", lost, Why::Complete)?;
-    let overtaken = "schedule 0 0 1 1 0 0 1 1 2 2 2\n";
-    assert_bad(
-        &rt,
-        b"thread hold\nthread put\nthread get\n",
-        overtaken,
-        Why::Complete,
-    )?;
-    let deadlock = "schedule 0 1 1 2 2\n";
-    assert_bad(
-        &rt,
-        b"thread take\nthread mn\nthread nm\n",
-        deadlock,
-        Why::Stuck(1),
-    )?;
+    for (matrix, text, reason) in BAD {
+        assert_bad(&rt, matrix, text, *reason)?;
+    }
     let found = found_serially(&rt, EXCHANGES, &mut Unwatched)?;
-    assert!(rt; is_clean(&found, 2564));
+    assert_eq!(rt; clean(&found), Some(complete(2564)));
     Ok(())
 }

@@ -98,18 +98,25 @@ fn assert_verdict<R: AllocGlobal + Abort>(
 }
 
 /// Thread 0 sets a cell to 1 and back to 0; thread 1 sets another cell to 1 where the first one is
-/// 0; thread 2 reads that.
+/// 0; thread 2 reads that. Of each call its thread, and what it returns.
+const OVERTAKEN: &[((u8, u32), (u8, u32), (u8, u32))] = &[
+    ((0, 0), (1, 0), (2, 1)),
+    ((0, 0), (2, 0), (1, 0)),
+    ((1, 0), (0, 0), (2, 1)),
+    ((1, 0), (2, 1), (0, 0)),
+    ((2, 0), (0, 0), (1, 0)),
+    ((2, 0), (1, 0), (0, 0)),
+];
+
+/// Adds these histories, and judges one that is refused and one that is not.
 fn judge_overtaken<R: AllocGlobal + Abort>(
     rt: &R,
     alloc: Global,
     set: &mut Trie<Global>,
 ) -> Result<(), HistoryFault> {
-    insert_three(set, (0, 0), (1, 0), ret(2, 1))?;
-    insert_three(set, (0, 0), (2, 0), ret(1, 0))?;
-    insert_three(set, (1, 0), (0, 0), ret(2, 1))?;
-    insert_three(set, (1, 0), (2, 1), ret(0, 0))?;
-    insert_three(set, (2, 0), (0, 0), ret(1, 0))?;
-    insert_three(set, (2, 0), (1, 0), ret(0, 0))?;
+    for (first, second, last) in OVERTAKEN {
+        insert_three(set, *first, *second, ret(last.0, last.1))?;
+    }
     let overtaken = [
         call(0),
         call(1),

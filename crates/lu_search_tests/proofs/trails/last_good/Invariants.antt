@@ -1,5 +1,5 @@
 use Rattle.std.proofs.Common.{◌≡◌, []}
-use Rattle.lu_search_tests.proofs.trails.judge_many.Given as goal
+use Rattle.lu_search_tests.proofs.trails.last_good.Given as goal
 
 abbrev pub invariant-loop-number : goal.invariant-loop-number
 invariant-loop-number g l = record {
