@@ -57,9 +57,9 @@ fn answer_replay(alloc: Global, parts: &[&[u8]]) -> Result<Answer, Refusal>
     ensures { Answered (spec.IsReplayOf (texts parts.now)) result }
 {
     let (component, matrix, schedule) = three(parts).ok_or(Refusal::Parts)?;
-    let (component, matrix) = read_texts(alloc, component, matrix)?;
+    let case = read_texts(alloc, component, matrix)?;
     let schedule = read_schedule(alloc, schedule)?;
-    Ok(play(alloc, &component, &matrix, &schedule)?)
+    Ok(play(alloc, &case.component, &case.matrix, &schedule)?)
 }
 
 /// The trace of the schedule, or where it is infeasible.
@@ -84,9 +84,9 @@ fn answer_trace(alloc: Global, parts: &[&[u8]]) -> Result<Answer, Refusal>
     ensures { Answered (spec.IsTraceOf (texts parts.now)) result }
 {
     let (component, matrix, moves) = three(parts).ok_or(Refusal::Parts)?;
-    let (component, matrix) = read_texts(alloc, component, matrix)?;
+    let case = read_texts(alloc, component, matrix)?;
     let schedule = read_schedule(alloc, moves)?;
-    Ok(trace(alloc, &component, &matrix, &schedule)?)
+    Ok(trace(alloc, &case.component, &case.matrix, &schedule)?)
 }
 
 /// The report of a serial offence.
@@ -131,8 +131,8 @@ fn answer_serial(alloc: Global, bounds: Bounds, parts: &[&[u8]]) -> Result<Answe
     ensures { Answered (spec.IsSerialOf bounds (texts parts.now)) result }
 {
     let (component, matrix) = two(parts).ok_or(Refusal::Parts)?;
-    let (component, matrix) = read_texts(alloc, component, matrix)?;
-    Ok(run_serially(alloc, &component, &matrix, bounds)?)
+    let case = read_texts(alloc, component, matrix)?;
+    Ok(run_serially(alloc, &case.component, &case.matrix, bounds)?)
 }
 
 /// `lineup check`: component and matrix.
@@ -172,8 +172,8 @@ fn answer_check_against<X: AllocGlobal + Threads + Wait>(
     ensures { Answered (spec.IsCheckAgainstOf options (texts parts.now)) result }
 {
     let (component, matrix, specification) = three(parts).ok_or(Refusal::Parts)?;
-    let (component, matrix) = read_texts(rt.alloc(), component, matrix)?;
-    check_against_text(rt, &component, &matrix, specification, options)
+    let case = read_texts(rt.alloc(), component, matrix)?;
+    check_against_text(rt, &case.component, &case.matrix, specification, options)
 }
 
 /// A schedule that the specification does not explain, where a run confirms that the report is a
@@ -216,8 +216,8 @@ fn answer_refute(alloc: Global, parts: &[&[u8]]) -> Result<Answer, Refusal>
     ensures { Answered (spec.IsRefuteOf (texts parts.now)) result }
 {
     let (component, matrix, report, specification) = four(parts).ok_or(Refusal::Parts)?;
-    let (component, matrix) = read_texts(alloc, component, matrix)?;
-    refute_texts(alloc, &component, &matrix, report, specification)
+    let case = read_texts(alloc, component, matrix)?;
+    refute_texts(alloc, &case.component, &case.matrix, report, specification)
 }
 
 /// The last matrix of the chain of removals, with its report; or the report of a matrix that does
@@ -243,8 +243,8 @@ fn answer_shrink(alloc: Global, bounds: Bounds, parts: &[&[u8]]) -> Result<Answe
     ensures { Answered (spec.IsShrinkOf bounds (texts parts.now)) result }
 {
     let (component, matrix) = two(parts).ok_or(Refusal::Parts)?;
-    let (component, matrix) = read_texts(alloc, component, matrix)?;
-    Ok(shrink_matrix(alloc, &component, &matrix, bounds)?)
+    let case = read_texts(alloc, component, matrix)?;
+    Ok(shrink_matrix(alloc, &case.component, &case.matrix, bounds)?)
 }
 
 /// What the campaign over these calls finds, with this setup.
@@ -308,8 +308,8 @@ fn answer_campaign(
     ensures { Answered (spec.IsCampaignOf options (texts parts.now)) result }
 {
     let (component, matrix) = two(parts).ok_or(Refusal::Parts)?;
-    let (component, matrix) = read_texts(alloc, component, matrix)?;
-    try_candidates(alloc, &component, &matrix, options)
+    let case = read_texts(alloc, component, matrix)?;
+    try_candidates(alloc, &case.component, &case.matrix, options)
 }
 
 /// What is answered to an order, or why it is refused.

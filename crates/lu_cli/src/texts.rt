@@ -93,6 +93,13 @@ impl From<AllocError> for Fault {
     }
 }
 
+/// A component, and a matrix of it.
+#[derive(Drop)]
+pub(crate) struct Case {
+    pub(crate) component: Component,
+    pub(crate) matrix: Matrix,
+}
+
 /// The number of the first call of the setup that does not end, if there is one. Want of memory is
 /// one of the matrix.
 fn find_unsettled(
@@ -114,20 +121,17 @@ fn find_unsettled(
 ///
 /// [`Fault::Component`] or [`Fault::Matrix`] with the fault of the first text that has one.
 /// [`Fault::Setup`] where both are read, and the setup does not settle.
-pub(crate) fn read_texts(
-    alloc: Global,
-    component: &[u8],
-    matrix: &[u8],
-) -> Result<(Component, Matrix), Fault>
-    ensures read { IfOk result (λ r. AreSettled component.now matrix.now r.0 r.1) }
-    ensures runs { IfOk result (λ r. CanRun r.0 r.1) }
+pub(crate) fn read_texts(alloc: Global, component: &[u8], matrix: &[u8]) -> Result<Case, Fault>
+    ensures read { IfOk result (λ case.
+        AreSettled component.now matrix.now case.component case.matrix) }
+    ensures runs { IfOk result (λ case. CanRun case.component case.matrix) }
     ensures fault { IfErr result (IsFaultOfTexts component.now matrix.now) }
 {
     let component = read_component(alloc, component)?;
     let matrix = read_matrix(alloc, &component, matrix)?;
     match find_unsettled(alloc, &component, &matrix)? {
         Some(call) => Err(Fault::Setup(call)),
-        None => Ok((component, matrix)),
+        None => Ok(Case { component, matrix }),
     }
 }
 
@@ -146,8 +150,8 @@ pub(crate) fn report_of<X: Threads + Wait>(
     ensures report { IfOk result (IsReportOfTexts component.now matrix.now options) }
     ensures fault { IfErr result (IsCheckFault component.now matrix.now options) }
 {
-    let (component, matrix) = read_texts(alloc, component, matrix)?;
-    let report = check(rt, alloc, &OpenGate, &component, &matrix, options)?;
+    let case = read_texts(alloc, component, matrix)?;
+    let report = check(rt, alloc, &OpenGate, &case.component, &case.matrix, options)?;
     Ok(report)
 }
 
@@ -222,7 +226,14 @@ pub fn check_texts_against<X: Threads + Wait>(
     ensures fault { IfErr result
         (IsFaultOfThree component.now matrix.now specification.now options) }
 {
-    let (component, matrix) = read_texts(alloc, component, matrix)?;
-    let report = report_against(rt, alloc, &component, &matrix, specification, options)?;
+    let case = read_texts(alloc, component, matrix)?;
+    let report = report_against(
+        rt,
+        alloc,
+        &case.component,
+        &case.matrix,
+        specification,
+        options,
+    )?;
     Ok(write_report(alloc, &report)?)
 }

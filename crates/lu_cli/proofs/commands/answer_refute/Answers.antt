@@ -8,8 +8,8 @@ use Rattle.lu_cli.proofs.commands.answer_refute.Goals as goal
 pub returns : goal.returns
 returns c =
     let p = c.in_ok-component in
-    let read = c.in_ok-component-2 in
+    let read = c.in_ok-case in
     let parts : four (texts c.args.parts.now) ≡ Some (p.component.now, p.matrix.now, p.report.now, p.specification.now) = search rules in
     rw parts
-    (texts_answered p.component.now p.matrix.now read.component read.matrix (λ d m. IsRefutedBy d m p.report.now p.specification.now)
+    (texts_answered p.component.now p.matrix.now read.case.component read.case.matrix (λ d m. IsRefutedBy d m p.report.now p.specification.now)
     read.ensures.read c.refute_texts.result c.refute_texts.ensures)
