@@ -81,9 +81,8 @@ fn half_done<R: AllocGlobal + Abort>(rt: &R, alloc: Global) -> Result<History, H
     )
 }
 
-#[test]
-fn precedence_is_return_before_call(rt: HostRuntime) -> Result<(), Fail> {
-    let history = overlapping(&rt, rt.alloc())?;
+/// Which operations of the overlapping threads precede which.
+fn assert_precedence(rt: &impl Abort, history: &History) {
     for (a, b, want) in [
         (0, 2, true),
         (1, 2, true),
@@ -108,48 +107,120 @@ fn precedence_is_return_before_call(rt: HostRuntime) -> Result<(), Fail> {
         "no return"
     );
     assert_eq!(rt; history.before(operation(2, 0)), &[1, 1, 0, 0, 0, 0, 0, 0]);
+}
+
+#[test]
+fn precedence_is_return_before_call(rt: HostRuntime) -> Result<(), Fail> {
+    let history = overlapping(&rt, rt.alloc())?;
+    assert_precedence(&rt, &history);
     Ok(())
+}
+
+/// How many calls each thread has made, whether one of them is pending, and how the others ended.
+fn assert_threads(rt: &impl Abort, history: &History, threads: &[(u8, u8, bool, &[Outcome])]) {
+    for (t, calls, pending, outcomes) in threads {
+        assert!(rt; *t < 8);
+        assert_eq!(rt; history.calls(*t), *calls, "thread {t}");
+        assert_eq!(rt; history.pending(*t), *pending, "thread {t}");
+        assert_eq!(rt; history.outcomes(*t), *outcomes, "thread {t}");
+    }
+}
+
+/// How each of these operations ended.
+fn assert_ended(rt: &impl Abort, history: &History, ended: &[(u8, u8, Option<SerialOutcome>)]) {
+    for (t, k, outcome) in ended {
+        assert!(rt; *t < 8);
+        assert_eq!(rt;
+            history.ended(operation(*t, *k)),
+            *outcome,
+            "operation {t} {k}"
+        );
+    }
 }
 
 #[test]
 fn parts_of_threads(rt: HostRuntime) -> Result<(), Fail> {
     let history = half_done(&rt, rt.alloc())?;
-    assert_eq!(rt; history.outcomes(0), [Outcome::Ret(7)].as_slice());
-    assert_eq!(rt; history.outcomes(1), [Outcome::Trap].as_slice());
-    assert!(rt; history.outcomes(2).is_empty());
-    for (t, calls, pending) in [(0, 2, true), (1, 1, false), (2, 1, true), (3, 0, false)] {
-        assert!(rt; t < 8);
-        assert_eq!(rt; history.calls(t), calls, "thread {t}");
-        assert_eq!(rt; history.pending(t), pending, "thread {t}");
-    }
-    assert_eq!(rt; history.ended(operation(0, 0)), Some(SerialOutcome::Ret(7)));
-    assert_eq!(rt; history.ended(operation(0, 1)), Some(SerialOutcome::Stuck));
-    assert_eq!(rt; history.ended(operation(0, 2)), None);
-    assert_eq!(rt; history.ended(operation(1, 0)), Some(SerialOutcome::Trap));
+    assert_threads(
+        &rt,
+        &history,
+        &[
+            (0, 2, true, &[Outcome::Ret(7)]),
+            (1, 1, false, &[Outcome::Trap]),
+            (2, 1, true, &[]),
+            (3, 0, false, &[]),
+        ],
+    );
+    assert_ended(
+        &rt,
+        &history,
+        &[
+            (0, 0, Some(SerialOutcome::Ret(7))),
+            (0, 1, Some(SerialOutcome::Stuck)),
+            (0, 2, None),
+            (1, 0, Some(SerialOutcome::Trap)),
+        ],
+    );
+    Ok(())
+}
+
+/// Without the pending calls of the other threads the history has these events.
+fn assert_kept(
+    rt: &impl Abort,
+    history: &History,
+    t: u8,
+    events: &[Event],
+) -> Result<(), HistoryFault> {
+    let kept = history.keep_pending(t)?;
+    assert_eq!(rt; kept.events(), events);
     Ok(())
 }
 
 #[test]
 fn one_pending_call_is_kept(rt: HostRuntime) -> Result<(), Fail> {
     let history = half_done(&rt, rt.alloc())?;
-    let kept = history.keep_pending(2)?;
-    assert_eq!(rt;
-        kept.events(),
-        [
+    assert_kept(
+        &rt,
+        &history,
+        2,
+        &[
             call(0, 0),
             call(1, 0),
             returns(0, 0, 7),
             call(2, 0),
-            traps(1, 0)
-        ]
-        .as_slice()
-    );
-    let none = history.keep_pending(1)?;
-    assert_eq!(rt;
-        none.events(),
-        [call(0, 0), call(1, 0), returns(0, 0, 7), traps(1, 0)].as_slice()
-    );
+            traps(1, 0),
+        ],
+    )?;
+    assert_kept(
+        &rt,
+        &history,
+        1,
+        &[call(0, 0), call(1, 0), returns(0, 0, 7), traps(1, 0)],
+    )?;
     Ok(())
+}
+
+/// Each of these events may come next, or not.
+fn assert_fits(rt: &impl Abort, history: &History, events: &[(Event, bool)]) {
+    for (event, want) in events {
+        assert_eq!(rt; history.fits(*event), *want, "{event:?}");
+    }
+}
+
+/// The last return goes, and the operation is pending again.
+fn assert_last_goes(rt: &impl Abort, history: &mut History) {
+    let returned_already = (returns(2, 0, 0), false);
+    let called_already = (call(2, 0), false);
+    assert_fits(
+        rt,
+        history,
+        &[returned_already, called_already, (call(2, 1), true)],
+    );
+    assert!(rt; !history.events().is_empty());
+    assert_eq!(rt; history.pop(), returns(2, 0, 0));
+    let one_is_pending = (call(2, 1), false);
+    assert_fits(rt, history, &[one_is_pending, (traps(2, 0), true)]);
+    assert_eq!(rt; history.events().len(), 5);
 }
 
 #[test]
@@ -157,41 +228,35 @@ fn events_come_and_go(rt: HostRuntime) -> Result<(), Fail> {
     let mut history = overlapping(&rt, rt.alloc())?;
     let copy = history.copy()?;
     assert_eq!(rt; copy.events(), history.events());
-    assert!(rt; !history.fits(returns(2, 0, 0)), "returned already");
-    assert!(rt; !history.fits(call(2, 0)), "called already");
-    assert!(rt; history.fits(call(2, 1)));
-    assert!(rt; !history.events().is_empty());
-    assert_eq!(rt; history.pop(), returns(2, 0, 0));
-    assert!(rt; !history.fits(call(2, 1)), "one is pending");
-    assert!(rt; history.fits(traps(2, 0)));
-    assert_eq!(rt; history.events().len(), 5);
+    assert_last_goes(&rt, &mut history);
     assert_eq!(rt; copy.events().len(), 6);
+    Ok(())
+}
+
+/// A history of the events is written so.
+fn assert_written(
+    rt: &(impl AllocGlobal + Abort),
+    events: &[Event],
+    text: &str,
+) -> Result<(), Fail> {
+    let history = history_of(rt, rt.alloc(), events)?;
+    assert_eq!(rt; write_history(rt.alloc(), &history)?.as_str(), text);
     Ok(())
 }
 
 #[test]
 fn writes_a_line_for_each_event(rt: HostRuntime) -> Result<(), Fail> {
-    let alloc = rt.alloc();
-    let lost_update = history_of(
+    assert_written(
         &rt,
-        alloc,
         &[call(0, 0), call(1, 0), returns(0, 0, 1), returns(1, 0, 1)],
+        "call 0 0\ncall 1 0\nreturn 0 0 ret 1\nreturn 1 0 ret 1\n",
     )?;
-    assert_eq!(rt;
-        write_history(alloc, &lost_update)?.as_str(),
-        "call 0 0\ncall 1 0\nreturn 0 0 ret 1\nreturn 1 0 ret 1\n"
-    );
-    let extremes = history_of(
+    assert_written(
         &rt,
-        alloc,
         &[call(7, 0), returns(7, 0, u32::MAX), call(7, 1), traps(7, 1)],
+        "call 7 0\nreturn 7 0 ret 4294967295\ncall 7 1\nreturn 7 1 trap\n",
     )?;
-    assert_eq!(rt;
-        write_history(alloc, &extremes)?.as_str(),
-        "call 7 0\nreturn 7 0 ret 4294967295\ncall 7 1\nreturn 7 1 trap\n"
-    );
-    assert_eq!(rt; write_history(alloc, &History::new(alloc))?.as_str(), "");
-    Ok(())
+    assert_written(&rt, &[], "")
 }
 
 #[test]

@@ -1,43 +1,19 @@
 //! Runs of small components, with the events that the step language asks for.
 
-ghost use Rattle.std.specs.Prelude.{◌≡◌, OnOk};
-ghost use Rattle.lu_test.specs.Matrix.{IsOf};
+ghost use Rattle.std.specs.Prelude.{◌≡◌};
 ghost use Rattle.lu_machine.specs.Starts.{CanRun};
 
-use lu_component::{Component, Instr};
+use lu_cases::{Case, case_of};
+use lu_component::Instr;
 use lu_lang::read_component;
 use lu_machine::{Counts, Event, Machine, Outcome, Status, is_local, settles};
-use lu_test::{Matrix, Move, read_matrix};
+use lu_test::{Move, read_matrix};
 use std::process::Abort;
 use std::test::Fail;
 
-/// The setup of the matrix settles.
-fn assert_settles(
-    rt: &(impl AllocGlobal + Abort),
-    component: &Component,
-    matrix: &Matrix,
-) -> Result<(), Fail>
-    requires { IsOf matrix.now component.now }
-    ensures { OnOk result (CanRun component.now matrix.now) }
-{
-    match settles(rt.alloc(), component, matrix)? {
-        None => Ok(()),
-        Some(call) => panic!(rt; "call {call} of the setup does not end"),
-    }
-}
-
-/// Makes the moves of these threads from the start, each with pick 0, and answers the last event
-/// and how the state then stands.
-fn played(
-    rt: &(impl AllocGlobal + Abort),
-    component: &[u8],
-    matrix: &[u8],
-    threads: &[u8],
-) -> Result<(Option<Event>, Status), Fail> {
-    let component = read_component(rt.alloc(), component)?;
-    let matrix = read_matrix(rt.alloc(), &component, matrix)?;
-    assert_settles(rt, &component, &matrix)?;
-    let mut machine = Machine::start(rt.alloc(), &component, &matrix)?;
+/// Makes the moves of these threads, each with pick 0, and answers the last event and how the state
+/// then stands.
+fn play(rt: &impl Abort, machine: &mut Machine<'_>, threads: &[u8]) -> (Option<Event>, Status) {
     let mut last = None;
     for thread in threads {
         let next = Move {
@@ -47,7 +23,36 @@ fn played(
         assert!(rt; machine.feasible(next), "{next:?}");
         last = machine.step(next);
     }
-    Ok((last, machine.status()))
+    (last, machine.status())
+}
+
+/// The same from the start of a run of the matrix.
+fn played(
+    rt: &(impl AllocGlobal + Abort),
+    component: &[u8],
+    matrix: &[u8],
+    threads: &[u8],
+) -> Result<(Option<Event>, Status), Fail> {
+    let case = case_of(rt, component, matrix)?;
+    let mut machine = Machine::start(rt.alloc(), &case.component, &case.matrix)?;
+    Ok(play(rt, &mut machine, threads))
+}
+
+/// In each of these matrices the moves of these threads end with this event, and the state then
+/// stands so.
+fn assert_played(
+    rt: &(impl AllocGlobal + Abort),
+    component: &[u8],
+    plays: &[(&[u8], &[u8], Option<Event>, Status)],
+) -> Result<(), Fail> {
+    for (matrix, threads, last, status) in plays {
+        assert_eq!(rt;
+            played(rt, component, matrix, threads)?,
+            (*last, *status),
+            "{threads:?}"
+        );
+    }
+    Ok(())
 }
 
 fn called(t: u8, k: u8) -> Option<Event> {
@@ -74,19 +79,23 @@ return r0
 end
 ";
 
+const TWICE: &[u8] = b"thread inc\nthread inc\n";
+
 /// Two increments that read the counter before either writes it.
 #[test]
 fn an_update_is_lost(rt: HostRuntime) -> Result<(), Fail> {
-    let matrix = b"thread inc\nthread inc\n";
-    let start = played(&rt, COUNTER, matrix, &[])?;
-    assert_eq!(rt; start, (None, Status::Running));
-    let first = played(&rt, COUNTER, matrix, &[0])?;
-    assert_eq!(rt; first, (called(0, 0), Status::Running));
-    let half = played(&rt, COUNTER, matrix, &[0, 0, 1, 1, 0, 0, 0])?;
-    assert_eq!(rt; half, (returned(0, 0, 1), Status::Running));
-    let all = played(&rt, COUNTER, matrix, &[0, 0, 1, 1, 0, 0, 0, 1, 1, 1])?;
-    assert_eq!(rt; all, (returned(1, 0, 1), Status::Complete));
-    Ok(())
+    let half: &[u8] = &[0, 0, 1, 1, 0, 0, 0];
+    let all: &[u8] = &[0, 0, 1, 1, 0, 0, 0, 1, 1, 1];
+    assert_played(
+        &rt,
+        COUNTER,
+        &[
+            (TWICE, &[], None, Status::Running),
+            (TWICE, &[0], called(0, 0), Status::Running),
+            (TWICE, half, returned(0, 0, 1), Status::Running),
+            (TWICE, all, returned(1, 0, 1), Status::Complete),
+        ],
+    )
 }
 
 const COUNTER_OF_TWO_MOVES: &[u8] = b"component c
@@ -107,12 +116,16 @@ end
 /// The addition runs with the load, and makes no move of its own.
 #[test]
 fn local_instructions_run_with_a_move(rt: HostRuntime) -> Result<(), Fail> {
-    let matrix = b"thread inc\nthread inc\n";
-    let half = played(&rt, COUNTER_OF_TWO_MOVES, matrix, &[0, 0, 1, 1, 0, 0])?;
-    assert_eq!(rt; half, (returned(0, 0, 1), Status::Running));
-    let all = played(&rt, COUNTER_OF_TWO_MOVES, matrix, &[0, 0, 1, 1, 0, 0, 1, 1])?;
-    assert_eq!(rt; all, (returned(1, 0, 1), Status::Complete));
-    Ok(())
+    let half: &[u8] = &[0, 0, 1, 1, 0, 0];
+    let all: &[u8] = &[0, 0, 1, 1, 0, 0, 1, 1];
+    assert_played(
+        &rt,
+        COUNTER_OF_TWO_MOVES,
+        &[
+            (TWICE, half, returned(0, 0, 1), Status::Running),
+            (TWICE, all, returned(1, 0, 1), Status::Complete),
+        ],
+    )
 }
 
 /// What jumps is local, and what takes a lock is not.
@@ -126,9 +139,8 @@ fn some_instructions_are_local(rt: HostRuntime) -> Result<(), Fail> {
 /// A move ends though its local instructions never do.
 #[test]
 fn local_instructions_of_a_move_end(rt: HostRuntime) -> Result<(), Fail> {
-    let round = played(&rt, COUNTER_OF_TWO_MOVES, b"thread again\n", &[0, 0, 0])?;
-    assert_eq!(rt; round, (None, Status::Running));
-    Ok(())
+    let round: (&[u8], &[u8], _, _) = (b"thread again\n", &[0, 0, 0], None, Status::Running);
+    assert_played(&rt, COUNTER_OF_TWO_MOVES, &[round])
 }
 
 const SLOT: &[u8] = b"component c
@@ -143,17 +155,8 @@ return r2
 end
 ";
 
-/// Takes back each move of a run of one thread and makes it again, and answers the last event.
-fn taken_back(
-    rt: &(impl AllocGlobal + Abort),
-    component: &[u8],
-    matrix: &[u8],
-    moves: u8,
-) -> Result<Option<Event>, Fail> {
-    let component = read_component(rt.alloc(), component)?;
-    let matrix = read_matrix(rt.alloc(), &component, matrix)?;
-    assert_settles(rt, &component, &matrix)?;
-    let mut machine = Machine::start(rt.alloc(), &component, &matrix)?;
+/// Takes back each move of the machine's only thread and makes it again, and answers the last event.
+fn take_back(rt: &impl Abort, machine: &mut Machine<'_>, moves: u8) -> Option<Event> {
     let next = Move { thread: 0, pick: 0 };
     let mut last = None;
     for _turn in 0..moves {
@@ -167,7 +170,19 @@ fn taken_back(
     }
     assert_eq!(rt; machine.threads(), 1);
     assert!(rt; !machine.enabled(0));
-    Ok(last)
+    last
+}
+
+/// The same for a run of the matrix.
+fn taken_back(
+    rt: &(impl AllocGlobal + Abort),
+    component: &[u8],
+    matrix: &[u8],
+    moves: u8,
+) -> Result<Option<Event>, Fail> {
+    let case = case_of(rt, component, matrix)?;
+    let mut machine = Machine::start(rt.alloc(), &case.component, &case.matrix)?;
+    Ok(take_back(rt, &mut machine, moves))
 }
 
 #[test]
@@ -193,25 +208,47 @@ fn make(rt: &impl Abort, machine: &mut Machine<'_>, threads: &[u8])
 }
 
 /// The machine is in the state of the other one, which was set to it, until that goes on.
+fn assert_sets<'a>(
+    rt: &impl Abort,
+    machine: &mut Machine<'a>,
+    other: &mut Machine<'a>,
+    threads: &[u8],
+)
+    requires component { machine.old.component ≡ other.old.component }
+    requires matrix { machine.old.matrix ≡ other.old.matrix }
+{
+    assert!(rt; machine.is_same(other));
+    make(rt, machine, threads);
+    assert!(rt; !machine.is_same(other));
+    other.set_to(machine);
+    assert!(rt; machine.is_same(other));
+    make(rt, other, &[0]);
+    assert!(rt; !machine.is_same(other));
+}
+
+/// The same for two machines at the start of the case.
+fn assert_sets_at_start(
+    rt: &(impl AllocGlobal + Abort),
+    case: &Case,
+    threads: &[u8],
+) -> Result<(), Fail>
+    requires { CanRun case.now.component case.now.matrix }
+{
+    let mut machine = Machine::start(rt.alloc(), &case.component, &case.matrix)?;
+    let mut other = Machine::start(rt.alloc(), &case.component, &case.matrix)?;
+    assert_sets(rt, &mut machine, &mut other, threads);
+    Ok(())
+}
+
+/// The same for a run of the matrix.
 fn assert_set(
     rt: &(impl AllocGlobal + Abort),
     component: &[u8],
     matrix: &[u8],
     threads: &[u8],
 ) -> Result<(), Fail> {
-    let component = read_component(rt.alloc(), component)?;
-    let matrix = read_matrix(rt.alloc(), &component, matrix)?;
-    assert_settles(rt, &component, &matrix)?;
-    let mut machine = Machine::start(rt.alloc(), &component, &matrix)?;
-    let mut other = Machine::start(rt.alloc(), &component, &matrix)?;
-    assert!(rt; machine.is_same(&other));
-    make(rt, &mut machine, threads);
-    assert!(rt; !machine.is_same(&other));
-    other.set_to(&machine);
-    assert!(rt; machine.is_same(&other));
-    make(rt, &mut other, &[0]);
-    assert!(rt; !machine.is_same(&other));
-    Ok(())
+    let case = case_of(rt, component, matrix)?;
+    assert_sets_at_start(rt, &case, threads)
 }
 
 /// Where threads stand, what cells hold and who owns the lock.
@@ -258,17 +295,24 @@ end
 /// A lock blocks its own owner too, and only its owner may free it.
 #[test]
 fn locks(rt: HostRuntime) -> Result<(), Fail> {
-    let matrix = b"thread take; take\nthread free\n";
-    let stuck = played(&rt, LOCKS, matrix, &[0, 0, 0, 0, 1, 1])?;
-    assert_eq!(rt; stuck, (trapped(1, 0), Status::Stuck));
-    let freed = played(
+    assert_played(
         &rt,
         LOCKS,
-        b"thread take; free; take\n",
-        &[0, 0, 0, 0, 0, 0, 0, 0, 0],
-    )?;
-    assert_eq!(rt; freed, (returned(0, 2, 0), Status::Complete));
-    Ok(())
+        &[
+            (
+                b"thread take; take\nthread free\n",
+                &[0, 0, 0, 0, 1, 1],
+                trapped(1, 0),
+                Status::Stuck,
+            ),
+            (
+                b"thread take; free; take\n",
+                &[0, 0, 0, 0, 0, 0, 0, 0, 0],
+                returned(0, 2, 0),
+                Status::Complete,
+            ),
+        ],
+    )
 }
 
 const INDICES: &[u8] = b"component c
@@ -291,29 +335,35 @@ end
 /// An index past the end traps, also where it is awaited.
 #[test]
 fn indices(rt: HostRuntime) -> Result<(), Fail> {
-    let last = played(&rt, INDICES, b"thread get 1\n", &[0, 0, 0])?;
-    assert_eq!(rt; last, (returned(0, 0, 7), Status::Complete));
-    let past = played(&rt, INDICES, b"thread get 2\n", &[0, 0])?;
-    assert_eq!(rt; past, (trapped(0, 0), Status::Complete));
-    let past = played(&rt, INDICES, b"thread wait 2 3\n", &[0, 0])?;
-    assert_eq!(rt; past, (trapped(0, 0), Status::Complete));
-    let past = played(&rt, INDICES, b"thread pass 2 3\n", &[0, 0])?;
-    assert_eq!(rt; past, (trapped(0, 0), Status::Complete));
-    Ok(())
+    let last = returned(0, 0, 7);
+    let past = trapped(0, 0);
+    assert_played(
+        &rt,
+        INDICES,
+        &[
+            (b"thread get 1\n", &[0, 0, 0], last, Status::Complete),
+            (b"thread get 2\n", &[0, 0], past, Status::Complete),
+            (b"thread wait 2 3\n", &[0, 0], past, Status::Complete),
+            (b"thread pass 2 3\n", &[0, 0], past, Status::Complete),
+        ],
+    )
 }
 
 /// `await` is blocked at another value, and `awaitne` at the value.
 #[test]
 fn awaits(rt: HostRuntime) -> Result<(), Fail> {
-    let goes_on = played(&rt, INDICES, b"thread wait 0 7\n", &[0, 0, 0])?;
-    assert_eq!(rt; goes_on, (returned(0, 0, 0), Status::Complete));
-    let blocked = played(&rt, INDICES, b"thread wait 0 8\n", &[0])?;
-    assert_eq!(rt; blocked, (called(0, 0), Status::Stuck));
-    let goes_on = played(&rt, INDICES, b"thread pass 0 8\n", &[0, 0, 0])?;
-    assert_eq!(rt; goes_on, (returned(0, 0, 0), Status::Complete));
-    let blocked = played(&rt, INDICES, b"thread pass 0 7\n", &[0])?;
-    assert_eq!(rt; blocked, (called(0, 0), Status::Stuck));
-    Ok(())
+    let goes_on = returned(0, 0, 0);
+    let blocked = called(0, 0);
+    assert_played(
+        &rt,
+        INDICES,
+        &[
+            (b"thread wait 0 7\n", &[0, 0, 0], goes_on, Status::Complete),
+            (b"thread wait 0 8\n", &[0], blocked, Status::Stuck),
+            (b"thread pass 0 8\n", &[0, 0, 0], goes_on, Status::Complete),
+            (b"thread pass 0 7\n", &[0], blocked, Status::Stuck),
+        ],
+    )
 }
 
 const NUMBERS: &[u8] = b"component c
@@ -349,37 +399,42 @@ fn value(rt: &(impl AllocGlobal + Abort), call: &[u8]) -> Result<Option<Event>, 
 /// Arithmetic is modulo 2^32, and values are compared as unsigned numbers.
 #[test]
 fn arithmetic(rt: HostRuntime) -> Result<(), Fail> {
-    assert_eq!(rt;
-        value(&rt, b"thread sum 4294967295 2\n")?,
-        returned(0, 0, 1)
-    );
-    assert_eq!(rt;
-        value(&rt, b"thread difference 2 3\n")?,
-        returned(0, 0, 4294967295)
-    );
-    assert_eq!(rt;
-        value(&rt, b"thread product 65536 65537\n")?,
-        returned(0, 0, 65536)
-    );
-    assert_eq!(rt;
-        value(&rt, b"thread below 2147483648 1\n")?,
-        returned(0, 0, 0)
-    );
-    assert_eq!(rt;
-        value(&rt, b"thread below 1 2147483648\n")?,
-        returned(0, 0, 1)
-    );
+    let values: [(&[u8], u32); 5] = [
+        (b"thread sum 4294967295 2\n", 1),
+        (b"thread difference 2 3\n", 4294967295),
+        (b"thread product 65536 65537\n", 65536),
+        (b"thread below 2147483648 1\n", 0),
+        (b"thread below 1 2147483648\n", 1),
+    ];
+    for (call, expected) in &values {
+        assert_eq!(rt; value(&rt, call)?, returned(0, 0, *expected));
+    }
     Ok(())
 }
 
 /// `jz` jumps at 0 alone.
 #[test]
 fn jumps(rt: HostRuntime) -> Result<(), Fail> {
-    let same = played(&rt, NUMBERS, b"thread differs 5 5\n", &[0, 0, 0, 0])?;
-    assert_eq!(rt; same, (returned(0, 0, 0), Status::Complete));
-    let apart = played(&rt, NUMBERS, b"thread differs 5 6\n", &[0, 0, 0, 0])?;
-    assert_eq!(rt; apart, (returned(0, 0, 1), Status::Complete));
-    Ok(())
+    let same = returned(0, 0, 0);
+    let apart = returned(0, 0, 1);
+    assert_played(
+        &rt,
+        NUMBERS,
+        &[
+            (
+                b"thread differs 5 5\n",
+                &[0, 0, 0, 0],
+                same,
+                Status::Complete,
+            ),
+            (
+                b"thread differs 5 6\n",
+                &[0, 0, 0, 0],
+                apart,
+                Status::Complete,
+            ),
+        ],
+    )
 }
 
 const PICKS: &[u8] = b"component c
@@ -389,24 +444,24 @@ return r3
 end
 ";
 
-/// A pick is one of its choices.
-#[test]
-fn picks(rt: HostRuntime) -> Result<(), Fail> {
-    let component = read_component(rt.alloc(), PICKS)?;
-    let matrix = read_matrix(rt.alloc(), &component, b"thread choose\n")?;
-    assert_settles(&rt, &component, &matrix)?;
-    let mut machine = Machine::start(rt.alloc(), &component, &matrix)?;
+/// The machine's only thread has a call to make, and then three choices.
+fn assert_picks(rt: &impl Abort, machine: &mut Machine<'_>) {
     assert_eq!(rt; (machine.picks(0), machine.picks(1)), (1, 0));
-    let first = Move { thread: 0, pick: 0 };
-    assert!(rt; machine.feasible(first));
-    assert_eq!(rt; machine.step(first), called(0, 0));
+    assert_eq!(rt; play(rt, machine, &[0]).0, called(0, 0));
     assert_eq!(rt; machine.picks(0), 3);
     assert!(rt; !machine.feasible(Move { thread: 0, pick: 3 }));
     let last = Move { thread: 0, pick: 2 };
     assert!(rt; machine.feasible(last));
     assert_eq!(rt; machine.step(last), None);
-    assert!(rt; machine.feasible(first));
-    assert_eq!(rt; machine.step(first), returned(0, 0, 2));
+    assert_eq!(rt; play(rt, machine, &[0]).0, returned(0, 0, 2));
+}
+
+/// A pick is one of its choices.
+#[test]
+fn picks(rt: HostRuntime) -> Result<(), Fail> {
+    let case = case_of(&rt, PICKS, b"thread choose\n")?;
+    let mut machine = Machine::start(rt.alloc(), &case.component, &case.matrix)?;
+    assert_picks(&rt, &mut machine);
     Ok(())
 }
 
@@ -482,11 +537,17 @@ fn setups_settle(rt: HostRuntime) -> Result<(), Fail> {
 /// What a setup leaves in cells and locks is there at the start, and thread 0 owns what it took.
 #[test]
 fn runs_start_after_their_setup(rt: HostRuntime) -> Result<(), Fail> {
-    let (last, status) = played(&rt, SETUPS, b"setup hold\nthread free\n", &[0, 0, 0, 0])?;
-    assert_eq!(rt; last, returned(0, 0, 7));
-    assert_eq!(rt; status, Status::Complete);
-    let (last, status) = played(&rt, SETUPS, b"setup hold\nthread hold\n", &[0])?;
-    assert_eq!(rt; last, called(0, 0));
-    assert_eq!(rt; status, Status::Stuck);
-    Ok(())
+    let freed: (&[u8], &[u8], _, _) = (
+        b"setup hold\nthread free\n",
+        &[0, 0, 0, 0],
+        returned(0, 0, 7),
+        Status::Complete,
+    );
+    let held: (&[u8], &[u8], _, _) = (
+        b"setup hold\nthread hold\n",
+        &[0],
+        called(0, 0),
+        Status::Stuck,
+    );
+    assert_played(&rt, SETUPS, &[freed, held])
 }

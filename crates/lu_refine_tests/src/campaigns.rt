@@ -2,12 +2,12 @@
 
 ghost use Rattle.lu_machine.specs.Starts.{CanRun};
 
-use crate::texts::{LOST_INCREMENT, TWO_INCREMENTS, assert_settles, is_matrix, is_report};
+use crate::texts::{LOST_INCREMENT, TWO_INCREMENTS, is_matrix, is_report};
+use lu_cases::case_of;
 use lu_component::Component;
 use lu_examples::ROWS;
-use lu_lang::read_component;
 use lu_refine::{Campaign, CampaignFault, campaign};
-use lu_test::{Matrix, read_matrix};
+use lu_test::Matrix;
 use std::process::Abort;
 use std::test::Fail;
 
@@ -39,58 +39,76 @@ fn campaign_over<R: AllocGlobal>(
     }
 }
 
+/// What the campaign found is that all matrices pass, and these are so many.
+fn assert_all_pass(rt: &impl Abort, found: &Campaign, count: u64) {
+    match found {
+        Campaign::AllPass(passed) => assert_eq!(rt; *passed, count),
+        Campaign::First { .. } => panic!(rt; "a matrix does not pass"),
+    }
+}
+
 /// All matrices of two threads with a call each pass, and these are so many.
-fn assert_passes<R: AllocGlobal + Abort>(
-    rt: &R,
+fn assert_passes(
+    rt: &(impl AllocGlobal + Abort),
     candidates: &[u8],
     count: u64,
 ) -> Result<(), Fail> {
-    let component = read_component(rt.alloc(), ROWS.as_bytes())?;
-    let listed = read_matrix(rt.alloc(), &component, candidates)?;
-    assert_settles(rt, &component, &listed)?;
-    match campaign_over(rt, &component, &listed, 2, 1)? {
-        Campaign::AllPass(passed) => assert_eq!(rt; passed, count),
-        Campaign::First { .. } => panic!(rt; "a matrix does not pass"),
+    let case = case_of(rt, ROWS.as_bytes(), candidates)?;
+    let found = campaign_over(rt, &case.component, &case.matrix, 2, 1)?;
+    assert_all_pass(rt, &found, count);
+    Ok(())
+}
+
+/// What the campaign found is this matrix, with this report.
+fn assert_found(
+    rt: &(impl AllocGlobal + Abort),
+    component: &Component,
+    found: &Campaign,
+    first: &str,
+    expected: &str,
+) -> Result<(), Fail> {
+    match found {
+        Campaign::AllPass(_) => panic!(rt; "all matrices pass"),
+        Campaign::First { matrix, report } => {
+            assert!(rt; is_matrix(rt, component, matrix, first)?);
+            assert!(rt; is_report(rt, report, expected)?);
+        }
     }
     Ok(())
 }
 
 /// The first matrix of two threads with a call each that does not pass is this one, with this
 /// report.
-fn assert_first<R: AllocGlobal + Abort>(
-    rt: &R,
+fn assert_first(
+    rt: &(impl AllocGlobal + Abort),
     candidates: &[u8],
     first: &str,
     expected: &str,
 ) -> Result<(), Fail> {
-    let component = read_component(rt.alloc(), ROWS.as_bytes())?;
-    let listed = read_matrix(rt.alloc(), &component, candidates)?;
-    assert_settles(rt, &component, &listed)?;
-    match campaign_over(rt, &component, &listed, 2, 1)? {
-        Campaign::AllPass(_) => panic!(rt; "all matrices pass"),
-        Campaign::First { matrix, report } => {
-            assert!(rt; is_matrix(rt, &component, &matrix, first)?);
-            assert!(rt; is_report(rt, &report, expected)?);
-        }
+    let case = case_of(rt, ROWS.as_bytes(), candidates)?;
+    let found = campaign_over(rt, &case.component, &case.matrix, 2, 1)?;
+    assert_found(rt, &case.component, &found, first, expected)
+}
+
+/// What the campaign came to is a refusal with this code.
+fn assert_code(rt: &impl Abort, found: &Result<Campaign, CampaignFault>, code: &str) {
+    match found {
+        Ok(_) => panic!(rt; "nothing is refused"),
+        Err(fault) => assert!(rt; fault.code() == code),
     }
-    Ok(())
 }
 
 /// The campaign is refused with this code.
-fn assert_refused<R: AllocGlobal + Abort>(
-    rt: &R,
+fn assert_refused(
+    rt: &(impl AllocGlobal + Abort),
     candidates: &[u8],
     threads: u8,
     calls: u8,
     code: &str,
 ) -> Result<(), Fail> {
-    let component = read_component(rt.alloc(), ROWS.as_bytes())?;
-    let listed = read_matrix(rt.alloc(), &component, candidates)?;
-    assert_settles(rt, &component, &listed)?;
-    match campaign_over(rt, &component, &listed, threads, calls) {
-        Ok(_) => panic!(rt; "nothing is refused"),
-        Err(fault) => assert!(rt; fault.code() == code),
-    }
+    let case = case_of(rt, ROWS.as_bytes(), candidates)?;
+    let found = campaign_over(rt, &case.component, &case.matrix, threads, calls);
+    assert_code(rt, &found, code);
     Ok(())
 }
 
@@ -129,9 +147,8 @@ fn candidates_are_looked_at_before_the_size(rt: HostRuntime) -> Result<(), Fail>
 
 #[test]
 fn a_size_past_its_limits_is_refused(rt: HostRuntime) -> Result<(), Fail> {
-    assert_refused(&rt, b"thread get\n", 8, 8, "G3")?;
-    assert_refused(&rt, b"thread get\n", 0, 1, "G3")?;
-    assert_refused(&rt, b"thread get\n", 1, 0, "G3")?;
-    assert_refused(&rt, b"thread get\n", 9, 1, "G3")?;
-    assert_refused(&rt, b"thread get\n", 1, 9, "G3")
+    for (threads, calls) in [(8, 8), (0, 1), (1, 0), (9, 1), (1, 9)] {
+        assert_refused(&rt, b"thread get\n", threads, calls, "G3")?;
+    }
+    Ok(())
 }

@@ -1,12 +1,15 @@
 //! Tests of refutations of specifications.
 
-use crate::texts::{LOST_INCREMENT, TWO_INCREMENTS, assert_settles, is_matrix};
+ghost use Rattle.lu_machine.specs.Starts.{CanRun};
+
+use crate::texts::{LOST_INCREMENT, TWO_INCREMENTS, is_matrix};
+use lu_cases::{Case, case_of};
+use lu_component::Component;
 use lu_examples::ROWS;
-use lu_lang::read_component;
-use lu_refute::refute;
+use lu_refute::{RefuteFault, refute};
 use lu_report::read_report;
 use lu_spec::read_spec;
-use lu_test::{read_matrix, write_schedule};
+use lu_test::{Matrix, Schedule, write_schedule};
 use std::process::Abort;
 use std::test::Fail;
 
@@ -14,43 +17,70 @@ use std::test::Fail;
 const ONE_FLIP: &str =
     "lineup report 1\nbound 40\nserial 40\nnondeterministic\nschedule 0 0:1 0\nbefore 0\nearlier ret 0\n";
 
+/// What goes against the specification of the case, as the report shows.
+fn refuted(
+    rt: &impl AllocGlobal,
+    case: &Case,
+    report: &[u8],
+    spec: &[u8],
+) -> Result<Result<(Matrix, Schedule), RefuteFault>, Fail>
+    requires { CanRun case.now.component case.now.matrix }
+{
+    let report = read_report(rt.alloc(), report)?;
+    let spec = read_spec(rt.alloc(), &case.matrix, spec)?;
+    Ok(refute(rt.alloc(), &case.component, &case.matrix, &report, &spec))
+}
+
+/// The schedule's text is this one.
+fn is_schedule(rt: &impl AllocGlobal, schedule: &Schedule, text: &str) -> Result<bool, Fail> {
+    Ok(write_schedule(rt.alloc(), schedule)?.as_str() == text)
+}
+
+/// What is shown is this matrix with this schedule.
+fn assert_shown(
+    rt: &(impl AllocGlobal + Abort),
+    component: &Component,
+    shown: &(Matrix, Schedule),
+    smaller: &str,
+    expected: &str,
+) -> Result<(), Fail> {
+    assert!(rt; is_matrix(rt, component, &shown.0, smaller)?);
+    assert!(rt; is_schedule(rt, &shown.1, expected)?);
+    Ok(())
+}
+
 /// The report goes against the specification: by this matrix and this schedule.
-fn assert_refuted<R: AllocGlobal + Abort>(
-    rt: &R,
+fn assert_refuted(
+    rt: &(impl AllocGlobal + Abort),
     matrix: &[u8],
     report: &str,
     spec: &[u8],
     smaller: &str,
     expected: &str,
 ) -> Result<(), Fail> {
-    let component = read_component(rt.alloc(), ROWS.as_bytes())?;
-    let matrix = read_matrix(rt.alloc(), &component, matrix)?;
-    assert_settles(rt, &component, &matrix)?;
-    let report = read_report(rt.alloc(), report.as_bytes())?;
-    let spec = read_spec(rt.alloc(), &matrix, spec)?;
-    let (cut, schedule) = refute(rt.alloc(), &component, &matrix, &report, &spec)?;
-    assert!(rt; is_matrix(rt, &component, &cut, smaller)?);
-    let text = write_schedule(rt.alloc(), &schedule)?;
-    assert!(rt; text.as_str() == expected);
-    Ok(())
+    let case = case_of(rt, ROWS.as_bytes(), matrix)?;
+    let shown = refuted(rt, &case, report.as_bytes(), spec)??;
+    assert_shown(rt, &case.component, &shown, smaller, expected)
+}
+
+/// Nothing is shown against the specification.
+fn assert_nothing(rt: &impl Abort, shown: &Result<(Matrix, Schedule), RefuteFault>) {
+    match shown {
+        Ok(_) => panic!(rt; "something is shown"),
+        Err(fault) => assert!(rt; fault.code() == "F2"),
+    }
 }
 
 /// The report shows nothing against the specification.
-fn assert_not_shown<R: AllocGlobal + Abort>(
-    rt: &R,
+fn assert_not_shown(
+    rt: &(impl AllocGlobal + Abort),
     matrix: &[u8],
     report: &[u8],
     spec: &[u8],
 ) -> Result<(), Fail> {
-    let component = read_component(rt.alloc(), ROWS.as_bytes())?;
-    let matrix = read_matrix(rt.alloc(), &component, matrix)?;
-    assert_settles(rt, &component, &matrix)?;
-    let report = read_report(rt.alloc(), report)?;
-    let spec = read_spec(rt.alloc(), &matrix, spec)?;
-    match refute(rt.alloc(), &component, &matrix, &report, &spec) {
-        Ok(_) => panic!(rt; "something is shown"),
-        Err(fault) => assert!(rt; fault.code() == "F2"),
-    }
+    let case = case_of(rt, ROWS.as_bytes(), matrix)?;
+    let shown = refuted(rt, &case, report, spec)?;
+    assert_nothing(rt, &shown);
     Ok(())
 }
 

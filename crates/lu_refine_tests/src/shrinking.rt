@@ -2,28 +2,39 @@
 
 ghost use Rattle.std.specs.Prelude.{◌≤◌};
 
-use crate::texts::{LOST_INCREMENT, TWO_INCREMENTS, assert_settles, is_matrix, is_report};
+use crate::texts::{LOST_INCREMENT, TWO_INCREMENTS, is_matrix, is_report};
+use lu_cases::case_of;
+use lu_component::Component;
 use lu_examples::ROWS;
-use lu_lang::read_component;
 use lu_refine::{ShrinkFault, shrink};
-use lu_test::read_matrix;
+use lu_report::Report;
+use lu_test::Matrix;
 use std::process::Abort;
 use std::test::Fail;
 
+/// What the matrix is shrunk to is this one, with this report.
+fn assert_shrunk(
+    rt: &(impl AllocGlobal + Abort),
+    component: &Component,
+    shrunk: &(Matrix, Report),
+    smaller: &str,
+    expected: &str,
+) -> Result<(), Fail> {
+    assert!(rt; is_matrix(rt, component, &shrunk.0, smaller)?);
+    assert!(rt; is_report(rt, &shrunk.1, expected)?);
+    Ok(())
+}
+
 /// The matrix shrinks to this one, with this report.
-fn assert_shrinks<R: AllocGlobal + Abort>(
-    rt: &R,
+fn assert_shrinks(
+    rt: &(impl AllocGlobal + Abort),
     matrix: &[u8],
     smaller: &str,
     expected: &str,
 ) -> Result<(), Fail> {
-    let component = read_component(rt.alloc(), ROWS.as_bytes())?;
-    let matrix = read_matrix(rt.alloc(), &component, matrix)?;
-    assert_settles(rt, &component, &matrix)?;
-    let (shrunk, report) = shrink(rt.alloc(), &component, &matrix, 40, 40)?;
-    assert!(rt; is_matrix(rt, &component, &shrunk, smaller)?);
-    assert!(rt; is_report(rt, &report, expected)?);
-    Ok(())
+    let case = case_of(rt, ROWS.as_bytes(), matrix)?;
+    let shrunk = shrink(rt.alloc(), &case.component, &case.matrix, 40, 40)?;
+    assert_shrunk(rt, &case.component, &shrunk, smaller, expected)
 }
 
 #[test]
@@ -66,9 +77,23 @@ fn nondeterminism_is_shrunk_too(rt: HostRuntime) -> Result<(), Fail> {
     )
 }
 
+/// Nothing is shrunk, since the report is this one.
+fn assert_not_shrunk(
+    rt: &(impl AllocGlobal + Abort),
+    shrunk: &Result<(Matrix, Report), ShrinkFault>,
+    expected: &str,
+) -> Result<(), Fail> {
+    match shrunk {
+        Ok(_) => panic!(rt; "it is shrunk"),
+        Err(ShrinkFault::Memory) => panic!(rt; "memory was refused"),
+        Err(ShrinkFault::NotFailing(report)) => assert!(rt; is_report(rt, report, expected)?),
+    }
+    Ok(())
+}
+
 /// The matrix is not shrunk, since its report is this one.
-fn assert_not_failing<R: AllocGlobal + Abort>(
-    rt: &R,
+fn assert_not_failing(
+    rt: &(impl AllocGlobal + Abort),
     matrix: &[u8],
     serial: u16,
     expected: &str,
@@ -76,15 +101,9 @@ fn assert_not_failing<R: AllocGlobal + Abort>(
     requires some { 1 ≤ serial }
     requires few { serial ≤ 256 }
 {
-    let component = read_component(rt.alloc(), ROWS.as_bytes())?;
-    let matrix = read_matrix(rt.alloc(), &component, matrix)?;
-    assert_settles(rt, &component, &matrix)?;
-    match shrink(rt.alloc(), &component, &matrix, 40, serial) {
-        Ok(_) => panic!(rt; "it is shrunk"),
-        Err(ShrinkFault::Memory) => panic!(rt; "memory was refused"),
-        Err(ShrinkFault::NotFailing(report)) => assert!(rt; is_report(rt, &report, expected)?),
-    }
-    Ok(())
+    let case = case_of(rt, ROWS.as_bytes(), matrix)?;
+    let shrunk = shrink(rt.alloc(), &case.component, &case.matrix, 40, serial);
+    assert_not_shrunk(rt, &shrunk, expected)
 }
 
 #[test]

@@ -2,23 +2,22 @@
 
 ghost use Rattle.lu_machine.specs.Starts.{CanRun};
 
-use crate::texts::assert_settles;
+use crate::texts::TWO_INCREMENTS;
+use lu_cases::case_of;
 use lu_component::Component;
 use lu_examples::ROWS;
 use lu_history::{SerialOp, SerialOutcome};
-use lu_lang::read_component;
 use lu_serial::{Learnt, learn};
 use lu_spec::{Spec, read_spec, write_spec};
-use lu_test::{Matrix, read_matrix};
+use lu_test::Matrix;
 use std::alloc::{AllocError, Global};
 use std::process::Abort;
 use std::test::Fail;
 
 /// The specification of a matrix of two increments.
-fn spec_of<R: AllocGlobal>(rt: &R, text: &[u8]) -> Result<Spec, Fail> {
-    let component = read_component(rt.alloc(), ROWS.as_bytes())?;
-    let matrix = read_matrix(rt.alloc(), &component, b"thread inc\nthread inc\n")?;
-    Ok(read_spec(rt.alloc(), &matrix, text)?)
+fn spec_of(rt: &(impl AllocGlobal + Abort), text: &[u8]) -> Result<Spec, Fail> {
+    let case = case_of(rt, ROWS.as_bytes(), TWO_INCREMENTS.as_bytes())?;
+    Ok(read_spec(rt.alloc(), &case.matrix, text)?)
 }
 
 fn ret(thread: u8, number: u32) -> SerialOp {
@@ -28,115 +27,182 @@ fn ret(thread: u8, number: u32) -> SerialOp {
     }
 }
 
+/// Each of these histories is a member of the specification, or not.
+fn assert_members(rt: &impl Abort, spec: &Spec, histories: &[(&[SerialOp], bool)]) {
+    for (history, expected) in histories {
+        assert!(rt; spec.contains(history) == *expected);
+    }
+}
+
 #[test]
 fn beginnings_of_listed_histories_are_members(rt: HostRuntime) -> Result<(), Fail> {
     let spec = spec_of(&rt, b"lineup spec 1\nhistory 0=1 1=2\nhistory 1=1 0=2\n")?;
-    assert!(rt; spec.contains(&[]));
-    assert!(rt; spec.contains(&[ret(0, 1)]));
-    assert!(rt; spec.contains(&[ret(0, 1), ret(1, 2)]));
-    assert!(rt; spec.contains(&[ret(1, 1), ret(0, 2)]));
-    assert!(rt; !spec.contains(&[ret(0, 2)]));
-    assert!(rt; !spec.contains(&[ret(0, 1), ret(1, 1)]));
+    assert_members(
+        &rt,
+        &spec,
+        &[
+            (&[], true),
+            (&[ret(0, 1)], true),
+            (&[ret(0, 1), ret(1, 2)], true),
+            (&[ret(1, 1), ret(0, 2)], true),
+            (&[ret(0, 2)], false),
+            (&[ret(0, 1), ret(1, 1)], false),
+        ],
+    );
     Ok(())
 }
 
 #[test]
 fn a_first_line_alone_lists_nothing(rt: HostRuntime) -> Result<(), Fail> {
     let spec = spec_of(&rt, b"lineup spec 1\n")?;
-    assert!(rt; spec.contains(&[]));
-    assert!(rt; !spec.contains(&[ret(0, 1)]));
+    assert_members(&rt, &spec, &[(&[], true), (&[ret(0, 1)], false)]);
     Ok(())
 }
 
-/// The text is refused, and the refusal is shown so.
-fn assert_refused<R: AllocGlobal + Abort>(rt: &R, text: &[u8], expected: &str) -> Result<(), Fail> {
-    let component = read_component(rt.alloc(), ROWS.as_bytes())?;
-    let matrix = read_matrix(rt.alloc(), &component, b"thread inc\nthread inc\n")?;
-    match read_spec(rt.alloc(), &matrix, text) {
-        Ok(_) => panic!(rt; "nothing is refused"),
-        Err(fault) => {
-            let shown = format!(in rt.alloc(); "{fault}")?;
-            assert!(rt; shown.as_str() == expected);
-        }
+/// The text is refused as a specification of the matrix, and the refusal is shown so.
+fn is_refused(
+    rt: &impl AllocGlobal,
+    matrix: &Matrix,
+    text: &[u8],
+    expected: &str,
+) -> Result<bool, Fail> {
+    match read_spec(rt.alloc(), matrix, text) {
+        Ok(_) => Ok(false),
+        Err(fault) => Ok(format!(in rt.alloc(); "{fault}")?.as_str() == expected),
+    }
+}
+
+/// Each of these texts is refused as a specification of the matrix, and the refusal is shown as the
+/// text beside it.
+fn assert_each_refused(
+    rt: &(impl AllocGlobal + Abort),
+    matrix: &Matrix,
+    refusals: &[(&[u8], &str)],
+) -> Result<(), Fail> {
+    for (text, expected) in refusals {
+        assert!(rt; is_refused(rt, matrix, text, expected)?);
     }
     Ok(())
 }
 
+/// The same of a matrix of two increments.
+fn assert_refused(rt: &(impl AllocGlobal + Abort), refusals: &[(&[u8], &str)]) -> Result<(), Fail> {
+    let case = case_of(rt, ROWS.as_bytes(), TWO_INCREMENTS.as_bytes())?;
+    assert_each_refused(rt, &case.matrix, refusals)
+}
+
 #[test]
 fn a_text_without_its_first_line_is_refused(rt: HostRuntime) -> Result<(), Fail> {
-    assert_refused(&rt, b"", "S1 line 1")?;
-    assert_refused(&rt, b"history 0=1\n", "S1 line 1")?;
-    assert_refused(&rt, b"lineup spec 1", "S1 line 1")
+    assert_refused(
+        &rt,
+        &[
+            (b"", "S1 line 1"),
+            (b"history 0=1\n", "S1 line 1"),
+            (b"lineup spec 1", "S1 line 1"),
+        ],
+    )
 }
 
 #[test]
 fn lines_of_another_form_are_refused(rt: HostRuntime) -> Result<(), Fail> {
-    assert_refused(&rt, b"lineup spec 1\nhistory\n", "S1 line 2")?;
-    assert_refused(&rt, b"lineup spec 1\nhistory 0=1 \n", "S1 line 2")?;
-    assert_refused(&rt, b"lineup spec 1\nhistory 0=01\n", "S1 line 2")?;
-    assert_refused(&rt, b"lineup spec 1\nhistory 8=1\n", "S1 line 2")?;
-    assert_refused(&rt, b"lineup spec 1\nhistory 0=4294967296\n", "S1 line 2")?;
-    assert_refused(&rt, b"lineup spec 1\nhistory 0=stuck 1=1\n", "S1 line 2")?;
-    assert_refused(&rt, b"lineup spec 1\nhistory 0=1", "S1 line 2")
+    assert_refused(
+        &rt,
+        &[
+            (b"lineup spec 1\nhistory\n", "S1 line 2"),
+            (b"lineup spec 1\nhistory 0=1 \n", "S1 line 2"),
+            (b"lineup spec 1\nhistory 0=01\n", "S1 line 2"),
+            (b"lineup spec 1\nhistory 8=1\n", "S1 line 2"),
+            (b"lineup spec 1\nhistory 0=4294967296\n", "S1 line 2"),
+            (b"lineup spec 1\nhistory 0=stuck 1=1\n", "S1 line 2"),
+            (b"lineup spec 1\nhistory 0=1", "S1 line 2"),
+        ],
+    )
 }
 
 #[test]
 fn histories_out_of_order_are_refused(rt: HostRuntime) -> Result<(), Fail> {
     assert_refused(
         &rt,
-        b"lineup spec 1\nhistory 0=1\nhistory 0=1 1=2\n",
-        "S1 line 3",
-    )?;
-    assert_refused(
-        &rt,
-        b"lineup spec 1\nhistory 0=1\nhistory 0=1\n",
-        "S1 line 3",
-    )?;
-    assert_refused(
-        &rt,
-        b"lineup spec 1\nhistory 1=1\nhistory 0=1\n",
-        "S1 line 3",
+        &[
+            (
+                b"lineup spec 1\nhistory 0=1\nhistory 0=1 1=2\n",
+                "S1 line 3",
+            ),
+            (b"lineup spec 1\nhistory 0=1\nhistory 0=1\n", "S1 line 3"),
+            (b"lineup spec 1\nhistory 1=1\nhistory 0=1\n", "S1 line 3"),
+        ],
     )
 }
 
 #[test]
 fn histories_of_another_matrix_are_refused(rt: HostRuntime) -> Result<(), Fail> {
-    assert_refused(&rt, b"lineup spec 1\nhistory 2=1\n", "S2 line 2")?;
-    assert_refused(&rt, b"lineup spec 1\nhistory 0=1 0=2\n", "S2 line 2")
+    assert_refused(
+        &rt,
+        &[
+            (b"lineup spec 1\nhistory 2=1\n", "S2 line 2"),
+            (b"lineup spec 1\nhistory 0=1 0=2\n", "S2 line 2"),
+        ],
+    )
 }
 
 #[test]
 fn conflicts_are_refused(rt: HostRuntime) -> Result<(), Fail> {
     assert_refused(
         &rt,
-        b"lineup spec 1\nhistory 0=1 1=2\nhistory 0=1 1=3\n",
-        "S3 line 3",
-    )?;
-    assert_refused(
-        &rt,
-        b"lineup spec 1\nhistory 0=1 1=2\nhistory 0=stuck\n",
-        "S3 line 3",
+        &[
+            (
+                b"lineup spec 1\nhistory 0=1 1=2\nhistory 0=1 1=3\n",
+                "S3 line 3",
+            ),
+            (
+                b"lineup spec 1\nhistory 0=1 1=2\nhistory 0=stuck\n",
+                "S3 line 3",
+            ),
+        ],
     )
+}
+
+/// Whether the specification is one of the matrix of this text.
+fn is_of(rt: &(impl AllocGlobal + Abort), spec: &Spec, matrix: &[u8]) -> Result<bool, Fail> {
+    let case = case_of(rt, ROWS.as_bytes(), matrix)?;
+    Ok(spec.of(&case.matrix))
+}
+
+/// The specification is one of each of these matrices, or not.
+fn assert_of(
+    rt: &(impl AllocGlobal + Abort),
+    spec: &Spec,
+    matrices: &[(&[u8], bool)],
+) -> Result<(), Fail> {
+    for (matrix, expected) in matrices {
+        assert!(rt; is_of(rt, spec, matrix)? == *expected);
+    }
+    Ok(())
 }
 
 #[test]
 fn a_specification_is_one_of_its_matrices(rt: HostRuntime) -> Result<(), Fail> {
     let spec = spec_of(&rt, b"lineup spec 1\nhistory 0=1 1=2\n")?;
-    let component = read_component(rt.alloc(), ROWS.as_bytes())?;
-    let larger = read_matrix(rt.alloc(), &component, b"thread inc;inc\nthread get\n")?;
-    let smaller = read_matrix(rt.alloc(), &component, b"thread inc\nthread\n")?;
-    let other = read_matrix(rt.alloc(), &component, b"thread inc\n")?;
-    assert!(rt; spec.of(&larger));
-    assert!(rt; !spec.of(&smaller));
-    assert!(rt; !spec.of(&other));
-    Ok(())
+    assert_of(
+        &rt,
+        &spec,
+        &[
+            (b"thread inc;inc\nthread get\n", true),
+            (b"thread inc\nthread\n", false),
+            (b"thread inc\n", false),
+        ],
+    )
+}
+
+/// The specification's text is this one.
+fn is_spec(rt: &impl AllocGlobal, spec: &Spec, text: &str) -> Result<bool, Fail> {
+    Ok(write_spec(rt.alloc(), spec)?.as_str() == text)
 }
 
 /// What is read is written as it was.
-fn assert_written<R: AllocGlobal + Abort>(rt: &R, text: &str) -> Result<(), Fail> {
+fn assert_written(rt: &(impl AllocGlobal + Abort), text: &str) -> Result<(), Fail> {
     let spec = spec_of(rt, text.as_bytes())?;
-    let written = write_spec(rt.alloc(), &spec)?;
-    assert!(rt; written.as_str() == text);
+    assert!(rt; is_spec(rt, &spec, text)?);
     Ok(())
 }
 
@@ -161,24 +227,24 @@ fn closed(alloc: Global, component: &Component, matrix: &Matrix) -> Result<Optio
     }
 }
 
+/// The specification has the empty history and this text.
+fn assert_spec(rt: &(impl AllocGlobal + Abort), spec: &Spec, expected: &str) -> Result<(), Fail> {
+    assert!(rt; spec.contains(&[]));
+    assert!(rt; is_spec(rt, spec, expected)?);
+    Ok(())
+}
+
 /// The specification of the serial histories of a matrix has this text.
-fn assert_closed<R: AllocGlobal + Abort>(
-    rt: &R,
+fn assert_closed(
+    rt: &(impl AllocGlobal + Abort),
     matrix: &[u8],
     expected: &str,
 ) -> Result<(), Fail> {
-    let component = read_component(rt.alloc(), ROWS.as_bytes())?;
-    let matrix = read_matrix(rt.alloc(), &component, matrix)?;
-    assert_settles(rt, &component, &matrix)?;
-    match closed(rt.alloc(), &component, &matrix)? {
+    let case = case_of(rt, ROWS.as_bytes(), matrix)?;
+    match closed(rt.alloc(), &case.component, &case.matrix)? {
         None => panic!(rt; "a serial run offends"),
-        Some(spec) => {
-            assert!(rt; spec.contains(&[]));
-            let written = write_spec(rt.alloc(), &spec)?;
-            assert!(rt; written.as_str() == expected);
-        }
+        Some(spec) => assert_spec(rt, &spec, expected),
     }
-    Ok(())
 }
 
 #[test]

@@ -1,14 +1,8 @@
 //! What tests compare.
 
-ghost use Rattle.std.specs.Prelude.{OnOk};
-ghost use Rattle.lu_test.specs.Matrix.{IsOf};
-ghost use Rattle.lu_machine.specs.Starts.{CanRun};
-
 use lu_component::Component;
-use lu_machine::settles;
 use lu_report::{Report, write_report};
 use lu_test::{Matrix, write_matrix};
-use std::process::Abort;
 use std::test::Fail;
 
 /// Two threads that each increment once.
@@ -17,21 +11,6 @@ pub(crate) const TWO_INCREMENTS: &str = "thread inc\nthread inc\n";
 /// The report of two increments of which one is lost.
 pub(crate) const LOST_INCREMENT: &str =
     "lineup report 1\nbound 40\nserial 40\nfail complete\nschedule 0 0 0 1 1 0 0 1 1 1\n";
-
-/// The setup of the matrix settles.
-pub(crate) fn assert_settles(
-    rt: &(impl AllocGlobal + Abort),
-    component: &Component,
-    matrix: &Matrix,
-) -> Result<(), Fail>
-    requires { IsOf matrix.now component.now }
-    ensures { OnOk result (CanRun component.now matrix.now) }
-{
-    match settles(rt.alloc(), component, matrix)? {
-        None => Ok(()),
-        Some(call) => panic!(rt; "call {call} of the setup does not end"),
-    }
-}
 
 /// The matrix's text is this one.
 pub(crate) fn is_matrix(
