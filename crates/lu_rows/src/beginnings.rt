@@ -22,27 +22,32 @@ fn line_count(text: &[u8]) -> usize {
     }
 }
 
-/// Every beginning of the text is a component, which comes back when it is written, or is refused
-/// on its last line or behind it.
+/// Whether the text is a component, which then comes back when it is written. Where it is not, it is
+/// refused on its last line or behind it.
+fn is_component<X: AllocGlobal + Abort>(rt: &X, text: &[u8]) -> Result<bool, Fail> {
+    match read_component(rt.alloc(), text) {
+        Ok(component) => {
+            comes_back(rt, write_component(rt.alloc(), &component)?.as_str())?;
+            Ok(true)
+        }
+        Err(LangFault::At(_, line)) => {
+            let lines = line_count(text);
+            assert!(rt; line == lines || line == lines.saturating_add(1), "{line}");
+            Ok(false)
+        }
+        Err(LangFault::Memory) => panic!(rt; "memory"),
+    }
+}
+
+/// Every beginning of the text is a component or is refused.
 #[test]
 fn each_beginning_is_a_component_or_is_refused(rt: HostRuntime) -> Result<(), Fail> {
     comes_back(&rt, ROWS)?;
     let text = ROWS.as_bytes();
     let mut components: u32 = 0;
     for end in 0..text.len() {
-        match read_component(rt.alloc(), &text[..end]) {
-            Ok(component) => {
-                comes_back(&rt, write_component(rt.alloc(), &component)?.as_str())?;
-                components = components.saturating_add(1);
-            }
-            Err(LangFault::At(_, line)) => {
-                let lines = line_count(&text[..end]);
-                assert!(rt;
-                    line == lines || line == lines.saturating_add(1),
-                    "{end}: {line}"
-                );
-            }
-            Err(LangFault::Memory) => panic!(rt; "memory"),
+        if is_component(&rt, &text[..end])? {
+            components = components.saturating_add(1);
         }
     }
     // Behind each line of a declaration and of an `end`, with its LF or without.

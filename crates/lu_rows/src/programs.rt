@@ -58,11 +58,26 @@ impl Write for FailingWriter {
     }
 }
 
-fn ran<X: AllocGlobal + Abort + Threads + Wait>(
-    rt: &X,
-    reads: u32,
-    writes: u32,
-) -> Result<(u8, Vec<u8>, u64, u64), Fail> {
+/// What came of a run.
+#[derive(Drop)]
+struct Ran {
+    status: u8,
+    taken: Vec<u8>,
+    failed_reads: u64,
+    failed_writes: u64,
+}
+
+/// What came of a run with this status and so many failed reads.
+fn ran_with(status: u8, failed_reads: u64, output: Counted<FailingWriter>) -> Ran {
+    Ran {
+        status,
+        failed_reads,
+        failed_writes: output.failures(),
+        taken: output.into_inner().taken,
+    }
+}
+
+fn replayed<X: AllocGlobal + Abort + Threads + Wait>(rt: &X, reads: u32, writes: u32) -> Ran {
     let mut input = Counted::new(FailingReader {
         left: BUNDLE,
         until: reads,
@@ -73,40 +88,47 @@ fn ran<X: AllocGlobal + Abort + Threads + Wait>(
         until: writes,
     });
     let status = run(rt, &["replay"], &mut input, &mut output);
-    let (reads, writes) = (input.failures(), output.failures());
-    let taken = output.into_inner().taken;
-    Ok((status, taken, reads, writes))
+    ran_with(status, input.failures(), output)
+}
+
+/// The run showed the schedule.
+fn assert_shown(rt: &impl Abort, ran: &Ran) {
+    assert_eq!(rt; ran.taken.as_slice(), SHOWN);
+    assert_eq!(rt; ran.status, 0);
+}
+
+/// The run blamed the device.
+fn assert_blamed(rt: &impl Abort, ran: &Ran) {
+    assert_eq!(rt; ran.taken.as_slice(), b"refused device\n".as_slice());
+    assert_eq!(rt; ran.status, 4);
 }
 
 /// Reads fail at the first, the second and so on, until a run meets no failure.
 #[test]
-fn a_failing_read_is_blamed_on_the_device(rt: HostRuntime) -> Result<(), Fail> {
+fn a_failing_read_is_blamed_on_the_device(rt: HostRuntime) {
     for reads in 0..1000 {
-        let (status, taken, failures, _) = ran(&rt, reads, 1000)?;
-        if failures == 0 {
+        let ran = replayed(&rt, reads, 1000);
+        if ran.failed_reads == 0 {
+            assert_shown(&rt, &ran);
             assert!(rt; reads > 0);
-            assert_eq!(rt; taken.as_slice(), SHOWN);
-            assert_eq!(rt; status, 0);
-            return Ok(());
+            return;
         }
-        assert_eq!(rt; taken.as_slice(), b"refused device\n".as_slice());
-        assert_eq!(rt; status, 4);
+        assert_blamed(&rt, &ran);
     }
     panic!(rt; "each run failed")
 }
 
 /// And writes.
 #[test]
-fn a_failing_write_shows_in_the_status(rt: HostRuntime) -> Result<(), Fail> {
+fn a_failing_write_shows_in_the_status(rt: HostRuntime) {
     for writes in 0..1000 {
-        let (status, taken, _, failures) = ran(&rt, 1000, writes)?;
-        if failures == 0 {
+        let ran = replayed(&rt, 1000, writes);
+        if ran.failed_writes == 0 {
+            assert_shown(&rt, &ran);
             assert!(rt; writes > 0);
-            assert_eq!(rt; taken.as_slice(), SHOWN);
-            assert_eq!(rt; status, 0);
-            return Ok(());
+            return;
         }
-        assert_eq!(rt; status, 4);
+        assert_eq!(rt; ran.status, 4);
     }
     panic!(rt; "each run failed")
 }

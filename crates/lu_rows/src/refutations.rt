@@ -1,6 +1,6 @@
 //! Specifications that a component does not meet.
 
-use crate::tests::ran;
+use crate::tests::{answers, ran};
 use lu_examples::ROWS;
 use std::process::Abort;
 use std::sync::Wait;
@@ -56,8 +56,7 @@ fn nondeterminism_refutes(rt: HostRuntime) -> Result<(), Fail> {
 fn a_matrix_is_cut_to_the_calls_made(rt: HostRuntime) -> Result<(), Fail> {
     let report =
         "lineup report 1\nbound 40\nserial 40\nnondeterministic\nschedule 0 0:1 0 0 0 0\nbefore 0\nearlier ret 0\n";
-    let bundle = format!(in rt.alloc(); "{ROWS}---\nthread flip;get\n")?;
-    ran(&rt, &["check"], bundle.as_bytes(), report, 1)?;
+    answers(&rt, &["check"], "thread flip;get\n", report, 1)?;
     let wanted = "thread flip\n---\nschedule 0 0:1 0\n";
     refuted(
         &rt,
@@ -104,9 +103,16 @@ fn specifications_are_refused(rt: HostRuntime) -> Result<(), Fail> {
         refuted(&rt, ROWS, INCREMENTS, LOST, histories, wanted)?;
     }
     let report = "lineup report 1\nbound 257\n";
-    refuted(&rt, ROWS, INCREMENTS, report, "", "refused E1 line 2\n")?;
-    let bundle = format!(in rt.alloc(); "{ROWS}---\n{INCREMENTS}---\n{LOST}")?;
-    ran(&rt, &["refute"], bundle.as_bytes(), "refused B1\n", 2)?;
+    refuted(&rt, ROWS, INCREMENTS, report, "", "refused E1 line 2\n")
+}
+
+/// A matrix and a report, without the specification.
+const NO_SPECIFICATION: &str =
+    "thread inc\nthread inc\n---\nlineup report 1\nbound 40\nserial 40\nfail complete\nschedule 0 0 0 1 1 0 0 1 1 1\n";
+
+#[test]
+fn a_specification_and_nothing_else_is_wanted(rt: HostRuntime) -> Result<(), Fail> {
+    answers(&rt, &["refute"], NO_SPECIFICATION, "refused B1\n", 2)?;
     let words = ["refute", "--bound", "9"];
-    ran(&rt, &words, bundle.as_bytes(), "refused command line\n", 2)
+    answers(&rt, &words, NO_SPECIFICATION, "refused command line\n", 2)
 }

@@ -125,7 +125,7 @@ fn locks_waiting_and_picks_are_replayed(rt: HostRuntime) -> Result<(), Fail> {
 }
 
 /// Runs a command on the component of the examples and a matrix.
-fn answers<X: AllocGlobal + Abort + Threads + Wait>(
+pub(crate) fn answers<X: AllocGlobal + Abort + Threads + Wait>(
     rt: &X,
     words: &[&str],
     matrix: &str,
@@ -402,57 +402,41 @@ fn schedules_are_refused(rt: HostRuntime) -> Result<(), Fail> {
 }
 
 #[test]
-fn other_inputs_are_refused(rt: HostRuntime) -> Result<(), Fail> {
-    ran(&rt, &["replay"], b"component c\n", "refused B1\n", 2)?;
-    ran(
-        &rt,
-        &["replay"],
-        b"\n---\n\n---\n\n---\n",
-        "refused B1\n",
-        2,
-    )?;
-    ran(&rt, &["replay"], b"\n--- \n\n--- \n", "refused B1\n", 2)?;
-    ran(&rt, &["judge"], b"", "refused command line\n", 2)?;
-    ran(
-        &rt,
+fn other_numbers_of_parts_are_refused(rt: HostRuntime) -> Result<(), Fail> {
+    let inputs: [(&str, &[u8]); 5] = [
+        ("replay", b"component c\n"),
+        ("replay", b"\n---\n\n---\n\n---\n"),
+        ("replay", b"\n--- \n\n--- \n"),
+        ("check", b"\n---\n\n---\n"),
+        ("serial", b""),
+    ];
+    for (command, input) in &inputs {
+        ran(&rt, &[*command], input, "refused B1\n", 2)?;
+    }
+    Ok(())
+}
+
+#[test]
+fn command_lines_are_refused(rt: HostRuntime) -> Result<(), Fail> {
+    let lines: [&[&str]; 9] = [
+        &["judge"],
         &["check", "--bound", "257"],
-        b"",
-        "refused command line\n",
-        2,
-    )?;
-    ran(&rt, &["check", "--bound"], b"", "refused command line\n", 2)?;
-    ran(
-        &rt,
+        &["check", "--bound"],
         &["serial", "--serial", "0"],
-        b"",
-        "refused command line\n",
-        2,
-    )?;
-    ran(
-        &rt,
         &["check", "--workers", "0"],
-        b"",
-        "refused command line\n",
-        2,
-    )?;
-    ran(
-        &rt,
         &["serial", "--workers", "2"],
-        b"",
-        "refused command line\n",
-        2,
-    )?;
-    ran(
-        &rt,
         &["replay", "--bound", "3"],
-        b"",
-        "refused command line\n",
-        2,
-    )?;
-    ran(&rt, &["check"], b"\n---\n\n---\n", "refused B1\n", 2)?;
-    ran(&rt, &["serial"], b"", "refused B1\n", 2)?;
-    ran(&rt, &["--help"], b"", "refused command line\n", 2)?;
-    ran(&rt, &[], b"", "refused command line\n", 2)?;
+        &["--help"],
+        &[],
+    ];
+    for words in &lines {
+        ran(&rt, words, b"", "refused command line\n", 2)?;
+    }
+    Ok(())
+}
+
+#[test]
+fn a_large_input_is_refused(rt: HostRuntime) -> Result<(), Fail> {
     let large = vec![in rt.alloc(); b'\n'; 1_048_577]?;
     ran(&rt, &["replay"], &large, "refused B2\n", 2)
 }

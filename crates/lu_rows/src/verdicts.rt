@@ -1,58 +1,63 @@
 //! Verdicts on the histories of schedules, over the serial histories of their matrix.
 
-ghost use Rattle.std.specs.Prelude.{OnOk};
-ghost use Rattle.lu_test.specs.Matrix.{IsOf};
 ghost use Rattle.lu_machine.specs.Starts.{CanRun};
 
+use lu_cases::{Case, case_of};
 use lu_examples::ROWS;
-use lu_lang::{Component, read_component};
-use lu_machine::settles;
+use lu_history::History;
 use lu_replay::replay;
 use lu_serial::{Learnt, learn};
-use lu_test::{Matrix, read_matrix, read_schedule};
-use lu_trie::PackedTrie;
+use lu_test::read_schedule;
+use lu_trie::{PackedTrie, SerialTree, Trie};
 use lu_witness::{Verdict, has_witness, verdict};
+use std::alloc::Global;
 use std::process::Abort;
 use std::test::Fail;
 
-/// The setup of the matrix settles.
-fn assert_settles(
-    rt: &(impl AllocGlobal + Abort),
-    component: &Component,
-    matrix: &Matrix,
-) -> Result<(), Fail>
-    requires { IsOf matrix.now component.now }
-    ensures { OnOk result (CanRun component.now matrix.now) }
+/// The history of the schedule.
+fn history_of(rt: &impl AllocGlobal, case: &Case, schedule: &[u8]) -> Result<History, Fail>
+    requires { CanRun case.now.component case.now.matrix }
 {
-    match settles(rt.alloc(), component, matrix)? {
-        None => Ok(()),
-        Some(call) => panic!(rt; "call {call} of the setup does not end"),
+    let schedule = read_schedule(rt.alloc(), schedule)?;
+    Ok(replay(rt.alloc(), &case.component, &case.matrix, &schedule)?.history)
+}
+
+/// The set of the serial histories.
+fn serial_histories(rt: &(impl AllocGlobal + Abort), case: &Case) -> Result<Trie<Global>, Fail>
+    requires { CanRun case.now.component case.now.matrix }
+{
+    match learn(rt.alloc(), rt.alloc(), &case.component, &case.matrix, 40)? {
+        Learnt::Set(set) => Ok(set),
+        Learnt::Cut(_) | Learnt::Conflict { .. } => panic!(rt; "a serial run offends"),
     }
 }
 
-/// The verdict on what the schedule shows, and whether its history has a witness, with its pending
-/// call as stuck: over the set of serial histories, and over the packed set.
-fn judged<X: AllocGlobal + Abort>(
-    rt: &X,
+/// The verdict on the history over the set, and whether it has a witness, with its pending call as
+/// stuck.
+fn judged_over<T: SerialTree>(tree: &T, history: &History) -> (Verdict, bool) {
+    (verdict(tree, history), has_witness(tree, history))
+}
+
+/// The same over the set of serial histories, and over the packed set.
+fn judged_over_both(
+    rt: &impl AllocGlobal,
+    set: &Trie<Global>,
+    history: &History,
+) -> Result<[(Verdict, bool); 2], Fail> {
+    let packed = PackedTrie::pack(rt.alloc(), set)?;
+    Ok([judged_over(&set, history), judged_over(&&packed, history)])
+}
+
+/// The same of the history of a schedule.
+fn judged(
+    rt: &(impl AllocGlobal + Abort),
     matrix: &str,
     schedule: &str,
 ) -> Result<[(Verdict, bool); 2], Fail> {
-    let alloc = rt.alloc();
-    let component = read_component(alloc, ROWS.as_bytes())?;
-    let matrix = read_matrix(alloc, &component, matrix.as_bytes())?;
-    assert_settles(rt, &component, &matrix)?;
-    let schedule = read_schedule(alloc, schedule.as_bytes())?;
-    let shown = replay(alloc, &component, &matrix, &schedule)?;
-    let Learnt::Set(set) = learn(alloc, alloc, &component, &matrix, 40)? else {
-        panic!(rt; "a serial run offends");
-    };
-    let history = &shown.history;
-    let packed = PackedTrie::pack(alloc, &set)?;
-    let (tree, flat) = (&set, &packed);
-    Ok([
-        (verdict(&tree, history), has_witness(&tree, history)),
-        (verdict(&flat, history), has_witness(&flat, history)),
-    ])
+    let case = case_of(rt, ROWS.as_bytes(), matrix.as_bytes())?;
+    let history = history_of(rt, &case, schedule.as_bytes())?;
+    let set = serial_histories(rt, &case)?;
+    judged_over_both(rt, &set, &history)
 }
 
 #[test]
