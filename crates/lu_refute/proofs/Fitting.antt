@@ -1,7 +1,7 @@
 -- The serial histories of a matrix fit it.
 use Rattle.std.proofs.Common.{arith, ◌≡◌, ◌+◌, ◌≤◌, Bool, true, false, ℕ, suc, List, Option, Some, None, slice_get, [], ◌∷◌, ◌++◌, length, if◌then◌else◌, refl, sym, ◌∙◌, ap, subst, inl, inr, length-append, append-nil}
 use Rattle.std.specs.Prelude.{◌==◌}
-use Rattle.std.proofs.lemmas.Bool.{eq-eqb, ne_eqb}
+use Rattle.std.proofs.lemmas.Bool.{ne_eqb}
 use Rattle.lu_component.specs.Component.{Declarations}
 use Rattle.lu_test.specs.declared.schedule.Move.{Move}
 use Rattle.lu_test.specs.Matrix.{Matrix, calls_of}
@@ -18,7 +18,7 @@ use Rattle.lu_history.specs.declared.serial.SerialOutcome.TheVariants as serial
 use Rattle.lu_history.specs.Histories.{outcomes}
 use Rattle.lu_history.specs.Parts.{as_serial}
 use Rattle.lu_history.specs.Serial.{IsSerial}
-use Rattle.lu_serial.specs.Serial.{EndsAs, HasOpen, IsSerialHistory, entries_of, stuck_of}
+use Rattle.lu_serial.specs.Serial.{EndsAs, IsSerialHistory, entries_of, stuck_of}
 use Rattle.lu_serial.proofs.Opening.{same_or_not}
 use Rattle.lu_witness.specs.Witnesses.{entries}
 use Rattle.lu_witness.proofs.Entries.{entries-append}

@@ -1,5 +1,5 @@
 -- What a run starts on: all of its start but the matrix.
-use Rattle.std.proofs.Common.{◌≡◌, ℕ, List, Option, sym}
+use Rattle.std.proofs.Common.{◌≡◌, ℕ, List, Option}
 use Rattle.lu_component.specs.Component.{Declarations}
 use Rattle.lu_test.specs.Matrix.{Matrix}
 use Rattle.lu_machine.specs.States.{State}

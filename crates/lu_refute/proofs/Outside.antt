@@ -8,7 +8,7 @@ use Rattle.lu_test.specs.declared.schedule.Move.{Move}
 use Rattle.lu_test.specs.Matrix.{Matrix, cut, first_calls}
 use Rattle.lu_machine.specs.declared.event.Event.{Event}
 use Rattle.lu_machine.specs.States.{State}
-use Rattle.lu_machine.specs.Starts.{IsStart, Settles}
+use Rattle.lu_machine.specs.Starts.{IsStart}
 use Rattle.lu_machine.proofs.Starting.{settles_too, start_matrix, start_same, start_there}
 use Rattle.lu_machine.proofs.Orders.{smaller_trans}
 use Rattle.lu_machine.proofs.Paths.{leads_same}
@@ -20,7 +20,7 @@ use Rattle.lu_serial.proofs.Opening.{complete_not_open}
 use Rattle.lu_witness.specs.Goodness.{IsGoodAt}
 use Rattle.lu_witness.specs.Witnesses.{IsMember}
 use Rattle.lu_report.specs.declared.report.Finding.TheVariants.{SerialCut, Nondeterministic, Fail, Pass}
-use Rattle.lu_refute.specs.Linearizable.{AreLengths, IsCounterexample, IsCutOf, IsLinearizable, Refutes}
+use Rattle.lu_refute.specs.Linearizable.{IsCounterexample, IsCutOf, IsLinearizable, Refutes}
 use Rattle.lu_refute.specs.Whole.{EndsWhole, made_calls}
 use Rattle.lu_refute.specs.Answers.{IsOutsideAnswer}
 use Rattle.lu_refute.specs.Laws.{AnswerRefutes, ConflictOutside, FailOutside, FailRefutes, HasAll, IsSpecOf, IsWhole, NotLinearizable, OutsideWhole, SpecIsSerial, WholeCut}

@@ -1,5 +1,5 @@
 -- Specifications: deterministic sets of serial histories, closed under beginnings.
-use Rattle.std.specs.Prelude.{ℕ, ◌≤◌, ◌<◌, ◌^◌, List, [], All, length, slice_index_or}
+use Rattle.std.specs.Prelude.{ℕ, ◌≤◌, List, [], All, length, slice_index_or}
 use Rattle.lu_history.specs.declared.serial.SerialOp.{SerialOp}
 use Rattle.lu_history.specs.Serial.{IsOutcome}
 use Rattle.lu_test.specs.Matrix.{Matrix, calls_of}

@@ -1,4 +1,4 @@
-use Rattle.std.proofs.Common.{List, None, sym, ap, subst, ◌∙◌}
+use Rattle.std.proofs.Common.{List, None, sym, subst, ◌∙◌}
 use Rattle.std.proofs.lemmas.Result.{IfOk-weaker}
 use Rattle.lu_history.specs.declared.serial.SerialOp.{SerialOp}
 use Rattle.lu_machine.specs.States.{State}

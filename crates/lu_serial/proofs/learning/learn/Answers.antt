@@ -1,4 +1,4 @@
-use Rattle.std.proofs.Common.{◌≡◌, sym, inl, ◌∙◌, subst}
+use Rattle.std.proofs.Common.{◌≡◌, inl, subst}
 use Rattle.lu_test.specs.Schedule.{AreMoves}
 use Rattle.lu_machine.proofs.Starting.{start_same}
 use Rattle.lu_serial.specs.Offences.{IsFirstCut, IsFirstConflict, IsSetOf}

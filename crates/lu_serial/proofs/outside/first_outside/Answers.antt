@@ -1,4 +1,4 @@
-use Rattle.std.proofs.Common.{◌≡◌, None, sym, ◌∙◌, subst}
+use Rattle.std.proofs.Common.{◌≡◌, None, subst}
 use Rattle.lu_test.specs.Schedule.{AreMoves}
 use Rattle.lu_machine.specs.Schedules.{IsLeast}
 use Rattle.lu_machine.proofs.Starting.{start_same}
