@@ -8,7 +8,6 @@ ghost use Rattle.lu_machine.specs.Starts.{CanRun};
 use lu_lang::{Component, read_component};
 use lu_machine::settles;
 use lu_test::{Matrix, read_matrix};
-use std::process::Abort;
 use std::test::Fail;
 
 /// A component and a matrix of it.
@@ -18,18 +17,14 @@ pub struct Case {
     pub matrix: Matrix,
 }
 
-/// The setup of the matrix settles.
-fn assert_settles(
-    rt: &(impl AllocGlobal + Abort),
-    component: &Component,
-    matrix: &Matrix,
-) -> Result<(), Fail>
+/// Whether the setup of the matrix settles.
+fn settled(rt: &impl AllocGlobal, component: &Component, matrix: &Matrix) -> Result<(), Fail>
     requires { IsOf matrix.now component.now }
     ensures { OnOk result (CanRun component.now matrix.now) }
 {
     match settles(rt.alloc(), component, matrix)? {
         None => Ok(()),
-        Some(call) => panic!(rt; "call {call} of the setup does not end"),
+        Some(_) => Err(Fail::from("a call of the setup does not end")),
     }
 }
 
@@ -37,16 +32,12 @@ fn assert_settles(
 ///
 /// # Errors
 ///
-/// A text that has a fault, and want of memory. A setup that does not settle ends the program.
-pub fn case_of(
-    rt: &(impl AllocGlobal + Abort),
-    component: &[u8],
-    matrix: &[u8],
-) -> Result<Case, Fail>
+/// A text that has a fault, a setup that does not settle, and want of memory.
+pub fn case_of(rt: &impl AllocGlobal, component: &[u8], matrix: &[u8]) -> Result<Case, Fail>
     ensures { IfOk result (λ case. CanRun case.component case.matrix) }
 {
     let component = read_component(rt.alloc(), component)?;
     let matrix = read_matrix(rt.alloc(), &component, matrix)?;
-    assert_settles(rt, &component, &matrix)?;
+    settled(rt, &component, &matrix)?;
     Ok(Case { component, matrix })
 }
