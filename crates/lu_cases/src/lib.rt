@@ -1,7 +1,10 @@
 //! Components with matrices that can run, from their texts, for the tests of several crates.
 #![tactic(auto)]
 
-ghost use Rattle.std.specs.Prelude.{IfOk, OnOk};
+ghost use Rattle.std.specs.Prelude.{◌≡◌, IfOk, Ok, OnOk};
+ghost use Rattle.lu_text.specs.Faults.{meaning_of};
+ghost use Rattle.lu_lang.specs.Grammar.{component_grammar};
+ghost use Rattle.lu_test.specs.MatrixText.{matrix_grammar};
 ghost use Rattle.lu_test.specs.Matrix.{IsOf};
 ghost use Rattle.lu_machine.specs.Starts.{CanRun};
 
@@ -34,7 +37,11 @@ fn settled(rt: &impl AllocGlobal, component: &Component, matrix: &Matrix) -> Res
 ///
 /// A text that has a fault, a setup that does not settle, and want of memory.
 pub fn case_of(rt: &impl AllocGlobal, component: &[u8], matrix: &[u8]) -> Result<Case, Fail>
-    ensures { IfOk result (λ case. CanRun case.component case.matrix) }
+    ensures component { IfOk result (λ case.
+        meaning_of component_grammar component.now ≡ Ok case.component) }
+    ensures matrix { IfOk result (λ case.
+        meaning_of (matrix_grammar case.component) matrix.now ≡ Ok case.matrix) }
+    ensures runs { IfOk result (λ case. CanRun case.component case.matrix) }
 {
     let component = read_component(rt.alloc(), component)?;
     let matrix = read_matrix(rt.alloc(), &component, matrix)?;
