@@ -33,8 +33,10 @@ use Rattle.lu_tree.specs.declared.look.Look.{Look}
 use Rattle.lu_horizon.specs.declared.sharers.Sharers.{Sharers}
 use Rattle.lu_horizon.specs.declared.sharers.Sharers.TheVariants.{Only, Readers}
 use Rattle.lu_tree.specs.Tails.{HasNoCall, StartsBehind, IsGoodTail, IsJudged, IsRest, MayMove, sharing_of}
+use Rattle.lu_tree.specs.Reordered.{AreReordered}
 use Rattle.lu_tree.specs.Trees.{Below}
 use Rattle.lu_tree.specs.Walks.{completes}
+use Rattle.lu_tree.proofs.Reordering.{reordered_then, witness_reordered}
 use Rattle.lu_tree.proofs.TailBelow.{orders_all}
 use Rattle.lu_tree.proofs.TailVerdicts.{one_for_all}
 
@@ -214,9 +216,11 @@ module _ (Set : List SerialOp → Type 0) (look : Look) (s : State) (h : List Ev
       solo_at j lt (inr past) = absurd (omega arith)
 
 -- below such a state
-pub tail_all : (start : State) (Set : List SerialOp → Type 0) (bound left n : ℕ) (u : List Move) (s : State) (h : List Event) → Agree (progress s) h → Leads start u s h → length u + left ≡ bound → IsGoodTail Set s h left n → AreAllGood Set start bound (Below u) (completes n)
-tail_all start Set bound left n u s h agree at long t =
+pub tail_all : (start : State) (Set : List SerialOp → Type 0) (bound left n : ℕ) (u : List Move) (s : State) (h g : List Event) → Agree (progress s) h → AreReordered h g → Leads start u s g → length u + left ≡ bound → IsGoodTail Set s h left n → AreAllGood Set start bound (Below u) (completes n)
+tail_all start Set bound left n u s h g agree re at long t =
     let short = t.short in
-    let all = orders_all start Set bound t.sharing t.events_of (all_moves t.moves) u s h at t.moves t.tail refl (omega arith)
-    (λ v end k leads complete. inl (complete, one_for_all Set s h agree t.moves t.sharing t.events_of t.tail v end k leads complete t.judging t.behind t.good)) in
+    let all = orders_all start Set bound t.sharing t.events_of (all_moves t.moves) u s g at t.moves t.tail refl (omega arith)
+    (λ v end k leads complete.
+    (let here = one_for_all Set s h agree t.moves t.sharing t.events_of t.tail v end k leads complete t.judging t.behind t.good in
+    inl (complete, witness_reordered Set (h ++ k) (g ++ k) (reordered_then h g k re) here))) in
     subst (λ (x : ℕ). AreAllGood Set start bound (Below u) (completes x)) (sym t.number) all

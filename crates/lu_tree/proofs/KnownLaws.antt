@@ -2,7 +2,6 @@
 use Rattle.std.proofs.Common.{◌≡◌, ℕ, zero, suc, ◌-◌, ◌<◌, ◌≤◌, ◌⊎◌, List, [], ◌∷◌, ◌++◌, Option, None, Some, IfSome, Bor, slice_get, slice_set, length, length-set, unwrap_or, refl, sym, ◌∙◌, ap, subst, inl, inr, arith}
 use Rattle.std.specs.List.{Contains}
 use Rattle.std.proofs.lemmas.Bool.{cases_eq, cases_lt}
-use Rattle.std.proofs.lemmas.List.{append-nil}
 use Rattle.std.proofs.lemmas.Option.{slice_get_within}
 use Rattle.lu_horizon.proofs.OwnLaws.{get_set_other, get_set_same}
 use Rattle.lu_test.specs.declared.schedule.Move.{Move}
@@ -19,7 +18,9 @@ use Rattle.lu_tree.specs.declared.commuting.Both.{Both}
 use Rattle.lu_tree.specs.declared.known.Known.{Known}
 use Rattle.lu_tree.specs.declared.known.Hints.{Hints}
 use Rattle.lu_tree.specs.Known.{AreBeside, AreFrom, AreKnownBehind, Commute, HaveOneHistory, IsAmong, IsAmongOr, IsHint, IsHintOr, IsKid, IsKnown, IsKnownBy, MadeBoth, MoveNotBoth, Moves, MovesBoth, counts_of, kids_of}
+use Rattle.lu_tree.specs.Reordered.{AreReordered, AreUnordered}
 use Rattle.lu_tree.specs.Walks.{AreBelow}
+use Rattle.lu_tree.proofs.Reordering.{either_order, reordered_both, reordered_then}
 
 -- a move keeps the component and the matrix
 pub beside_step : (s r next : State) (m : Move) (event : Option Event) → AreBeside s r → Step r m next event → AreBeside s next
@@ -100,17 +101,17 @@ not_both t u s r event moves not end e f both =
 
 -- moves that commute, and were made in both orders, led to one state with one history
 pub commute_made : (t u : ℕ) (s end other : State) (there here : Both) → MadeBoth t u s end there → MadeBoth u t s other here → Commute t u s → (other ≡ end) × HaveOneHistory there here
-commute_made t u s end other there here one two (last, e, f, first, second, quiet) =
+commute_made t u s end other there here one two (last, e, f, first, second, either) =
     let a = both_same t u s last end e f there.first.event there.second.event first one.moves in
     let b = both_same u t s last other f e here.first.event here.second.event second two.moves in
-    let silent : (there.first.event ≡ None) ⊎ (there.second.event ≡ None) = rw (← a.1, ← a.2) quiet in
-    (sym b.0 ∙ a.0, (sym a.1 ∙ b.2, sym a.2 ∙ b.1, silent))
+    let unordered : AreUnordered there.first.event there.second.event = rw (← a.1, ← a.2) either in
+    (sym b.0 ∙ a.0, (sym a.1 ∙ b.2, sym a.2 ∙ b.1, unordered))
 
--- at most one of them has an event
-pub commute_quiet : (t u : ℕ) (s end : State) (there : Both) → MadeBoth t u s end there → Commute t u s → (there.first.event ≡ None) ⊎ (there.second.event ≡ None)
-commute_quiet t u s end there one (last, e, f, first, second, quiet) =
+-- no precedence depends on the order of their events
+pub commute_unordered : (t u : ℕ) (s end : State) (there : Both) → MadeBoth t u s end there → Commute t u s → AreUnordered there.first.event there.second.event
+commute_unordered t u s end there one (last, e, f, first, second, either) =
     let a = both_same t u s last end e f there.first.event there.second.event first one.moves in
-    rw (← a.1, ← a.2) quiet
+    rw (← a.1, ← a.2) either
 
 -- one hint more
 pub from_more : (s : State) (hints : Hints) (known : Known) (t u : ℕ) (first below : Known) (old new : Hints) → AreFrom s hints known t old → IsHintOr u below old new → Commute u t s → IsKnownBy hints known u first → IsKid first t below → AreFrom s hints known t new
@@ -180,10 +181,13 @@ module _ (Set : List SerialOp → Type 0) where
       let at : (there ≡ next) × (other ≡ event) = step_same s (move_of t) there next other event moves.1 first in
       rw (at.0, at.1, ← is) known
 
-  -- in either order of two moves there is one history
-  swapped : (h : List Event) (e f : Option Event) → (e ≡ None) ⊎ (f ≡ None) → (h ++ with_event e []) ++ with_event f [] ≡ (h ++ with_event f []) ++ with_event e []
-  swapped h e f (inl none) = rw none (ap (λ x. x ++ with_event f []) (append-nil h) ∙ sym (append-nil (h ++ with_event f [])))
-  swapped h e f (inr none) = rw none (append-nil (h ++ with_event e []) ∙ ap (λ x. x ++ with_event e []) (sym (append-nil h)))
+  -- what is known behind a history is known behind a reordered one
+  below_reordered : (s : State) (h k : List Event) (left : ℕ) (counts : Counts) → AreReordered h k → AreBelow Set s h left counts → AreBelow Set s k left counts
+  below_reordered s h k left counts re below = λ start u g on at. below start u g (reordered_both h k g re on) at
+
+  known_reordered : (s : State) (h k : List Event) (left : ℕ) (known : Known) → AreReordered h k → IsKnown Set s h left known → IsKnown Set s k left known
+  known_reordered s h k zero known re is = (below_reordered s h k zero (counts_of known) re is.0, is.1)
+  known_reordered s h k (suc left) known re is = (below_reordered s h k (suc left) (counts_of known) re is.0, λ t below kid next event moves. known_reordered next (h ++ with_event event []) (k ++ with_event event []) left below (reordered_then h k (with_event event []) re) (is.1 t below kid next event moves))
 
   -- Where thread t moves first: what is known behind a move that commutes with that is known there,
   -- too.
@@ -204,8 +208,8 @@ module _ (Set : List SerialOp → Type 0) where
       let to : (there ≡ end) × (last ≡ e) = step_same two.0 (move_of u) there end last e then two.2.1 in
       let before = behind u c.1 c.2 one.0 e one.1 in
       let kid = kids_known one.0 (h ++ with_event e []) left c.1 before t below c.3 end f one.2 in
-      let same = swapped h e f commute.5 in
-      rw (at.1, to.0, to.1, ← same) kid)
+      let both = either_order h e f commute.5 in
+      rw (at.1, to.0, to.1) (known_reordered end ((h ++ with_event e []) ++ with_event f []) ((h ++ with_event f []) ++ with_event e []) (left - 1) below both kid))
     where
       behind : (u : ℕ) (first : Known) → IsKnownBy hints known u first → (r : State) (e : Option Event) → Moves u s r e → IsKnown Set r (h ++ with_event e []) left first
       behind u first (inl hint) = by_hint u first hint

@@ -12,5 +12,6 @@ mod TailVerdicts
 mod Finishing
 mod OrderSets
 mod NeverStopped
+mod Reordering
 mod KnownLaws
 mod Leaving

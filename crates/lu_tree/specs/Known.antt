@@ -1,5 +1,5 @@
 -- What is known below a state, and of moves that commute.
-use Rattle.std.specs.Prelude.{◌≡◌, ℕ, zero, suc, ◌⊎◌, ◌++◌, List, [], Option, None, Some, slice_get}
+use Rattle.std.specs.Prelude.{◌≡◌, ℕ, zero, suc, ◌⊎◌, ◌++◌, List, [], Option, Some, slice_get}
 use Rattle.std.specs.Borrow.{Bor}
 use Rattle.std.specs.List.{Contains}
 use Rattle.lu_machine.specs.declared.counts.Counts.{Counts}
@@ -15,6 +15,7 @@ use Rattle.lu_tree.specs.declared.commuting.Both.{Both}
 use Rattle.lu_tree.specs.declared.known.Known.{Known, out-Known}
 use Rattle.lu_tree.specs.declared.known.Hints.{Hints}
 use Rattle.lu_tree.specs.declared.node.Node.{Node}
+use Rattle.lu_tree.specs.Reordered.{AreUnordered}
 use Rattle.lu_tree.specs.Walks.{AreBelow}
 
 -- both run one component and one matrix
@@ -34,11 +35,11 @@ abbrev pub MoveNotBoth : ℕ → ℕ → State → Type 0
 MoveNotBoth t u s = (end : State) (e f : Option Event) → MovesBoth t u s end e f → ⊥
 
 -- The only moves of t and of u commute: in either order they lead to one state, with the same
--- events, and at most one of them has an event.
+-- events, and no precedence depends on the order of these.
 abbrev pub Commute : ℕ → ℕ → State → Type 0
 Commute t u s =
     (end : State) × (e : Option Event) × (f : Option Event) × MovesBoth t u s end e f
-    × MovesBoth u t s end f e × ((e ≡ None) ⊎ (f ≡ None))
+    × MovesBoth u t s end f e × AreUnordered e f
 
 -- both moves were made, and can be taken back
 abbrev pub taken_back : Both → State → State
@@ -50,11 +51,11 @@ pub record MadeBoth (t u : ℕ) (s end : State) (both : Both) : Type 0 where
   pub second : CanTake end both.second
   pub first : CanTake (restored both.second end) both.first
 
--- two moves have the same events in the other order, and at most one of them has one
+-- two moves have the same events in the other order, and no precedence depends on it
 abbrev pub HaveOneHistory : Both → Both → Type 0
 HaveOneHistory there here =
     (there.first.event ≡ here.second.event) × (there.second.event ≡ here.first.event)
-    × ((there.first.event ≡ None) ⊎ (there.second.event ≡ None))
+    × AreUnordered there.first.event there.second.event
 
 -- the numbers below a state, and what is known behind the only moves of threads
 abbrev pub counts_of : Known → Counts

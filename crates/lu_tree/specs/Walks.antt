@@ -16,6 +16,7 @@ use Rattle.lu_witness.specs.Goodness.{IsGoodAt, IsWhyAt, AreGood, AreAllGood}
 use Rattle.lu_witness.specs.Witnesses.{HasWitness, IsMember}
 use Rattle.lu_tree.specs.declared.node.Node.{Node}
 use Rattle.lu_tree.specs.declared.tally.Tally.{Tally}
+use Rattle.lu_tree.specs.Reordered.{AreReordered}
 use Rattle.lu_tree.specs.Trees.{Below}
 
 -- no schedule, one that is complete, one that is stuck, one that is cut
@@ -51,11 +52,11 @@ Counted Set s h counts =
     ⊎ ((IsComplete s × IsGoodAt Set s h × (counts ≡ one_complete))
     ⊎ (IsStuck s × IsGoodAt Set s h × (counts ≡ one_stuck)))
 
--- The schedules that go on from a path to s and h, with no more than `left` moves behind it, are
--- good if they end, and these are their numbers.
+-- The schedules that go on from a path to s, with no more than `left` moves behind it, are good if
+-- they end, and these are their numbers; behind h, and so behind each reordered history.
 abbrev pub AreBelow : (List SerialOp → Type 0) → State → List Event → ℕ → Counts → Type 0
 AreBelow Set s h left below =
-    (start : State) (u : List Move) → Leads start u s h
+    (start : State) (u : List Move) (k : List Event) → AreReordered h k → Leads start u s k
     → AreAllGood Set start (length u + left) (Below u) below
 
 -- a schedule that ends here is not good, and why

@@ -1,19 +1,20 @@
 //! Moves of two threads that commute.
 //!
-//! Where the only moves of two threads lead to one state with one history, whichever comes first
-//! (Mazurkiewicz, 1977), the schedules below are the same in both orders. They are walked behind
-//! the one order, and counted behind both. That two orders lead to one state is seen by making the
-//! moves on two machines.
+//! Where the only moves of two threads lead to one state, whichever comes first (Mazurkiewicz,
+//! 1977), and no precedence depends on the order of their events, the schedules below are the same
+//! and as good in both orders. They are walked behind the one order, and counted behind both. That
+//! two orders lead to one state is seen by making the moves on two machines.
 
 ghost use Rattle.std.specs.Prelude.{◌≡◌, ◌<◌, ◌↔◌, false, true, IfNone, IfOk, IfSome};
 ghost use Rattle.lu_machine.specs.Starts.{CanRun, IsStart};
 ghost use Rattle.lu_machine.specs.Steps.{picks_of};
 ghost use Rattle.lu_machine.specs.Undoes.{CanTake, restored};
 ghost use Rattle.lu_tree.specs.Known.{AreBeside, AreFrom, Commute, HaveOneHistory, IsKnownBy, MadeBoth, MoveNotBoth, Moves, taken_back};
+ghost use Rattle.lu_tree.specs.Reordered.{AreUnordered};
 
 use crate::known::{Hints, Known};
 use lu_component::Component;
-use lu_machine::{Machine, Undo};
+use lu_machine::{Event, Machine, Undo};
 use lu_test::{Matrix, Move};
 use std::alloc::{AllocError, Global};
 
@@ -70,13 +71,26 @@ fn take_back(both: Both, machine: &mut Machine<'_>)
     machine.undo(both.first);
 }
 
-/// Whether two moves have the same events in the other order, and at most one of them has one.
+/// Whether no precedence depends on which of two events comes first: one of them is none, or both
+/// are calls, or returns, of different threads.
+#[inline(always)]
+fn are_unordered(one: Option<Event>, other: Option<Event>) -> bool
+    ensures { result ≡ true ↔ AreUnordered one other }
+{
+    match (one, other) {
+        (None, _) | (_, None) => true,
+        (Some(Event::Call { t, .. }), Some(Event::Call { t: u, .. })) => t != u,
+        (Some(Event::Return { t, .. }), Some(Event::Return { t: u, .. })) => t != u,
+        (Some(_), Some(_)) => false,
+    }
+}
+
+/// Whether two moves have the same events in the other order, and no precedence depends on it.
 #[inline(always)]
 fn have_one_history(there: Both, here: Both) -> bool
     ensures { result ≡ true ↔ HaveOneHistory there here }
 {
-    let quiet = there.first.event().is_none() || there.second.event().is_none();
-    quiet
+    are_unordered(there.first.event(), there.second.event())
         && there.first.event() == here.second.event()
         && there.second.event() == here.first.event()
 }
@@ -140,7 +154,7 @@ impl<'a> Commuting<'a> {
         let Some(there) = make_both::<LONG>(first, second, machine) else {
             return false;
         };
-        if there.first.event().is_some() && there.second.event().is_some() {
+        if !are_unordered(there.first.event(), there.second.event()) {
             take_back(there, machine);
             return false;
         }

@@ -1,6 +1,6 @@
-use Rattle.std.proofs.Common.{rules, ◌≡◌, ◌∙◌, inl, inr, subst}
+use Rattle.std.proofs.Common.{rules, ◌≡◌, ◌∙◌, subst}
 use Rattle.lu_tree.specs.Known.{HaveOneHistory, MadeBoth, MoveNotBoth}
-use Rattle.lu_tree.proofs.KnownLaws.{commute_made, commute_quiet, commute_seen}
+use Rattle.lu_tree.proofs.KnownLaws.{commute_made, commute_seen, commute_unordered}
 use Rattle.lu_tree.proofs.commuting.Commuting.commute.Goals as goal
 
 pub returns-clause-commute : goal.returns-clause-commute
@@ -29,15 +29,12 @@ returns-in_default-clause-commute g c = (
       absurd (c.in_default.ensures.none commute.0 commute.1 commute.2 commute.3),
 )
 
-pub returns-then-is_some-2-clause-commute : goal.returns-then-is_some-2-clause-commute
-returns-then-is_some-2-clause-commute g c = (
+pub returns-then-not-are_unordered-clause-commute : goal.returns-then-not-are_unordered-clause-commute
+returns-then-not-are_unordered-clause-commute g c = (
   λ is. absurd (cc),
   λ commute.
-      (let quiet = commute_quiet c.args.first c.args.second c.args.machine.now c.make_both.new.machine c.in-Some.there c.in-Some.ensures.made commute in
-      elim quiet [
-        | inl none ↦ absurd (search rules)
-        | inr none ↦ absurd (search rules)
-      ]),
+      (let unordered = commute_unordered c.args.first c.args.second c.args.machine.now c.make_both.new.machine c.in-Some.there c.in-Some.ensures.made commute in
+      absurd (search rules)),
 )
 
 pub returns-in_default-make_both-clause-commute : goal.returns-in_default-make_both-clause-commute
