@@ -7,8 +7,8 @@ ghost use Rattle.lu_tree.specs.Known.{IsAmong, IsAmongOr, IsHint, IsHintOr, IsKi
 use lu_machine::Counts;
 use std::alloc::Global;
 
-/// The most states of which is kept what is known below them, where a walk comes back from a state.
-const MOST_STATES: u16 = 256;
+/// Which part of the room that is left, in states, one state may take with those that follow it.
+const SHARE: u32 = 8;
 
 /// How many schedules there are below a state, and below states that follow it.
 #[derive(Drop)]
@@ -16,7 +16,7 @@ pub(crate) struct Known {
     pub(crate) counts: Counts,
 
     /// Of how many states it tells.
-    size: u16,
+    pub(crate) size: u32,
 
     /// What is known below the states to which the only moves of some threads lead.
     kids: Vec<(u8, Known)>,
@@ -118,8 +118,8 @@ impl Known {
     }
 
     /// What a walk tells when it comes back: nothing of the moves of thread 0, which comes before
-    /// all others, and nothing but the numbers where there would be too much.
-    pub(crate) fn told(self) -> Known
+    /// all others, and nothing but the numbers where it would take too much of the room.
+    pub(crate) fn told(self, room: u32) -> Known
         ensures counts { counts_of result ≡ counts_of self }
         ensures kids { IsAmong (kids_of self) (kids_of result) }
     {
@@ -132,7 +132,7 @@ impl Known {
             known.kids.remove(0);
             known.size = known.size.saturating_sub(of_first);
         }
-        if known.size > MOST_STATES {
+        if known.size > room / SHARE {
             known.kids.clear();
             known.size = 1;
         }

@@ -24,6 +24,9 @@ use lu_trie::SerialTree;
 use lu_witness::Cache;
 use std::alloc::Global;
 
+/// The most states of which a walk keeps what is known below them.
+const MOST_STATES: u32 = 65_536;
+
 /// Ends a schedule here, which is cut, or is ended and has to be good. Answers what is then known:
 /// none where it is not found good, or the watch stops the walk.
 #[inline(always)]
@@ -129,6 +132,7 @@ pub(crate) fn walk<'a, 't, T: SerialTree, W: Watch>(
             commuting,
             left,
             &Hints::NONE,
+            MOST_STATES,
             node,
             tally,
         )
@@ -140,14 +144,16 @@ pub(crate) fn walk<'a, 't, T: SerialTree, W: Watch>(
             commuting,
             left,
             &Hints::NONE,
+            MOST_STATES,
             node,
             tally,
         )
     }
 }
 
-/// Walks as [`walk`] does, but counts what is known behind a thread's only move by a hint. With
-/// `LONG` false no local instructions run with a move.
+/// Walks as [`walk`] does, but counts what is known behind a thread's only move by a hint. What is
+/// known is kept of no more states than there is room for. With `LONG` false no local instructions
+/// run with a move.
 fn walk_as<'a, 't, 'h, const LONG: bool, T: SerialTree, W: Watch>(
     cache: &mut Cache<'t, T>,
     watch: &mut W,
@@ -155,6 +161,7 @@ fn walk_as<'a, 't, 'h, const LONG: bool, T: SerialTree, W: Watch>(
     commuting: &mut Commuting<'a>,
     left: u16,
     hints: &Hints<'h>,
+    room: u32,
     node: &mut Node<'a, 't, T>,
     tally: &mut Tally,
 ) -> Option<Known>
@@ -204,6 +211,7 @@ fn walk_as<'a, 't, 'h, const LONG: bool, T: SerialTree, W: Watch>(
                 commuting,
                 left - 1,
                 &further,
+                room.saturating_sub(known.size),
                 node,
                 tally,
             );
@@ -219,5 +227,5 @@ fn walk_as<'a, 't, 'h, const LONG: bool, T: SerialTree, W: Watch>(
     if is_ended {
         return end(commuting.alloc, cache, watch, node, tally);
     }
-    Some(known.told())
+    Some(known.told(room))
 }
