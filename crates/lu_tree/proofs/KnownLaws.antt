@@ -1,6 +1,7 @@
 -- What is known below a state, and behind moves that commute.
 use Rattle.std.proofs.Common.{◌≡◌, ℕ, zero, suc, ◌-◌, ◌<◌, ◌≤◌, ◌⊎◌, List, [], ◌∷◌, ◌++◌, Option, None, Some, IfSome, Bor, slice_get, slice_set, length, length-set, unwrap_or, refl, sym, ◌∙◌, ap, subst, inl, inr, arith}
 use Rattle.std.specs.List.{Contains}
+use Rattle.std.specs.Prelude.{All}
 use Rattle.std.proofs.lemmas.Bool.{cases_eq, cases_lt}
 use Rattle.std.proofs.lemmas.Option.{slice_get_within}
 use Rattle.lu_horizon.proofs.OwnLaws.{get_set_other, get_set_same}
@@ -14,10 +15,11 @@ use Rattle.lu_machine.proofs.Keeping.{step_moved}
 use Rattle.lu_machine.proofs.StepLaws.{step_feasible, step_same}
 use Rattle.lu_tail.specs.Solo.{move_of}
 use Rattle.lu_history.specs.declared.serial.SerialOp.{SerialOp}
+use Rattle.lu_witness.specs.Witnesses.{IsMember}
 use Rattle.lu_tree.specs.declared.commuting.Both.{Both}
 use Rattle.lu_tree.specs.declared.known.Known.{Known}
 use Rattle.lu_tree.specs.declared.known.Hints.{Hints}
-use Rattle.lu_tree.specs.Known.{AreBeside, AreFrom, AreKnownBehind, Commute, HaveOneHistory, IsAmong, IsAmongOr, IsHint, IsHintOr, IsKid, IsKnown, IsKnownBy, MadeBoth, MoveNotBoth, Moves, MovesBoth, counts_of, kids_of}
+use Rattle.lu_tree.specs.Known.{AreBeside, AreFrom, AreKnownBehind, Commute, HaveSameEvents, IsAmong, IsAmongOr, IsHint, IsHintOr, IsKid, IsKnown, IsKnownBy, KidsTellNoMore, MadeBoth, MoveNotBoth, Moves, MovesBoth, TellsNoMore, counts_of, kids_of}
 use Rattle.lu_tree.specs.Reordered.{AreReordered, AreUnordered}
 use Rattle.lu_tree.specs.Walks.{AreBelow}
 use Rattle.lu_tree.proofs.Reordering.{either_order, reordered_both, reordered_then}
@@ -77,7 +79,7 @@ pub hint_added : (old : Hints) (t i : ℕ) (b : Bor Known) → i ≡ t → IsHin
 hint_added old t i b is = λ u known hint. slot_set old.by_thread t i b is u known hint
 
 -- moves that were made in both orders
-pub commute_seen : (t u : ℕ) (s end other : State) (there here : Both) → MadeBoth t u s end there → MadeBoth u t s other here → other ≡ end → HaveOneHistory there here → Commute t u s
+pub commute_seen : (t u : ℕ) (s end other : State) (there here : Both) → MadeBoth t u s end there → MadeBoth u t s other here → other ≡ end → HaveSameEvents there here → Commute t u s
 commute_seen t u s end other there here one two same history =
     let back : MovesBoth u t s end there.second.event there.first.event = rw (history.0, history.1, ← same) two.moves in
     (end, there.first.event, there.second.event, one.moves, back, history.2)
@@ -100,7 +102,7 @@ not_both t u s r event moves not end e f both =
     not (subst (λ x. picks_of x u ≡ 1) same.0 both.2.0)
 
 -- moves that commute, and were made in both orders, led to one state with one history
-pub commute_made : (t u : ℕ) (s end other : State) (there here : Both) → MadeBoth t u s end there → MadeBoth u t s other here → Commute t u s → (other ≡ end) × HaveOneHistory there here
+pub commute_made : (t u : ℕ) (s end other : State) (there here : Both) → MadeBoth t u s end there → MadeBoth u t s other here → Commute t u s → (other ≡ end) × HaveSameEvents there here
 commute_made t u s end other there here one two (last, e, f, first, second, either) =
     let a = both_same t u s last end e f there.first.event there.second.event first one.moves in
     let b = both_same u t s last other f e here.first.event here.second.event second two.moves in
@@ -158,9 +160,6 @@ module _ (Set : List SerialOp → Type 0) where
   pub behind_same : (s : State) (h : List Event) (left : ℕ) (old new : Known) → kids_of new ≡ kids_of old → AreKnownBehind Set s h left (IsKid old) → AreKnownBehind Set s h left (IsKid new)
   behind_same s h left old new same are = λ t below kid. are t below (subst (λ x. Contains x (t, below)) same kid)
 
-  pub behind_among : (s : State) (h : List Event) (left : ℕ) (old new : Known) → IsAmong (kids_of old) (kids_of new) → AreKnownBehind Set s h left (IsKid old) → AreKnownBehind Set s h left (IsKid new)
-  behind_among s h left old new among are = λ t below kid. are t below (among (t, below) kid)
-
   -- one more is told of
   pub behind_more : (s : State) (h : List Event) (left t : ℕ) (old new below : Known) → IsAmongOr (t, below) (kids_of old) (kids_of new) → AreKnownBehind Set s h left (IsKid old) → ((next : State) (event : Option Event) → Moves t s next event → IsKnown Set next (h ++ with_event event []) left below) → AreKnownBehind Set s h left (IsKid new)
   behind_more s h left t old new below among are one = λ u kid in_kids.
@@ -214,3 +213,46 @@ module _ (Set : List SerialOp → Type 0) where
       behind : (u : ℕ) (first : Known) → IsKnownBy hints known u first → (r : State) (e : Option Event) → Moves u s r e → IsKnown Set r (h ++ with_event e []) left first
       behind u first (inl hint) = by_hint u first hint
       behind u first (inr kid) = by_kid u first kid
+
+-- what has no element is empty
+no_elements : {A : Type 0} (xs : List A) → ((x : A) → Contains xs x → ⊥) → xs ≡ []
+no_elements [] none = refl
+no_elements (x ∷ xs) none = absurd (none x (0, omega arith, refl))
+
+-- what has the same numbers, and kids that tell no more
+pub tells_no_more : (all some : Known) → counts_of some ≡ counts_of all → KidsTellNoMore all some → TellsNoMore all some
+tells_no_more all some counts kids members s h zero is =
+    (subst (AreBelow (IsMember members) s h zero) (sym counts) is.0, no_elements (kids_of some) (λ kid there. none_kid (kids_of all) (kid.0, (kids kid.0 kid.1 there).0) is.1 (kids kid.0 kid.1 there).1))
+tells_no_more all some counts kids members s h (suc left) is = (
+  subst (AreBelow (IsMember members) s h (suc left)) (sym counts) is.0,
+  λ t below kid next event moves.
+      (let more = kids t below kid in
+      more.2 members next (h ++ with_event event []) left (is.1 t more.0 more.1 next event moves)),
+)
+
+-- one kid more
+pub kids_more_told : (all old new : Known) (t : ℕ) (more below : Known) → KidsTellNoMore all old → IsAmongOr (t, below) (kids_of old) (kids_of new) → IsKid all t more → TellsNoMore more below → KidsTellNoMore all new
+kids_more_told all old new t more below are among kid tells = λ u known there.
+    elim (among (u, known) there) [
+      | inl before ↦ are u known before
+      | inr is ↦
+          (let thread : u ≡ t = ap (λ p. p.0) is in
+          let same : known ≡ below = ap (λ p. p.1) is in
+          rw (thread, same) (more, kid, tells))
+    ]
+
+-- nothing is told of kids
+pub no_kids_told : (all some : Known) → kids_of some ≡ [] → KidsTellNoMore all some
+no_kids_told all some none = λ t below kid. absurd (none_kid (kids_of some) (t, below) none kid)
+
+-- the first of these, and those behind it
+pub first_and_rest : {A : Type 0} (all xs rest : List A) (x : A) → xs ≡ x ∷ rest → All (Contains all) xs → Contains all x × All (Contains all) rest
+first_and_rest {A} all xs rest x is each = at (subst (λ (ys : List A). All (Contains all) ys) is each)
+  where
+    at : All (Contains all) (x ∷ rest) → Contains all x × All (Contains all) rest
+    at of = (of 0 x (omega arith), λ k d below. of (suc k) d (omega arith))
+
+-- some of the kids
+pub among_told : (all some : Known) → counts_of some ≡ counts_of all → IsAmong (kids_of all) (kids_of some) → TellsNoMore all some
+among_told all some counts among =
+    tells_no_more all some counts (λ t below kid. (below, among (t, below) kid, λ members s h left known. known))

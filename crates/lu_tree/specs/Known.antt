@@ -52,8 +52,8 @@ pub record MadeBoth (t u : ℕ) (s end : State) (both : Both) : Type 0 where
   pub first : CanTake (restored both.second end) both.first
 
 -- two moves have the same events in the other order, and no precedence depends on it
-abbrev pub HaveOneHistory : Both → Both → Type 0
-HaveOneHistory there here =
+abbrev pub HaveSameEvents : Both → Both → Type 0
+HaveSameEvents there here =
     (there.first.event ≡ here.second.event) × (there.second.event ≡ here.first.event)
     × AreUnordered there.first.event there.second.event
 
@@ -96,6 +96,18 @@ IsKnown Set s h (suc left) known =
     × ((t : ℕ) (below : Known) → IsKid known t below
     → (next : State) (event : Option Event) → Moves t s next event
     → IsKnown Set next (h ++ with_event event []) left below)
+
+-- whatever the first tells truly, the second does
+abbrev pub TellsNoMore : Known → Known → Type 0
+TellsNoMore all some =
+    (members : List (List SerialOp)) (s : State) (h : List Event) (left : ℕ)
+    → IsKnown (IsMember members) s h left all → IsKnown (IsMember members) s h left some
+
+-- each kid of the second tells no more than one that the first has of the same thread
+abbrev pub KidsTellNoMore : Known → Known → Type 0
+KidsTellNoMore all some =
+    (t : ℕ) (below : Known) → IsKid some t below
+    → (more : Known) × IsKid all t more × TellsNoMore more below
 
 -- what is known behind the only moves of threads
 abbrev pub AreKnownBehind : (List SerialOp → Type 0) → State → List Event → ℕ

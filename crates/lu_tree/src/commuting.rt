@@ -9,7 +9,7 @@ ghost use Rattle.std.specs.Prelude.{◌≡◌, ◌<◌, ◌↔◌, false, true, 
 ghost use Rattle.lu_machine.specs.Starts.{CanRun, IsStart};
 ghost use Rattle.lu_machine.specs.Steps.{picks_of};
 ghost use Rattle.lu_machine.specs.Undoes.{CanTake, restored};
-ghost use Rattle.lu_tree.specs.Known.{AreBeside, AreFrom, Commute, HaveOneHistory, IsKnownBy, MadeBoth, MoveNotBoth, Moves, taken_back};
+ghost use Rattle.lu_tree.specs.Known.{AreBeside, AreFrom, Commute, HaveSameEvents, IsKnownBy, MadeBoth, MoveNotBoth, Moves, taken_back};
 ghost use Rattle.lu_tree.specs.Reordered.{AreUnordered};
 
 use crate::known::{Hints, Known};
@@ -87,8 +87,8 @@ fn are_unordered(one: Option<Event>, other: Option<Event>) -> bool
 
 /// Whether two moves have the same events in the other order, and no precedence depends on it.
 #[inline(always)]
-fn have_one_history(there: Both, here: Both) -> bool
-    ensures { result ≡ true ↔ HaveOneHistory there here }
+fn have_same_events(there: Both, here: Both) -> bool
+    ensures { result ≡ true ↔ HaveSameEvents there here }
 {
     are_unordered(there.first.event(), there.second.event())
         && there.first.event() == here.second.event()
@@ -163,7 +163,7 @@ impl<'a> Commuting<'a> {
         let Some(here) = make_both::<LONG>(second, first, machine) else {
             return false;
         };
-        let same = machine.is_same(&self.other) && have_one_history(there, here);
+        let same = machine.is_same(&self.other) && have_same_events(there, here);
         take_back(here, machine);
         same
     }

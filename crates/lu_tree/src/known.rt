@@ -2,13 +2,13 @@
 
 ghost use Rattle.std.specs.Prelude.{◌≡◌, ◌<◌, [], IfSome};
 ghost use Rattle.lu_machine.specs.Sums.{plus};
-ghost use Rattle.lu_tree.specs.Known.{IsAmong, IsAmongOr, IsHint, IsHintOr, IsKid, counts_of, kids_of};
+ghost use Rattle.lu_tree.specs.Known.{IsAmong, IsAmongOr, IsHint, IsHintOr, IsKid, TellsNoMore, counts_of, kids_of};
 
 use lu_machine::Counts;
 use std::alloc::Global;
 
 /// Which part of the room that is left, in states, one state may take with those that follow it.
-const SHARE: u32 = 8;
+const SHARE: u32 = 4;
 
 /// How many schedules there are below a state, and below states that follow it.
 #[derive(Drop)]
@@ -117,25 +117,69 @@ impl Known {
         }
     }
 
-    /// What a walk tells when it comes back: nothing of the moves of thread 0, which comes before
-    /// all others, and nothing but the numbers where it would take too much of the room.
-    pub(crate) fn told(self, room: u32) -> Known
+    /// Of how many states it tells that are no more than so many moves on. No clause says so: it
+    /// only saves room.
+    fn size_within(&self, moves: u8) -> u32 {
+        let mut size: u32 = 1;
+        if moves > 0 {
+            for (_, below) in &self.kids {
+                size = size.saturating_add(below.size_within(moves - 1));
+            }
+        }
+        size
+    }
+
+    /// How many moves on it may tell of, where it tells of at most so many states. No clause says
+    /// so: it only saves room.
+    fn moves_within(&self, most: u32) -> u8 {
+        for moves in 0..u8::MAX {
+            if self.size_within(moves + 1) > most {
+                return moves;
+            }
+        }
+        u8::MAX
+    }
+
+    /// What it tells of states that are no more than so many moves on.
+    fn within(self, alloc: Global, moves: u8) -> Known
+        ensures { TellsNoMore self result }
+    {
+        let mut known = Known::alone(alloc, self.counts);
+        if moves == 0 {
+            return known;
+        }
+        for (thread, below) in self.kids {
+            known.keep(1, thread, below.within(alloc, moves - 1));
+        }
+        known
+    }
+
+    /// What it tells but of the moves of thread 0.
+    fn without_first(self) -> Known
         ensures counts { counts_of result ≡ counts_of self }
         ensures kids { IsAmong (kids_of self) (kids_of result) }
     {
-        let mut known = self;
-        let of_first = match known.kids.first() {
+        let of_first = match self.kids.first() {
             Some((0, below)) => below.size,
-            _ => 0,
+            _ => return self,
         };
-        if of_first > 0 {
-            known.kids.remove(0);
-            known.size = known.size.saturating_sub(of_first);
-        }
-        if known.size > room / SHARE {
-            known.kids.clear();
-            known.size = 1;
-        }
+        let mut known = self;
+        known.kids.remove(0);
+        known.size = known.size.saturating_sub(of_first);
         known
+    }
+
+    /// What a walk tells when it comes back: nothing of the moves of thread 0, which comes before
+    /// all others, and of the nearest states alone where all would take too much of the room.
+    pub(crate) fn told(self, alloc: Global, room: u32) -> Known
+        ensures { TellsNoMore self result }
+    {
+        let known = self.without_first();
+        let most = room / SHARE;
+        if known.size <= most {
+            return known;
+        }
+        let moves = known.moves_within(most);
+        known.within(alloc, moves)
     }
 }

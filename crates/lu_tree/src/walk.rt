@@ -25,7 +25,7 @@ use lu_witness::Cache;
 use std::alloc::Global;
 
 /// The most states of which a walk keeps what is known below them.
-const MOST_STATES: u32 = 65_536;
+const MOST_STATES: u32 = 49_152;
 
 /// Ends a schedule here, which is cut, or is ended and has to be good. Answers what is then known:
 /// none where it is not found good, or the watch stops the walk.
@@ -227,5 +227,5 @@ fn walk_as<'a, 't, 'h, const LONG: bool, T: SerialTree, W: Watch>(
     if is_ended {
         return end(commuting.alloc, cache, watch, node, tally);
     }
-    Some(known.told(room))
+    Some(known.told(commuting.alloc, room))
 }

@@ -11,7 +11,7 @@ use Rattle.lu_tree.specs.Known.{AreBeside, AreFrom, AreKnownBehind, IsHint, IsKn
 use Rattle.lu_tree.specs.Walks.{AreBelow, Counted, StopsAt}
 use Rattle.lu_tree.proofs.Added.{AreAdded, added_all, added_more, added_none, added_turn, end_below, end_stops, stops_more, stops_there}
 use Rattle.lu_horizon.proofs.OwnLaws.{serves_next}
-use Rattle.lu_tree.proofs.KnownLaws.{behind_among, behind_here, behind_more, behind_same, beside_back, beside_moved, hints_on, known_alone, known_behind, known_below, known_with, none_behind}
+use Rattle.lu_tree.proofs.KnownLaws.{behind_here, behind_more, behind_same, beside_back, beside_moved, hints_on, known_alone, known_behind, known_below, known_with, none_behind}
 use Rattle.lu_tree.proofs.Leaving.{ready_still, some_both, stays_home, where_none}
 use Rattle.lu_tree.proofs.Walking.{ended_all, ended_first, ended_picked, ended_turn}
 use Rattle.lu_tree.proofs.walk.+walk_as.Goals as goal
@@ -288,14 +288,14 @@ returns-clause-passed g t c =
     let some : HasMove s = rw is at i.ended in
     let room : 1 ≤ c.args.left = omega arith in
     let all = added_all Set s h c.args.left c.loop-thread.thread past some room (counts_of c.loop-thread.known) i.counted in
-    let below = subst (AreBelow Set s h c.args.left) (sym c.told.ensures.counts) all in
+    let known = known_with Set s h c.args.left c.loop-thread.known room all i.kids in
     record {
       machine = i.machine;
       history = i.history;
       running = i.running;
       ready = i.ready;
       beside = i.beside;
-      known = known_with Set s h c.args.left c.told.result room below (behind_among Set s h (c.args.left - 1) c.loop-thread.known c.told.result c.told.ensures.kids i.kids);
+      known = c.told.ensures (g.T.SerialTree.members c.args.node.now.trail.tree) s h c.args.left known;
     }
 
 pub loop-pick-init : goal.loop-pick-init

@@ -1,5 +1,5 @@
 use Rattle.std.proofs.Common.{rules, ◌≡◌, ◌∙◌, subst}
-use Rattle.lu_tree.specs.Known.{HaveOneHistory, MadeBoth, MoveNotBoth}
+use Rattle.lu_tree.specs.Known.{HaveSameEvents, MadeBoth, MoveNotBoth}
 use Rattle.lu_tree.proofs.KnownLaws.{commute_made, commute_seen, commute_unordered}
 use Rattle.lu_tree.proofs.commuting.Commuting.commute.Goals as goal
 
@@ -11,7 +11,7 @@ returns-clause-commute g c = (
       let back : c.take_back-2.new.machine ≡ s = c.take_back-2.ensures ∙ there.back in
       let here : MadeBoth c.args.second c.args.first s c.make_both-2.new.machine c.in-Some-make_both.here = subst (λ x. MadeBoth c.args.second c.args.first x c.make_both-2.new.machine c.in-Some-make_both.here) back c.in-Some-make_both.ensures.made in
       let same : c.make_both-2.new.machine ≡ c.make_both.new.machine = search rules in
-      let one : HaveOneHistory c.in-Some.there c.in-Some-make_both.here = search rules in
+      let one : HaveSameEvents c.in-Some.there c.in-Some-make_both.here = search rules in
       commute_seen c.args.first c.args.second s c.make_both.new.machine c.make_both-2.new.machine c.in-Some.there c.in-Some-make_both.here there here same one),
   λ commute.
       (let s = c.args.machine.now in
