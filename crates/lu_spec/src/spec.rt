@@ -1,7 +1,7 @@
 //! Specifications.
 
 ghost use Rattle.std.specs.Prelude.{◌≡◌, ◌↔◌, IsTrue, IfOk};
-ghost use Rattle.lu_trie.specs.Members.{AllSerial, contains};
+ghost use Rattle.lu_trie.specs.Members.{contains};
 ghost use Rattle.lu_trie.specs.Conflicts.{IsDeterministic};
 ghost use Rattle.lu_spec.specs.Beginnings.{IsClosureOf};
 ghost use Rattle.lu_spec.specs.Specs.{AreOf, IsSpec};
@@ -35,8 +35,8 @@ impl Model for Spec {
 
 impl Spec {
     /// The specification of all beginnings of the members, and of the empty history. It is one of
-    /// the matrix. Asks for members of this matrix that do not conflict, and in which `Stuck`
-    /// stands only last, as those of the set that `learn` answers.
+    /// the matrix. Asks for members of this matrix that do not conflict, as those of the set that
+    /// `learn` answers.
     ///
     /// # Errors
     ///
@@ -47,7 +47,6 @@ impl Spec {
         set: &Trie<A>,
     ) -> Result<Spec, AllocError>
         requires deterministic { IsDeterministic set.now }
-        requires serial { AllSerial set.now }
         requires of { AreOf matrix.now set.now }
         ensures closure { IfOk result (IsClosureOf set.now) }
         ensures of { IfOk result (AreOf matrix.now) }

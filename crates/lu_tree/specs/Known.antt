@@ -1,4 +1,4 @@
--- What is known below a state, and of moves that commute.
+-- What is known of the schedules that go on from a beginning, and of moves that commute.
 use Rattle.std.specs.Prelude.{◌≡◌, ℕ, zero, suc, ◌⊎◌, ◌++◌, List, [], Option, Some, slice_get}
 use Rattle.std.specs.Borrow.{Bor}
 use Rattle.std.specs.List.{Contains}
@@ -57,7 +57,7 @@ HaveSameEvents there here =
     (there.first.event ≡ here.second.event) × (there.second.event ≡ here.first.event)
     × AreUnordered there.first.event there.second.event
 
--- the numbers below a state, and what is known behind the only moves of threads
+-- the numbers of what goes on from a beginning, and what is known behind the only moves of threads
 abbrev pub counts_of : Known → Counts
 counts_of known = (out-Known known).counts
 

@@ -1,4 +1,4 @@
-//! What is known below a state.
+//! What is known of the schedules that go on from a beginning.
 
 ghost use Rattle.std.specs.Prelude.{◌≡◌, ◌<◌, [], IfSome};
 ghost use Rattle.lu_machine.specs.Sums.{plus};
@@ -7,18 +7,19 @@ ghost use Rattle.lu_tree.specs.Known.{IsAmong, IsAmongOr, IsHint, IsHintOr, IsKi
 use lu_machine::Counts;
 use std::alloc::Global;
 
-/// Which part of the room that is left, in states, one state may take with those that follow it.
+/// Which part of the room that is left, in beginnings, one may take with those that go on from it.
 const SHARE: u32 = 4;
 
-/// How many schedules there are below a state, and below states that follow it.
+/// How many schedules go on from a beginning, and from longer ones, which are told by the threads
+/// that moved. No state is kept.
 #[derive(Drop)]
 pub(crate) struct Known {
     pub(crate) counts: Counts,
 
-    /// Of how many states it tells.
+    /// Of how many beginnings it tells.
     pub(crate) size: u32,
 
-    /// What is known below the states to which the only moves of some threads lead.
+    /// What is known behind the only moves of some threads.
     kids: Vec<(u8, Known)>,
 }
 
@@ -70,7 +71,7 @@ impl<'k> Hints<'k> {
 }
 
 impl Known {
-    /// These numbers, and nothing of states that follow.
+    /// These numbers, and nothing of longer beginnings.
     pub(crate) fn alone(alloc: Global, counts: Counts) -> Known
         ensures counts { counts_of result ≡ counts }
         ensures kids { kids_of result ≡ [] }
@@ -82,7 +83,7 @@ impl Known {
         }
     }
 
-    /// What is known below the state to which the only move of the thread leads.
+    /// What is known behind the only move of the thread.
     pub(crate) fn behind(&self, thread: u8) -> Option<&Known>
         ensures { IfSome result (λ below. IsKid self.now thread below.now) }
     {
@@ -117,8 +118,8 @@ impl Known {
         }
     }
 
-    /// Of how many states it tells that are no more than so many moves on. No clause says so: it
-    /// only saves room.
+    /// Of how many beginnings it tells that are no more than so many moves longer. No clause says
+    /// so: it only saves room.
     fn size_within(&self, moves: u8) -> u32 {
         let mut size: u32 = 1;
         if moves > 0 {
@@ -129,8 +130,8 @@ impl Known {
         size
     }
 
-    /// How many moves on it may tell of, where it tells of at most so many states. No clause says
-    /// so: it only saves room.
+    /// How many moves on it may tell of, where it tells of at most so many beginnings. No clause
+    /// says so: it only saves room.
     fn moves_within(&self, most: u32) -> u8 {
         for moves in 0..u8::MAX {
             if self.size_within(moves + 1) > most {
@@ -140,7 +141,7 @@ impl Known {
         u8::MAX
     }
 
-    /// What it tells of states that are no more than so many moves on.
+    /// What it tells of beginnings that are no more than so many moves longer.
     fn within(self, alloc: Global, moves: u8) -> Known
         ensures { TellsNoMore self result }
     {
@@ -170,7 +171,7 @@ impl Known {
     }
 
     /// What a walk tells when it comes back: nothing of the moves of thread 0, which comes before
-    /// all others, and of the nearest states alone where all would take too much of the room.
+    /// all others, and of the shortest beginnings alone where all would take too much of the room.
     pub(crate) fn told(self, alloc: Global, room: u32) -> Known
         ensures { TellsNoMore self result }
     {

@@ -24,8 +24,8 @@ use lu_trie::SerialTree;
 use lu_witness::Cache;
 use std::alloc::Global;
 
-/// The most states of which a walk keeps what is known below them.
-const MOST_STATES: u32 = 49_152;
+/// The most beginnings of schedules of which a walk keeps what is known.
+const MOST_BEGINNINGS: u32 = 49_152;
 
 /// Ends a schedule here, which is cut, or is ended and has to be good. Answers what is then known:
 /// none where it is not found good, or the watch stops the walk.
@@ -132,7 +132,7 @@ pub(crate) fn walk<'a, 't, T: SerialTree, W: Watch>(
             commuting,
             left,
             &Hints::NONE,
-            MOST_STATES,
+            MOST_BEGINNINGS,
             node,
             tally,
         )
@@ -144,7 +144,7 @@ pub(crate) fn walk<'a, 't, T: SerialTree, W: Watch>(
             commuting,
             left,
             &Hints::NONE,
-            MOST_STATES,
+            MOST_BEGINNINGS,
             node,
             tally,
         )
@@ -152,7 +152,7 @@ pub(crate) fn walk<'a, 't, T: SerialTree, W: Watch>(
 }
 
 /// Walks as [`walk`] does, but counts what is known behind a thread's only move by a hint. What is
-/// known is kept of no more states than there is room for. With `LONG` false no local instructions
+/// known is kept of no more beginnings than there is room for. With `LONG` false no local instructions
 /// run with a move.
 fn walk_as<'a, 't, 'h, const LONG: bool, T: SerialTree, W: Watch>(
     cache: &mut Cache<'t, T>,

@@ -2,7 +2,7 @@
 
 ghost use Rattle.std.specs.Prelude.{◌≡◌, ◌<◌, List, [], length};
 ghost use Rattle.lu_history.specs.declared.serial.SerialOp.{SerialOp};
-ghost use Rattle.lu_trie.specs.Members.{contains};
+ghost use Rattle.lu_trie.specs.Members.{AllSerial, contains};
 ghost use Rattle.lu_trie.specs.Branches.{branches_of, IsBranchOf, IsBranching};
 
 use crate::trie::Trie;
@@ -17,6 +17,9 @@ use std::alloc::Allocator;
 ///   its kids, in the order of the kids and each behind its kid's label;
 /// - the labels of the kids rise strictly, by thread and then by outcome;
 /// - below each kid there is a member.
+///
+/// Whoever implements the trait owes all three. The third is more than a set of histories needs to
+/// be read: a tree keeps no place below which nothing is, so what can be reached begins a member.
 ///
 /// Places are cheap to copy. They are asked to come from `root` or `kid` of the same tree.
 ///
@@ -77,7 +80,11 @@ impl<'a, A: Allocator> SerialTree for &'a Trie<A> {
 
     ghost branching = { λ tree place is. is };
 
-    fn root(&self) -> &'a Trie<A> {
+    fn root(&self) -> &'a Trie<A>
+        ensures place { IsBranching result.now }
+        ensures all { result.now ≡ self.now.now }
+        ensures serial { AllSerial self.now.now }
+    {
         let trie: &'a Trie<A> = *self;
         // What holds of every trie is known where its kids are named.
         let _ = &trie.kids;

@@ -14,12 +14,6 @@ closure-requires-clause-deterministic c =
     let s = there.0 in
     (c.in-Ok.ensures.set s c.serial.result (c.in_ok-learnt.ensures.learnt s there.1)).deterministic
 
-pub closure-requires-clause-serial : goal.closure-requires-clause-serial
-closure-requires-clause-serial c =
-    let there = start_there c.args.component.now c.args.matrix.now c.requires.settles in
-    let s = there.0 in
-    (learnt_closes c.args.component.now c.args.matrix.now s c.serial.result c.in-Ok.set there.1 (c.in-Ok.ensures.set s c.serial.result (c.in_ok-learnt.ensures.learnt s there.1))).1
-
 pub closure-requires-clause-of : goal.closure-requires-clause-of
 closure-requires-clause-of c =
     let there = start_there c.args.component.now c.args.matrix.now c.requires.settles in

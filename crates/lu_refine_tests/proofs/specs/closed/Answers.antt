@@ -11,13 +11,6 @@ closure-requires-clause-deterministic c =
     let set = subst (IsLearnt start 40) c.in-Set.is (c.in_ok-set.ensures.learnt start there.1) in
     (learnt_closes c.args.component.now c.args.matrix.now start 40 c.in-Set.set there.1 set).0
 
-pub closure-requires-clause-serial : goal.closure-requires-clause-serial
-closure-requires-clause-serial c =
-    let there = start_there c.args.component.now c.args.matrix.now c.requires.settles in
-    let start = there.0 in
-    let set = subst (IsLearnt start 40) c.in-Set.is (c.in_ok-set.ensures.learnt start there.1) in
-    (learnt_closes c.args.component.now c.args.matrix.now start 40 c.in-Set.set there.1 set).1
-
 pub closure-requires-clause-of : goal.closure-requires-clause-of
 closure-requires-clause-of c =
     let there = start_there c.args.component.now c.args.matrix.now c.requires.settles in

@@ -12,7 +12,7 @@ add_below-requires-clause-path g c = subst IsSerial (sym c.new.ensures.items) tt
 pub add_below-requires-clause-serial : goal.add_below-requires-clause-serial
 add_below-requires-clause-serial g c = λ q has.
     let member = subst (λ (x : List (List SerialOp)). Has x q) c.root.ensures.all has in
-    subst (λ (p : List SerialOp). IsSerial (p ++ q)) (sym c.new.ensures.items) (c.requires.serial q member)
+    subst (λ (p : List SerialOp). IsSerial (p ++ q)) (sym c.new.ensures.items) (c.root.ensures.serial q member)
 
 pub same-closed : goal.same-closed
 same-closed g c = refl
@@ -23,7 +23,7 @@ invariant_of-result g c =
     let at_root = subst (λ (p : List SerialOp). AddsBelow [] c.add_below.new.set p c.root.result.now) c.new.ensures.items from_nothing in
     let added = subst (λ (x : List (List SerialOp)). AddsBelow [] c.add_below.new.set [] x) c.root.ensures.all at_root in
     let outcomes = subst AllHaveOutcomes c.root.ensures.all c.in_ok-add_below.ensures.outcomes in
-    is_spec c.args.set.now c.add_below.new.set (walked_closure c.args.set.now c.add_below.new.set added) c.requires.deterministic c.requires.serial outcomes
+    is_spec c.args.set.now c.add_below.new.set (walked_closure c.args.set.now c.add_below.new.set added) c.requires.deterministic c.root.ensures.serial outcomes
 
 pub returns-clause-closure : goal.returns-clause-closure
 returns-clause-closure g c =
