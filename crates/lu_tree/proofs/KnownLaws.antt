@@ -19,7 +19,7 @@ use Rattle.lu_witness.specs.Witnesses.{IsMember}
 use Rattle.lu_tree.specs.declared.commuting.Both.{Both}
 use Rattle.lu_tree.specs.declared.known.Known.{Known}
 use Rattle.lu_tree.specs.declared.known.Hints.{Hints}
-use Rattle.lu_tree.specs.Known.{AreBeside, AreFrom, AreKnownBehind, Commute, HaveSameEvents, IsAmong, IsAmongOr, IsHint, IsHintOr, IsKid, IsKnown, IsKnownBy, KidsTellNoMore, MadeBoth, MoveNotBoth, Moves, MovesBoth, TellsNoMore, counts_of, kids_of}
+use Rattle.lu_tree.specs.Known.{AreBeside, AreFrom, AreKnownBehind, Commute, HaveSameEvents, IsAmongOr, IsHint, IsHintOr, IsKid, IsKnown, IsKnownBy, KidsTellNoMore, MadeBoth, MoveNotBoth, Moves, MovesBoth, TellsNoMore, counts_of, kids_of}
 use Rattle.lu_tree.specs.Reordered.{AreReordered, AreUnordered}
 use Rattle.lu_tree.specs.Walks.{AreBelow}
 use Rattle.lu_tree.proofs.Reordering.{either_order, reordered_both, reordered_then}
@@ -88,7 +88,7 @@ commute_seen t u s end other there here one two same history =
 moves_same : (t : ℕ) (s a b : State) (e f : Option Event) → Moves t s a e → Moves t s b f → (a ≡ b) × (e ≡ f)
 moves_same t s a b e f x y = step_same s (move_of t) a b e f x.1 y.1
 
-both_same : (t u : ℕ) (s a b : State) (e f g h : Option Event) → MovesBoth t u s a e f → MovesBoth t u s b g h → (a ≡ b) × (e ≡ g) × (f ≡ h)
+pub both_same : (t u : ℕ) (s a b : State) (e f g h : Option Event) → MovesBoth t u s a e f → MovesBoth t u s b g h → (a ≡ b) × (e ≡ g) × (f ≡ h)
 both_same t u s a b e f g h x y =
     let first = moves_same t s x.0 y.0 e g x.1 y.1 in
     let on : Moves u y.0 a f = subst (λ r. Moves u r a f) first.0 x.2 in
@@ -109,7 +109,7 @@ commute_made t u s end other there here one two (last, e, f, first, second, eith
     let unordered : AreUnordered there.first.event there.second.event = rw (← a.1, ← a.2) either in
     (sym b.0 ∙ a.0, (sym a.1 ∙ b.2, sym a.2 ∙ b.1, unordered))
 
--- no precedence depends on the order of their events
+-- their events have no more precedence in the other order
 pub commute_unordered : (t u : ℕ) (s end : State) (there : Both) → MadeBoth t u s end there → Commute t u s → AreUnordered there.first.event there.second.event
 commute_unordered t u s end there one (last, e, f, first, second, either) =
     let a = both_same t u s last end e f there.first.event there.second.event first one.moves in
@@ -251,8 +251,3 @@ first_and_rest {A} all xs rest x is each = at (subst (λ (ys : List A). All (Con
   where
     at : All (Contains all) (x ∷ rest) → Contains all x × All (Contains all) rest
     at of = (of 0 x (omega arith), λ k d below. of (suc k) d (omega arith))
-
--- some of the kids
-pub among_told : (all some : Known) → counts_of some ≡ counts_of all → IsAmong (kids_of all) (kids_of some) → TellsNoMore all some
-among_told all some counts among =
-    tells_no_more all some counts (λ t below kid. (below, among (t, below) kid, λ members s h left known. known))

@@ -15,3 +15,4 @@ mod NeverStopped
 mod Reordering
 mod KnownLaws
 mod Leaving
+mod Apart

@@ -1,4 +1,4 @@
--- Histories that are reordered have the same witnesses.
+-- What is a witness of a history is one of each reordered history.
 use Rattle.std.proofs.Common.{◌≡◌, ℕ, zero, suc, ◌+◌, ◌<◌, ◌⊎◌, Bool, true, false, cond, if◌then◌else◌, List, [], ◌∷◌, ◌++◌, Option, None, Some, slice_get, map, length, refl, sym, ◌∙◌, ap, subst, inl, inr, arith, append_assoc}
 use Rattle.std.specs.Prelude.{◌==◌, ◌||◌, nat_lt}
 use Rattle.std.specs.List.{filter, list_any}
@@ -21,7 +21,7 @@ use Rattle.lu_history.specs.Parts.{as_serial, is_kept, is_return, keep_pending, 
 use Rattle.lu_history.proofs.Events.{calls-append, outcomes-append}
 use Rattle.lu_witness.specs.Goodness.{IsGoodAt}
 use Rattle.lu_witness.specs.Witnesses.{HasWitness, IsWitness}
-use Rattle.lu_tree.specs.Reordered.{AreExchanged, AreOfOneKind, AreReordered, AreReorderedBy, AreUnordered}
+use Rattle.lu_tree.specs.Reordered.{AreExchanged, MayChange, AreReordered, AreReorderedBy, AreUnordered}
 use Rattle.lu_tree.specs.Walks.{Counted}
 
 pub reordered_same : (h : List Event) → AreReordered h h
@@ -37,7 +37,7 @@ by_then (suc n) h k x (g, e, rest) = (
     back = e.back ++ x;
     first = e.first;
     second = e.second;
-    kind = e.kind;
+    may = e.may;
     before = ap (λ y. y ++ x) e.before ∙ append_assoc e.front (e.first ∷ e.second ∷ e.back) x;
     after = ap (λ y. y ++ x) e.after ∙ append_assoc e.front (e.second ∷ e.first ∷ e.back) x;
   },
@@ -57,7 +57,7 @@ by_front (suc n) z h k (g, e, rest) = (
     back = e.back;
     first = e.first;
     second = e.second;
-    kind = e.kind;
+    may = e.may;
     before = ap (λ y. z ∷ y) e.before;
     after = ap (λ y. z ∷ y) e.after;
   },
@@ -76,11 +76,11 @@ pub exchanged_once : (h k : List Event) → AreExchanged h k → AreReordered h 
 exchanged_once h k e = (suc zero, (k, e, refl))
 
 -- what an exchange leaves as it was
-module _ (a b : Event) (kind : AreOfOneKind a b) where
-  outcomes_two : (t : ℕ) (a b : Event) (y : List Event) → AreOfOneKind a b → outcomes t (a ∷ b ∷ y) ≡ outcomes t (b ∷ a ∷ y)
+module _ (a b : Event) (kind : MayChange a b) where
+  outcomes_two : (t : ℕ) (a b : Event) (y : List Event) → MayChange a b → outcomes t (a ∷ b ∷ y) ≡ outcomes t (b ∷ a ∷ y)
   outcomes_two t (Call u i) (Call v j) y differ = refl
   outcomes_two t (Call u i) (Return v j p) y differ = absurd differ
-  outcomes_two t (Return u i o) (Call v j) y differ = absurd differ
+  outcomes_two t (Return u i o) (Call v j) y may = refl
   outcomes_two t (Return u i o) (Return v j p) y differ =
       let rest = outcomes t y in
       let go : (c d : Bool) → (c ≡ true → d ≡ false) → (if c then o ∷ (if d then p ∷ rest else rest) else (if d then p ∷ rest else rest)) ≡ (if d then p ∷ (if c then o ∷ rest else rest) else (if c then o ∷ rest else rest)) = λ c d apart. two c d o p rest apart in
@@ -93,7 +93,7 @@ module _ (a b : Event) (kind : AreOfOneKind a b) where
       two true d o p rest apart = rw (apart refl) refl
       two false d o p rest apart = refl
 
-  calls_two : (t : ℕ) (a b : Event) (y : List Event) → AreOfOneKind a b → calls t (a ∷ b ∷ y) ≡ calls t (b ∷ a ∷ y)
+  calls_two : (t : ℕ) (a b : Event) (y : List Event) → MayChange a b → calls t (a ∷ b ∷ y) ≡ calls t (b ∷ a ∷ y)
   calls_two t (Call u i) (Call v j) y differ = two (u == t) (v == t) (calls t y)
     where
       two : (c d : Bool) (n : ℕ) → (if c then (if d then n + 1 else n) + 1 else (if d then n + 1 else n)) ≡ (if d then (if c then n + 1 else n) + 1 else (if c then n + 1 else n))
@@ -102,7 +102,7 @@ module _ (a b : Event) (kind : AreOfOneKind a b) where
       two false true n = refl
       two false false n = refl
   calls_two t (Call u i) (Return v j p) y differ = absurd differ
-  calls_two t (Return u i o) (Call v j) y differ = absurd differ
+  calls_two t (Return u i o) (Call v j) y may = refl
   calls_two t (Return u i o) (Return v j p) y differ = refl
 
   module _ (x y : List Event) where
@@ -137,13 +137,13 @@ found (z ∷ x) y a b (suc i) e at =
     let there = found x y a b i e at in
     (suc there.0, there.1, moved_on (length x) i there.0 a b e there.2)
 
-never_both : (a b : Event) (u k : ℕ) (o : Outcome) (v l : ℕ) → AreOfOneKind a b → b ≡ Return u k o → a ≡ Call v l → ⊥
-never_both a b u k o v l kind returns calls_is = by (subst (λ x. AreOfOneKind x b) calls_is kind)
+never_both : (a b : Event) (u k : ℕ) (o : Outcome) (v l : ℕ) → MayChange a b → b ≡ Return u k o → a ≡ Call v l → ⊥
+never_both a b u k o v l kind returns calls_is = by (subst (λ x. MayChange x b) calls_is kind)
   where
-    by : AreOfOneKind (Call v l) b → ⊥
-    by other = subst (λ x. AreOfOneKind (Call v l) x) returns other
+    by : MayChange (Call v l) b → ⊥
+    by other = subst (λ x. MayChange (Call v l) x) returns other
 
-in_order : (n : ℕ) (a b : Event) (u k : ℕ) (o : Outcome) (v l i j p q : ℕ) → AreOfOneKind a b → i < j → IsMoved n a b i p (Return u k o) → IsMoved n a b j q (Call v l) → p < q
+in_order : (n : ℕ) (a b : Event) (u k : ℕ) (o : Outcome) (v l i j p q : ℕ) → MayChange a b → i < j → IsMoved n a b i p (Return u k o) → IsMoved n a b j q (Call v l) → p < q
 in_order n a b u k o v l i j p q kind lt (inl (one, side)) (inl (two, other)) = omega arith
 in_order n a b u k o v l i j p q kind lt (inl (one, inl before)) (inr (inl two)) = omega (arith, two.0, two.1)
 in_order n a b u k o v l i j p q kind lt (inl (one, inr behind)) (inr (inl two)) = absurd (omega (arith, two.0))
@@ -158,7 +158,7 @@ in_order n a b u k o v l i j p q kind lt (inr (inr one)) (inl (two, inr behind))
 in_order n a b u k o v l i j p q kind lt (inr (inr one)) (inr (inl two)) = absurd (omega (arith, one.0, two.0))
 in_order n a b u k o v l i j p q kind lt (inr (inr one)) (inr (inr two)) = absurd (omega (arith, one.0, two.0))
 
-precedes_back : (x y : List Event) (a b : Event) → AreOfOneKind a b → (c d : OpId) → Precedes (x ++ b ∷ a ∷ y) c d → Precedes (x ++ a ∷ b ∷ y) c d
+precedes_back : (x y : List Event) (a b : Event) → MayChange a b → (c d : OpId) → Precedes (x ++ b ∷ a ∷ y) c d → Precedes (x ++ a ∷ b ∷ y) c d
 precedes_back x y a b kind c d (i, j, lt, returns, called) =
     let one = found x y a b i (Return c.t c.k returns.0) returns.1 in
     let two = found x y a b j (Call d.t d.k) called in
@@ -167,8 +167,8 @@ precedes_back x y a b kind c d (i, j, lt, returns, called) =
 -- a witness stays one
 witness_exchanged : (q : List SerialOp) (h k : List Event) → AreExchanged h k → IsWitness q h → IsWitness q k
 witness_exchanged q h k e w = record {
-  parts = λ t. w.parts t ∙ (ap (part t) e.before ∙ (part_exchanged e.first e.second e.kind e.front e.back t ∙ ap (part t) (sym e.after)));
-  order = λ c d p. w.order c d (subst (λ g. Precedes g c d) (sym e.before) (precedes_back e.front e.back e.first e.second e.kind c d (subst (λ g. Precedes g c d) e.after p)));
+  parts = λ t. w.parts t ∙ (ap (part t) e.before ∙ (part_exchanged e.first e.second e.may e.front e.back t ∙ ap (part t) (sym e.after)));
+  order = λ c d p. w.order c d (subst (λ g. Precedes g c d) (sym e.before) (precedes_back e.front e.back e.first e.second e.may c d (subst (λ g. Precedes g c d) e.after p)));
 }
 
 -- the history with one pending call
@@ -186,11 +186,11 @@ filter_same : (p q : Event → Bool) → ((e : Event) → p e ≡ q e) → (l : 
 filter_same p q same [] = refl
 filter_same p q same (z ∷ l) = ap (λ c. cond c (z ∷ filter p l) (filter p l)) (same z) ∙ ap (λ r. cond (q z) (z ∷ r) r) (filter_same p q same l)
 
-filter_two : (p : Event → Bool) (x y : List Event) (a b : Event) → AreOfOneKind a b → AreReordered (filter p (x ++ a ∷ b ∷ y)) (filter p (x ++ b ∷ a ∷ y))
+filter_two : (p : Event → Bool) (x y : List Event) (a b : Event) → MayChange a b → AreReordered (filter p (x ++ a ∷ b ∷ y)) (filter p (x ++ b ∷ a ∷ y))
 filter_two p [] y a b kind = two (p a) (p b) (filter p y)
   where
     two : (c d : Bool) (r : List Event) → AreReordered (cond c (a ∷ cond d (b ∷ r) r) (cond d (b ∷ r) r)) (cond d (b ∷ cond c (a ∷ r) r) (cond c (a ∷ r) r))
-    two true true r = exchanged_once (a ∷ b ∷ r) (b ∷ a ∷ r) (record { front = []; back = r; first = a; second = b; kind = kind; before = refl; after = refl })
+    two true true r = exchanged_once (a ∷ b ∷ r) (b ∷ a ∷ r) (record { front = []; back = r; first = a; second = b; may = kind; before = refl; after = refl })
     two true false r = reordered_same (a ∷ r)
     two false true r = reordered_same (b ∷ r)
     two false false r = reordered_same r
@@ -204,7 +204,7 @@ kept_exchanged : (t : ℕ) (h k : List Event) → AreExchanged h k → AreReorde
 kept_exchanged t h k e =
     let one = e.front ++ e.first ∷ e.second ∷ e.back in
     let two = e.front ++ e.second ∷ e.first ∷ e.back in
-    let over = filter_two (is_kept t one) e.front e.back e.first e.second e.kind in
+    let over = filter_two (is_kept t one) e.front e.back e.first e.second e.may in
     let kept : filter (is_kept t one) two ≡ keep_pending t two = filter_same (is_kept t one) (is_kept t two) alike two in
     let there : AreReordered (keep_pending t one) (keep_pending t two) = subst (AreReordered (keep_pending t one)) kept over in
     subst (λ g. AreReordered (keep_pending t g) (keep_pending t k)) (sym e.before) (subst (λ g. AreReordered (keep_pending t one) (keep_pending t g)) (sym e.after) there)
@@ -245,7 +245,7 @@ module _ (Set : List SerialOp → Type 0) where
   counted_reordered s h k counts re (inr (inl (complete, good, one))) = inr (inl (complete, good_reordered s h k re good, one))
   counted_reordered s h k counts re (inr (inr (stuck, good, one))) = inr (inr (stuck, good_reordered s h k re good, one))
 
--- in either order of two events that are unordered
+-- two events in the other order, in which they have no more precedence
 pub either_order : (h : List Event) (e f : Option Event) → AreUnordered e f → AreReordered ((h ++ with_event e []) ++ with_event f []) ((h ++ with_event f []) ++ with_event e [])
 either_order h None f un = (zero, ap (λ x. x ++ with_event f []) (append-nil h) ∙ sym (append-nil (h ++ with_event f [])))
 either_order h (Some a) None un = (zero, append-nil (h ++ a ∷ []) ∙ ap (λ x. x ++ a ∷ []) (sym (append-nil h)))
@@ -254,7 +254,7 @@ either_order h (Some a) (Some b) un = exchanged_once ((h ++ a ∷ []) ++ b ∷ [
   back = [];
   first = a;
   second = b;
-  kind = un;
+  may = un;
   before = append_assoc h (a ∷ []) (b ∷ []);
   after = append_assoc h (b ∷ []) (a ∷ []);
 })

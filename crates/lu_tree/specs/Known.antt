@@ -1,13 +1,16 @@
 -- What is known of the schedules that go on from a beginning, and of moves that commute.
-use Rattle.std.specs.Prelude.{◌≡◌, ℕ, zero, suc, ◌⊎◌, ◌++◌, List, [], Option, Some, slice_get}
+use Rattle.std.specs.Prelude.{◌≡◌, ◌≢◌, true, ℕ, zero, suc, ◌⊎◌, ◌++◌, List, [], Option, Some, slice_get}
 use Rattle.std.specs.Borrow.{Bor}
 use Rattle.std.specs.List.{Contains}
 use Rattle.lu_machine.specs.declared.counts.Counts.{Counts}
 use Rattle.lu_machine.specs.declared.event.Event.{Event}
+use Rattle.lu_machine.specs.declared.thread.Frame.{Frame}
+use Rattle.lu_machine.specs.Changes.{at_work}
 use Rattle.lu_machine.specs.Runs.{with_event}
 use Rattle.lu_machine.specs.States.{State}
 use Rattle.lu_machine.specs.Steps.{Step, picks_of}
 use Rattle.lu_machine.specs.Undoes.{CanTake, restored}
+use Rattle.lu_horizon.specs.Stands.{is_unseen_at, only_reads_at}
 use Rattle.lu_tail.specs.Solo.{move_of}
 use Rattle.lu_history.specs.declared.serial.SerialOp.{SerialOp}
 use Rattle.lu_witness.specs.Witnesses.{IsMember}
@@ -35,11 +38,26 @@ abbrev pub MoveNotBoth : ℕ → ℕ → State → Type 0
 MoveNotBoth t u s = (end : State) (e f : Option Event) → MovesBoth t u s end e f → ⊥
 
 -- The only moves of t and of u commute: in either order they lead to one state, with the same
--- events, and no precedence depends on the order of these.
+-- events, and where u moves first these have no more precedence.
 abbrev pub Commute : ℕ → ℕ → State → Type 0
 Commute t u s =
     (end : State) × (e : Option Event) × (f : Option Event) × MovesBoth t u s end e f
     × MovesBoth u t s end f e × AreUnordered e f
+
+-- the next move of thread t neither reads nor changes cells and locks; or it changes none
+abbrev pub IsUnseenNext : State → ℕ → Type 0
+IsUnseenNext s t =
+    (k : ℕ) (f : Frame) → slice_get s.threads t ≡ Some (at_work k f) → is_unseen_at s t ≡ true
+
+abbrev pub OnlyReadsNext : State → ℕ → Type 0
+OnlyReadsNext s t =
+    (k : ℕ) (f : Frame) → slice_get s.threads t ≡ Some (at_work k f) → only_reads_at s t ≡ true
+
+-- neither of the next moves of two threads changes what the other one reads
+abbrev pub AreApart : ℕ → ℕ → State → Type 0
+AreApart t u s =
+    (t ≢ u)
+    × (IsUnseenNext s t ⊎ (IsUnseenNext s u ⊎ (OnlyReadsNext s t × OnlyReadsNext s u)))
 
 -- both moves were made, and can be taken back
 abbrev pub taken_back : Both → State → State
@@ -51,7 +69,7 @@ pub record MadeBoth (t u : ℕ) (s end : State) (both : Both) : Type 0 where
   pub second : CanTake end both.second
   pub first : CanTake (restored both.second end) both.first
 
--- two moves have the same events in the other order, and no precedence depends on it
+-- two moves have the same events in the other order, and no more precedence
 abbrev pub HaveSameEvents : Both → Both → Type 0
 HaveSameEvents there here =
     (there.first.event ≡ here.second.event) × (there.second.event ≡ here.first.event)
@@ -80,9 +98,6 @@ IsHintOr t below old new =
     (u : ℕ) (known : Known) → IsHint new u known → IsHint old u known ⊎ ((u ≡ t) × (known ≡ below))
 
 -- each of the second list is one of the first, or the one that comes with it
-abbrev pub IsAmong : {A : Type 0} → List A → List A → Type 0
-IsAmong {A} all some = (x : A) → Contains some x → Contains all x
-
 abbrev pub IsAmongOr : {A : Type 0} → A → List A → List A → Type 0
 IsAmongOr {A} one all some = (x : A) → Contains some x → Contains all x ⊎ (x ≡ one)
 

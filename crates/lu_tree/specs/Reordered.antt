@@ -1,15 +1,17 @@
--- Histories that differ by the order of calls that stand beside one another, or of returns. No
--- operation precedes another by it (Herlihy and Wing, 1990), so they have the same witnesses.
+-- Histories that differ by the order of events that stand beside one another: of calls, of returns,
+-- and of a return and a call, where the call comes first then. The second history has no more
+-- precedence than the first (Herlihy and Wing, 1990), so each witness of that is one of it.
 use Rattle.std.specs.Prelude.{◌≡◌, ◌≢◌, ℕ, zero, suc, List, ◌∷◌, ◌++◌, Option, None, Some}
 use Rattle.lu_machine.specs.declared.event.Event.{Event}
 use Rattle.lu_machine.specs.declared.event.Event.TheVariants.{Call, Return}
 
--- two calls, or two returns, of different threads
-abbrev pub AreOfOneKind : Event → Event → Type 0
-AreOfOneKind (Call t k) (Call u l) = t ≢ u
-AreOfOneKind (Call t k) (Return u l outcome) = ⊥
-AreOfOneKind (Return t k outcome) (Call u l) = ⊥
-AreOfOneKind (Return t k outcome) (Return u l other) = t ≢ u
+-- In the other order they have no more precedence: two calls, or two returns, of different threads,
+-- or a return and then a call.
+abbrev pub MayChange : Event → Event → Type 0
+MayChange (Call t k) (Call u l) = t ≢ u
+MayChange (Call t k) (Return u l outcome) = ⊥
+MayChange (Return t k outcome) (Call u l) = Unit {0}
+MayChange (Return t k outcome) (Return u l other) = t ≢ u
 
 -- two such events that stand beside one another have changed places
 pub record AreExchanged (h k : List Event) : Type 0 where
@@ -17,7 +19,7 @@ pub record AreExchanged (h k : List Event) : Type 0 where
   pub back : List Event
   pub first : Event
   pub second : Event
-  pub kind : AreOfOneKind first second
+  pub may : MayChange first second
   pub before : h ≡ front ++ first ∷ second ∷ back
   pub after : k ≡ front ++ second ∷ first ∷ back
 
@@ -29,8 +31,8 @@ AreReorderedBy (suc n) h k = (g : List Event) × AreExchanged h g × AreReordere
 abbrev pub AreReordered : List Event → List Event → Type 0
 AreReordered h k = (n : ℕ) × AreReorderedBy n h k
 
--- no precedence depends on which of two events comes first: one is none, or they are of one kind
+-- two events have no more precedence in the other order: one is none, or they may change places
 abbrev pub AreUnordered : Option Event → Option Event → Type 0
 AreUnordered None event = Unit {0}
 AreUnordered (Some one) None = Unit {0}
-AreUnordered (Some one) (Some other) = AreOfOneKind one other
+AreUnordered (Some one) (Some other) = MayChange one other

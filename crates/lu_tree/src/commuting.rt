@@ -1,19 +1,21 @@
 //! Moves of two threads that commute.
 //!
 //! Where the only moves of two threads lead to one state, whichever comes first (Mazurkiewicz,
-//! 1977), and no precedence depends on the order of their events, the schedules below are the same
-//! and as good in both orders. They are walked behind the one order, and counted behind both. That
-//! two orders lead to one state is seen by making the moves on two machines.
+//! 1977), and the other order has no more precedence, the schedules below are the same in both
+//! orders, and good in the other where they are in the one. They are walked behind the one order,
+//! and counted behind both. That two orders lead to one state is seen by making the moves on two
+//! machines.
 
-ghost use Rattle.std.specs.Prelude.{◌≡◌, ◌<◌, ◌↔◌, false, true, IfNone, IfOk, IfSome};
+ghost use Rattle.std.specs.Prelude.{◌≡◌, ◌<◌, ◌↔◌, false, true, IfNone, IfOk, IfSome, IsTrue};
 ghost use Rattle.lu_machine.specs.Starts.{CanRun, IsStart};
 ghost use Rattle.lu_machine.specs.Steps.{picks_of};
 ghost use Rattle.lu_machine.specs.Undoes.{CanTake, restored};
-ghost use Rattle.lu_tree.specs.Known.{AreBeside, AreFrom, Commute, HaveSameEvents, IsKnownBy, MadeBoth, MoveNotBoth, Moves, taken_back};
+ghost use Rattle.lu_tree.specs.Known.{AreApart, AreBeside, AreFrom, Commute, HaveSameEvents, IsKnownBy, IsUnseenNext, MadeBoth, MoveNotBoth, Moves, taken_back};
 ghost use Rattle.lu_tree.specs.Reordered.{AreUnordered};
 
 use crate::known::{Hints, Known};
 use lu_component::Component;
+use lu_horizon::{is_unseen_at, only_reads_at, stand_at};
 use lu_machine::{Event, Machine, Undo};
 use lu_test::{Matrix, Move};
 use std::alloc::{AllocError, Global};
@@ -71,8 +73,8 @@ fn take_back(both: Both, machine: &mut Machine<'_>)
     machine.undo(both.first);
 }
 
-/// Whether no precedence depends on which of two events comes first: one of them is none, or both
-/// are calls, or returns, of different threads.
+/// Whether two events have no more precedence in the other order: one of them is none, or both are
+/// calls, or returns, of different threads, or the first is a return and the second a call.
 #[inline(always)]
 fn are_unordered(one: Option<Event>, other: Option<Event>) -> bool
     ensures { result ≡ true ↔ AreUnordered one other }
@@ -81,11 +83,12 @@ fn are_unordered(one: Option<Event>, other: Option<Event>) -> bool
         (None, _) | (_, None) => true,
         (Some(Event::Call { t, .. }), Some(Event::Call { t: u, .. })) => t != u,
         (Some(Event::Return { t, .. }), Some(Event::Return { t: u, .. })) => t != u,
-        (Some(_), Some(_)) => false,
+        (Some(Event::Return { .. }), Some(Event::Call { .. })) => true,
+        (Some(Event::Call { .. }), Some(Event::Return { .. })) => false,
     }
 }
 
-/// Whether two moves have the same events in the other order, and no precedence depends on it.
+/// Whether two moves have the same events in the other order, and no more precedence.
 #[inline(always)]
 fn have_same_events(there: Both, here: Both) -> bool
     ensures { result ≡ true ↔ HaveSameEvents there here }
@@ -93,6 +96,31 @@ fn have_same_events(there: Both, here: Both) -> bool
     are_unordered(there.first.event(), there.second.event())
         && there.first.event() == here.second.event()
         && there.second.event() == here.first.event()
+}
+
+/// Whether the next move of thread `t` neither reads nor changes cells and locks.
+#[inline(always)]
+fn is_unseen_next(machine: &Machine<'_>, t: u8) -> bool
+    ensures { IsTrue result → IsUnseenNext machine.now t }
+{
+    match stand_at(machine, t) {
+        None => false,
+        Some(stand) => match stand.place {
+            None => true,
+            Some(_place) => is_unseen_at(machine, t),
+        },
+    }
+}
+
+/// Whether neither of the next moves of two threads changes what the other one reads.
+#[inline(always)]
+fn are_apart(first: u8, second: u8, machine: &Machine<'_>) -> bool
+    ensures { IsTrue result → AreApart first second machine.now }
+{
+    first != second
+        && (is_unseen_next(machine, first)
+            || is_unseen_next(machine, second)
+            || (only_reads_at(machine, first) && only_reads_at(machine, second)))
 }
 
 /// What is known behind the only move of the thread, by a hint or since it was walked.
@@ -135,7 +163,8 @@ impl<'a> Commuting<'a> {
         })
     }
 
-    /// Whether the moves of two threads are their only ones and commute.
+    /// Whether the moves of two threads are their only ones and commute: in the other order they
+    /// lead to the same state, and with no more precedence.
     pub(crate) fn commute<const LONG: bool>(
         &mut self,
         first: u8,
@@ -151,12 +180,17 @@ impl<'a> Commuting<'a> {
         if machine.picks(first) != 1 || machine.picks(second) != 1 {
             return false;
         }
+        let apart = are_apart(first, second, machine);
         let Some(there) = make_both::<LONG>(first, second, machine) else {
             return false;
         };
         if !are_unordered(there.first.event(), there.second.event()) {
             take_back(there, machine);
             return false;
+        }
+        if apart {
+            take_back(there, machine);
+            return true;
         }
         self.other.set_to(machine);
         take_back(there, machine);
@@ -168,7 +202,7 @@ impl<'a> Commuting<'a> {
         same
     }
 
-    /// What is known behind the moves of smaller threads that commute with that of the thread, where
+    /// What is known behind the moves of other threads that commute with that of the thread, where
     /// this one is made first.
     pub(crate) fn hints<'h: 'k, 'k, const LONG: bool>(
         &mut self,
@@ -185,7 +219,7 @@ impl<'a> Commuting<'a> {
         ensures from { AreFrom machine.old hints.now known.now thread result }
     {
         let mut found = Hints::NONE;
-        for other in 0..thread {
+        for other in 0..machine.threads() {
             let Some(first) = behind(hints, known, other) else {
                 continue;
             };

@@ -2,8 +2,9 @@
 
 ghost use Rattle.std.specs.Prelude.{◌≡◌, ◌<◌, [], IfSome};
 ghost use Rattle.lu_machine.specs.Sums.{plus};
-ghost use Rattle.lu_tree.specs.Known.{IsAmong, IsAmongOr, IsHint, IsHintOr, IsKid, TellsNoMore, counts_of, kids_of};
+ghost use Rattle.lu_tree.specs.Known.{IsAmongOr, IsHint, IsHintOr, IsKid, TellsNoMore, counts_of, kids_of};
 
+use crate::threads::Threads;
 use lu_machine::Counts;
 use std::alloc::Global;
 
@@ -113,7 +114,7 @@ impl Known {
             return;
         }
         let size = self.size.saturating_add(below.size);
-        if self.kids.push((thread, below)).is_ok() {
+        if self.kids.reserve_exact(1).is_ok() && self.kids.push((thread, below)).is_ok() {
             self.size = size;
         }
     }
@@ -141,8 +142,9 @@ impl Known {
         u8::MAX
     }
 
-    /// What it tells of beginnings that are no more than so many moves longer.
-    fn within(self, alloc: Global, moves: u8) -> Known
+    /// What it tells of beginnings that are no more than so many moves longer, and in which some of
+    /// these threads have not moved.
+    fn within(self, alloc: Global, moves: u8, waiting: Threads) -> Known
         ensures { TellsNoMore self result }
     {
         let mut known = Known::alone(alloc, self.counts);
@@ -150,37 +152,31 @@ impl Known {
             return known;
         }
         for (thread, below) in self.kids {
-            known.keep(1, thread, below.within(alloc, moves - 1));
+            let others = waiting.without(thread);
+            if others.is_empty() {
+                continue;
+            }
+            known.keep(1, thread, below.within(alloc, moves - 1, others));
         }
         known
     }
 
-    /// What it tells but of the moves of thread 0.
-    fn without_first(self) -> Known
-        ensures counts { counts_of result ≡ counts_of self }
-        ensures kids { IsAmong (kids_of self) (kids_of result) }
-    {
-        let of_first = match self.kids.first() {
-            Some((0, below)) => below.size,
-            _ => return self,
-        };
-        let mut known = self;
-        known.kids.remove(0);
-        known.size = known.size.saturating_sub(of_first);
-        known
-    }
-
-    /// What a walk tells when it comes back: nothing of the moves of thread 0, which comes before
-    /// all others, and of the shortest beginnings alone where all would take too much of the room.
-    pub(crate) fn told(self, alloc: Global, room: u32) -> Known
+    /// What a walk tells when it comes back from a beginning in which these threads moved: where all
+    /// would take too much of the room, no more than is asked for, and of that the shortest
+    /// beginnings alone. For what is known behind a thread's move is asked for as long as that
+    /// thread does not move again, so nothing is where all of these have.
+    pub(crate) fn told(self, alloc: Global, room: u32, moved: Threads) -> Known
         ensures { TellsNoMore self result }
     {
-        let known = self.without_first();
         let most = room / SHARE;
-        if known.size <= most {
-            return known;
+        if self.size <= most {
+            return self;
         }
-        let moves = known.moves_within(most);
-        known.within(alloc, moves)
+        let asked = self.within(alloc, u8::MAX, moved);
+        if asked.size <= most {
+            return asked;
+        }
+        let moves = asked.moves_within(most);
+        asked.within(alloc, moves, moved)
     }
 }

@@ -30,6 +30,7 @@ mod searching;
 mod tables;
 mod tail;
 mod tally;
+mod threads;
 mod walk;
 mod watch;
 

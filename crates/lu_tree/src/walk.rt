@@ -17,6 +17,7 @@ use crate::known::{Hints, Known};
 use crate::node::Node;
 use crate::tail::counted_below;
 use crate::tally::Tally;
+use crate::threads::Threads;
 use crate::watch::Watch;
 use lu_machine::{Counts, Status};
 use lu_test::Move;
@@ -25,7 +26,7 @@ use lu_witness::Cache;
 use std::alloc::Global;
 
 /// The most beginnings of schedules of which a walk keeps what is known.
-const MOST_BEGINNINGS: u32 = 49_152;
+const MOST_BEGINNINGS: u32 = 98_304;
 
 /// Ends a schedule here, which is cut, or is ended and has to be good. Answers what is then known:
 /// none where it is not found good, or the watch stops the walk.
@@ -133,6 +134,7 @@ pub(crate) fn walk<'a, 't, T: SerialTree, W: Watch>(
             left,
             &Hints::NONE,
             MOST_BEGINNINGS,
+            Threads::NONE,
             node,
             tally,
         )
@@ -145,6 +147,7 @@ pub(crate) fn walk<'a, 't, T: SerialTree, W: Watch>(
             left,
             &Hints::NONE,
             MOST_BEGINNINGS,
+            Threads::NONE,
             node,
             tally,
         )
@@ -152,8 +155,8 @@ pub(crate) fn walk<'a, 't, T: SerialTree, W: Watch>(
 }
 
 /// Walks as [`walk`] does, but counts what is known behind a thread's only move by a hint. What is
-/// known is kept of no more beginnings than there is room for. With `LONG` false no local instructions
-/// run with a move.
+/// known is kept of no more beginnings than there is room for. These threads have moved already.
+/// With `LONG` false no local instructions run with a move.
 fn walk_as<'a, 't, 'h, const LONG: bool, T: SerialTree, W: Watch>(
     cache: &mut Cache<'t, T>,
     watch: &mut W,
@@ -162,6 +165,7 @@ fn walk_as<'a, 't, 'h, const LONG: bool, T: SerialTree, W: Watch>(
     left: u16,
     hints: &Hints<'h>,
     room: u32,
+    moved: Threads,
     node: &mut Node<'a, 't, T>,
     tally: &mut Tally,
 ) -> Option<Known>
@@ -212,6 +216,7 @@ fn walk_as<'a, 't, 'h, const LONG: bool, T: SerialTree, W: Watch>(
                 left - 1,
                 &further,
                 room.saturating_sub(known.size),
+                moved.with(thread),
                 node,
                 tally,
             );
@@ -227,5 +232,5 @@ fn walk_as<'a, 't, 'h, const LONG: bool, T: SerialTree, W: Watch>(
     if is_ended {
         return end(commuting.alloc, cache, watch, node, tally);
     }
-    Some(known.told(commuting.alloc, room))
+    Some(known.told(commuting.alloc, room, moved))
 }

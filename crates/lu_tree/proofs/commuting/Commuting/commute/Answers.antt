@@ -1,5 +1,6 @@
-use Rattle.std.proofs.Common.{rules, ◌≡◌, ◌∙◌, subst}
+use Rattle.std.proofs.Common.{rules, ◌≡◌, ◌∙◌, refl, subst}
 use Rattle.lu_tree.specs.Known.{HaveSameEvents, MadeBoth, MoveNotBoth}
+use Rattle.lu_tree.proofs.Apart.{apart_commute}
 use Rattle.lu_tree.proofs.KnownLaws.{commute_made, commute_seen, commute_unordered}
 use Rattle.lu_tree.proofs.commuting.Commuting.commute.Goals as goal
 
@@ -45,4 +46,13 @@ returns-in_default-make_both-clause-commute g c = (
       let back : c.take_back-2.new.machine ≡ s = c.take_back-2.ensures ∙ c.in-Some.ensures.made.back in
       let none : MoveNotBoth c.args.second c.args.first s = subst (MoveNotBoth c.args.second c.args.first) back c.in_default-make_both.ensures.none in
       absurd (none commute.0 commute.2 commute.1 commute.4)),
+)
+
+pub returns-then-apart-clause-commute : goal.returns-then-apart-clause-commute
+returns-then-apart-clause-commute g c = (
+  λ _.
+      (let s = c.args.machine.now in
+      let there : MadeBoth c.args.first c.args.second s c.make_both.new.machine c.in-Some.there = c.in-Some.ensures.made in
+      apart_commute c.args.first c.args.second s c.make_both.new.machine c.in-Some.there there (search rules) (c.are_apart-apart.ensures (search rules)) (search rules)),
+  λ _. refl,
 )

@@ -32,3 +32,13 @@ pub returns : goal.returns
 returns t c =
     let i = c.loop-thread.invariant in
     tells_no_more c.args.self c.loop-thread.known i.counts i.kids
+
+pub loop-thread-preserved-then-is_empty : goal.loop-thread-preserved-then-is_empty
+loop-thread-preserved-then-is_empty t c =
+    let i = c.loop-thread.invariant in
+    let here = first_and_rest (kids_of c.args.self) (into_iter_items c.loop-thread.thread-iterator) (into_iter_items c.next.new.self) (c.in-Some.thread, c.in-Some.below) (search rules) i.rest in
+    record {
+      counts = i.counts;
+      rest = here.1;
+      kids = i.kids;
+    }

@@ -1,9 +1,10 @@
-use Rattle.lu_tree.proofs.KnownLaws.{among_told}
 use Rattle.lu_tree.proofs.known.Known.told.Goals as goal
 
-pub returns-then-known-most : goal.returns-then-known-most
-returns-then-known-most c = among_told c.args.self c.without_first-known.result c.without_first-known.ensures.counts c.without_first-known.ensures.kids
+pub returns-then-self-most : goal.returns-then-self-most
+returns-then-self-most c = λ members s h left known. known
+
+pub returns-then-asked-most : goal.returns-then-asked-most
+returns-then-asked-most c = c.within-asked.ensures
 
 pub returns : goal.returns
-returns c = λ members s h left known.
-    c.within.ensures members s h left (among_told c.args.self c.without_first-known.result c.without_first-known.ensures.counts c.without_first-known.ensures.kids members s h left known)
+returns c = λ members s h left known. c.within.ensures members s h left (c.within-asked.ensures members s h left known)
