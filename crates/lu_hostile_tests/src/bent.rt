@@ -63,7 +63,7 @@ fn try_text<K: Texts, X: AllocGlobal + Abort>(
 
 /// Each beginning of the text, the empty one and the whole too: only the line that is cut may be
 /// wrong, or what is missing behind it.
-fn try_beginnings<K: Texts, X: AllocGlobal + Abort>(
+pub(crate) fn try_beginnings<K: Texts, X: AllocGlobal + Abort>(
     rt: &X,
     texts: &K,
     text: &[u8],

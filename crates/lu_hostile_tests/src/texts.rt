@@ -1,6 +1,6 @@
 //! Each kind of text, bent in every way.
 
-use crate::bent::{Outcome, Tally, Texts, try_all};
+use crate::bent::{Outcome, Tally, Texts, try_all, try_beginnings};
 use lu_component::Component;
 use lu_examples::ROWS;
 use lu_lang::{read_component, write_component};
@@ -121,6 +121,25 @@ impl Texts for Specs {
 const LOCAL: &[u8] =
     b"# two\n component  small\nlocal 16\n\nword x 1 0\t# a cell\nlock m\nop f 1\nagain: lock m\nset r1 4294967295\n\
 awaitne x r0 r1 # others\njz r0 again\nunlock m\nreturn r1\nend\n";
+
+/// The beginnings that are components are those behind each line of a declaration and of an `end`,
+/// with its LF or without, and the whole.
+#[test]
+fn beginnings_of_a_component_are_read_or_refused(rt: HostRuntime) -> Result<(), Fail> {
+    let mut tally = Tally {
+        read: 0,
+        refused: 0,
+    };
+    try_beginnings(&rt, &Components, ROWS.as_bytes(), &mut tally)?;
+    assert_eq!(rt;
+        tally,
+        Tally {
+            read: 47,
+            refused: 739
+        }
+    );
+    Ok(())
+}
 
 #[test]
 fn components_are_read_or_refused(rt: HostRuntime) -> Result<(), Fail> {

@@ -1,9 +1,9 @@
-//! Tests of replays, of traces and of reports.
+//! Tests of what only a call shows of reports, of specifications and of campaigns.
 #![tactic(auto)]
 
 #[cfg(test)]
-mod replays;
+mod campaigns;
 #[cfg(test)]
 mod reports;
 #[cfg(test)]
-mod traces;
+mod specs;
