@@ -9,7 +9,7 @@ use std::test::Fail;
 const BYTES: [u8; 14] = [0, 9, 10, 13, 32, 35, 45, 48, 58, 59, 61, 127, 128, 255];
 
 /// What came of a text.
-#[derive(Clone, Copy, Debug, PartialEq, Eq)]
+#[derive(Clone, Copy)]
 pub(crate) enum Outcome {
     /// It was read; what was written of it was read as the same.
     Read,

@@ -11,7 +11,7 @@ use std::test::Fail;
 use std::thread::Threads;
 
 /// How a call of a device fails.
-#[derive(Clone, Copy, Debug, PartialEq, Eq)]
+#[derive(Clone, Copy)]
 enum Failure {
     /// By an error.
     Breaks,
@@ -283,27 +283,18 @@ fn writes_fail<X: AllocGlobal + Abort + Threads + Wait>(rt: &X, failure: Failure
     }
 }
 
+/// An interrupted read is not tried again.
 #[test]
-fn a_read_that_breaks_is_blamed_on_the_device(rt: HostRuntime) {
-    reads_fail(&rt, Failure::Breaks);
+fn a_read_that_fails_is_blamed_on_the_device(rt: HostRuntime) {
+    for failure in [Failure::Breaks, Failure::IsInterrupted] {
+        reads_fail(&rt, failure);
+    }
 }
 
+/// Neither is an interrupted write, nor one that takes nothing.
 #[test]
-fn a_read_that_is_interrupted_is_not_tried_again(rt: HostRuntime) {
-    reads_fail(&rt, Failure::IsInterrupted);
-}
-
-#[test]
-fn a_write_that_breaks_shows_in_the_status(rt: HostRuntime) {
-    writes_fail(&rt, Failure::Breaks);
-}
-
-#[test]
-fn a_write_that_is_interrupted_shows_in_the_status(rt: HostRuntime) {
-    writes_fail(&rt, Failure::IsInterrupted);
-}
-
-#[test]
-fn a_write_that_takes_nothing_shows_in_the_status(rt: HostRuntime) {
-    writes_fail(&rt, Failure::TakesNone);
+fn a_write_that_fails_shows_in_the_status(rt: HostRuntime) {
+    for failure in [Failure::Breaks, Failure::IsInterrupted, Failure::TakesNone] {
+        writes_fail(&rt, failure);
+    }
 }
