@@ -3,7 +3,7 @@
 
 ghost use Rattle.std.specs.Prelude.{◌≡◌};
 
-use lu_history::{History, HistoryFault, OpId, SerialOp, SerialOutcome, write_history};
+use lu_history::{History, HistoryFault, OpId, SerialOp, SerialOutcome};
 use lu_machine::{Event, Outcome};
 use std::alloc::Global;
 use std::process::Abort;
@@ -231,32 +231,6 @@ fn events_come_and_go(rt: HostRuntime) -> Result<(), Fail> {
     assert_last_goes(&rt, &mut history);
     assert_eq!(rt; copy.events().len(), 6);
     Ok(())
-}
-
-/// A history of the events is written so.
-fn assert_written(
-    rt: &(impl AllocGlobal + Abort),
-    events: &[Event],
-    text: &str,
-) -> Result<(), Fail> {
-    let history = history_of(rt, rt.alloc(), events)?;
-    assert_eq!(rt; write_history(rt.alloc(), &history)?.as_str(), text);
-    Ok(())
-}
-
-#[test]
-fn writes_a_line_for_each_event(rt: HostRuntime) -> Result<(), Fail> {
-    assert_written(
-        &rt,
-        &[call(0, 0), call(1, 0), returns(0, 0, 1), returns(1, 0, 1)],
-        "call 0 0\ncall 1 0\nreturn 0 0 ret 1\nreturn 1 0 ret 1\n",
-    )?;
-    assert_written(
-        &rt,
-        &[call(7, 0), returns(7, 0, u32::MAX), call(7, 1), traps(7, 1)],
-        "call 7 0\nreturn 7 0 ret 4294967295\ncall 7 1\nreturn 7 1 trap\n",
-    )?;
-    assert_written(&rt, &[], "")
 }
 
 #[test]

@@ -1,24 +1,13 @@
 //! Which verdicts a small cache keeps.
 
-ghost use Rattle.std.specs.Prelude.{◌≡◌};
-ghost use Rattle.lu_history.specs.declared.serial.SerialOutcome.TheVariants.{Ret};
-
-use lu_history::{History, SerialOp, SerialOutcome};
+use crate::serial_runs::set_of;
+use lu_examples::ROWS;
+use lu_history::History;
 use lu_machine::{Event, Outcome};
-use lu_trie::{SerialTree, Trie};
+use lu_trie::SerialTree;
 use lu_witness::{Cache, Verdict};
-use std::alloc::{AllocError, Global};
 use std::process::Abort;
 use std::test::Fail;
-
-fn ret(thread: u8, number: u32) -> SerialOp
-    ensures { result.outcome ≡ Ret number }
-{
-    SerialOp {
-        thread,
-        outcome: SerialOutcome::Ret(number),
-    }
-}
 
 const CALL_0: Event = Event::Call { t: 0, k: 0 };
 
@@ -42,8 +31,18 @@ const SECOND: &[Event] = &[CALL_0, CALL_1, RETURN_0, RETURN_1];
 
 const LAST: &[Event] = &[CALL_1, RETURN_1, CALL_0, RETURN_0];
 
-/// The first is asked for again before the last.
-const ASKED: &[&[Event]] = &[FIRST, SECOND, FIRST, LAST];
+/// Histories, and whether each is then kept; of the others the verdict is asked for. The first is
+/// asked for again before the last one comes, so the second makes room for that.
+const ASKED: &[(&[Event], Option<bool>)] = &[
+    (FIRST, Some(false)),
+    (FIRST, None),
+    (SECOND, None),
+    (FIRST, None),
+    (LAST, None),
+    (FIRST, Some(true)),
+    (SECOND, Some(false)),
+    (LAST, Some(true)),
+];
 
 /// Two threads get 0: the events in this order.
 fn history_of(rt: &(impl AllocGlobal + Abort), events: &[Event]) -> Result<History, Fail> {
@@ -55,73 +54,32 @@ fn history_of(rt: &(impl AllocGlobal + Abort), events: &[Event]) -> Result<Histo
     Ok(history)
 }
 
-/// The verdict of the history of these events is good.
-fn assert_good<T: SerialTree>(
+/// The history of these events is kept, or not; or its verdict is asked for, which is good.
+fn assert_asked<T: SerialTree>(
     rt: &(impl AllocGlobal + Abort),
     cache: &mut Cache<'_, T>,
     events: &[Event],
+    kept: Option<bool>,
 ) -> Result<(), Fail> {
     let history = history_of(rt, events)?;
-    assert!(rt; cache.verdict(&history) == Verdict::Good);
-    Ok(())
-}
-
-/// The verdict of the history of these events is kept, or not.
-fn assert_kept<T: SerialTree>(
-    rt: &(impl AllocGlobal + Abort),
-    cache: &Cache<'_, T>,
-    events: &[Event],
-    expected: bool,
-) -> Result<(), Fail> {
-    let history = history_of(rt, events)?;
-    assert!(rt; cache.keeps(&history) == expected);
-    Ok(())
-}
-
-/// Asks for the verdicts of these histories.
-fn ask_four<T: SerialTree>(
-    rt: &(impl AllocGlobal + Abort),
-    cache: &mut Cache<'_, T>,
-) -> Result<(), Fail> {
-    for events in ASKED {
-        assert_good(rt, cache, events)?;
+    match kept {
+        Some(kept) => assert!(rt; cache.keeps(&history) == kept),
+        None => assert!(rt; cache.verdict(&history) == Verdict::Good),
     }
     Ok(())
 }
 
-/// Then the second is not kept.
-fn assert_two_kept<T: SerialTree>(
-    rt: &(impl AllocGlobal + Abort),
-    cache: &Cache<'_, T>,
-) -> Result<(), Fail> {
-    assert_kept(rt, cache, FIRST, true)?;
-    assert_kept(rt, cache, SECOND, false)?;
-    assert_kept(rt, cache, LAST, true)
-}
-
 /// All that of a cache with room for two.
-fn ask_two_kept<T: SerialTree>(rt: &(impl AllocGlobal + Abort), tree: &T) -> Result<(), Fail> {
+fn assert_all_asked<T: SerialTree>(rt: &(impl AllocGlobal + Abort), tree: &T) -> Result<(), Fail> {
     let mut cache = Cache::new(rt.alloc(), tree, 2)?;
-    assert_kept(rt, &cache, FIRST, false)?;
-    ask_four(rt, &mut cache)?;
-    assert_two_kept(rt, &cache)
+    for (events, kept) in ASKED {
+        assert_asked(rt, &mut cache, events, *kept)?;
+    }
+    Ok(())
 }
 
-fn insert_order(set: &mut Trie<Global>, first: u8, last: u8) -> Result<bool, AllocError> {
-    set.insert(&[ret(first, 0), ret(last, 0)])
-}
-
-/// Two threads get 0 in either order.
-fn both_orders(rt: &impl AllocGlobal) -> Result<Trie<Global>, Fail> {
-    let mut set = Trie::new(rt.alloc());
-    insert_order(&mut set, 0, 1)?;
-    insert_order(&mut set, 1, 0)?;
-    Ok(set)
-}
-
-/// The first was asked for again before the last one came, so the second made room for that.
 #[test]
 fn the_least_recently_used_makes_room(rt: HostRuntime) -> Result<(), Fail> {
-    let set = both_orders(&rt)?;
-    ask_two_kept(&rt, &&set)
+    let set = set_of(&rt, ROWS.as_bytes(), b"thread get\nthread get\n")?;
+    assert_all_asked(&rt, &&set)
 }

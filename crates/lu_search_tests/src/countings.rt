@@ -1,36 +1,15 @@
-//! Schedules that are counted and not walked.
+//! What is counted and not walked: orders of moves, and how many moves of threads are certain.
 
 ghost use Rattle.lu_machine.specs.Starts.{CanRun};
 
-use crate::trees::{EMPTY, assert_counts, beginning, clean, complete, cut};
-use crate::watches::packed;
 use lu_cases::{Case, case_of};
 use lu_examples::ROWS;
 use lu_horizon::{Horizon, is_unseen_at, stand_at};
-use lu_machine::{Counts, Machine};
+use lu_machine::Machine;
 use lu_tail::Orders;
 use lu_test::Move;
-use lu_tree::search;
-use lu_trie::{SerialTree, Trie};
 use std::process::Abort;
 use std::test::Fail;
-
-const SPINS: &[u8] = b"thread spin\nthread spin\n";
-
-/// Each of two threads can always move: the cut schedules are all words over two letters.
-#[test]
-fn words_are_counted(rt: HostRuntime) -> Result<(), Fail> {
-    let set = Trie::new(rt.alloc());
-    assert_counts(&rt, SPINS, &set, EMPTY, 20, cut(1_048_576))?;
-    assert_counts(&rt, SPINS, &set, b"schedule 0 1 1\n", 20, cut(131_072))
-}
-
-/// One thread alone is a chain of moves.
-#[test]
-fn one_thread_is_walked(rt: HostRuntime) -> Result<(), Fail> {
-    let set = Trie::new(rt.alloc());
-    assert_counts(&rt, b"thread spin\n", &set, EMPTY, 40, cut(1))
-}
 
 /// Three moves of each of two threads, two of each of three, and none.
 const INTERLEAVINGS: &[(&[usize], Option<u64>)] = &[
@@ -69,55 +48,6 @@ fn orders_within_caps_are_counted(rt: HostRuntime) -> Result<(), Fail> {
     Ok(())
 }
 
-/// A thread that makes three moves, beside one or two that can always move.
-#[test]
-fn caps_are_counted(rt: HostRuntime) -> Result<(), Fail> {
-    let set = Trie::new(rt.alloc());
-    assert_counts(&rt, b"thread spin\nthread get\n", &set, EMPTY, 5, cut(26))?;
-    assert_counts(
-        &rt,
-        b"thread get\nthread spin\n",
-        &set,
-        EMPTY,
-        256,
-        cut(2_796_417),
-    )?;
-    assert_counts(
-        &rt,
-        b"thread spin\nthread spin\nthread get\n",
-        &set,
-        EMPTY,
-        10,
-        cut(33_024),
-    )
-}
-
-/// Threads whose retries end by the value that a `cas` gave.
-#[test]
-fn retries_are_counted(rt: HostRuntime) -> Result<(), Fail> {
-    let set = Trie::new(rt.alloc());
-    assert_counts(
-        &rt,
-        b"thread cinc\nthread cinc\nthread cinc\n",
-        &set,
-        EMPTY,
-        12,
-        cut(428_802),
-    )
-}
-
-/// One thread waits until the other has made four moves: before those it makes one move at most.
-/// Whether it waits or not, the order of two moves makes no difference.
-#[test]
-fn a_thread_that_waits_is_counted(rt: HostRuntime) -> Result<(), Fail> {
-    let set = Trie::new(rt.alloc());
-    let matrix = b"thread put;spin\nthread take;spin\n";
-    assert_counts(&rt, matrix, &set, EMPTY, 3, cut(4))?;
-    assert_counts(&rt, matrix, &set, EMPTY, 20, cut(196_608))?;
-    let many = 216_172_782_113_783_808;
-    assert_counts(&rt, matrix, &set, EMPTY, 60, cut(many))
-}
-
 /// How many schedules are cut below the machine's state.
 fn cut_below(
     horizon: &Horizon,
@@ -128,7 +58,8 @@ fn cut_below(
     orders.orders_within(left, &horizon.caps(machine, left)?)
 }
 
-/// Below the machine's state so many moves are cut in so many ways, for each of these pairs.
+/// Below the machine's state so many moves are cut in so many ways, for each of these pairs; and no
+/// caps are known for 72 moves, which are more than the tables are for.
 fn assert_cuts(
     rt: &impl Abort,
     horizon: &Horizon,
@@ -139,6 +70,7 @@ fn assert_cuts(
     for (left, number) in cuts {
         assert_eq!(rt; cut_below(horizon, orders, machine, *left), *number);
     }
+    assert!(rt; horizon.caps(machine, 72).is_none());
 }
 
 /// The same at the start of the case, with tables for so many moves.
@@ -155,20 +87,6 @@ fn assert_cuts_ahead(
     let machine = Machine::start(rt.alloc(), &case.component, &case.matrix)?;
     assert_cuts(rt, &horizon, &orders, &machine, cuts);
     Ok(())
-}
-
-/// At the start of the case, the caps for so many moves are known, with tables for so many.
-fn has_caps(
-    rt: &(impl AllocGlobal + Abort),
-    case: &Case,
-    most: u16,
-    left: usize,
-) -> Result<bool, Fail>
-    requires { CanRun case.now.component case.now.matrix }
-{
-    let horizon = Horizon::new(rt.alloc(), &case.component, &case.matrix, most)?;
-    let machine = Machine::start(rt.alloc(), &case.component, &case.matrix)?;
-    Ok(horizon.caps(&machine, left).is_some())
 }
 
 /// Where the threads stand at the start, and after the first call.
@@ -204,9 +122,8 @@ const CUTS: &[(usize, Option<u64>)] = &[
 /// An open operation has a place; the first instruction of `spin` is a jump.
 #[test]
 fn threads_stand_at_places(rt: HostRuntime) -> Result<(), Fail> {
-    let case = case_of(&rt, ROWS.as_bytes(), SPINS)?;
+    let case = case_of(&rt, ROWS.as_bytes(), b"thread spin\nthread spin\n")?;
     assert_cuts_ahead(&rt, &case, 70, CUTS)?;
-    assert!(rt; !has_caps(&rt, &case, 70, 72)?);
     assert_stands_ahead(&rt, &case)
 }
 
@@ -238,39 +155,4 @@ fn longer_moves_are_certain(rt: HostRuntime) -> Result<(), Fail> {
     let case = case_of(&rt, LONG, b"thread put\nthread think\n")?;
     let cuts = [(4, Some(16)), (5, Some(30)), (7, Some(70)), (8, None)];
     assert_cuts_ahead(&rt, &case, 40, &cuts)
-}
-
-/// All schedules are good for the set of the tree, and there are so many.
-fn assert_counts_over<T: SerialTree>(
-    rt: &(impl AllocGlobal + Abort),
-    case: &Case,
-    tree: &T,
-    counts: Counts,
-) -> Result<(), Fail>
-    requires { CanRun case.now.component case.now.matrix }
-{
-    let from = beginning(rt, &case.component, &case.matrix, EMPTY)?;
-    assert!(rt; from.moves().len() <= 40);
-    let found = search(rt.alloc(), &case.component, &case.matrix, tree, &from, 40)?;
-    assert_eq!(rt; clean(&found), Some(counts));
-    Ok(())
-}
-
-/// The same over the packed set of all serial histories.
-fn assert_counts_serially(
-    rt: &(impl AllocGlobal + Abort),
-    case: &Case,
-    counts: Counts,
-) -> Result<(), Fail>
-    requires { CanRun case.now.component case.now.matrix }
-{
-    let packed = packed(rt, case)?;
-    assert_counts_over(rt, case, &&packed, counts)
-}
-
-/// Four moves of each of three threads, in any order: 12! / (4! 4! 4!).
-#[test]
-fn tails_of_longer_moves_are_counted(rt: HostRuntime) -> Result<(), Fail> {
-    let case = case_of(&rt, LONG, b"thread think\nthread think\nthread think\n")?;
-    assert_counts_serially(&rt, &case, complete(34_650))
 }

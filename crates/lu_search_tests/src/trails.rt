@@ -61,6 +61,13 @@ fn ret(thread: u8, number: u32) -> SerialOp
     }
 }
 
+/// Triples of numbers, and how they are judged.
+const TRIPLES: &[((u32, u32, u32), Verdict)] = &[
+    ((7, 9, 5), Verdict::Good),
+    ((8, 9, 5), Verdict::NoWitness),
+    ((7, 9, 5), Verdict::Good),
+];
+
 /// Each of these triples of numbers is judged so.
 fn assert_judged<'t, R: Abort, T: SerialTree>(
     rt: &R,
@@ -70,40 +77,12 @@ fn assert_judged<'t, R: Abort, T: SerialTree>(
 ) -> Result<(), AllocError>
     requires empty { trail.old.history ≡ [] }
     requires tree { cache.old.tree ≡ trail.old.tree }
+    ensures empty { IfOk result (λ _. trail.new.history ≡ []) }
+    ensures tree { IfOk result (λ _. cache.new.tree ≡ trail.new.tree) }
 {
     for triple in triples {
         assert!(rt; judge(trail, cache, triple.0)? == triple.1);
     }
-    Ok(())
-}
-
-/// The same with a new trail.
-fn judge_again_with<'t, R: AllocGlobal + Abort, T: SerialTree>(
-    rt: &R,
-    tree: &'t T,
-    cache: &mut Cache<'t, T>,
-) -> Result<(), AllocError>
-    requires { cache.old.tree ≡ tree.now }
-{
-    let mut trail = Trail::new(rt.alloc(), tree)?;
-    let triples = [
-        ((7, 9, 5), Verdict::Good),
-        ((8, 9, 5), Verdict::NoWitness),
-        ((7, 9, 5), Verdict::Good),
-    ];
-    assert_judged(rt, &mut trail, cache, &triples)
-}
-
-fn judge_again<R: AllocGlobal + Abort, T: SerialTree>(rt: &R, tree: &T) -> Result<(), AllocError> {
-    let mut cache = Cache::new(rt.alloc(), tree, 16)?;
-    judge_again_with(rt, tree, &mut cache)
-}
-
-#[test]
-fn verdicts_are_the_same_again(rt: HostRuntime) -> Result<(), Fail> {
-    let mut set = Trie::new(rt.alloc());
-    set.insert(&[ret(0, 7), ret(1, 9), ret(2, 5)])?;
-    judge_again(&rt, &&set)?;
     Ok(())
 }
 
@@ -127,8 +106,8 @@ fn last_good<'t, T: SerialTree>(
     Ok(good)
 }
 
-/// One of them is good, also when it is judged again.
-fn assert_last_good<'t, R: Abort, T: SerialTree>(
+/// Verdicts are the same again; and of many histories one is good, also when it is judged again.
+fn assert_verdicts<'t, R: Abort, T: SerialTree>(
     rt: &R,
     trail: &mut Trail<'t, T>,
     cache: &mut Cache<'t, T>,
@@ -136,12 +115,13 @@ fn assert_last_good<'t, R: Abort, T: SerialTree>(
     requires empty { trail.old.history ≡ [] }
     requires tree { cache.old.tree ≡ trail.old.tree }
 {
+    assert_judged(rt, trail, cache, TRIPLES)?;
     assert_eq!(rt; last_good(trail, cache)?, 7 * 4096 + 9 * 64 + 5);
-    assert_judged(rt, trail, cache, &[((7, 9, 5), Verdict::Good)])
+    assert_judged(rt, trail, cache, TRIPLES)
 }
 
 /// The same with a new trail.
-fn judge_many_with<'t, R: AllocGlobal + Abort, T: SerialTree>(
+fn assert_trail<'t, R: AllocGlobal + Abort, T: SerialTree>(
     rt: &R,
     tree: &'t T,
     cache: &mut Cache<'t, T>,
@@ -149,18 +129,23 @@ fn judge_many_with<'t, R: AllocGlobal + Abort, T: SerialTree>(
     requires { cache.old.tree ≡ tree.now }
 {
     let mut trail = Trail::new(rt.alloc(), tree)?;
-    assert_last_good(rt, &mut trail, cache)
+    assert_verdicts(rt, &mut trail, cache)
 }
 
-fn judge_many<R: AllocGlobal + Abort, T: SerialTree>(rt: &R, tree: &T) -> Result<(), AllocError> {
+/// The same with a new cache.
+fn assert_cached<R: AllocGlobal + Abort, T: SerialTree>(
+    rt: &R,
+    tree: &T,
+) -> Result<(), AllocError> {
     let mut cache = Cache::new(rt.alloc(), tree, 16)?;
-    judge_many_with(rt, tree, &mut cache)
+    assert_trail(rt, tree, &mut cache)
 }
 
+/// There are more histories than there is room for.
 #[test]
-fn more_histories_than_there_is_room_for(rt: HostRuntime) -> Result<(), Fail> {
+fn verdicts_are_the_same_again(rt: HostRuntime) -> Result<(), Fail> {
     let mut set = Trie::new(rt.alloc());
     set.insert(&[ret(0, 7), ret(1, 9), ret(2, 5)])?;
-    judge_many(&rt, &&set)?;
+    assert_cached(&rt, &&set)?;
     Ok(())
 }

@@ -1,20 +1,17 @@
-//! Searches that a watch may call off.
+//! Searches that a watch may call off, and tables that serve several searches.
 
 ghost use Rattle.std.specs.Prelude.{◌≡◌, false};
-ghost use Rattle.lu_machine.specs.States.{State};
-ghost use Rattle.lu_machine.specs.Schedules.{IsSchedule};
-ghost use Rattle.lu_machine.specs.Starts.{CanRun, IsStart};
+ghost use Rattle.lu_machine.specs.Starts.{CanRun};
 ghost use Rattle.lu_tree.specs.Tables.{AreTables};
 
-use crate::trees::{EMPTY, assert_found_bad, beginning, clean, complete, cut};
+use crate::serial_runs::set_of;
+use crate::trees::{assert_clean, beginning};
 use lu_cases::{Case, case_of};
 use lu_examples::ROWS;
-use lu_machine::Counts;
-use lu_serial::{Learnt, learn};
 use lu_test::Schedule;
 use lu_tree::{Found, Tables, Unwatched, Watch, search_watched, search_with};
-use lu_trie::{PackedTrie, SerialTree, Trie};
-use lu_witness::{Cache, Why};
+use lu_trie::{PackedTrie, SerialTree};
+use lu_witness::Cache;
 use std::alloc::Global;
 use std::process::Abort;
 use std::test::Fail;
@@ -57,20 +54,25 @@ fn stops_at(last: u32) -> Patience
     }
 }
 
+/// The packed set of the serial histories of the matrix.
+fn packed(rt: &(impl AllocGlobal + Abort), matrix: &[u8]) -> Result<PackedTrie<Global>, Fail> {
+    let set = set_of(rt, ROWS.as_bytes(), matrix)?;
+    Ok(PackedTrie::pack(rt.alloc(), &set)?)
+}
+
 /// What is found among all schedules within the bound, over the tree, with a cache of one verdict.
-fn found_watched<T: SerialTree, W: Watch>(
+fn found_watched<T: SerialTree>(
     rt: &(impl AllocGlobal + Abort),
     case: &Case,
     tree: &T,
     bound: u16,
-    watch: &mut W,
+    watch: &mut Patience,
 ) -> Result<Found, Fail>
     requires of { CanRun case.now.component case.now.matrix }
-    requires running { W.is_stopped watch.old ≡ false }
+    requires running { watch.old.stopped ≡ false }
 {
-    let from = beginning(rt, &case.component, &case.matrix, EMPTY)?;
-    assert!(rt; bound <= 256);
-    assert!(rt; from.moves().len() <= usize::from(bound));
+    let from = beginning(rt, case, b"schedule\n")?;
+    assert!(rt; from.moves().len() <= usize::from(bound) && bound <= 256);
     let mut cache = Cache::new(rt.alloc(), tree, 1)?;
     Ok(search_watched(
         rt.alloc(),
@@ -83,71 +85,73 @@ fn found_watched<T: SerialTree, W: Watch>(
     )?)
 }
 
-/// The set of all serial histories of the case.
-fn all_serial(rt: &(impl AllocGlobal + Abort), case: &Case) -> Result<Trie<Global>, Fail>
-    requires { CanRun case.now.component case.now.matrix }
-{
-    match learn(rt.alloc(), rt.alloc(), &case.component, &case.matrix, 40)? {
-        Learnt::Set(set) => Ok(set),
-        Learnt::Cut(_) | Learnt::Conflict { .. } => panic!(rt; "a serial offence"),
-    }
-}
-
-/// The same, packed.
-pub(crate) fn packed(
-    rt: &(impl AllocGlobal + Abort),
-    case: &Case,
-) -> Result<PackedTrie<Global>, Fail>
-    requires { CanRun case.now.component case.now.matrix }
-{
-    let set = all_serial(rt, case)?;
-    Ok(PackedTrie::pack(rt.alloc(), &set)?)
-}
-
-/// What is found over the packed set of all serial histories.
-fn found_over<W: Watch>(
-    rt: &(impl AllocGlobal + Abort),
-    case: &Case,
-    watch: &mut W,
-) -> Result<Found, Fail>
-    requires of { CanRun case.now.component case.now.matrix }
-    requires running { W.is_stopped watch.old ≡ false }
-{
-    let packed = packed(rt, case)?;
-    found_watched(rt, case, &&packed, 40, watch)
-}
-
-/// The same of the matrix of this text.
-fn found_serially<W: Watch>(
+/// The same for the matrix of this text, over the packed set of the serial histories of the other
+/// one.
+fn found_over(
     rt: &(impl AllocGlobal + Abort),
     matrix: &[u8],
-    watch: &mut W,
+    other: &[u8],
+    bound: u16,
+    watch: &mut Patience,
 ) -> Result<Found, Fail>
-    requires { W.is_stopped watch.old ≡ false }
+    requires { watch.old.stopped ≡ false }
 {
+    let packed = packed(rt, other)?;
     let case = case_of(rt, ROWS.as_bytes(), matrix)?;
-    found_over(rt, &case, watch)
+    found_watched(rt, &case, &&packed, bound, watch)
+}
+
+/// The search is called off at this question.
+fn assert_abandoned(
+    rt: &(impl AllocGlobal + Abort),
+    matrix: &[u8],
+    other: &[u8],
+    bound: u16,
+    last: u32,
+) -> Result<(), Fail> {
+    let mut watch = stops_at(last);
+    let found = found_over(rt, matrix, other, bound, &mut watch)?;
+    assert!(rt; matches!(found, Found::Abandoned));
+    assert_eq!(rt; watch.asked, last);
+    Ok(())
+}
+
+/// The search is not called off: so many schedules are complete, so many cut, and the watch is
+/// asked so often.
+fn assert_asked(
+    rt: &(impl AllocGlobal + Abort),
+    matrix: &[u8],
+    other: &[u8],
+    bound: u16,
+    counts: (u64, u64),
+    asked: u32,
+) -> Result<(), Fail> {
+    let mut watch = stops_at(0);
+    let found = found_over(rt, matrix, other, bound, &mut watch)?;
+    assert_clean(rt, &found, counts.0, counts.1);
+    assert_eq!(rt; watch.asked, asked);
+    Ok(())
 }
 
 const EXCHANGES: &[u8] = b"thread cinc\nthread cinc\n";
 
+const SPINS: &[u8] = b"thread spin\nthread spin\n";
+
+const NO_CALLS: &[u8] = b"thread\n";
+
 /// 2,564 schedules are 40 times 64 and some more.
 #[test]
 fn a_watch_is_asked_after_each_64(rt: HostRuntime) -> Result<(), Fail> {
-    let mut watch = stops_at(0);
-    let found = found_serially(&rt, EXCHANGES, &mut watch)?;
-    assert_eq!(rt; clean(&found), Some(complete(2564)));
-    assert_eq!(rt; watch.asked, 40);
-    Ok(())
+    assert_asked(&rt, EXCHANGES, EXCHANGES, 40, (2564, 0), 40)?;
+    assert_abandoned(&rt, EXCHANGES, EXCHANGES, 40, 3)
 }
 
+/// Each of two threads can always move, so 12 moves are cut in 4,096 ways, which are counted
+/// together: 64 times 64.
 #[test]
-fn a_watch_stops_at_its_third_question(rt: HostRuntime) -> Result<(), Fail> {
-    let mut watch = stops_at(3);
-    let found = found_serially(&rt, EXCHANGES, &mut watch)?;
-    assert!(rt; matches!(found, Found::Abandoned));
-    assert_eq!(rt; watch.asked, 3);
-    Ok(())
+fn a_watch_is_asked_of_what_is_counted(rt: HostRuntime) -> Result<(), Fail> {
+    assert_asked(&rt, SPINS, NO_CALLS, 12, (0, 4096), 64)?;
+    assert_abandoned(&rt, SPINS, NO_CALLS, 12, 64)
 }
 
 /// What is found below the schedule within 40 moves, with a cache of one verdict.
@@ -156,13 +160,12 @@ fn found_below<T: SerialTree>(
     case: &Case,
     tables: &Tables,
     tree: &T,
-    from: &Schedule,
+    from: &[u8],
 ) -> Result<Found, Fail>
     requires of { CanRun case.now.component case.now.matrix }
     requires tables { AreTables case.now.component case.now.matrix tables.now }
-    requires leads { (s : State) → IsStart case.now.component case.now.matrix s →
-        IsSchedule s from.now }
 {
+    let from = beginning(rt, case, from)?;
     assert!(rt; from.moves().len() <= 40);
     let mut cache = Cache::new(rt.alloc(), tree, 1)?;
     Ok(search_with(
@@ -171,55 +174,21 @@ fn found_below<T: SerialTree>(
         &case.matrix,
         tables,
         &mut cache,
-        from,
+        &from,
         40,
         &mut Unwatched,
     )?)
 }
 
-/// All schedules below the one of this text are good, and there are so many.
-fn assert_below<T: SerialTree>(
-    rt: &(impl AllocGlobal + Abort),
-    case: &Case,
-    tables: &Tables,
-    tree: &T,
-    from: &[u8],
-    counts: Counts,
-) -> Result<(), Fail>
-    requires of { CanRun case.now.component case.now.matrix }
-    requires tables { AreTables case.now.component case.now.matrix tables.now }
-{
-    let from = beginning(rt, &case.component, &case.matrix, from)?;
-    let found = found_below(rt, case, tables, tree, &from)?;
-    assert_eq!(rt; clean(&found), Some(counts));
-    Ok(())
-}
-
 /// The whole tree and its two halves: where each begins, and how many complete schedules it has.
 const PARTS: &[(&[u8], u64)] = &[
-    (EMPTY, 2564),
+    (b"schedule\n", 2564),
     (b"schedule 0\n", 1282),
     (b"schedule 1\n", 1282),
 ];
 
-/// Each of the parts has as many.
+/// One table serves all parts.
 fn assert_parts<T: SerialTree>(
-    rt: &(impl AllocGlobal + Abort),
-    case: &Case,
-    tables: &Tables,
-    tree: &T,
-) -> Result<(), Fail>
-    requires of { CanRun case.now.component case.now.matrix }
-    requires tables { AreTables case.now.component case.now.matrix tables.now }
-{
-    for (from, count) in PARTS {
-        assert_below(rt, case, tables, tree, from, complete(*count))?;
-    }
-    Ok(())
-}
-
-/// One table for the whole tree and for its two halves.
-fn assert_halves<T: SerialTree>(
     rt: &(impl AllocGlobal + Abort),
     case: &Case,
     tree: &T,
@@ -227,92 +196,15 @@ fn assert_halves<T: SerialTree>(
     requires { CanRun case.now.component case.now.matrix }
 {
     let tables = Tables::new(rt.alloc(), &case.component, &case.matrix, 40)?;
-    assert_parts(rt, case, &tables, tree)
-}
-
-/// The same over the packed set of all serial histories.
-fn assert_halves_serially(rt: &(impl AllocGlobal + Abort), case: &Case) -> Result<(), Fail>
-    requires { CanRun case.now.component case.now.matrix }
-{
-    let packed = packed(rt, case)?;
-    assert_halves(rt, case, &&packed)
+    for (from, count) in PARTS {
+        assert_clean(rt, &found_below(rt, case, &tables, tree, from)?, *count, 0);
+    }
+    Ok(())
 }
 
 #[test]
 fn one_table_serves_all_parts(rt: HostRuntime) -> Result<(), Fail> {
+    let packed = packed(&rt, EXCHANGES)?;
     let case = case_of(&rt, ROWS.as_bytes(), EXCHANGES)?;
-    assert_halves_serially(&rt, &case)
-}
-
-/// Each of two threads can always move, so 12 moves are cut in 4,096 ways, which are counted
-/// together: 64 times 64.
-fn words_found(rt: &(impl AllocGlobal + Abort), watch: &mut Patience) -> Result<Found, Fail>
-    requires { watch.old.stopped ≡ false }
-{
-    let case = case_of(rt, ROWS.as_bytes(), b"thread spin\nthread spin\n")?;
-    let set = Trie::new(rt.alloc());
-    found_watched(rt, &case, &&set, 12, watch)
-}
-
-/// A watch that does not stop the search is asked after each 64 of them.
-fn assert_words_counted(rt: &(impl AllocGlobal + Abort)) -> Result<(), Fail> {
-    let mut watch = stops_at(0);
-    let found = words_found(rt, &mut watch)?;
-    assert_eq!(rt; clean(&found), Some(cut(4096)));
-    assert_eq!(rt; watch.asked, 64);
-    Ok(())
-}
-
-/// A watch that stops at its last question ends the search.
-fn assert_words_abandoned(rt: &(impl AllocGlobal + Abort)) -> Result<(), Fail> {
-    let mut watch = stops_at(64);
-    let found = words_found(rt, &mut watch)?;
-    assert!(rt; matches!(found, Found::Abandoned));
-    Ok(())
-}
-
-#[test]
-fn a_watch_is_asked_of_what_is_counted(rt: HostRuntime) -> Result<(), Fail> {
-    assert_words_counted(&rt)?;
-    assert_words_abandoned(&rt)
-}
-
-/// The least bad schedule, and why it is bad.
-fn assert_bad(
-    rt: &(impl AllocGlobal + Abort),
-    matrix: &[u8],
-    text: &str,
-    reason: Why,
-) -> Result<(), Fail> {
-    let found = found_serially(rt, matrix, &mut Unwatched)?;
-    assert_found_bad(rt, &found, text, reason)
-}
-
-/// Matrices, with the least bad schedule of each and why it is bad.
-const BAD: &[(&[u8], &str, Why)] = &[
-    (
-        b"thread inc\nthread inc\n",
-        "schedule 0 0 0 1 1 0 0 1 1 1\n",
-        Why::Complete,
-    ),
-    (
-        b"thread hold\nthread put\nthread get\n",
-        "schedule 0 0 1 1 0 0 1 1 2 2 2\n",
-        Why::Complete,
-    ),
-    (
-        b"thread take\nthread mn\nthread nm\n",
-        "schedule 0 1 1 2 2\n",
-        Why::Stuck(1),
-    ),
-];
-
-#[test]
-fn searches_over_packed_sets(rt: HostRuntime) -> Result<(), Fail> {
-    for (matrix, text, reason) in BAD {
-        assert_bad(&rt, matrix, text, *reason)?;
-    }
-    let found = found_serially(&rt, EXCHANGES, &mut Unwatched)?;
-    assert_eq!(rt; clean(&found), Some(complete(2564)));
-    Ok(())
+    assert_parts(&rt, &case, &&packed)
 }

@@ -1,215 +1,139 @@
-//! Worked examples: what small components do serially, and what their threads did.
+//! Verdicts on the histories of schedules, over the serial histories of their matrix.
 
-ghost use Rattle.std.specs.Prelude.{◌≡◌};
-ghost use Rattle.lu_history.specs.declared.serial.SerialOutcome.TheVariants.{Ret};
+ghost use Rattle.lu_machine.specs.Starts.{CanRun};
 
-use lu_history::{History, HistoryFault, SerialOp, SerialOutcome};
-use lu_machine::{Event, Outcome};
+use crate::serial_runs::serial_histories;
+use lu_cases::{Case, case_of};
+use lu_examples::ROWS;
+use lu_history::History;
+use lu_replay::{Replay, replay};
+use lu_test::read_schedule;
 use lu_trie::{PackedTrie, SerialTree, Trie};
 use lu_witness::{Verdict, has_witness, verdict};
-use std::alloc::{AllocError, Global};
+use std::alloc::Global;
 use std::process::Abort;
 use std::test::Fail;
 
-fn ret(thread: u8, number: u32) -> SerialOp
-    ensures { result.outcome ≡ Ret number }
-{
-    SerialOp {
-        thread,
-        outcome: SerialOutcome::Ret(number),
-    }
-}
+/// Thread 0 sets a cell to 1 and back to 0; thread 1 sets another cell to 1 where the first one is
+/// 0; thread 2 reads that.
+const OVERTAKEN: &[u8] = b"thread hold\nthread put\nthread get\n";
 
-fn stuck(thread: u8) -> SerialOp {
-    SerialOp {
-        thread,
-        outcome: SerialOutcome::Stuck,
-    }
-}
+/// Thread 0 waits for what never comes; threads 1 and 2 take two locks, in opposite orders.
+const WAITING: &[u8] = b"thread take\nthread mn\nthread nm\n";
 
-fn insert_two(
-    set: &mut Trie<Global>,
-    first: (u8, u32),
-    last: SerialOp,
-) -> Result<bool, AllocError> {
-    set.insert(&[ret(first.0, first.1), last])
-}
+/// Two threads take a lock that nobody frees.
+const LOCKED: &[u8] = b"thread acquire\nthread acquire\n";
 
-fn insert_three(
-    set: &mut Trie<Global>,
-    first: (u8, u32),
-    second: (u8, u32),
-    last: SerialOp,
-) -> Result<bool, AllocError> {
-    set.insert(&[ret(first.0, first.1), ret(second.0, second.1), last])
-}
+/// Two threads count up by one, and answer the new number.
+const COUNTED: &[u8] = b"thread inc\nthread inc\n";
 
-fn call(t: u8) -> Event {
-    Event::Call { t, k: 0 }
-}
+/// A matrix and a schedule: the verdict on its history, and whether that has a witness, with its
+/// pending call as stuck.
+const JUDGED: &[(&[u8], &[u8], Verdict, bool)] = &[
+    // Precedence alone refuses.
+    (
+        OVERTAKEN,
+        b"schedule 0 0 1 1 0 0 1 1 2 2 2\n",
+        Verdict::NoWitness,
+        false,
+    ),
+    (
+        OVERTAKEN,
+        b"schedule 0 0 1 1 0 0 2 1 1 2 2\n",
+        Verdict::Good,
+        true,
+    ),
+    // Each pending call needs a witness.
+    (
+        WAITING,
+        b"schedule 0 1 1 2 2\n",
+        Verdict::NoWitnessFor(1),
+        false,
+    ),
+    (WAITING, b"schedule 0 1 1 1 1 1 1\n", Verdict::Good, true),
+    // A taken lock is waited for.
+    (LOCKED, b"schedule 0 0 0 1\n", Verdict::Good, true),
+    (LOCKED, b"schedule 0 1\n", Verdict::NoWitnessFor(0), false),
+    // A lost update has no witness.
+    (
+        COUNTED,
+        b"schedule 0 0 0 0 0 1 1 1 1 1\n",
+        Verdict::Good,
+        true,
+    ),
+    (
+        COUNTED,
+        b"schedule 0 0 1 1 0 0 0 1 1 1\n",
+        Verdict::NoWitness,
+        false,
+    ),
+];
 
-fn returns(t: u8, number: u32) -> Event {
-    Event::Return {
-        t,
-        k: 0,
-        outcome: Outcome::Ret(number),
-    }
-}
-
-fn history_of<R: AllocGlobal + Abort>(
-    rt: &R,
-    alloc: Global,
-    events: &[Event],
-) -> Result<History, HistoryFault> {
-    let mut history = History::new(alloc);
-    for event in events {
-        assert!(rt; history.fits(*event));
-        history.push(*event)?;
-    }
-    Ok(history)
-}
-
-fn assert_judged<R: Abort, T: SerialTree>(
-    rt: &R,
+/// The verdict on the history over the tree is this one, and so is whether it has a witness.
+fn assert_judged<T: SerialTree>(
+    rt: &impl Abort,
     tree: &T,
     history: &History,
-    want: Verdict,
+    wanted: Verdict,
     witness: bool,
 ) {
-    assert!(rt; verdict(tree, history) == want);
+    assert!(rt; verdict(tree, history) == wanted);
     assert!(rt; has_witness(tree, history) == witness);
 }
 
-/// The set and its packed form give the history this verdict, and say whether the history itself
-/// has a witness.
-fn assert_verdict<R: AllocGlobal + Abort>(
-    rt: &R,
-    alloc: Global,
+/// The same over the set, and over the packed set.
+fn assert_judged_by(
+    rt: &(impl AllocGlobal + Abort),
     set: &Trie<Global>,
-    events: &[Event],
-    want: Verdict,
+    history: &History,
+    wanted: Verdict,
     witness: bool,
-) -> Result<(), HistoryFault> {
-    let history = history_of(rt, alloc, events)?;
-    let packed = PackedTrie::pack(alloc, set)?;
-    assert_judged(rt, &set, &history, want, witness);
-    assert_judged(rt, &&packed, &history, want, witness);
+) -> Result<(), Fail> {
+    let packed = PackedTrie::pack(rt.alloc(), set)?;
+    assert_judged(rt, &set, history, wanted, witness);
+    assert_judged(rt, &&packed, history, wanted, witness);
     Ok(())
 }
 
-/// Thread 0 sets a cell to 1 and back to 0; thread 1 sets another cell to 1 where the first one is
-/// 0; thread 2 reads that. Of each call its thread, and what it returns.
-const OVERTAKEN: &[((u8, u32), (u8, u32), (u8, u32))] = &[
-    ((0, 0), (1, 0), (2, 1)),
-    ((0, 0), (2, 0), (1, 0)),
-    ((1, 0), (0, 0), (2, 1)),
-    ((1, 0), (2, 1), (0, 0)),
-    ((2, 0), (0, 0), (1, 0)),
-    ((2, 0), (1, 0), (0, 0)),
-];
+/// What the schedule shows.
+fn replayed(rt: &impl AllocGlobal, case: &Case, schedule: &[u8]) -> Result<Replay, Fail>
+    requires { CanRun case.now.component case.now.matrix }
+{
+    let schedule = read_schedule(rt.alloc(), schedule)?;
+    Ok(replay(rt.alloc(), &case.component, &case.matrix, &schedule)?)
+}
 
-/// Adds these histories, and judges one that is refused and one that is not.
-fn judge_overtaken<R: AllocGlobal + Abort>(
-    rt: &R,
-    alloc: Global,
-    set: &mut Trie<Global>,
-) -> Result<(), HistoryFault> {
-    for (first, second, last) in OVERTAKEN {
-        insert_three(set, *first, *second, ret(last.0, last.1))?;
+/// The same for the history of a schedule, over the serial histories of its case.
+fn assert_case_judged(
+    rt: &(impl AllocGlobal + Abort),
+    case: &Case,
+    schedule: &[u8],
+    wanted: Verdict,
+    witness: bool,
+) -> Result<(), Fail>
+    requires { CanRun case.now.component case.now.matrix }
+{
+    let shown = replayed(rt, case, schedule)?;
+    let set = serial_histories(rt, case)?;
+    assert_judged_by(rt, &set, &shown.history, wanted, witness)
+}
+
+/// The same for the matrix of this text.
+fn assert_matrix_judged(
+    rt: &(impl AllocGlobal + Abort),
+    matrix: &[u8],
+    schedule: &[u8],
+    wanted: Verdict,
+    witness: bool,
+) -> Result<(), Fail> {
+    let case = case_of(rt, ROWS.as_bytes(), matrix)?;
+    assert_case_judged(rt, &case, schedule, wanted, witness)
+}
+
+#[test]
+fn histories_have_their_verdicts(rt: HostRuntime) -> Result<(), Fail> {
+    for (matrix, schedule, wanted, witness) in JUDGED {
+        assert_matrix_judged(&rt, matrix, schedule, *wanted, *witness)?;
     }
-    let overtaken = [
-        call(0),
-        call(1),
-        returns(0, 0),
-        returns(1, 0),
-        call(2),
-        returns(2, 0),
-    ];
-    assert_verdict(rt, alloc, set, &overtaken, Verdict::NoWitness, false)?;
-    let overlapping = [
-        call(0),
-        call(1),
-        returns(0, 0),
-        call(2),
-        returns(1, 0),
-        returns(2, 0),
-    ];
-    assert_verdict(rt, alloc, set, &overlapping, Verdict::Good, true)?;
-    Ok(())
-}
-
-#[test]
-fn precedence_alone_refuses(rt: HostRuntime) -> Result<(), Fail> {
-    let mut set = Trie::new(rt.alloc());
-    judge_overtaken(&rt, rt.alloc(), &mut set)?;
-    Ok(())
-}
-
-/// Thread 0 waits for what never comes; threads 1 and 2 take two locks, in opposite orders.
-fn judge_waiting<R: AllocGlobal + Abort>(
-    rt: &R,
-    alloc: Global,
-    set: &mut Trie<Global>,
-) -> Result<(), HistoryFault> {
-    set.insert(&[stuck(0)])?;
-    insert_two(set, (1, 0), stuck(0))?;
-    insert_two(set, (2, 0), stuck(0))?;
-    insert_three(set, (1, 0), (2, 0), stuck(0))?;
-    insert_three(set, (2, 0), (1, 0), stuck(0))?;
-    let deadlocked = [call(0), call(1), call(2)];
-    assert_verdict(rt, alloc, set, &deadlocked, Verdict::NoWitnessFor(1), false)?;
-    let waiting = [call(0), call(1), returns(1, 0)];
-    assert_verdict(rt, alloc, set, &waiting, Verdict::Good, true)?;
-    Ok(())
-}
-
-#[test]
-fn each_pending_call_needs_a_witness(rt: HostRuntime) -> Result<(), Fail> {
-    let mut set = Trie::new(rt.alloc());
-    judge_waiting(&rt, rt.alloc(), &mut set)?;
-    Ok(())
-}
-
-/// Two threads take a lock that nobody frees.
-fn judge_locked<R: AllocGlobal + Abort>(
-    rt: &R,
-    alloc: Global,
-    set: &mut Trie<Global>,
-) -> Result<(), HistoryFault> {
-    insert_two(set, (0, 0), stuck(1))?;
-    insert_two(set, (1, 0), stuck(0))?;
-    let held = [call(0), returns(0, 0), call(1)];
-    assert_verdict(rt, alloc, set, &held, Verdict::Good, true)?;
-    let neither = [call(0), call(1)];
-    assert_verdict(rt, alloc, set, &neither, Verdict::NoWitnessFor(0), false)?;
-    Ok(())
-}
-
-#[test]
-fn a_taken_lock_is_waited_for(rt: HostRuntime) -> Result<(), Fail> {
-    let mut set = Trie::new(rt.alloc());
-    judge_locked(&rt, rt.alloc(), &mut set)?;
-    Ok(())
-}
-
-/// Two threads count up by one, and answer the new number.
-fn judge_counted<R: AllocGlobal + Abort>(
-    rt: &R,
-    alloc: Global,
-    set: &mut Trie<Global>,
-) -> Result<(), HistoryFault> {
-    insert_two(set, (0, 1), ret(1, 2))?;
-    insert_two(set, (1, 1), ret(0, 2))?;
-    let one_by_one = [call(0), returns(0, 1), call(1), returns(1, 2)];
-    assert_verdict(rt, alloc, set, &one_by_one, Verdict::Good, true)?;
-    let lost = [call(0), call(1), returns(0, 1), returns(1, 1)];
-    assert_verdict(rt, alloc, set, &lost, Verdict::NoWitness, false)?;
-    Ok(())
-}
-
-#[test]
-fn a_lost_update_has_no_witness(rt: HostRuntime) -> Result<(), Fail> {
-    let mut set = Trie::new(rt.alloc());
-    judge_counted(&rt, rt.alloc(), &mut set)?;
     Ok(())
 }

@@ -95,12 +95,18 @@ fn assert_same<R: Abort, S: SerialTree, T: SerialTree>(rt: &R, left: &S, right: 
     assert!(rt; same_members(left, left.root(), right, right.root()));
 }
 
+/// A set of three in the arena and its packed form there have the same members.
+fn assert_lies_in(rt: &impl Abort, arena: &Bump<Global>) -> Result<(), AllocError> {
+    let mut set = Trie::new(arena);
+    fill_to(&mut set, 3)?;
+    let packed = PackedTrie::pack(arena, &set)?;
+    assert_same(rt, &&set, &&packed, 3);
+    Ok(())
+}
+
 #[test]
 fn lies_in_an_arena(rt: HostRuntime) -> Result<(), Fail> {
     let arena = Bump::new(rt.alloc());
-    let mut set = Trie::new(&arena);
-    fill_to(&mut set, 3)?;
-    let packed = PackedTrie::pack(&arena, &set)?;
-    assert_same(&rt, &&set, &&packed, 3);
+    assert_lies_in(&rt, &arena)?;
     Ok(())
 }

@@ -7,7 +7,7 @@ ghost use Rattle.lu_trie.specs.Conflicts.{IsDeterministic};
 
 use lu_history::{SerialOp, SerialOutcome};
 use lu_trie::{PackedTrie, SerialTree, Trie};
-use std::alloc::{AllocError, Allocator, Global};
+use std::alloc::{AllocError, Global};
 use std::process::Abort;
 use std::test::Fail;
 
@@ -36,55 +36,24 @@ fn stuck(thread: u8) -> SerialOp {
     }
 }
 
-/// Inserts a history, a beginning of it, the empty one, and the beginning again.
-fn insert_four<A: Allocator + Clone>(
-    set: &mut Trie<A>,
-    history: &[SerialOp],
-    beginning: &[SerialOp],
-) -> Result<[bool; 4], AllocError>
-    requires history { IsSerial history.now }
-    requires beginning { IsSerial beginning.now }
-{
-    Ok([
-        set.insert(history)?,
-        set.insert(beginning)?,
-        set.insert(&[])?,
-        set.insert(beginning)?,
-    ])
-}
-
-/// Each inserted history is a member of its own, and no other one is.
-fn assert_inserts<R: AllocGlobal + Abort>(
-    rt: &R,
-    set: &mut Trie<Global>,
-) -> Result<(), AllocError> {
-    assert!(rt; !set.contains(&[]) && set.is_empty());
-    assert_eq!(rt; set.len(), 0);
+/// Each inserted history is a member of its own, and no other one is: a history, a beginning of it,
+/// the empty one, and the beginning again.
+fn assert_inserts(rt: &impl Abort, set: &mut Trie<Global>) {
     let (first, second) = (ret(0, 1), ret(1, 2));
-    assert_eq!(rt;
-        insert_four(set, &[first, second], &[first])?,
-        [true, true, true, false]
-    );
-    assert_eq!(rt; set.len(), 3);
-    assert!(rt; !set.is_empty());
-    for member in [
-        [].as_slice(),
-        [first].as_slice(),
-        [first, second].as_slice(),
-    ] {
-        assert!(rt; set.contains(member));
-    }
-    for other in [[second].as_slice(), [first, first].as_slice()] {
-        assert!(rt; !set.contains(other));
-    }
-    Ok(())
+    assert!(rt; matches!(set.insert(&[first, second]), Ok(true)));
+    assert!(rt; matches!(set.insert(&[first]), Ok(true)));
+    assert!(rt; matches!(set.insert(&[]), Ok(true)));
+    assert!(rt; matches!(set.insert(&[first]), Ok(false)));
+    assert!(rt; set.len() == 3 && !set.is_empty());
+    assert!(rt; set.contains(&[]) && set.contains(&[first]) && set.contains(&[first, second]));
+    assert!(rt; !set.contains(&[second]) && !set.contains(&[first, first]));
 }
 
 #[test]
-fn beginnings_are_members_of_their_own(rt: HostRuntime) -> Result<(), Fail> {
+fn beginnings_are_members_of_their_own(rt: HostRuntime) {
     let mut set = Trie::new(rt.alloc());
-    assert_inserts(&rt, &mut set)?;
-    Ok(())
+    assert!(rt; !set.contains(&[]) && set.is_empty() && set.len() == 0);
+    assert_inserts(&rt, &mut set);
 }
 
 /// Inserts the history where it conflicts with no member, and answers the conflict.
@@ -151,23 +120,28 @@ fn last_kid<T: SerialTree>(tree: &T) -> Option<(SerialOp, bool)> {
     Some((label, tree.ends(below)))
 }
 
-fn two_members(alloc: Global) -> Result<Trie<Global>, AllocError> {
-    let mut set = Trie::new(alloc);
-    insert_four(&mut set, &[ret(0, 1), ret(1, 2)], &[ret(1, 2)])?;
-    Ok(set)
+/// The last kid of the root of a tree is this one.
+fn assert_last_kid<T: SerialTree>(rt: &impl Abort, tree: &T, want: Option<(SerialOp, bool)>) {
+    assert!(rt; last_kid(tree) == want);
 }
 
-fn assert_last_kid<R: Abort, T: SerialTree>(rt: &R, tree: &T, want: Option<(SerialOp, bool)>) {
-    assert!(rt; last_kid(tree) == want);
+/// The last kid of a set with two members is this one, also where the set is packed.
+fn assert_both_alike(
+    rt: &(impl AllocGlobal + Abort),
+    set: &mut Trie<Global>,
+) -> Result<(), AllocError> {
+    assert_last_kid(rt, &&*set, None);
+    assert!(rt; matches!(set.insert(&[ret(0, 1), ret(1, 2)]), Ok(true)));
+    assert!(rt; matches!(set.insert(&[ret(1, 2)]), Ok(true)));
+    assert_last_kid(rt, &&*set, Some((ret(1, 2), true)));
+    let packed = PackedTrie::pack(rt.alloc(), set)?;
+    assert_last_kid(rt, &&packed, Some((ret(1, 2), true)));
+    Ok(())
 }
 
 #[test]
 fn both_forms_read_alike(rt: HostRuntime) -> Result<(), Fail> {
-    let alloc = rt.alloc();
-    let set = two_members(alloc)?;
-    let packed = PackedTrie::pack(alloc, &set)?;
-    assert_last_kid(&rt, &&Trie::new(alloc), None);
-    assert_last_kid(&rt, &&set, Some((ret(1, 2), true)));
-    assert_last_kid(&rt, &&packed, Some((ret(1, 2), true)));
+    let mut set = Trie::new(rt.alloc());
+    assert_both_alike(&rt, &mut set)?;
     Ok(())
 }

@@ -1,8 +1,8 @@
-ghost use Rattle.std.specs.Prelude.{◌≡◌, [], ◌∷◌};
+ghost use Rattle.std.specs.Prelude.{◌≡◌, ◌<◌, ◌≤◌, [], ◌∷◌, length};
 ghost use Rattle.lu_worker_tests.specs.Boards.{HoldsNone, IsSpentSeat};
 
-use lu_board::board::{Board, Close, Seat};
-use lu_board::board_core::{Core, CoreEvent, CoreFault, run};
+use lu_board::board::{Board, Seat};
+use lu_board::board_core::{CoreEvent, CoreFault, run};
 use lu_board::view::{Kind, Look};
 use std::alloc::Global;
 use std::process::Abort;
@@ -73,8 +73,8 @@ fn skips(rt: &impl Abort, board: &Board, seat: &mut Seat, expected: u64)
 {
     claims(rt, board, seat, expected);
     match board.look(seat, expected) {
-        Look::Skip(best) => assert_eq!(rt; best, 1),
-        Look::Go(_) => panic!(rt; "piece {expected} is above piece 1 and is not skipped"),
+        Look::Skip(best) => assert!(rt; best == 1),
+        Look::Go(_) => panic!(rt; "a piece above piece 1 is not skipped"),
     }
 }
 
@@ -101,13 +101,7 @@ fn a_seat_sees_what_another_lowered(rt: HostRuntime) -> Result<(), Fail> {
     seats.push(a)?;
     seats.push(b)?;
     let close = board.finish(seats);
-    assert_eq!(rt;
-        close,
-        Close {
-            best: Some(1),
-            given_up: false
-        }
-    );
+    assert!(rt; (close.best, close.given_up) == (Some(1), false));
     Ok(())
 }
 
@@ -121,13 +115,7 @@ fn two_threads_share_a_board(rt: HostRuntime) -> Result<(), Fail> {
     seats.push(first)?;
     seats.push(second)?;
     let close = board.finish(seats);
-    assert_eq!(rt;
-        close,
-        Close {
-            best: Some(5),
-            given_up: false
-        }
-    );
+    assert!(rt; (close.best, close.given_up) == (Some(5), false));
     Ok(())
 }
 
@@ -138,10 +126,8 @@ fn a_piece_is_given_up(rt: HostRuntime) -> Result<(), Fail> {
         panic!(rt; "no seat")
     };
     claims(&rt, &board, &mut seat, 0);
-    let look = board.look(&mut seat, 0);
-    assert_eq!(rt; look, Look::Go(None));
-    let Look::Go(_) = look else {
-        panic!(rt; "the only piece is skipped")
+    let Look::Go(None) = board.look(&mut seat, 0) else {
+        panic!(rt; "the only piece is skipped, or one is better")
     };
     board.settle(&mut seat, 0, Kind::GivenUp);
     let None = board.claim(&mut seat) else {
@@ -149,13 +135,7 @@ fn a_piece_is_given_up(rt: HostRuntime) -> Result<(), Fail> {
     };
     seats.push(seat)?;
     let close = board.finish(seats);
-    assert_eq!(rt;
-        close,
-        Close {
-            best: None,
-            given_up: true
-        }
-    );
+    assert!(rt; (close.best, close.given_up) == (None, true));
     Ok(())
 }
 
@@ -175,95 +155,85 @@ fn a_board_without_pieces(rt: HostRuntime) -> Result<(), Fail> {
     seats.push(a)?;
     seats.push(b)?;
     let close = board.finish(seats);
-    assert_eq!(rt;
-        close,
-        Close {
-            best: None,
-            given_up: false
-        }
-    );
+    assert!(rt; (close.best, close.given_up) == (None, false));
     Ok(())
 }
 
-/// The first illegal event of a run with two workers and three pieces, of which 1 and 2 are bad.
-fn illegal_at(alloc: Global, events: &[CoreEvent]) -> Result<Option<usize>, CoreFault> {
-    match run(alloc, 3, 2, &[false, true, true], events) {
-        Ok(_) => Ok(None),
-        Err(CoreFault::BadEvent(index)) => Ok(Some(index)),
-        Err(fault) => Err(fault),
+/// What a run tells on these pieces, of which these are bad: the best piece, whether it is done, and
+/// whether a piece was given up; or the first illegal event.
+fn told(
+    alloc: Global,
+    workers: usize,
+    bad: &[bool],
+    events: &[CoreEvent],
+) -> Result<(Option<u64>, bool, bool), CoreFault>
+    requires pieces { length bad.now ≤ 65536 }
+    requires workers { (0 < workers) × (workers ≤ 16) }
+{
+    let core = run(alloc, bad.len() as u64, workers, bad, events)?;
+    Ok((core.best(), core.done(), core.given_up()))
+}
+
+/// Of three pieces 1 and 2 are bad.
+const BAD: &[bool] = &[false, true, true];
+
+/// Two workers share these out, and the last event is not legal.
+const SHARED: &[CoreEvent] = &[
+    CoreEvent::Claim(0),
+    CoreEvent::Claim(1),
+    CoreEvent::Claim(0),
+    CoreEvent::Lower(1, 1),
+    CoreEvent::Look(0, 2),
+    CoreEvent::Settle(0, 0, Kind::Clean),
+    CoreEvent::Claim(0),
+    CoreEvent::Claim(1),
+    CoreEvent::Claim(0),
+];
+
+#[test]
+fn the_core_knows_the_least_bad_piece(rt: HostRuntime) {
+    assert!(rt; told(rt.alloc(), 2, BAD, &SHARED[..8]) == Ok((Some(1), true, false)));
+    assert!(rt; told(rt.alloc(), 2, BAD, &SHARED[..4]) == Ok((Some(1), false, false)));
+    assert!(rt; told(rt.alloc(), 2, BAD, SHARED) == Err(CoreFault::BadEvent(8)));
+}
+
+const LOWERS_A_GOOD_PIECE: &[CoreEvent] = &[CoreEvent::Claim(0), CoreEvent::Lower(0, 0)];
+
+const NO_SUCH_WORKER: &[CoreEvent] = &[CoreEvent::Claim(2)];
+
+const SETTLES_A_BAD_PIECE: &[CoreEvent] = &[
+    CoreEvent::Claim(0),
+    CoreEvent::Claim(0),
+    CoreEvent::Settle(0, 1, Kind::Clean),
+    CoreEvent::Claim(2),
+];
+
+#[test]
+fn the_core_names_the_first_illegal_event(rt: HostRuntime) {
+    for (events, index) in [
+        (LOWERS_A_GOOD_PIECE, 1),
+        (NO_SUCH_WORKER, 0),
+        (SETTLES_A_BAD_PIECE, 2),
+    ] {
+        assert!(rt; told(rt.alloc(), 2, BAD, events) == Err(CoreFault::BadEvent(index)));
     }
-}
-
-/// The best piece of a run, whether it is done, and whether a piece was given up.
-fn told(core: &Core) -> (Option<u64>, bool, bool) {
-    (core.best(), core.done(), core.given_up())
-}
-
-/// The same of a run with two workers and three pieces, of which 1 and 2 are bad.
-fn told_after(alloc: Global, events: &[CoreEvent]) -> Result<(Option<u64>, bool, bool), CoreFault> {
-    Ok(told(&run(alloc, 3, 2, &[false, true, true], events)?))
-}
-
-#[test]
-fn the_core_knows_the_least_bad_piece(rt: HostRuntime) -> Result<(), Fail> {
-    let events = [
-        CoreEvent::Claim(0),
-        CoreEvent::Claim(1),
-        CoreEvent::Claim(0),
-        CoreEvent::Lower(1, 1),
-        CoreEvent::Look(0, 2),
-        CoreEvent::Settle(0, 0, Kind::Clean),
-        CoreEvent::Claim(0),
-        CoreEvent::Claim(1),
-        CoreEvent::Claim(0),
-    ];
-    assert_eq!(rt;
-        told_after(rt.alloc(), &events[..8])?,
-        (Some(1), true, false)
-    );
-    assert_eq!(rt;
-        told_after(rt.alloc(), &events[..4])?,
-        (Some(1), false, false)
-    );
-    assert_eq!(rt; illegal_at(rt.alloc(), &events)?, Some(8));
-    Ok(())
-}
-
-#[test]
-fn the_core_names_the_first_illegal_event(rt: HostRuntime) -> Result<(), Fail> {
-    let lowers_a_good_piece = [CoreEvent::Claim(0), CoreEvent::Lower(0, 0)];
-    assert_eq!(rt; illegal_at(rt.alloc(), &lowers_a_good_piece)?, Some(1));
-    let no_such_worker = [CoreEvent::Claim(2)];
-    assert_eq!(rt; illegal_at(rt.alloc(), &no_such_worker)?, Some(0));
-    let settles_a_bad_piece = [
-        CoreEvent::Claim(0),
-        CoreEvent::Claim(0),
-        CoreEvent::Settle(0, 1, Kind::Clean),
-        CoreEvent::Claim(2),
-    ];
-    assert_eq!(rt; illegal_at(rt.alloc(), &settles_a_bad_piece)?, Some(2));
-    Ok(())
 }
 
 #[test]
 fn a_fault_says_what_happened(rt: HostRuntime) -> Result<(), Fail> {
-    let text = format!(in rt.alloc(); "{}", CoreFault::BadEvent(8))?;
-    assert_eq!(rt; text.as_str(), "event 8 is not legal");
-    let text = format!(in rt.alloc(); "{}", CoreFault::Memory)?;
-    assert_eq!(rt; text.as_str(), "memory ran out");
+    let text = format!(in rt.alloc(); "{}, {}", CoreFault::BadEvent(8), CoreFault::Memory)?;
+    assert!(rt; text.as_str() == "event 8 is not legal, memory ran out");
     Ok(())
 }
 
+const GIVES_UP: &[CoreEvent] = &[
+    CoreEvent::Claim(0),
+    CoreEvent::Settle(0, 0, Kind::GivenUp),
+    CoreEvent::Claim(0),
+];
+
 #[test]
-fn the_core_tells_what_was_given_up(rt: HostRuntime) -> Result<(), Fail> {
-    let events = [
-        CoreEvent::Claim(0),
-        CoreEvent::Settle(0, 0, Kind::GivenUp),
-        CoreEvent::Claim(0),
-    ];
-    let core = run(rt.alloc(), 1, 1, &[true], &events)?;
-    assert_eq!(rt; told(&core), (None, true, true));
-    let core = run(rt.alloc(), 0, 1, &[], &[CoreEvent::Claim(0)])?;
-    assert_eq!(rt; told(&core), (None, true, false));
-    Ok(())
+fn the_core_tells_what_was_given_up(rt: HostRuntime) {
+    assert!(rt; told(rt.alloc(), 1, &[true], GIVES_UP) == Ok((None, true, true)));
+    assert!(rt; told(rt.alloc(), 1, &[], &[CoreEvent::Claim(0)]) == Ok((None, true, false)));
 }

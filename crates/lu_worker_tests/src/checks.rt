@@ -7,17 +7,12 @@ ghost use Rattle.lu_parallel.specs.Works.{ArePieces, IsFresh, IsSpentWork};
 use lu_board::board::{Board, Seat};
 use lu_board::view::Kind;
 use lu_cases::{Case, case_of};
-use lu_component::Component;
 use lu_examples::ROWS;
 use lu_machine::Counts;
-use lu_parallel::{
-    CheckFault, Gate, OpenGate, Options, Work, check, check_against, check_one, check_one_against,
-    conclude, work,
-};
+use lu_parallel::{CheckFault, Gate, OpenGate, Options, Work, check, conclude, work};
 use lu_report::{Finding, Report};
 use lu_serial::{Learnt, learn};
-use lu_spec::{Spec, read_spec};
-use lu_test::{Matrix, Schedule, write_schedule};
+use lu_test::{Schedule, write_schedule};
 use lu_tree::{Found, frontier};
 use lu_trie::{SerialTree, Trie};
 use lu_witness::Why;
@@ -50,27 +45,6 @@ fn report<R: AllocGlobal + Abort + Threads + Wait, G: Gate>(
     Ok(check(rt, rt.alloc(), gate, &case.component, &case.matrix, options)?)
 }
 
-/// The report of a matrix on the calling thread.
-fn report_of_one(
-    rt: &(impl AllocGlobal + Abort),
-    matrix: &[u8],
-    bound: u16,
-    serial: u16,
-) -> Result<Report, Fail>
-    requires bound { bound ≤ 256 }
-    requires serial { (1 ≤ serial) × (serial ≤ 256) }
-{
-    let case = case_of(rt, ROWS.as_bytes(), matrix)?;
-    Ok(check_one(
-        rt.alloc(),
-        rt.alloc(),
-        &case.component,
-        &case.matrix,
-        bound,
-        serial,
-    )?)
-}
-
 fn is_text(rt: &impl AllocGlobal, schedule: &Schedule, text: &str) -> Result<bool, Fail> {
     Ok(write_schedule(rt.alloc(), schedule)?.as_str() == text)
 }
@@ -97,13 +71,6 @@ fn is_pass(report: &Report, complete: u64) -> bool {
                 }
         }
         _ => false,
-    }
-}
-
-fn is_cut_at(rt: &impl AllocGlobal, report: &Report, text: &str) -> Result<bool, Fail> {
-    match report.finding() {
-        Finding::SerialCut(schedule) => is_text(rt, schedule, text),
-        _ => Ok(false),
     }
 }
 
@@ -140,140 +107,6 @@ fn faults_have_codes(rt: HostRuntime) {
     assert!(rt; CheckFault::Memory.code() == "memory" && CheckFault::Worker.code() == "K2");
 }
 
-/// One worker finds a lost increment.
-#[test]
-fn one_worker_finds_a_failure(rt: HostRuntime) -> Result<(), Fail> {
-    let lost = report_of_one(&rt, TWO_INCREMENTS, 40, 40)?;
-    assert!(rt; is_failure(&rt, &lost, LOST_INCREMENT)?);
-    Ok(())
-}
-
-/// It counts schedules.
-#[test]
-fn one_worker_counts(rt: HostRuntime) -> Result<(), Fail> {
-    let reads = report_of_one(&rt, TWO_READS, 6, 3)?;
-    assert!(rt; is_pass(&reads, 20) && reads.bound() == 6 && reads.serial() == Some(3));
-    Ok(())
-}
-
-/// It sees an operation that runs on.
-#[test]
-fn one_worker_sees_a_serial_cut(rt: HostRuntime) -> Result<(), Fail> {
-    let spins = report_of_one(&rt, b"thread spin\n", 40, 3)?;
-    assert!(rt; is_cut_at(&rt, &spins, "schedule 0 0 0 0\n")?);
-    Ok(())
-}
-
-/// The report is the same for any number of workers, and any depth.
-#[test]
-fn reports_are_the_same(rt: HostRuntime) -> Result<(), Fail> {
-    for workers in [1u8, 2, 16] {
-        for depth in [0u8, 4, 8] {
-            let lost = report(&rt, TWO_INCREMENTS, &OpenGate, workers, depth)?;
-            assert!(rt;
-                is_failure(&rt, &lost, LOST_INCREMENT)?,
-                "{workers} {depth}"
-            );
-        }
-    }
-    Ok(())
-}
-
-/// A pass is told by many workers too.
-#[test]
-fn many_workers_count(rt: HostRuntime) -> Result<(), Fail> {
-    let reads = report(&rt, TWO_READS, &OpenGate, 7, 3)?;
-    assert!(rt; is_pass(&reads, 20));
-    Ok(())
-}
-
-/// So is a serial offence.
-#[test]
-fn many_workers_tell_of_a_conflict(rt: HostRuntime) -> Result<(), Fail> {
-    let flips = report(&rt, b"thread flip\n", &OpenGate, 2, 4)?;
-    assert!(rt; matches!(flips.finding(), Finding::Nondeterministic { before: 0, .. }));
-    Ok(())
-}
-
-/// Two increments, one after the other.
-const RIGHT: &[u8] = b"lineup spec 1\nhistory 0=1 1=2\nhistory 1=1 0=2\n";
-
-/// The report of a check against a specification is a fail, in which one increment is lost.
-fn is_failure_against(rt: &impl AllocGlobal, report: &Report) -> Result<bool, Fail> {
-    Ok(report.serial().is_none() && is_failure(rt, report, LOST_INCREMENT)?)
-}
-
-/// A check on the calling thread finds it.
-fn assert_found_alone<T: SerialTree>(
-    rt: &(impl AllocGlobal + Abort),
-    case: &Case,
-    tree: &T,
-) -> Result<(), Fail>
-    requires { CanRun case.now.component case.now.matrix }
-{
-    let report = check_one_against(rt.alloc(), &case.component, &case.matrix, tree, 40)?;
-    assert!(rt; is_failure_against(rt, &report)?);
-    Ok(())
-}
-
-/// So does a check by so many workers.
-fn assert_found_by<R: AllocGlobal + Abort + Threads + Wait>(
-    rt: &R,
-    case: &Case,
-    specification: &Spec,
-    workers: u8,
-) -> Result<(), Fail>
-    requires { CanRun case.now.component case.now.matrix }
-{
-    let options = options(rt, workers, 4);
-    let tree = specification.tree();
-    let report = check_against(
-        rt,
-        rt.alloc(),
-        &OpenGate,
-        &case.component,
-        &case.matrix,
-        &tree,
-        options,
-    )?;
-    assert!(rt; is_failure_against(rt, &report)?, "{workers}");
-    Ok(())
-}
-
-/// So do checks by 1, 2 and 16.
-fn assert_found<R: AllocGlobal + Abort + Threads + Wait>(
-    rt: &R,
-    case: &Case,
-    specification: &Spec,
-) -> Result<(), Fail>
-    requires { CanRun case.now.component case.now.matrix }
-{
-    assert_found_alone(rt, case, &specification.tree())?;
-    for workers in [1u8, 2, 16] {
-        assert_found_by(rt, case, specification, workers)?;
-    }
-    Ok(())
-}
-
-/// A check against a specification finds the same with any number of workers, and so does the check
-/// on the calling thread.
-#[test]
-fn a_specification_is_checked(rt: HostRuntime) -> Result<(), Fail> {
-    let case = case_of(&rt, ROWS.as_bytes(), TWO_INCREMENTS)?;
-    let specification = read_spec(rt.alloc(), &case.matrix, RIGHT)?;
-    assert_found(&rt, &case, &specification)
-}
-
-/// When a held piece may go on.
-#[derive(Clone, Copy, Debug)]
-enum Until {
-    /// A worker comes to the gate with this piece.
-    Comes(u64),
-
-    /// A worker is done with this piece.
-    Done(u64),
-}
-
 /// The number of a worker, from 1, once a worker has told it: waits for that, at most a million
 /// turns. 0 where none came.
 fn told(worker: &AtomicU64) -> u64 {
@@ -287,27 +120,36 @@ fn told(worker: &AtomicU64) -> u64 {
     0
 }
 
-/// A gate that holds a piece for a while.
+/// A gate that holds a piece until a worker comes to another one, or is done with one.
 #[derive(Drop)]
 struct Holding {
     piece: u64,
-    until: Until,
 
-    /// The worker that came with the piece, from 1.
+    /// The piece to which a worker has to come; `NONE` where none has to.
+    comes: u64,
+
+    /// The piece with which a worker has to be done; `NONE` where none has to.
+    done: u64,
+
+    /// The worker that came with the held piece, from 1.
     held: AtomicU64,
 
-    /// The worker for which the piece waits, from 1, as soon as it may go on.
+    /// The worker for which it waits, from 1, as soon as it may go on.
     awaited: AtomicU64,
 
-    /// The same when the piece went on.
+    /// The same when it went on.
     seen: AtomicU64,
 }
 
+/// No piece.
+const NONE: u64 = u64::MAX;
+
 impl Holding {
-    fn new(piece: u64, until: Until) -> Holding {
+    fn new(piece: u64, comes: u64, done: u64) -> Holding {
         Holding {
             piece,
-            until,
+            comes,
+            done,
             held: AtomicU64::new(0),
             awaited: AtomicU64::new(0),
             seen: AtomicU64::new(0),
@@ -323,15 +165,11 @@ impl Holding {
 
 impl Gate for Holding {
     fn pass(&self, worker: u8, piece: u64) {
-        if let Until::Comes(last) = self.until {
-            if piece == last {
-                self.awaited.store(u64::from(worker) + 1, Ordering::SeqCst);
-            }
+        if piece == self.comes {
+            self.awaited.store(u64::from(worker) + 1, Ordering::SeqCst);
         }
-        if let Until::Done(last) = self.until {
-            if piece == last {
-                told(&self.held);
-            }
+        if piece == self.done {
+            told(&self.held);
         }
         if piece == self.piece {
             self.held.store(u64::from(worker) + 1, Ordering::SeqCst);
@@ -340,10 +178,8 @@ impl Gate for Holding {
     }
 
     fn done(&self, worker: u8, piece: u64) {
-        if let Until::Done(last) = self.until {
-            if piece == last {
-                self.awaited.store(u64::from(worker) + 1, Ordering::SeqCst);
-            }
+        if piece == self.done {
+            self.awaited.store(u64::from(worker) + 1, Ordering::SeqCst);
         }
     }
 }
@@ -352,7 +188,7 @@ impl Gate for Holding {
 /// held.
 #[test]
 fn two_workers_work_at_once(rt: HostRuntime) -> Result<(), Fail> {
-    let gate = Holding::new(0, Until::Done(1));
+    let gate = Holding::new(0, NONE, 1);
     let reads = report(&rt, TWO_READS, &gate, 2, 4)?;
     assert!(rt; is_pass(&reads, 20));
     assert!(rt; gate.went_on_after_another());
@@ -363,56 +199,36 @@ fn two_workers_work_at_once(rt: HostRuntime) -> Result<(), Fail> {
 /// last one.
 #[test]
 fn the_least_failure_comes_last(rt: HostRuntime) -> Result<(), Fail> {
-    let gate = Holding::new(1, Until::Comes(15));
+    let gate = Holding::new(1, 15, NONE);
     let lost = report(&rt, TWO_INCREMENTS, &gate, 2, 4)?;
     assert!(rt; is_failure(&rt, &lost, LOST_INCREMENT)?);
     assert!(rt; gate.went_on_after_another());
     Ok(())
 }
 
-/// A gate that counts its calls.
-#[derive(Drop)]
-struct Counting {
-    passes: AtomicU64,
-    ends: AtomicU64,
-}
-
-impl Gate for Counting {
-    fn pass(&self, _worker: u8, _piece: u64) {
-        self.passes.fetch_add(1, Ordering::SeqCst);
-    }
-
-    fn done(&self, _worker: u8, _piece: u64) {
-        self.ends.fetch_add(1, Ordering::SeqCst);
-    }
-}
-
-/// One worker calls no gate. Two call it for each of the 14 pieces.
-#[test]
-fn pieces_pass_the_gate(rt: HostRuntime) -> Result<(), Fail> {
-    for (workers, calls) in [(1u8, 0u64), (2, 14)] {
-        let gate = Counting {
-            passes: AtomicU64::new(0),
-            ends: AtomicU64::new(0),
-        };
-        let reads = report(&rt, TWO_READS, &gate, workers, 4)?;
-        assert!(rt; is_pass(&reads, 20));
-        assert_eq!(rt; gate.passes.load(Ordering::SeqCst), calls);
-        assert_eq!(rt; gate.ends.load(Ordering::SeqCst), calls);
-    }
-    Ok(())
-}
-
 /// A gate that holds each worker's first piece until so many workers have come, at most a million
-/// turns.
+/// turns, and counts its calls.
 #[derive(Drop)]
 struct Meeting {
     wanted: u64,
     came: AtomicU64,
     met: AtomicU64,
+    ends: AtomicU64,
 
     /// A bit for the number of each worker that came.
     workers: AtomicU64,
+}
+
+impl Meeting {
+    fn new(wanted: u64) -> Meeting {
+        Meeting {
+            wanted,
+            came: AtomicU64::new(0),
+            met: AtomicU64::new(0),
+            ends: AtomicU64::new(0),
+            workers: AtomicU64::new(0),
+        }
+    }
 }
 
 impl Gate for Meeting {
@@ -432,18 +248,28 @@ impl Gate for Meeting {
         }
     }
 
-    fn done(&self, _worker: u8, _piece: u64) {}
+    fn done(&self, _worker: u8, _piece: u64) {
+        self.ends.fetch_add(1, Ordering::SeqCst);
+    }
+}
+
+/// One worker calls no gate. Two call it for each of the 14 pieces.
+#[test]
+fn pieces_pass_the_gate(rt: HostRuntime) -> Result<(), Fail> {
+    for (workers, calls) in [(1u8, 0u64), (2, 14)] {
+        let gate = Meeting::new(0);
+        let reads = report(&rt, TWO_READS, &gate, workers, 4)?;
+        assert!(rt; is_pass(&reads, 20));
+        assert_eq!(rt; gate.came.load(Ordering::SeqCst), calls);
+        assert_eq!(rt; gate.ends.load(Ordering::SeqCst), calls);
+    }
+    Ok(())
 }
 
 /// Sixteen workers are held at one time.
 #[test]
 fn sixteen_workers_meet(rt: HostRuntime) -> Result<(), Fail> {
-    let gate = Meeting {
-        wanted: 16,
-        came: AtomicU64::new(0),
-        met: AtomicU64::new(0),
-        workers: AtomicU64::new(0),
-    };
+    let gate = Meeting::new(16);
     let reads = report(&rt, TWO_READS, &gate, 16, 8)?;
     assert!(rt; is_pass(&reads, 20));
     assert_eq!(rt; gate.met.load(Ordering::SeqCst), 16);
@@ -451,31 +277,27 @@ fn sixteen_workers_meet(rt: HostRuntime) -> Result<(), Fail> {
     Ok(())
 }
 
-/// The pieces of a matrix: the schedules of four moves, and the ended ones of fewer.
-fn four_moves(
-    rt: &impl AllocGlobal,
-    component: &Component,
-    matrix: &Matrix,
-) -> Result<Vec<Schedule>, Fail>
-    requires { CanRun component.now matrix.now }
+/// The pieces of a case: the schedules of four moves, and the ended ones of fewer.
+fn four_moves(rt: &impl AllocGlobal, case: &Case) -> Result<Vec<Schedule>, Fail>
+    requires { CanRun case.now.component case.now.matrix }
     ensures few { IfOk result (λ pieces. vec_len pieces ≤ 65536) }
-    ensures pieces { IfOk result (λ pieces. ArePieces component.now matrix.now 40 pieces.items) }
+    ensures pieces { IfOk result (λ pieces.
+        ArePieces case.now.component case.now.matrix 40 pieces.items) }
 {
-    Ok(frontier(rt.alloc(), component, matrix, 40, 4)?)
+    Ok(frontier(rt.alloc(), &case.component, &case.matrix, 40, 4)?)
 }
 
 /// The works of the seats, one after another on this thread.
 fn work_in_turn<R: AllocGlobal, T: SerialTree>(
     rt: &R,
-    component: &Component,
-    matrix: &Matrix,
+    case: &Case,
     tree: &T,
     pieces: &[Schedule],
     board: &Board,
     seats: Vec<Seat>,
 ) -> Result<Vec<Work>, Fail>
-    requires of { CanRun component.now matrix.now }
-    requires pieces { ArePieces component.now matrix.now 40 pieces.now }
+    requires of { CanRun case.now.component case.now.matrix }
+    requires pieces { ArePieces case.now.component case.now.matrix 40 pieces.now }
     requires board { board.now.pieces ≡ length pieces.now }
     requires fresh { All (IsFresh board.now.board) seats.items }
     ensures all { IfOk result (λ works. length works.items ≡ length seats.items) }
@@ -485,8 +307,8 @@ fn work_in_turn<R: AllocGlobal, T: SerialTree>(
     for seat in seats {
         works.push(work(
             rt.alloc(),
-            component,
-            matrix,
+            &case.component,
+            &case.matrix,
             tree,
             pieces,
             40,
@@ -526,37 +348,35 @@ fn settle_and_lower(rt: &impl Abort, board: &Board, seat: &mut Seat)
 /// second.
 fn works_above<R: AllocGlobal + Abort, T: SerialTree>(
     rt: &R,
-    component: &Component,
-    matrix: &Matrix,
+    case: &Case,
     tree: &T,
     pieces: &[Schedule],
 ) -> Result<Vec<Work>, Fail>
-    requires of { CanRun component.now matrix.now }
+    requires of { CanRun case.now.component case.now.matrix }
     requires few { length pieces.now ≤ 65536 }
-    requires pieces { ArePieces component.now matrix.now 40 pieces.now }
+    requires pieces { ArePieces case.now.component case.now.matrix 40 pieces.now }
 {
     let (board, mut seats) = Board::new(rt.alloc(), pieces.len() as u64, 2)?;
     match take_seat(&mut seats, &board) {
         Some(mut seat) => settle_and_lower(rt, &board, &mut seat),
         None => panic!(rt; "no seat"),
     }
-    work_in_turn(rt, component, matrix, tree, pieces, &board, seats)
+    work_in_turn(rt, case, tree, pieces, &board, seats)
 }
 
 /// What two workers conclude that work one after the other on this thread.
 fn concluded_in_turn<R: AllocGlobal, T: SerialTree>(
     rt: &R,
-    component: &Component,
-    matrix: &Matrix,
+    case: &Case,
     tree: &T,
     pieces: &[Schedule],
 ) -> Result<Option<Found>, Fail>
-    requires of { CanRun component.now matrix.now }
+    requires of { CanRun case.now.component case.now.matrix }
     requires few { length pieces.now ≤ 65536 }
-    requires pieces { ArePieces component.now matrix.now 40 pieces.now }
+    requires pieces { ArePieces case.now.component case.now.matrix 40 pieces.now }
 {
     let (board, seats) = Board::new(rt.alloc(), pieces.len() as u64, 2)?;
-    let works = work_in_turn(rt, component, matrix, tree, pieces, &board, seats)?;
+    let works = work_in_turn(rt, case, tree, pieces, &board, seats)?;
     Ok(conclude(rt.alloc(), board, works)?)
 }
 
@@ -583,93 +403,55 @@ fn is_idle(works: &[Work]) -> bool {
         && works.iter().all(|work| work.counts == Counts::NONE && work.found.is_empty())
 }
 
-/// The serial histories of the matrix.
-fn serial_histories(
-    rt: &(impl AllocGlobal + Abort),
-    component: &Component,
-    matrix: &Matrix,
-) -> Result<Trie<Global>, Fail>
-    requires { CanRun component.now matrix.now }
+/// The serial histories of the case.
+fn serial_histories(rt: &(impl AllocGlobal + Abort), case: &Case) -> Result<Trie<Global>, Fail>
+    requires { CanRun case.now.component case.now.matrix }
 {
-    match learn(rt.alloc(), rt.alloc(), component, matrix, 40)? {
+    match learn(rt.alloc(), rt.alloc(), &case.component, &case.matrix, 40)? {
         Learnt::Set(set) => Ok(set),
-        Learnt::Cut(_) => panic!(rt; "a serial cut"),
-        Learnt::Conflict { .. } => panic!(rt; "a serial conflict"),
+        Learnt::Cut(_) | Learnt::Conflict { .. } => panic!(rt; "a serial offence"),
     }
 }
 
-/// A worker above a lesser failure searches nothing, and two workers in turn find the least
-/// failure.
-fn assert_worked_in_turn<R: AllocGlobal + Abort>(
-    rt: &R,
-    component: &Component,
-    matrix: &Matrix,
-    set: &Trie<Global>,
-    pieces: &[Schedule],
-) -> Result<(), Fail>
-    requires of { CanRun component.now matrix.now }
-    requires few { length pieces.now ≤ 65536 }
-    requires pieces { ArePieces component.now matrix.now 40 pieces.now }
+/// What two workers conclude that take turns on the pieces of the case.
+fn concluded(rt: &(impl AllocGlobal + Abort), case: &Case) -> Result<Option<Found>, Fail>
+    requires { CanRun case.now.component case.now.matrix }
 {
-    assert_eq!(rt; pieces.len(), 16);
-    let above = works_above(rt, component, matrix, &set, pieces)?;
-    assert!(rt; is_idle(&above));
-    let found = concluded_in_turn(rt, component, matrix, &set, pieces)?;
-    assert!(rt; is_bad(rt, &found, LOST_INCREMENT)?);
-    Ok(())
+    let set = serial_histories(rt, case)?;
+    let pieces = four_moves(rt, case)?;
+    concluded_in_turn(rt, case, &&set, &pieces)
 }
 
-/// The same for the pieces of a matrix.
-fn assert_turns<R: AllocGlobal + Abort>(
-    rt: &R,
-    component: &Component,
-    matrix: &Matrix,
-) -> Result<(), Fail>
-    requires { CanRun component.now matrix.now }
+/// The work of a worker above a lesser failure, on the pieces of the case.
+fn above(rt: &(impl AllocGlobal + Abort), case: &Case) -> Result<Vec<Work>, Fail>
+    requires { CanRun case.now.component case.now.matrix }
 {
-    let set = serial_histories(rt, component, matrix)?;
-    let pieces = four_moves(rt, component, matrix)?;
-    assert_worked_in_turn(rt, component, matrix, &set, &pieces)
-}
-
-/// The same over a set.
-fn concluded_over<R: AllocGlobal>(
-    rt: &R,
-    component: &Component,
-    matrix: &Matrix,
-    set: &Trie<Global>,
-    pieces: &[Schedule],
-) -> Result<Option<Found>, Fail>
-    requires of { CanRun component.now matrix.now }
-    requires few { length pieces.now ≤ 65536 }
-    requires pieces { ArePieces component.now matrix.now 40 pieces.now }
-{
-    concluded_in_turn(rt, component, matrix, &set, pieces)
-}
-
-/// What two workers conclude that take turns on the pieces of a matrix.
-fn concluded_of<R: AllocGlobal + Abort>(
-    rt: &R,
-    component: &Component,
-    matrix: &Matrix,
-) -> Result<Option<Found>, Fail>
-    requires { CanRun component.now matrix.now }
-{
-    let set = serial_histories(rt, component, matrix)?;
-    let pieces = four_moves(rt, component, matrix)?;
-    concluded_over(rt, component, matrix, &set, &pieces)
+    let set = serial_histories(rt, case)?;
+    let pieces = four_moves(rt, case)?;
+    works_above(rt, case, &&set, &pieces)
 }
 
 /// Where no piece is bad, the numbers are concluded.
 #[test]
 fn clean_works_are_added(rt: HostRuntime) -> Result<(), Fail> {
     let case = case_of(&rt, ROWS.as_bytes(), TWO_READS)?;
-    assert!(rt; is_clean(&concluded_of(&rt, &case.component, &case.matrix)?, 20));
+    assert!(rt; is_clean(&concluded(&rt, &case)?, 20));
+    Ok(())
+}
+
+/// A worker above a lesser failure searches none of 16 pieces, and two workers in turn find the
+/// least failure.
+fn assert_turns(rt: &(impl AllocGlobal + Abort), case: &Case) -> Result<(), Fail>
+    requires { CanRun case.now.component case.now.matrix }
+{
+    assert_eq!(rt; four_moves(rt, case)?.len(), 16);
+    assert!(rt; is_idle(&above(rt, case)?));
+    assert!(rt; is_bad(rt, &concluded(rt, case)?, LOST_INCREMENT)?);
     Ok(())
 }
 
 #[test]
 fn workers_take_turns(rt: HostRuntime) -> Result<(), Fail> {
     let case = case_of(&rt, ROWS.as_bytes(), TWO_INCREMENTS)?;
-    assert_turns(&rt, &case.component, &case.matrix)
+    assert_turns(&rt, &case)
 }

@@ -5,7 +5,7 @@ use Rattle.lu_worker_tests.proofs.checks.four_moves.Goals as goal
 
 pub returns-clause-few : goal.returns-clause-few
 returns-clause-few g c =
-    let start = start_there c.args.component.now c.args.matrix.now c.requires.settles in
+    let start = start_there c.args.case.now.component c.args.case.now.matrix c.requires.settles in
     let few = (c.in_ok-frontier.ensures.frontier start.0 start.1).few in
     let long = c.in_ok-frontier.field-0.ok.0 in
     omega (arith, few, long)
