@@ -82,8 +82,8 @@ fn own_spec(
     }
 }
 
-/// The certificate where no cut fails, of the first that is no full pass, if there is one. Asks that
-/// no serial run offends where there is none.
+/// The certificate where no cut fails: that the first that is no full pass leaves it undecided; or,
+/// where there is none, the set. Asks that no serial run offends then.
 pub(crate) fn conclude(
     alloc: Global,
     component: &Component,
@@ -129,8 +129,9 @@ pub fn certify(
     ensures decides { IfOk result (Decides component.now matrix.now) }
     ensures of { IfOk result (NamesCutOf component.now) }
 {
+    let end = count_cuts(matrix);
     let mut unclear = None;
-    for place in 0..count_cuts(matrix) {
+    for place in 0..end {
         let smaller = cut_at(alloc, matrix, place)?;
         let report = check_one(alloc, alloc, component, &smaller, bound, serial)?;
         if is_failure(&report) {

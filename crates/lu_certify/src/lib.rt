@@ -6,8 +6,11 @@
 //! histories are the specification. Where a cut fails, it is linearizable by no deterministic set.
 //!
 //! ```text
-//! let certificate = certify(alloc, &component, &matrix, 40, 40)?;
+//! let certificate = certify(alloc, &component, &matrix, 256, 256)?;
 //! ```
+//!
+//! [`certify`] does all on the calling thread. [`certify_by_workers`] has each cut checked by as
+//! many workers as its options say.
 #![tactic(auto)]
 
 mod certificate;

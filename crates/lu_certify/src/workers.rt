@@ -40,8 +40,9 @@ pub fn certify_by_workers<R: Threads + Wait, G: Gate>(
     ensures of { IfOk result (NamesCutOf component.now) }
     ensures alone { IfErr result (λ fault. options.workers ≡ 1 → fault ≡ Memory) }
 {
+    let end = count_cuts(matrix);
     let mut unclear = None;
-    for place in 0..count_cuts(matrix) {
+    for place in 0..end {
         let smaller = cut_at(alloc, matrix, place)?;
         let report = check(rt, alloc, gate, component, &smaller, options)?;
         if is_failure(&report) {

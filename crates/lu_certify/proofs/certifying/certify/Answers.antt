@@ -13,7 +13,7 @@ loop-place-init c = record {
 }
 
 pub cut_at-requires : goal.cut_at-requires
-cut_at-requires c = omega (arith, c.count_cuts-place-end.ensures)
+cut_at-requires c = omega (arith, c.count_cuts-end.ensures)
 
 pub check_one-requires-clause-of : goal.check_one-requires-clause-of
 check_one-requires-clause-of c = cut_runs c.args.component.now c.args.matrix.now c.loop-place.place c.in_ok-smaller.smaller c.requires.of c.in_ok-smaller.ensures
@@ -44,22 +44,22 @@ loop-place-preserved c =
 
 pub conclude-requires-clause-none : goal.conclude-requires-clause-none
 conclude-requires-clause-none c =
-    let all : cut_count c.args.matrix.now.threads ≤ c.loop-place.place = omega (arith, c.count_cuts-place-end.ensures, c.loop-place-test.false) in
+    let all : cut_count c.args.matrix.now.threads ≤ c.loop-place.place = omega (arith, c.count_cuts-end.ensures, c.loop-place-test.false) in
     none_offends c.args.component.now c.args.matrix.now c.args.bound c.args.serial c.loop-place.place c.loop-place.unclear all c.loop-place.invariant.found
 
 pub returns-clause-certificate : goal.returns-clause-certificate
 returns-clause-certificate c =
-    let all : cut_count c.args.matrix.now.threads ≤ c.loop-place.place = omega (arith, c.count_cuts-place-end.ensures, c.loop-place-test.false) in
+    let all : cut_count c.args.matrix.now.threads ≤ c.loop-place.place = omega (arith, c.count_cuts-end.ensures, c.loop-place-test.false) in
     concluded_where c.args.component.now c.args.matrix.now c.args.bound c.args.serial c.loop-place.place c.loop-place.unclear all c.loop-place.invariant.none c.loop-place.invariant.found c.conclude.result c.conclude.ensures
 
 pub returns-clause-decides : goal.returns-clause-decides
 returns-clause-decides c =
-    let all : cut_count c.args.matrix.now.threads ≤ c.loop-place.place = omega (arith, c.count_cuts-place-end.ensures, c.loop-place-test.false) in
+    let all : cut_count c.args.matrix.now.threads ≤ c.loop-place.place = omega (arith, c.count_cuts-end.ensures, c.loop-place-test.false) in
     decides_where c.args.component.now c.args.matrix.now c.args.bound c.args.serial c.requires.of.settles c.conclude.result
     (concluded_where c.args.component.now c.args.matrix.now c.args.bound c.args.serial c.loop-place.place c.loop-place.unclear all c.loop-place.invariant.none c.loop-place.invariant.found c.conclude.result c.conclude.ensures)
 
 pub returns-clause-of : goal.returns-clause-of
 returns-clause-of c =
-    let all : cut_count c.args.matrix.now.threads ≤ c.loop-place.place = omega (arith, c.count_cuts-place-end.ensures, c.loop-place-test.false) in
+    let all : cut_count c.args.matrix.now.threads ≤ c.loop-place.place = omega (arith, c.count_cuts-end.ensures, c.loop-place-test.false) in
     names_where c.args.component.now c.args.matrix.now c.args.bound c.args.serial c.requires.of.of c.conclude.result
     (concluded_where c.args.component.now c.args.matrix.now c.args.bound c.args.serial c.loop-place.place c.loop-place.unclear all c.loop-place.invariant.none c.loop-place.invariant.found c.conclude.result c.conclude.ensures)

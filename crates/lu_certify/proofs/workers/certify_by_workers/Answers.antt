@@ -13,7 +13,7 @@ loop-place-init g c = record {
 }
 
 pub cut_at-requires : goal.cut_at-requires
-cut_at-requires g c = omega (arith, c.count_cuts-place-end.ensures)
+cut_at-requires g c = omega (arith, c.count_cuts-end.ensures)
 
 pub returns-then-is_failure-clause-certificate : goal.returns-then-is_failure-clause-certificate
 returns-then-is_failure-clause-certificate g c =
@@ -41,23 +41,23 @@ loop-place-preserved g c =
 
 pub conclude-requires-clause-none : goal.conclude-requires-clause-none
 conclude-requires-clause-none g c =
-    let all : cut_count c.args.matrix.now.threads ≤ c.loop-place.place = omega (arith, c.count_cuts-place-end.ensures, c.loop-place-test.false) in
+    let all : cut_count c.args.matrix.now.threads ≤ c.loop-place.place = omega (arith, c.count_cuts-end.ensures, c.loop-place-test.false) in
     rw c.serial.ensures.serial (none_offends c.args.component.now c.args.matrix.now c.args.options.bound c.args.options.serial c.loop-place.place c.loop-place.unclear all c.loop-place.invariant.found)
 
 pub returns-clause-certificate : goal.returns-clause-certificate
 returns-clause-certificate g c =
-    let all : cut_count c.args.matrix.now.threads ≤ c.loop-place.place = omega (arith, c.count_cuts-place-end.ensures, c.loop-place-test.false) in
+    let all : cut_count c.args.matrix.now.threads ≤ c.loop-place.place = omega (arith, c.count_cuts-end.ensures, c.loop-place-test.false) in
     concluded c.args.component.now c.args.matrix.now c.args.options.bound c.args.options.serial c.loop-place.place c.loop-place.unclear all c.loop-place.invariant.none c.loop-place.invariant.found c.in_ok-conclude.field-0 c.in_ok-conclude.ensures
 
 pub returns-clause-decides : goal.returns-clause-decides
 returns-clause-decides g c =
-    let all : cut_count c.args.matrix.now.threads ≤ c.loop-place.place = omega (arith, c.count_cuts-place-end.ensures, c.loop-place-test.false) in
+    let all : cut_count c.args.matrix.now.threads ≤ c.loop-place.place = omega (arith, c.count_cuts-end.ensures, c.loop-place-test.false) in
     decided c.args.component.now c.args.matrix.now c.args.options.bound c.args.options.serial c.requires.settles c.in_ok-conclude.field-0
     (concluded c.args.component.now c.args.matrix.now c.args.options.bound c.args.options.serial c.loop-place.place c.loop-place.unclear all c.loop-place.invariant.none c.loop-place.invariant.found c.in_ok-conclude.field-0 c.in_ok-conclude.ensures)
 
 pub returns-clause-of : goal.returns-clause-of
 returns-clause-of g c =
-    let all : cut_count c.args.matrix.now.threads ≤ c.loop-place.place = omega (arith, c.count_cuts-place-end.ensures, c.loop-place-test.false) in
+    let all : cut_count c.args.matrix.now.threads ≤ c.loop-place.place = omega (arith, c.count_cuts-end.ensures, c.loop-place-test.false) in
     names_cut c.args.component.now c.args.matrix.now c.args.options.bound c.args.options.serial c.in_ok-conclude.field-0 c.requires.of
     (concluded c.args.component.now c.args.matrix.now c.args.options.bound c.args.options.serial c.loop-place.place c.loop-place.unclear all c.loop-place.invariant.none c.loop-place.invariant.found c.in_ok-conclude.field-0 c.in_ok-conclude.ensures)
 
