@@ -1,0 +1,6 @@
+pub mod Explanations
+pub mod AnyOrders
+pub mod Search
+pub mod Laws
+pub mod Lines
+pub mod Blocks
