@@ -10,3 +10,5 @@ mod Joined
 mod Pieces
 pub mod Breaking
 pub mod OneOrder
+mod Numbered
+mod MoveNumbers
