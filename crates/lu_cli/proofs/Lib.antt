@@ -5,3 +5,4 @@ pub mod Sayings
 pub mod Reported
 pub mod Refuted
 pub mod Against
+pub mod Certified

@@ -28,12 +28,14 @@ use Rattle.lu_parallel.specs.Ranges.{Choice}
 use Rattle.lu_spec.specs.Codes.{spec_code_of}
 use Rattle.lu_refine.specs.declared.campaigns.Campaign.{Campaign}
 use Rattle.lu_refine.specs.declared.campaigns.Campaign.TheVariants.{AllPass, First}
+use Rattle.lu_certify.specs.declared.certificate.Certificate.{Certificate}
+use Rattle.lu_certify.specs.declared.certificate.Certificate.TheVariants.{Linearizable, NotLinearizable, Undecided}
 use Rattle.lu_cli.specs.declared.order.CampaignOptions.{CampaignOptions}
 use Rattle.lu_cli.specs.declared.order.Order.{Order}
-use Rattle.lu_cli.specs.declared.order.Order.TheVariants.{Replay, Trace, Serial, Check, CheckAgainst, Refute, Shrink, Campaign as Campaigning}
+use Rattle.lu_cli.specs.declared.order.Order.TheVariants.{Replay, Trace, Serial, Check, CheckAgainst, Certify, Refute, Shrink, Campaign as Campaigning}
 use Rattle.lu_cli.specs.Bundle.{bundle_parts}
 use Rattle.lu_report.specs.Limits.{Limits}
-use Rattle.lu_cli.specs.Replies.{Answer, Answers, IsAnswerFrom, IsAnswerOf, IsAnswerTo, IsCampaignAnswer, IsCampaignFrom, IsCheckAgainstFrom, IsCheckAgainstOf, IsChecked, IsCheckedAgainst, IsRefuted, IsRefutedBy, IsRefuteOf, IsReplayed, IsRunSerially, IsShrinkAnswer, IsTraced, Tells, ToMatrix, ToParts, ToReport, ToSchedule, ToSettled, ToSpec, ToTexts, ToValue, found_answer, no_command, no_device, no_memory, refused, reported, status_of, with_matrix}
+use Rattle.lu_cli.specs.Replies.{Answer, Answers, IsAnswerFrom, IsAnswerOf, IsAnswerTo, IsCampaignAnswer, IsCampaignFrom, IsCertified, IsCheckAgainstFrom, IsCheckAgainstOf, IsChecked, IsCheckedAgainst, IsRefuted, IsRefutedBy, IsRefuteOf, IsReplayed, IsRunSerially, IsShrinkAnswer, IsTraced, ShowsCertificate, Tells, ToMatrix, ToParts, ToReport, ToSchedule, ToSettled, ToSpec, ToTexts, ToValue, found_answer, no_command, no_device, no_memory, refused, reported, status_of, with_matrix}
 
 -- an answer that was made and said
 pub said : (IsAnswer : Answer → Type 0) (answer : Answer) (text : List ℕ) (old new : Option (List ℕ)) (status : ℕ) → IsAnswer answer → text ≡ answer.text → Appends old new text × (status ≡ answer.status) → Answers IsAnswer old new status
@@ -114,6 +116,15 @@ checked_else c m choice answer (inr is) = text_else answer 75 (ap (byte_of 8) is
 against_else : (c : Declarations) (m : Matrix) (choice : Choice) (members : List (List SerialOp)) (answer : Answer) → IsCheckedAgainst c m choice members answer → IsElse answer
 against_else c m choice members answer (inl is) = reported_else is.0 answer is.2
 against_else c m choice members answer (inr is) = text_else answer 75 (ap (byte_of 8) is.1) (λ e. omega arith)
+
+shown_else : (c : Declarations) (certificate : Certificate) (answer : Answer) → ShowsCertificate c certificate answer → IsElse answer
+shown_else c (Linearizable members) answer is = status_else answer 0 (ap (λ (a : Answer). a.status) is.2) (λ e. omega arith)
+shown_else c (NotLinearizable smaller r) answer is = status_else answer 1 (ap (λ (a : Answer). a.status) is) (λ e. omega arith)
+shown_else c (Undecided smaller r) answer is = status_else answer 3 (ap (λ (a : Answer). a.status) is) (λ e. omega arith)
+
+certified_else : (c : Declarations) (m : Matrix) (choice : Choice) (answer : Answer) → IsCertified c m choice answer → IsElse answer
+certified_else c m choice answer (inl is) = shown_else c is.0 answer is.2
+certified_else c m choice answer (inr is) = text_else answer 75 (ap (byte_of 8) is.1) (λ e. omega arith)
 
 value_else : {Kind A : Type 0} (code : Kind → List ℕ) (r : Result A (Fault Kind)) (IsAnswer : A → Answer → Type 0) (answer : Answer) → ((x : A) → IsAnswer x answer → IsElse answer) → ToValue code r IsAnswer answer → IsElse answer
 value_else code (Ok x) IsAnswer answer h is = h x is
@@ -197,6 +208,7 @@ order_else Trace parts answer is = three_else parts IsTraced answer (λ c m u mo
 order_else (Serial limits) parts answer is = two_else parts (λ c m. IsRunSerially c m limits) answer (λ c m more. serial_else c m limits answer more) is
 order_else (Check choice) parts answer is = two_else parts (λ c m. IsChecked c m choice) answer (λ c m more. checked_else c m choice answer more) is
 order_else (CheckAgainst choice) parts answer is = spec_parts_else choice parts answer is
+order_else (Certify choice) parts answer is = two_else parts (λ c m. IsCertified c m choice) answer (λ c m more. certified_else c m choice answer more) is
 order_else Refute parts answer is = four_else parts answer is
 order_else (Shrink limits) parts answer is = two_else parts (λ c m. IsShrinkAnswer c m limits) answer (λ c m more. shrink_else c m limits answer more) is
 order_else (Campaigning options) parts answer is = two_else parts (λ c m. IsCampaignFrom c options m) answer (λ c m more. candidates_else c options m.setup m.threads answer more) is

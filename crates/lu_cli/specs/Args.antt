@@ -14,7 +14,7 @@ use Rattle.clap.specs.declared.builder.value_parser.ValueParser.TheVariants as v
 use Rattle.clap.specs.declared.error.kind.ErrorKind.{ErrorKind}
 use Rattle.lu_cli.specs.declared.order.CampaignOptions.{CampaignOptions}
 use Rattle.lu_cli.specs.declared.order.Order.{Order}
-use Rattle.lu_cli.specs.declared.order.Order.TheVariants.{Replay, Trace, Serial, Check, CheckAgainst, Refute, Shrink, Campaign}
+use Rattle.lu_cli.specs.declared.order.Order.TheVariants.{Replay, Trace, Serial, Check, CheckAgainst, Certify, Refute, Shrink, Campaign}
 use Rattle.lu_cli.specs.Orders.{choice_of}
 use Rattle.lu_report.specs.Limits.{Limits, limits_of, most_moves}
 use Rattle.lu_parallel.specs.Ranges.{Choice}
@@ -34,11 +34,18 @@ number_option name least most default = record (new_rule name) {
   defaults = default ∷ [];
 }
 
--- a command with the options `--bound` and `--serial`
-abbrev pub bounded : Text → App
-bounded name =
-    with_rule (with_rule (new_app name) (number_option (codes "bound") 0 most_moves (codes "40")))
-    (number_option (codes "serial") 1 most_moves (codes "40"))
+-- a command with the options `--bound` and `--serial`, and this default of both
+abbrev pub bounded : Text → Text → App
+bounded name default =
+    with_rule (with_rule (new_app name) (number_option (codes "bound") 0 most_moves default))
+    (number_option (codes "serial") 1 most_moves default)
+
+-- a command with bounds, and with the options `--workers` and `--depth`
+abbrev pub shared_out : Text → Text → App
+shared_out name default =
+    with_rule
+    (with_rule (bounded name default) (number_option (codes "workers") 1 16 (codes "1")))
+    (number_option (codes "depth") 0 8 (codes "4"))
 
 abbrev pub replay_command : App
 replay_command = new_app (codes "replay")
@@ -47,30 +54,29 @@ abbrev pub trace_command : App
 trace_command = new_app (codes "trace")
 
 abbrev pub serial_command : App
-serial_command = bounded (codes "serial")
+serial_command = bounded (codes "serial") (codes "40")
 
 -- an option `--NAME` without a word
 abbrev pub flag : Text → Rule
 flag name = record (new_rule name) { long = Some name; action = Some SetTrue }
 
 abbrev pub check_command : App
-check_command =
-    with_rule
-    (with_rule
-    (with_rule (bounded (codes "check")) (number_option (codes "workers") 1 16 (codes "1")))
-    (number_option (codes "depth") 0 8 (codes "4")))
-    (flag (codes "spec"))
+check_command = with_rule (shared_out (codes "check") (codes "40")) (flag (codes "spec"))
+
+abbrev pub certify_command : App
+certify_command = shared_out (codes "certify") (codes "256")
 
 abbrev pub refute_command : App
 refute_command = new_app (codes "refute")
 
 abbrev pub shrink_command : App
-shrink_command = bounded (codes "shrink")
+shrink_command = bounded (codes "shrink") (codes "40")
 
 abbrev pub campaign_command : App
 campaign_command =
     with_rule
-    (with_rule (bounded (codes "campaign")) (number_option (codes "threads") 1 8 (codes "2")))
+    (with_rule (bounded (codes "campaign") (codes "40"))
+    (number_option (codes "threads") 1 8 (codes "2")))
     (number_option (codes "calls") 1 8 (codes "1"))
 
 -- the program, which takes the words behind its name, and wants a command
@@ -88,7 +94,9 @@ schedule_commands = with_subcommand (with_subcommand program replay_command.top)
 -- the program with the commands that look at one matrix
 abbrev pub single_commands : App
 single_commands =
-    with_subcommand (with_subcommand schedule_commands serial_command.top) check_command.top
+    with_subcommand
+    (with_subcommand (with_subcommand schedule_commands serial_command.top) check_command.top)
+    certify_command.top
 
 abbrev pub lineup : App
 lineup =
@@ -164,10 +172,11 @@ order_by name rows =
     else (if bytes_eq name (codes "trace") then Some Trace
     else (if bytes_eq name (codes "serial") then option_map Serial (limits_in rows)
     else (if bytes_eq name (codes "check") then check_in rows
+    else (if bytes_eq name (codes "certify") then option_map Certify (choice_in rows)
     else (if bytes_eq name (codes "refute") then Some Refute
     else (if bytes_eq name (codes "shrink") then option_map Shrink (limits_in rows)
     else (if bytes_eq name (codes "campaign") then option_map Campaign (campaign_in rows)
-    else None))))))
+    else None)))))))
 
 abbrev pub order_in : Option (Text × List Row) → Option Order
 order_in entered = option_and_then (λ e. order_by e.0 e.1) entered

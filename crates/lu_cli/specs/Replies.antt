@@ -51,10 +51,13 @@ use Rattle.lu_spec.specs.Codes.{spec_code_of}
 use Rattle.lu_spec.specs.Listed.{IsListing}
 use Rattle.lu_spec.specs.SpecText.{IsReadAs, IsSpecFault, spec_text}
 use Rattle.lu_refute.specs.Answers.{IsAnswer as IsRefutation, IsConfirmedFailure}
+use Rattle.lu_certify.specs.declared.certificate.Certificate.{Certificate}
+use Rattle.lu_certify.specs.declared.certificate.Certificate.TheVariants.{Linearizable, NotLinearizable, Undecided}
+use Rattle.lu_certify.specs.Certificates.{IsCertificate}
 use Rattle.lu_cli.specs.declared.counted.Counted.{Counted}
 use Rattle.lu_cli.specs.declared.order.CampaignOptions.{CampaignOptions}
 use Rattle.lu_cli.specs.declared.order.Order.{Order}
-use Rattle.lu_cli.specs.declared.order.Order.TheVariants.{Replay, Trace, Serial, Check, CheckAgainst, Refute, Shrink, Campaign as Campaigning}
+use Rattle.lu_cli.specs.declared.order.Order.TheVariants.{Replay, Trace, Serial, Check, CheckAgainst, Certify, Refute, Shrink, Campaign as Campaigning}
 use Rattle.lu_cli.specs.Bundle.{bundle_parts}
 use Rattle.lu_cli.specs.Args.{order_of}
 use Rattle.lu_cli.specs.Inputs.{most_bytes}
@@ -157,14 +160,40 @@ IsCheckedAgainst c matrix choice members answer =
     × (answer ≡ reported r))
     ⊎ ((choice.workers ≢ 1) × (answer ≡ no_worker))
 
--- ---- `shrink`
+-- ---- a matrix and its report
 
--- a matrix and its report, and the report's status
+abbrev pub two_texts : Declarations → Matrix → Parts → List ℕ
+two_texts c matrix r = matrix_text c matrix ++ codes "---\n" ++ report_text r
+
+-- both, and the report's status
 abbrev pub with_matrix : Declarations → Matrix → Parts → Answer
-with_matrix c matrix r = record {
-  text = matrix_text c matrix ++ codes "---\n" ++ report_text r;
-  status = status_of r.finding;
-}
+with_matrix c matrix r = record { text = two_texts c matrix r; status = status_of r.finding }
+
+-- ---- `certify`
+
+-- a verdict in words, with what shows it
+abbrev pub verdict : List ℕ → List ℕ → ℕ → Answer
+verdict words text status = record { text = words ++ codes "\n---\n" ++ text; status = status }
+
+-- what a certificate is shown as: its set as a specification; or the cut, and its report
+abbrev pub ShowsCertificate : Declarations → Certificate → Answer → Type 0
+ShowsCertificate c (Linearizable members) answer =
+    (listed : List (List SerialOp)) × IsListing members listed
+    × (answer ≡ verdict (codes "linearizable") (spec_text listed) 0)
+ShowsCertificate c (NotLinearizable smaller r) answer =
+    answer ≡ verdict (codes "not linearizable") (two_texts c smaller r) 1
+ShowsCertificate c (Undecided smaller r) answer =
+    answer ≡ verdict (codes "undecided") (two_texts c smaller r) 3
+
+-- the certificate, whatever the number of workers and the depth; or, with more than one worker,
+-- that a thread could not start
+abbrev pub IsCertified : Declarations → Matrix → Choice → Answer → Type 0
+IsCertified c matrix choice answer =
+    ((certificate : Certificate) × IsCertificate c matrix choice.bound choice.serial certificate
+    × ShowsCertificate c certificate answer)
+    ⊎ ((choice.workers ≢ 1) × (answer ≡ no_worker))
+
+-- ---- `shrink`
 
 -- the last matrix of the chain of removals, with its report; or the report of a matrix that does
 -- not fail
@@ -297,6 +326,10 @@ abbrev pub IsCheckAgainstOf : Choice → List (List ℕ) → Answer → Type 0
 IsCheckAgainstOf choice parts =
     ToParts (three parts) (λ p. ToTexts p.0 p.1 (λ c m. IsCheckAgainstFrom c m choice p.2))
 
+abbrev pub IsCertifyOf : Choice → List (List ℕ) → Answer → Type 0
+IsCertifyOf choice parts =
+    ToParts (two parts) (λ p. ToTexts p.0 p.1 (λ c m. IsCertified c m choice))
+
 abbrev pub IsShrinkOf : Limits → List (List ℕ) → Answer → Type 0
 IsShrinkOf limits parts =
     ToParts (two parts) (λ p. ToTexts p.0 p.1 (λ c m. IsShrinkAnswer c m limits))
@@ -315,6 +348,7 @@ IsAnswerTo Trace parts = IsTraceOf parts
 IsAnswerTo (Serial limits) parts = IsSerialOf limits parts
 IsAnswerTo (Check choice) parts = IsCheckOf choice parts
 IsAnswerTo (CheckAgainst choice) parts = IsCheckAgainstOf choice parts
+IsAnswerTo (Certify choice) parts = IsCertifyOf choice parts
 IsAnswerTo Refute parts = IsRefuteOf parts
 IsAnswerTo (Shrink limits) parts = IsShrinkOf limits parts
 IsAnswerTo (Campaigning options) parts = IsCampaignOf options parts

@@ -1,13 +1,15 @@
 //! Answers: texts with their exit statuses.
 
-ghost use Rattle.std.specs.Prelude.{◌≡◌, IfOk, IfErr, Some};
+ghost use Rattle.std.specs.Prelude.{◌≡◌, IfOk, IfErr, Some, string_bytes};
 ghost use Rattle.lu_test.specs.Matrix.{IsOf};
+ghost use Rattle.lu_certify.specs.Certificates.{NamesCutOf};
 ghost use Rattle.lu_cli.specs.Refusals.{refusal_answer};
 ghost use Rattle.lu_cli.specs.Replies as spec;
 ghost use Rattle.lu_cli.specs.Replies.{IsListed};
 
 use crate::refusal::Refusal;
 use crate::texts::Fault as TextsFault;
+use lu_certify::Certificate;
 use lu_component::Component;
 use lu_parallel::CheckFault;
 use lu_refine::CampaignFault;
@@ -87,6 +89,23 @@ pub fn show_report(alloc: Global, report: &Report) -> Result<Answer, AllocError>
     })
 }
 
+/// The text of a matrix, and of its report.
+fn write_both(
+    alloc: Global,
+    component: &Component,
+    matrix: &Matrix,
+    report: &Report,
+) -> Result<String, AllocError>
+    requires { IsOf matrix.now component.now }
+    ensures { IfOk result (λ text.
+        string_bytes text ≡ spec.two_texts component.now matrix.now report.now) }
+{
+    let mut text = write_matrix(alloc, component, matrix)?;
+    text.push_str("---\n")?;
+    text.push_str(write_report(alloc, report)?.as_str())?;
+    Ok(text)
+}
+
 /// The text of a matrix and of its report, and the report's status.
 pub fn show_matrix(
     alloc: Global,
@@ -98,13 +117,45 @@ pub fn show_matrix(
     ensures { IfOk result (λ answer.
         answer ≡ spec.with_matrix component.now matrix.now report.now) }
 {
-    let mut text = write_matrix(alloc, component, matrix)?;
-    text.push_str("---\n")?;
-    text.push_str(write_report(alloc, report)?.as_str())?;
     Ok(Answer {
-        text,
+        text: write_both(alloc, component, matrix, report)?,
         status: status_of(report),
     })
+}
+
+/// A verdict in words, with what shows it.
+fn verdict(alloc: Global, words: &str, text: &str, status: u8) -> Result<Answer, AllocError>
+    ensures { IfOk result (λ answer. answer ≡ spec.verdict words.now text.now status) }
+{
+    Ok(Answer {
+        text: format!(in alloc; "{words}\n---\n{text}")?,
+        status,
+    })
+}
+
+/// What a certificate says: the specification, or a cut with its report.
+pub fn show_certificate(
+    alloc: Global,
+    component: &Component,
+    certificate: &Certificate,
+) -> Result<Answer, AllocError>
+    requires { NamesCutOf component.now certificate.now }
+    ensures { IfOk result (spec.ShowsCertificate component.now certificate.now) }
+{
+    match certificate {
+        Certificate::Linearizable(spec) => {
+            let text = write_spec(alloc, spec)?;
+            verdict(alloc, "linearizable", text.as_str(), 0)
+        }
+        Certificate::NotLinearizable { matrix, report } => {
+            let text = write_both(alloc, component, matrix, report)?;
+            verdict(alloc, "not linearizable", text.as_str(), 1)
+        }
+        Certificate::Undecided { matrix, report } => {
+            let text = write_both(alloc, component, matrix, report)?;
+            verdict(alloc, "undecided", text.as_str(), 3)
+        }
+    }
 }
 
 /// That all matrices of a campaign pass, and how many there are.

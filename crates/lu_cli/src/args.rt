@@ -79,28 +79,48 @@ fn bare_command<'a>(alloc: Global, name: &'a str) -> Result<Command<'a>, AllocEr
     Ok(Command::new(alloc, name))
 }
 
-/// A command with the options `--bound` and `--serial`.
-fn with_bounds<'a>(alloc: Global, name: &'a str) -> Result<Command<'a>, AllocError>
-    ensures { IfOk result (IsApp (spec.bounded name.entry.now)) }
+/// A command with the options `--bound` and `--serial`, and this default of both.
+fn with_bounds<'a>(
+    alloc: Global,
+    name: &'a str,
+    default: &'a str,
+) -> Result<Command<'a>, AllocError>
+    ensures { IfOk result (IsApp (spec.bounded name.entry.now default.entry.now)) }
 {
     let command = bare_command(alloc, name);
-    let command = with_option(command, number_option(alloc, "bound", 0, MOST_MOVES, "40"));
-    with_option(command, number_option(alloc, "serial", 1, MOST_MOVES, "40"))
+    let command = with_option(
+        command,
+        number_option(alloc, "bound", 0, MOST_MOVES, default),
+    );
+    with_option(
+        command,
+        number_option(alloc, "serial", 1, MOST_MOVES, default),
+    )
+}
+
+/// A command with bounds, and with the options `--workers` and `--depth`.
+fn with_workers<'a>(
+    alloc: Global,
+    name: &'a str,
+    default: &'a str,
+) -> Result<Command<'a>, AllocError>
+    ensures { IfOk result (IsApp (spec.shared_out name.entry.now default.entry.now)) }
+{
+    let command = with_bounds(alloc, name, default);
+    let command = with_option(command, number_option(alloc, "workers", 1, 16, "1"));
+    with_option(command, number_option(alloc, "depth", 0, 8, "4"))
 }
 
 fn check_command<'a>(alloc: Global) -> Result<Command<'a>, AllocError>
     ensures { IfOk result (IsApp spec.check_command) }
 {
-    let command = with_bounds(alloc, "check");
-    let command = with_option(command, number_option(alloc, "workers", 1, 16, "1"));
-    let command = with_option(command, number_option(alloc, "depth", 0, 8, "4"));
-    with_option(command, flag(alloc, "spec"))
+    with_option(with_workers(alloc, "check", "40"), flag(alloc, "spec"))
 }
 
 fn campaign_command<'a>(alloc: Global) -> Result<Command<'a>, AllocError>
     ensures { IfOk result (IsApp spec.campaign_command) }
 {
-    let command = with_bounds(alloc, "campaign");
+    let command = with_bounds(alloc, "campaign", "40");
     let command = with_option(command, number_option(alloc, "threads", 1, 8, "2"));
     with_option(command, number_option(alloc, "calls", 1, 8, "1"))
 }
@@ -128,15 +148,16 @@ fn schedule_commands<'a>(alloc: Global) -> Result<Command<'a>, AllocError>
 fn single_commands<'a>(alloc: Global) -> Result<Command<'a>, AllocError>
     ensures { IfOk result (IsApp spec.single_commands) }
 {
-    let program = with_command(schedule_commands(alloc), with_bounds(alloc, "serial"));
-    with_command(program, check_command(alloc))
+    let program = with_command(schedule_commands(alloc), with_bounds(alloc, "serial", "40"));
+    let program = with_command(program, check_command(alloc));
+    with_command(program, with_workers(alloc, "certify", "256"))
 }
 
 fn lineup_command<'a>(alloc: Global) -> Result<Command<'a>, AllocError>
     ensures { IfOk result (IsApp lineup) }
 {
     let program = with_command(single_commands(alloc), bare_command(alloc, "refute"));
-    let program = with_command(program, with_bounds(alloc, "shrink"));
+    let program = with_command(program, with_bounds(alloc, "shrink", "40"));
     with_command(program, campaign_command(alloc))
 }
 
@@ -214,6 +235,7 @@ fn order_by(name: &str, given: &ArgMatches<'_>) -> Option<Order>
         "trace" => Some(Order::Trace),
         "serial" => bounds_in(given).map(Order::Serial),
         "check" => check_in(given),
+        "certify" => options_in(given).map(Order::Certify),
         "refute" => Some(Order::Refute),
         "shrink" => bounds_in(given).map(Order::Shrink),
         "campaign" => campaign_in(given).map(Order::Campaign),

@@ -11,14 +11,15 @@ ghost use Rattle.lu_cli.specs.Refusals.{Answered};
 ghost use Rattle.lu_cli.specs.Replies as spec;
 
 use crate::answer::{
-    Answer, infeasible, show_count, show_matrix, show_refusal, show_report, show_schedule,
-    show_spec,
+    Answer, infeasible, show_certificate, show_count, show_matrix, show_refusal, show_report,
+    show_schedule, show_spec,
 };
 use crate::order::{CampaignOptions, Order};
 use crate::refusal::Refusal;
 use crate::texts::{read_texts, report_against, report_of};
+use lu_certify::certify_by_workers;
 use lu_lang::Component;
-use lu_parallel::Options;
+use lu_parallel::{OpenGate, Options};
 use lu_refine::{Campaign, CampaignFault, ShrinkFault, campaign, shrink};
 use lu_refute::refute;
 use lu_replay::{ReplayFault, replay, set_or_offence, write_replay};
@@ -176,6 +177,33 @@ fn answer_check_against<X: AllocGlobal + Threads + Wait>(
     check_against_text(rt, &case.component, &case.matrix, specification, options)
 }
 
+/// What the checks of all cuts of the matrix say.
+fn certify_matrix<X: AllocGlobal + Threads + Wait>(
+    rt: &X,
+    component: &Component,
+    matrix: &Matrix,
+    options: Options,
+) -> Result<Answer, Refusal>
+    requires { CanRun component.now matrix.now }
+    ensures { Answered (spec.IsCertified component.now matrix.now options) result }
+{
+    let certificate = certify_by_workers(rt, rt.alloc(), &OpenGate, component, matrix, options)?;
+    Ok(show_certificate(rt.alloc(), component, &certificate)?)
+}
+
+/// `lineup certify`: component and matrix.
+fn answer_certify<X: AllocGlobal + Threads + Wait>(
+    rt: &X,
+    options: Options,
+    parts: &[&[u8]],
+) -> Result<Answer, Refusal>
+    ensures { Answered (spec.IsCertifyOf options (texts parts.now)) result }
+{
+    let (component, matrix) = two(parts).ok_or(Refusal::Parts)?;
+    let case = read_texts(rt.alloc(), component, matrix)?;
+    certify_matrix(rt, &case.component, &case.matrix, options)
+}
+
 /// A schedule that the specification does not explain, where a run confirms that the report is a
 /// failure or nondeterministic.
 fn refute_spec(
@@ -326,6 +354,7 @@ fn carry_out<X: AllocGlobal + Threads + Wait>(
         Order::Serial(bounds) => answer_serial(rt.alloc(), bounds, parts),
         Order::Check(options) => answer_check(rt, options, parts),
         Order::CheckAgainst(options) => answer_check_against(rt, options, parts),
+        Order::Certify(options) => answer_certify(rt, options, parts),
         Order::Refute => answer_refute(rt.alloc(), parts),
         Order::Shrink(bounds) => answer_shrink(rt.alloc(), bounds, parts),
         Order::Campaign(options) => answer_campaign(rt.alloc(), options, parts),

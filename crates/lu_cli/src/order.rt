@@ -34,6 +34,9 @@ pub enum Order {
     /// specification.
     CheckAgainst(Options),
 
+    /// `lineup certify`: decide whether a component is linearizable on a matrix.
+    Certify(Options),
+
     /// `lineup refute`: show where a component that fails does not meet a specification.
     Refute,
 

@@ -91,10 +91,11 @@ fn refuse_command(alloc: Global) -> Result<Answer, AllocError>
 }
 
 /// Runs the program on the words behind its name, and answers its exit status: 0 where all is well,
-/// 1 for a failure, for nondeterminism and for an infeasible schedule, 2 for a refusal, 3 for a
-/// serial cut, and 4 where memory, the start of a worker's thread or a device failed. No call of
-/// the reader or the writer that failed is tried again; both counts of failures have to be below
-/// 2^64 - 1. A check with two workers or more waits for them.
+/// 1 for a failure, for nondeterminism, for what is not linearizable and for an infeasible
+/// schedule, 2 for a refusal, 3 for a serial cut and where the bounds do not decide, and 4 where
+/// memory, the start of a worker's thread or a device failed. No call of the reader or the writer
+/// that failed is tried again; both counts of failures have to be below 2^64 - 1. A check with two
+/// workers or more waits for them.
 pub fn run<X: AllocGlobal + Threads + Wait, S: AsStr, R: Read, W: Write>(
     rt: &X,
     words: &[S],

@@ -4,6 +4,7 @@ ghost use Rattle.std.specs.Prelude.{◌≡◌};
 ghost use Rattle.lu_cli.specs.declared.refusal.Refusal.TheVariants.{Memory};
 
 use crate::texts::Fault;
+use lu_parallel::CheckFault;
 use lu_refine::CampaignFault;
 use lu_refute::RefuteFault;
 use lu_report::ReportFault;
@@ -75,6 +76,17 @@ impl From<SpecFault> for Refusal {
 
     fn from(fault: SpecFault) -> Refusal {
         Refusal::Texts(Fault::Spec(fault))
+    }
+}
+
+impl From<CheckFault> for Refusal {
+    ghost use Rattle.lu_cli.specs.declared.texts.Fault.TheVariants.{Check};
+    ghost use Rattle.lu_cli.specs.declared.refusal.Refusal.TheVariants.{Texts};
+
+    ghost from_gives = { λ fault e. e ≡ Texts (Check fault) };
+
+    fn from(fault: CheckFault) -> Refusal {
+        Refusal::Texts(Fault::Check(fault))
     }
 }
 

@@ -71,7 +71,7 @@ module _ (matrix : Matrix) where
   carries_with s m f (Return v) new e h = (same_with s new h.0, h.1)
 
   -- the next call of thread t is the same
-  abbrev HasSameCall : State → ℕ → ℕ → Type 0
+  abbrev pub HasSameCall : State → ℕ → ℕ → Type 0
   HasSameCall s t done = slice_get (calls_of matrix t) done ≡ slice_get (calls_of s.matrix t) done
 
   activity_with : (s : State) (m : Move) (done : ℕ) (activity : Activity) (new : State) (e : Option Event) → (activity ≡ Idle → HasSameCall s m.thread done) → ByActivity s m done activity new e → ByActivity (with_matrix s matrix) m done activity (with_matrix new matrix) e
@@ -113,7 +113,7 @@ module _ (matrix : Matrix) where
           (with_matrix h.0 matrix, one_with s (record { thread = t; pick = 0 }) h.0 None never h.1, go h.0 h.2)
       by_test go false is h = ap (λ x. with_matrix x matrix) h
 
-  step_with : (s : State) (m : Move) (new : State) (e : Option Event) → ((a : Thread) → slice_get s.threads m.thread ≡ Some a → a.activity ≡ Idle → HasSameCall s m.thread a.done) → Step s m new e → Step (with_matrix s matrix) m (with_matrix new matrix) e
+  pub step_with : (s : State) (m : Move) (new : State) (e : Option Event) → ((a : Thread) → slice_get s.threads m.thread ≡ Some a → a.activity ≡ Idle → HasSameCall s m.thread a.done) → Step s m new e → Step (with_matrix s matrix) m (with_matrix new matrix) e
   step_with s m new e same h = (
     with_matrix h.0 matrix,
     one_with s m h.0 e same h.1,
@@ -143,7 +143,7 @@ module _ (matrix : Matrix) where
       by_instr None = refl
       by_instr (Some instr) = ap (λ b. if b then 0 else choices instr) (blocked_with s f instr)
 
-  picks_with : (s : State) (t : ℕ) (a : Thread) (activity : Activity) → slice_get s.threads t ≡ Some a → a.activity ≡ activity → a.activity ≢ Idle → picks_of (with_matrix s matrix) t ≡ picks_of s t
+  pub picks_with : (s : State) (t : ℕ) (a : Thread) (activity : Activity) → slice_get s.threads t ≡ Some a → a.activity ≡ activity → a.activity ≢ Idle → picks_of (with_matrix s matrix) t ≡ picks_of s t
   picks_with s t a Idle stands is busy = absurd (busy is)
   picks_with s t a (Open f) stands is busy = rw (stands, is) (open_picks_with s t a.done f)
 
@@ -269,13 +269,13 @@ cut_stuck matrix end t is busy only blocked = (
   λ x. no_picks matrix end t is only blocked x (slice_get end.threads x) refl,
 )
 
-take_within : {A : Type 0} (n : ℕ) (xs : List A) (k : ℕ) → k < n → slice_get (take n xs) k ≡ slice_get xs k
+pub take_within : {A : Type 0} (n : ℕ) (xs : List A) (k : ℕ) → k < n → slice_get (take n xs) k ≡ slice_get xs k
 take_within zero xs k h = absurd (omega arith)
 take_within (suc n) [] k h = refl
 take_within (suc n) (x ∷ xs) zero h = refl
 take_within (suc n) (x ∷ xs) (suc k) h = take_within n xs k (omega arith)
 
-take_few : {A : Type 0} (n : ℕ) (xs : List A) → length (take n xs) ≤ n
+pub take_few : {A : Type 0} (n : ℕ) (xs : List A) → length (take n xs) ≤ n
 take_few zero xs = omega arith
 take_few (suc n) [] = omega arith
 take_few (suc n) (x ∷ xs) = let rest = take_few n xs in omega (arith, rest)

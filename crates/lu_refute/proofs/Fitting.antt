@@ -50,7 +50,7 @@ no_more : (t x : ℕ) → (t ≡ x → ⊥) → length (entries t (stuck_of x �
 no_more t x apart = ap (λ b. length (if b then serial.Stuck ∷ [] else [])) (ne_eqb x t (λ e. apart (sym e)))
 
 -- what has ended was called
-done_made : (s : State) (t : ℕ) → done_of s t ≤ made_of s t
+pub done_made : (s : State) (t : ℕ) → done_of s t ≤ made_of s t
 done_made s t = by_thread (slice_get s.threads t)
   where
     by_open : (b : Bool) (n : ℕ) → n ≤ (if b then n + 1 else n)

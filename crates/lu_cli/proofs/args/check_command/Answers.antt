@@ -1,7 +1,4 @@
 use Rattle.lu_cli.proofs.args.check_command.Goals as goal
 
 pub returns : goal.returns
-returns c =
-    let one = c.with_option-command.ensures _ _ c.with_bounds-command.ensures c.number_option.ensures.rule in
-    let two = c.with_option-command-2.ensures _ _ one c.number_option-2.ensures.rule in
-    c.with_option.ensures _ _ two c.flag.ensures.rule
+returns c = c.with_option.ensures _ _ c.with_workers.ensures c.flag.ensures.rule

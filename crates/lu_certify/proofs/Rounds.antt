@@ -1,0 +1,176 @@
+-- What is known of the cuts before a place.
+use Rattle.std.proofs.Common.{arith, ◌≡◌, ◌<◌, ◌≤◌, ◌+◌, ℕ, zero, suc, List, [], ◌∷◌, ◌++◌, Result, Ok, Err, refl, sym, ap, subst, inl, inr}
+use Rattle.std.specs.Prelude.{All, IfOk, Option, Some, None}
+use Rattle.std.proofs.lemmas.Bool.{cases_lt}
+use Rattle.std.proofs.lemmas.List.Elements.{All-take}
+use Rattle.lu_component.specs.Component.{Declarations}
+use Rattle.lu_test.specs.declared.matrix.Call.{Call}
+use Rattle.lu_test.specs.Matrix.{IsCallOf, IsOf, Matrix, cut, first_calls}
+use Rattle.lu_machine.specs.States.{State}
+use Rattle.lu_machine.specs.Starts.{CanRun, IsStart, Settles}
+use Rattle.lu_machine.proofs.Starting.{can_run_too, settles_too}
+use Rattle.lu_history.specs.declared.serial.SerialOp.{SerialOp}
+use Rattle.lu_report.specs.declared.report.Finding.{Finding}
+use Rattle.lu_report.specs.declared.report.Report.{Report}
+use Rattle.lu_replay.specs.Reports.{IsReport}
+use Rattle.lu_replay.proofs.Determined.{one_report}
+use Rattle.lu_serial.specs.Offences.{IsSetOf, NoOffence}
+use Rattle.lu_spec.specs.Beginnings.{IsClosureOf}
+use Rattle.lu_refute.specs.Linearizable.{AreLengths}
+use Rattle.lu_refute.proofs.Core.{seats_start}
+use Rattle.lu_refute.proofs.Grounds.{ground_of, grounded, none_on, start_on}
+use Rattle.lu_refute.proofs.Ops.{HasSerialHistory, some_serial}
+use Rattle.lu_refute.proofs.Outside.{whole_cut}
+use Rattle.lu_certify.specs.declared.certificate.Certificate.{Certificate}
+use Rattle.lu_certify.specs.declared.certificate.Certificate.TheVariants.{Linearizable, NotLinearizable, Undecided}
+use Rattle.lu_certify.specs.Certificates.{AllCuts, AreBeginnings, HasReport, IsCertificate, IsFailure, IsFirstOfCuts, IsFullPass, IsUnclear, NamesCutOf, NoCuts}
+use Rattle.lu_certify.specs.Places.{IsConcluded, IsCutAtPlace, IsFirstUnclear, IsWithoutOffence, cut_count, place_of}
+use Rattle.lu_certify.proofs.Counted.{earlier, place_below, place_same}
+use Rattle.lu_certify.proofs.Linear.{at_cut, full_at}
+
+module _ (c : Declarations) (matrix : Matrix) (bound serial : ℕ) where
+  -- the cuts of all places before this one have reports of this kind
+  abbrev pub AllBefore : (Finding → Type 0) → ℕ → Type 0
+  AllBefore Kind place =
+      (other : List ℕ) → AreLengths matrix other → place_of matrix.threads other < place → HasReport Kind c bound serial (cut matrix other)
+
+  -- none of them has
+  abbrev pub NoneBefore : (Finding → Type 0) → ℕ → Type 0
+  NoneBefore Kind place =
+      (other : List ℕ) → AreLengths matrix other → place_of matrix.threads other < place → HasReport Kind c bound serial (cut matrix other) → ⊥
+
+  -- the first of them that is no full pass, if any
+  abbrev pub IsFound : ℕ → Option (Matrix × Report) → Type 0
+  IsFound place None = AllBefore IsFullPass place
+  IsFound place (Some found) = IsFirstOfCuts IsUnclear c matrix bound serial found.0 found.1
+
+  pub none_yet : (Kind : Finding → Type 0) → NoneBefore Kind 0
+  none_yet Kind other are less has = absurd (omega arith)
+
+  pub none_found : (found : Option (Matrix × Report)) → found ≡ None → IsFound 0 found
+  none_found found is = subst (IsFound 0) (sym is) (λ other are less. absurd (omega arith))
+
+  -- r is the report of the cut at this place
+  module _ (settles : Settles c matrix) (place : ℕ) (smaller : Matrix) (r : Report) (at : IsCutAtPlace matrix place smaller) (report : IsReport c smaller bound serial r) where
+    its : IsReport c (cut matrix at.0) bound serial r
+    its = subst (λ x. IsReport c x bound serial r) at.2 report
+
+    -- it is of this kind only if r is
+    of_kind : (Kind : Finding → Type 0) → HasReport Kind c bound serial (cut matrix at.0) → Kind r.finding
+    of_kind Kind has =
+        let same : has.0 ≡ r = one_report c (cut matrix at.0) bound serial has.0 r (settles_too c matrix (cut matrix at.0) settles refl) has.1 its in
+        subst (λ (x : Report). Kind x.finding) same has.2
+
+    -- a cut before the next place is before this one, or it is this one
+    this_or_before : (P : List ℕ → Type 0) → ((other : List ℕ) → AreLengths matrix other → place_of matrix.threads other < place → P other) → P at.0 → (other : List ℕ) → AreLengths matrix other → place_of matrix.threads other < place + 1 → P other
+    this_or_before P before here other are less =
+        elim (cases_lt (place_of matrix.threads other) place) as (λ _. P other) [
+          | inl lt ↦ before other are lt
+          | inr least ↦
+              (let there = at.1.at in
+              let same : other ≡ at.0 = place_same matrix other at.0 are at.1.are (omega (arith, least, less, there)) in
+              subst P (sym same) here)
+        ]
+
+    pub none_more : (Kind : Finding → Type 0) → NoneBefore Kind place → (Kind r.finding → ⊥) → NoneBefore Kind (place + 1)
+    none_more Kind before other_kind = this_or_before (λ other. HasReport Kind c bound serial (cut matrix other) → ⊥) before (λ has. other_kind (of_kind Kind has))
+
+    all_more : (Kind : Finding → Type 0) → AllBefore Kind place → Kind r.finding → AllBefore Kind (place + 1)
+    all_more Kind before kind = this_or_before (λ other. HasReport Kind c bound serial (cut matrix other)) before (r, its, kind)
+
+    pub first_here : (Kind : Finding → Type 0) → NoneBefore Kind place → Kind r.finding → IsFirstOfCuts Kind c matrix bound serial smaller r
+    first_here Kind before kind = record {
+      lengths = at.0;
+      are = at.1.are;
+      is = at.2;
+      report = report;
+      kind = kind;
+      before = λ other are less.
+          (let lt = earlier matrix other at.0 are at.1.are less in
+          let there = at.1.at in
+          before other are (omega (arith, lt, there)));
+    }
+
+    -- where all before are full passes, none of them is unclear
+    none_unclear : AllBefore IsFullPass place → NoneBefore IsUnclear place
+    none_unclear all other are less has =
+        let x = all other are less in
+        let same : has.0 ≡ x.0 = one_report c (cut matrix other) bound serial has.0 x.0 (settles_too c matrix (cut matrix other) settles refl) has.1 x.1 in
+        has.2.1 (subst (λ (y : Report). IsFullPass y.finding) (sym same) x.2)
+
+    pub found_more : (IsFailure r.finding → ⊥) → (found new : Option (Matrix × Report)) → IsFirstUnclear found smaller r new → IsFound place found → IsFound (place + 1) new
+    found_more passes (Some x) new is known = subst (IsFound (place + 1)) (sym is) known
+    found_more passes None None is known = all_more IsFullPass known is
+    found_more passes None (Some x) is known =
+        subst (λ (y : Matrix × Report). IsFirstOfCuts IsUnclear c matrix bound serial y.0 y.1) (sym is.0)
+        (first_here IsUnclear (none_unclear known) (passes, is.1))
+
+  -- at the end
+  none_all : (Kind : Finding → Type 0) (place : ℕ) → cut_count matrix.threads ≤ place → NoneBefore Kind place → NoCuts Kind c matrix bound serial
+  none_all Kind place all before lengths are has = (let below = place_below matrix lengths are in before lengths are (omega (arith, below, all)) has)
+
+  all_found : (place : ℕ) (found : Option (Matrix × Report)) → cut_count matrix.threads ≤ place → found ≡ None → IsFound place found → AllCuts IsFullPass c matrix bound serial
+  all_found place found all none known lengths are =
+      let before : AllBefore IsFullPass place = subst (IsFound place) none known in
+      (let below = place_below matrix lengths are in before lengths are (omega (arith, below, all)))
+
+  -- no serial run of the whole matrix offends
+  all_without : AllCuts IsFullPass c matrix bound serial → IsWithoutOffence c matrix serial
+  all_without all s is = (full_at c matrix bound serial (at_cut IsFullPass c matrix bound serial all matrix (whole_cut matrix)) s is).none
+
+  pub none_offends : (place : ℕ) (found : Option (Matrix × Report)) → cut_count matrix.threads ≤ place → IsFound place found → found ≡ None → IsWithoutOffence c matrix serial
+  none_offends place found all known none = all_without (all_found place found all none known)
+
+  -- what is concluded is the certificate
+  pub concluded : (place : ℕ) (found : Option (Matrix × Report)) → cut_count matrix.threads ≤ place → NoneBefore IsFailure place → IsFound place found → (certificate : Certificate) → IsConcluded c matrix found certificate → IsCertificate c matrix bound serial certificate
+  concluded place None all before known (Linearizable members) is = (all_found place None all refl known, is)
+  concluded place None all before known (NotLinearizable smaller r) is = absurd is
+  concluded place None all before known (Undecided smaller r) is = absurd is
+  concluded place (Some x) all before known certificate is =
+      subst (IsCertificate c matrix bound serial) (sym is) (none_all IsFailure place all before, known)
+
+  pub concluded_where : {E : Type 0} (place : ℕ) (found : Option (Matrix × Report)) → cut_count matrix.threads ≤ place → NoneBefore IsFailure place → IsFound place found → (result : Result Certificate E) → IfOk result (IsConcluded c matrix found) → IfOk result (IsCertificate c matrix bound serial)
+  concluded_where place found all before known (Ok certificate) is = concluded place found all before known certificate is
+  concluded_where place found all before known (Err e) is = tt
+
+-- ---- the cut runs
+
+rows_of : (c : Declarations) (rows : List (List Call)) (lengths : List ℕ) → All (λ calls. All (IsCallOf c) calls) rows → All (λ calls. All (IsCallOf c) calls) (first_calls rows lengths)
+rows_of c [] lengths all k d h = absurd (omega arith)
+rows_of c (row ∷ rows) [] all k d h = absurd (omega arith)
+rows_of c (row ∷ rows) (n ∷ lengths) all zero d h = All-take (IsCallOf c) n row (all zero d (omega arith))
+rows_of c (row ∷ rows) (n ∷ lengths) all (suc k) d h = rows_of c rows lengths (λ j e w. all (suc j) e (omega arith)) k d (omega arith)
+
+pub cut_runs : (c : Declarations) (matrix : Matrix) (place : ℕ) (smaller : Matrix) → CanRun c matrix → IsCutAtPlace matrix place smaller → CanRun c smaller
+cut_runs c matrix place smaller runs at =
+    subst (CanRun c) (sym at.2) (can_run_too c matrix (cut matrix at.0) runs (runs.of.0, rows_of c matrix.threads at.0 runs.of.1) refl)
+
+-- a cut that is the first of some kind is a matrix of the component
+first_of : (c : Declarations) (matrix smaller : Matrix) (Kind : Finding → Type 0) (bound serial : ℕ) (r : Report) → IsOf matrix c → IsFirstOfCuts Kind c matrix bound serial smaller r → IsOf smaller c
+first_of c matrix smaller Kind bound serial r of first =
+    subst (λ (m : Matrix). IsOf m c) (sym first.is) (of.0, rows_of c matrix.threads first.lengths of.1)
+
+pub names_cut : (c : Declarations) (matrix : Matrix) (bound serial : ℕ) (certificate : Certificate) → IsOf matrix c → IsCertificate c matrix bound serial certificate → NamesCutOf c certificate
+names_cut c matrix bound serial (Linearizable members) of is = tt
+names_cut c matrix bound serial (NotLinearizable smaller r) of is = first_of c matrix smaller IsFailure bound serial r of is
+names_cut c matrix bound serial (Undecided smaller r) of is = first_of c matrix smaller IsUnclear bound serial r of is.1
+
+pub names_where : {E : Type 0} (c : Declarations) (matrix : Matrix) (bound serial : ℕ) → IsOf matrix c → (result : Result Certificate E) → IfOk result (IsCertificate c matrix bound serial) → IfOk result (NamesCutOf c)
+names_where c matrix bound serial of (Ok certificate) is = names_cut c matrix bound serial certificate of is
+names_where c matrix bound serial of (Err e) is = tt
+
+-- ---- the beginnings of the serial histories
+
+some_history : (c : Declarations) (matrix : Matrix) (s : State) (serial : ℕ) → IsStart c matrix s → NoOffence s serial → HasSerialHistory s
+some_history c matrix s serial is =
+    subst (λ x. NoOffence x serial → HasSerialHistory x) (sym (grounded c matrix s is))
+    (λ none. some_serial serial (start_on (ground_of c s) matrix) (none_on (ground_of c s) matrix) (seats_start (ground_of c s) matrix) (λ u over. none u (inl over)))
+
+pub closure_begins : (c : Declarations) (matrix : Matrix) (s : State) (serial : ℕ) (set members : List (List SerialOp)) → IsStart c matrix s → IsSetOf s serial set → IsClosureOf set members → AreBeginnings s members
+closure_begins c matrix s serial set members is of closure q = (
+  (λ has. elim ((closure q).0 has) [
+    | inl none ↦ (let z = some_history c matrix s serial is of.none in (z.0, (z.0, ap (λ x. x ++ z.0) (sym none)), z.1))
+    | inr begins ↦ (begins.0, begins.1, (of.are begins.0).0 begins.2)
+  ]),
+  (λ begins. (closure q).1 (inr (begins.0, begins.1, (of.are begins.0).1 begins.2))),
+)

@@ -1,0 +1,102 @@
+-- Certificates: what the reports of all cuts of a matrix say together.
+use Rattle.std.specs.Prelude.{◌≡◌, ◌↔◌, ◌<◌, ◌⊎◌, ℕ, List, [], ◌∷◌}
+use Rattle.lu_component.specs.Component.{Declarations}
+use Rattle.lu_test.specs.Matrix.{IsOf, Matrix, cut}
+use Rattle.lu_machine.specs.States.{State}
+use Rattle.lu_machine.specs.Starts.{FromEachStart}
+use Rattle.lu_history.specs.declared.serial.SerialOp.{SerialOp}
+use Rattle.lu_serial.specs.Serial.{IsSerialHistory}
+use Rattle.lu_report.specs.declared.report.Finding.{Finding}
+use Rattle.lu_report.specs.declared.report.Finding.TheVariants.{SerialCut, Nondeterministic, Fail, Pass}
+use Rattle.lu_report.specs.declared.report.Report.{Report}
+use Rattle.lu_replay.specs.Reports.{IsReport}
+pub use Rattle.lu_replay.specs.Confirmed.{IsFailure}
+use Rattle.lu_spec.specs.Beginnings.{Begins, Has}
+use Rattle.lu_refute.specs.Linearizable.{AreLengths}
+use Rattle.lu_certify.specs.declared.certificate.Certificate.{Certificate}
+use Rattle.lu_certify.specs.declared.certificate.Certificate.TheVariants.{Linearizable, NotLinearizable, Undecided}
+
+-- ---- kinds of findings
+
+-- a pass, and no schedule was cut
+abbrev pub IsFullPass : Finding → Type 0
+IsFullPass (SerialCut u) = ⊥
+IsFullPass (Nondeterministic u before earlier) = ⊥
+IsFullPass (Fail u why) = ⊥
+IsFullPass (Pass counts) = counts.cut ≡ 0
+
+-- neither: a serial cut, or a pass with schedules that were cut
+abbrev pub IsUnclear : Finding → Type 0
+IsUnclear finding = (IsFailure finding → ⊥) × (IsFullPass finding → ⊥)
+
+-- ---- the reports of all cuts
+
+-- the report of the matrix is of this kind
+abbrev pub HasReport : (Finding → Type 0) → Declarations → ℕ → ℕ → Matrix → Type 0
+HasReport Kind c bound serial matrix =
+    (r : Report) × IsReport c matrix bound serial r × Kind r.finding
+
+-- the report of each cut of the matrix is of this kind
+abbrev pub AllCuts : (Finding → Type 0) → Declarations → Matrix → ℕ → ℕ → Type 0
+AllCuts Kind c matrix bound serial =
+    (lengths : List ℕ) → AreLengths matrix lengths
+    → HasReport Kind c bound serial (cut matrix lengths)
+
+-- the report of no cut is
+abbrev pub NoCuts : (Finding → Type 0) → Declarations → Matrix → ℕ → ℕ → Type 0
+NoCuts Kind c matrix bound serial =
+    (lengths : List ℕ) → AreLengths matrix lengths
+    → HasReport Kind c bound serial (cut matrix lengths) → ⊥
+
+-- lexicographic order: the first place where they differ decides
+abbrev pub IsBefore : List ℕ → List ℕ → Type 0
+IsBefore [] v = ⊥
+IsBefore (m ∷ u) [] = ⊥
+IsBefore (m ∷ u) (n ∷ v) = (m < n) ⊎ (m ≡ n) × IsBefore u v
+
+-- r is the report of this cut, and of this kind; that of no cut before it is, in the lexicographic
+-- order of lengths, thread 0's first
+pub record IsFirstOfCuts (Kind : Finding → Type 0) (c : Declarations) (matrix : Matrix)
+    (bound serial : ℕ) (smaller : Matrix) (r : Report) : Type 0 where
+  pub lengths : List ℕ
+  pub are : AreLengths matrix lengths
+  pub is : smaller ≡ cut matrix lengths
+  pub report : IsReport c smaller bound serial r
+  pub kind : Kind r.finding
+  pub before : (other : List ℕ) → AreLengths matrix other → IsBefore other lengths
+      → HasReport Kind c bound serial (cut matrix other) → ⊥
+
+-- ---- the certificate
+
+-- the members are the beginnings of the serial histories
+abbrev pub AreBeginnings : State → List (List SerialOp) → Type 0
+AreBeginnings s members =
+    (q : List SerialOp)
+    → Has members q ↔ ((h : List SerialOp) × Begins q h × IsSerialHistory s h)
+
+-- Each cut passes, with no schedule cut, and these are the beginnings of the matrix's serial
+-- histories; or this is the first cut that fails; or none fails, and this is the first that does
+-- not pass so.
+abbrev pub IsCertificate : Declarations → Matrix → ℕ → ℕ → Certificate → Type 0
+IsCertificate c matrix bound serial (Linearizable members) =
+    AllCuts IsFullPass c matrix bound serial
+    × FromEachStart c matrix (λ s. AreBeginnings s members)
+IsCertificate c matrix bound serial (NotLinearizable smaller r) =
+    IsFirstOfCuts IsFailure c matrix bound serial smaller r
+IsCertificate c matrix bound serial (Undecided smaller r) =
+    NoCuts IsFailure c matrix bound serial × IsFirstOfCuts IsUnclear c matrix bound serial smaller r
+
+-- the cut that it names, if any, is a matrix of the component
+abbrev pub NamesCutOf : Declarations → Certificate → Type 0
+NamesCutOf c (Linearizable members) = Unit {0}
+NamesCutOf c (NotLinearizable smaller r) = IsOf smaller c
+NamesCutOf c (Undecided smaller r) = IsOf smaller c
+
+-- two certificates say the same: those of sets have the same members
+abbrev pub AreSame : Certificate → Certificate → Type 0
+AreSame (Linearizable members) (Linearizable others) =
+    (q : List SerialOp) → Has members q ↔ Has others q
+AreSame (Linearizable members) (NotLinearizable smaller r) = ⊥
+AreSame (Linearizable members) (Undecided smaller r) = ⊥
+AreSame (NotLinearizable smaller r) b = NotLinearizable smaller r ≡ b
+AreSame (Undecided smaller r) b = Undecided smaller r ≡ b

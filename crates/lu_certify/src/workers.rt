@@ -1,0 +1,56 @@
+//! Certificates by checks with workers.
+
+ghost use Rattle.std.specs.Prelude.{◌≡◌, IfErr, IfOk};
+ghost use Rattle.lu_machine.specs.Starts.{CanRun};
+ghost use Rattle.lu_parallel.specs.declared.fault.CheckFault.TheVariants.{Memory};
+ghost use Rattle.lu_certify.specs.Certificates.{IsCertificate, NamesCutOf};
+ghost use Rattle.lu_certify.specs.Laws.{Decides};
+
+use crate::certificate::Certificate;
+use crate::certifying::{conclude, first_unclear, is_failure};
+use crate::cuts::{count_cuts, cut_at};
+use lu_component::Component;
+use lu_parallel::{CheckFault, Gate, Options, check};
+use lu_test::Matrix;
+use std::alloc::Global;
+use std::sync::Wait;
+use std::thread::Threads;
+
+/// The same certificate, where each cut is checked by as many workers as the options say: it is the
+/// same for any number of workers and any depth. One worker searches on the calling thread, and no
+/// thread is started and the gate is not called. More of them pass the gate at each piece of each
+/// cut, and the calling thread waits until they are done, before the next cut.
+///
+/// # Errors
+///
+/// [`CheckFault::Memory`] where memory was refused. [`CheckFault::Worker`] where the start of a
+/// thread was refused, and never with one worker.
+pub fn certify_by_workers<R: Threads + Wait, G: Gate>(
+    rt: &R,
+    alloc: Global,
+    gate: &G,
+    component: &Component,
+    matrix: &Matrix,
+    options: Options,
+) -> Result<Certificate, CheckFault>
+    requires { CanRun component.now matrix.now }
+    ensures certificate { IfOk result
+        (IsCertificate component.now matrix.now options.bound options.serial) }
+    ensures decides { IfOk result (Decides component.now matrix.now) }
+    ensures of { IfOk result (NamesCutOf component.now) }
+    ensures alone { IfErr result (λ fault. options.workers ≡ 1 → fault ≡ Memory) }
+{
+    let mut unclear = None;
+    for place in 0..count_cuts(matrix) {
+        let smaller = cut_at(alloc, matrix, place)?;
+        let report = check(rt, alloc, gate, component, &smaller, options)?;
+        if is_failure(&report) {
+            return Ok(Certificate::NotLinearizable {
+                matrix: smaller,
+                report,
+            });
+        }
+        unclear = first_unclear(unclear, smaller, report);
+    }
+    Ok(conclude(alloc, component, matrix, options.serial(), unclear)?)
+}
