@@ -6,3 +6,4 @@ pub mod Reported
 pub mod Refuted
 pub mod Against
 pub mod Certified
+mod Explained

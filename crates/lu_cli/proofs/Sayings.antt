@@ -17,7 +17,12 @@ use Rattle.lu_test.specs.declared.schedule.Move.{Move}
 use Rattle.lu_test.specs.declared.schedule_fault.ScheduleFault.{ScheduleFault}
 use Rattle.lu_test.specs.Codes.{matrix_code_of}
 use Rattle.lu_test.specs.MatrixText.{matrix_grammar}
-use Rattle.lu_test.specs.ScheduleText.{schedule_of}
+use Rattle.lu_test.specs.ScheduleText.{schedule_of, schedule_text}
+use Rattle.lu_machine.specs.declared.event.Event.{Event}
+use Rattle.lu_machine.specs.declared.event.Status.{Status}
+use Rattle.lu_machine.specs.declared.event.Status.TheVariants.{Running, Complete, Stuck}
+use Rattle.lu_witness.specs.declared.judgement.Verdict.{Verdict}
+use Rattle.lu_witness.specs.declared.judgement.Verdict.TheVariants.{Good, NoWitness, NoWitnessFor}
 use Rattle.lu_test.specs.Matrix.{Matrix}
 use Rattle.lu_history.specs.declared.serial.SerialOp.{SerialOp}
 use Rattle.lu_report.specs.declared.report.Finding.{Finding}
@@ -32,10 +37,13 @@ use Rattle.lu_certify.specs.declared.certificate.Certificate.{Certificate}
 use Rattle.lu_certify.specs.declared.certificate.Certificate.TheVariants.{Linearizable, NotLinearizable, Undecided}
 use Rattle.lu_cli.specs.declared.order.CampaignOptions.{CampaignOptions}
 use Rattle.lu_cli.specs.declared.order.Order.{Order}
-use Rattle.lu_cli.specs.declared.order.Order.TheVariants.{Replay, Trace, Serial, Check, CheckAgainst, Certify, Refute, Shrink, Campaign as Campaigning}
+use Rattle.lu_cli.specs.declared.order.Order.TheVariants.{Replay, Trace, Explain, ExplainAgainst, Serial, Check, CheckAgainst, Certify, Refute, Shrink, Campaign as Campaigning}
+use Rattle.lu_cli.specs.declared.explaining.Target.{Target}
+use Rattle.lu_cli.specs.declared.explaining.Target.TheVariants as target
+use Rattle.lu_cli.specs.Explaining.{IsExplained, IsExplainedBy, IsExplainedSchedule, IsExplainedSerially, ToEnded, ToFinding, is_report, status_by, unexplained}
 use Rattle.lu_cli.specs.Bundle.{bundle_parts}
 use Rattle.lu_report.specs.Limits.{Limits}
-use Rattle.lu_cli.specs.Replies.{Answer, Answers, IsAnswerFrom, IsAnswerOf, IsAnswerTo, IsCampaignAnswer, IsCampaignFrom, IsCertified, IsCheckAgainstFrom, IsCheckAgainstOf, IsChecked, IsCheckedAgainst, IsRefuted, IsRefutedBy, IsRefuteOf, IsReplayed, IsRunSerially, IsShrinkAnswer, IsTraced, ShowsCertificate, Tells, ToMatrix, ToParts, ToReport, ToSchedule, ToSettled, ToSpec, ToTexts, ToValue, found_answer, no_command, no_device, no_memory, refused, reported, status_of, with_matrix}
+use Rattle.lu_cli.specs.Replies.{Answer, Answers, IsAnswerFrom, IsAnswerOf, IsAnswerTo, IsCampaignAnswer, IsCampaignFrom, IsCertified, IsCheckAgainstFrom, IsCheckAgainstOf, IsChecked, IsCheckedAgainst, IsExplainAgainstOf, IsExplainOf, IsExplainedAgainst, IsExplainedText, IsRefuted, IsRefutedBy, IsRefuteOf, IsReplayed, IsRunSerially, IsShrinkAnswer, IsTraced, ShowsCertificate, Tells, ToMatrix, ToParts, ToReport, ToSchedule, ToSettled, ToSpec, ToTarget, ToTexts, ToValue, found_answer, no_command, no_device, no_memory, refused, reported, status_of, with_matrix}
 
 -- an answer that was made and said
 pub said : (IsAnswer : Answer → Type 0) (answer : Answer) (text : List ℕ) (old new : Option (List ℕ)) (status : ℕ) → IsAnswer answer → text ≡ answer.text → Appends old new text × (status ≡ answer.status) → Answers IsAnswer old new status
@@ -189,6 +197,60 @@ four_else parts answer is =
     parts_else (four parts) (λ p. ToTexts p.0 p.1 (λ c m. IsRefutedBy c m p.2 p.3)) answer
     (λ p more. texts_else p.0 p.1 (λ c m. IsRefutedBy c m p.2 p.3) answer (λ c m from. refute_else c m p.2 p.3 answer from) more) is
 
+unexplained_else : (why schedule : List ℕ) (answer : Answer) → answer ≡ unexplained why schedule → IsElse answer
+unexplained_else why schedule answer is = status_else answer 1 (ap (λ (a : Answer). a.status) is) (λ e. omega arith)
+
+status_by_else : (v : Verdict) → status_by v ≡ 4 → ⊥
+status_by_else Good e = omega arith
+status_by_else NoWitness e = omega arith
+status_by_else (NoWitnessFor t) e = omega arith
+
+by_else : (members : List (List SerialOp)) (c : Declarations) (m : Matrix) (u : List Move) (h : List Event) (answer : Answer) → IsExplainedBy members c m u h answer → IsElse answer
+by_else members c m u h answer is = status_else answer (status_by is.2) (ap (λ (a : Answer). a.status) is.6) (status_by_else is.2)
+
+ended_else : (status : Status) (IsAnswer : Answer → Type 0) (answer : Answer) → (IsAnswer answer → IsElse answer) → ToEnded status IsAnswer answer → IsElse answer
+ended_else Running IsAnswer answer h is = unexplained_else (codes "running") [] answer is
+ended_else Complete IsAnswer answer h is = h is
+ended_else Stuck IsAnswer answer h is = h is
+
+explained_else : (members : List (List SerialOp)) (c : Declarations) (m : Matrix) (u : List Move) (answer : Answer) → IsExplainedSchedule members c m u answer → IsElse answer
+explained_else members c m u answer (inl is) = ended_else is.1 (IsExplainedBy members c m u is.0) answer (by_else members c m u is.0 answer) is.3
+explained_else members c m u answer (inr is) = status_else answer 1 (ap (λ (a : Answer). a.status) is.2) (λ e. omega arith)
+
+finding_else : (IsAnswer : List Move → Answer → Type 0) (f : Finding) (answer : Answer) → ((u : List Move) → IsAnswer u answer → IsElse answer) → ToFinding IsAnswer f answer → IsElse answer
+finding_else IsAnswer (SerialCut u) answer h is = unexplained_else (codes "serial-cut") (schedule_text u) answer is
+finding_else IsAnswer (Nondeterministic u before earlier) answer h is = unexplained_else (codes "nondeterministic") (schedule_text u) answer is
+finding_else IsAnswer (Fail u why) answer h is = h u is
+finding_else IsAnswer (Pass counts) answer h is = unexplained_else (codes "pass") [] answer is
+
+explanation_else : (members : List (List SerialOp)) (c : Declarations) (m : Matrix) (t : Target) (answer : Answer) → IsExplained members c m t answer → IsElse answer
+explanation_else members c m (target.Schedule u) answer is = explained_else members c m u answer is
+explanation_else members c m (target.Report r) answer is = finding_else (IsExplainedSchedule members c m) r.finding answer (λ u more. explained_else members c m u answer more) is
+
+serially_else : (serial : ℕ) (c : Declarations) (m : Matrix) (t : Target) (answer : Answer) → IsExplainedSerially serial c m t answer → IsElse answer
+serially_else serial c m t answer (inl is) = explanation_else is.1 c m t answer is.4
+serially_else serial c m t answer (inr is) = finding_else (λ v a. ⊥) is.0 answer (λ u never. absurd never) is.2
+
+target_else : (text : List ℕ) (IsAnswer : Target → Answer → Type 0) (answer : Answer) → ((t : Target) → IsAnswer t answer → IsElse answer) → ToTarget text IsAnswer answer → IsElse answer
+target_else text IsAnswer answer h is = go (is_report text) is
+  where
+    go : (b : Bool) → MatchBool b (ToReport text (λ r. IsAnswer (target.Report r)) answer) (ToSchedule (schedule_of text) (λ u. IsAnswer (target.Schedule u)) answer) → IsElse answer
+    go true is = report_else text (λ r. IsAnswer (target.Report r)) answer (λ r more. h (target.Report r) more) is
+    go false is = scheduled_else (schedule_of text) (λ u. IsAnswer (target.Schedule u)) answer (λ u more. h (target.Schedule u) more) is
+
+explain_else : (limits : Limits) (parts : List (List ℕ)) (answer : Answer) → IsExplainOf limits parts answer → IsElse answer
+explain_else limits parts answer is =
+    parts_else (three parts) (λ p. ToTexts p.0 p.1 (λ c m. IsExplainedText limits c m p.2)) answer
+    (λ p more. texts_else p.0 p.1 (λ c m. IsExplainedText limits c m p.2) answer
+    (λ c m from. target_else p.2 (IsExplainedSerially limits.serial c m) answer (λ t last. serially_else limits.serial c m t answer last) from) more) is
+
+explain_against_else : (parts : List (List ℕ)) (answer : Answer) → IsExplainAgainstOf parts answer → IsElse answer
+explain_against_else parts answer is =
+    parts_else (four parts) (λ p. ToTexts p.0 p.1 (λ c m. IsExplainedAgainst c m p.2 p.3)) answer
+    (λ p more. texts_else p.0 p.1 (λ c m. IsExplainedAgainst c m p.2 p.3) answer
+    (λ c m from. target_else p.2 (λ t. ToSpec m p.3 (λ members. IsExplained members c m t)) answer
+    (λ t read. spec_else m p.3 (λ members. IsExplained members c m t) answer (λ members last. explanation_else members c m t answer last) read) from) more) is
+
 found_else : (c : Declarations) (found : Campaign) (answer : Answer) → answer ≡ found_answer c found → IsElse answer
 found_else c (AllPass count) answer is = status_else answer 0 (ap (λ (a : Answer). a.status) is) (λ e. omega arith)
 found_else c (First m r) answer is = matrix_else c m r answer is
@@ -202,9 +264,11 @@ candidates_else c options setup [] answer is = refused_else (codes "G2") answer 
 candidates_else c options setup (candidates ∷ []) answer is = campaign_else c options setup candidates answer is
 candidates_else c options setup (a ∷ b ∷ m) answer is = refused_else (codes "G2") answer is
 
-order_else : (order : Order) (parts : List (List ℕ)) (answer : Answer) → IsAnswerTo order parts answer → IsElse answer
+pub order_else : (order : Order) (parts : List (List ℕ)) (answer : Answer) → IsAnswerTo order parts answer → IsElse answer
 order_else Replay parts answer is = three_else parts IsReplayed answer (λ c m u more. replayed_else c m u answer more) is
 order_else Trace parts answer is = three_else parts IsTraced answer (λ c m u more. traced_else c m u answer more) is
+order_else (Explain limits) parts answer is = explain_else limits parts answer is
+order_else ExplainAgainst parts answer is = explain_against_else parts answer is
 order_else (Serial limits) parts answer is = two_else parts (λ c m. IsRunSerially c m limits) answer (λ c m more. serial_else c m limits answer more) is
 order_else (Check choice) parts answer is = two_else parts (λ c m. IsChecked c m choice) answer (λ c m more. checked_else c m choice answer more) is
 order_else (CheckAgainst choice) parts answer is = spec_parts_else choice parts answer is

@@ -14,7 +14,7 @@ use Rattle.clap.specs.declared.builder.value_parser.ValueParser.TheVariants as v
 use Rattle.clap.specs.declared.error.kind.ErrorKind.{ErrorKind}
 use Rattle.lu_cli.specs.declared.order.CampaignOptions.{CampaignOptions}
 use Rattle.lu_cli.specs.declared.order.Order.{Order}
-use Rattle.lu_cli.specs.declared.order.Order.TheVariants.{Replay, Trace, Serial, Check, CheckAgainst, Certify, Refute, Shrink, Campaign}
+use Rattle.lu_cli.specs.declared.order.Order.TheVariants.{Replay, Trace, Explain, ExplainAgainst, Serial, Check, CheckAgainst, Certify, Refute, Shrink, Campaign}
 use Rattle.lu_cli.specs.Orders.{choice_of}
 use Rattle.lu_report.specs.Limits.{Limits, limits_of, most_moves}
 use Rattle.lu_parallel.specs.Ranges.{Choice}
@@ -33,6 +33,10 @@ number_option name least most default = record (new_rule name) {
   parser = Some (vp.Signed (pos least) (pos most));
   defaults = default ∷ [];
 }
+
+-- an option `--NAME` without a word
+abbrev pub flag : Text → Rule
+flag name = record (new_rule name) { long = Some name; action = Some SetTrue }
 
 -- a command with the options `--bound` and `--serial`, and this default of both
 abbrev pub bounded : Text → Text → App
@@ -53,12 +57,15 @@ replay_command = new_app (codes "replay")
 abbrev pub trace_command : App
 trace_command = new_app (codes "trace")
 
+abbrev pub explain_command : App
+explain_command =
+    with_rule
+    (with_rule (new_app (codes "explain"))
+    (number_option (codes "serial") 1 most_moves (codes "40")))
+    (flag (codes "spec"))
+
 abbrev pub serial_command : App
 serial_command = bounded (codes "serial") (codes "40")
-
--- an option `--NAME` without a word
-abbrev pub flag : Text → Rule
-flag name = record (new_rule name) { long = Some name; action = Some SetTrue }
 
 abbrev pub check_command : App
 check_command = with_rule (shared_out (codes "check") (codes "40")) (flag (codes "spec"))
@@ -89,7 +96,10 @@ program =
 
 -- the program with the commands that play a schedule
 abbrev pub schedule_commands : App
-schedule_commands = with_subcommand (with_subcommand program replay_command.top) trace_command.top
+schedule_commands =
+    with_subcommand
+    (with_subcommand (with_subcommand program replay_command.top) trace_command.top)
+    explain_command.top
 
 -- the program with the commands that look at one matrix
 abbrev pub single_commands : App
@@ -155,6 +165,16 @@ check_order against choice = if against then CheckAgainst choice else Check choi
 abbrev pub check_in : List Row → Option Order
 check_in rows = option_map (check_order (flag_in (codes "spec") rows)) (choice_in rows)
 
+-- an explanation by the serial runs, or one by a specification
+abbrev pub explain_order : Bool → Limits → Order
+explain_order against limits = if against then ExplainAgainst else Explain limits
+
+-- no schedule is bounded
+abbrev pub explain_in : List Row → Option Order
+explain_in rows =
+    option_map (explain_order (flag_in (codes "spec") rows))
+    (limits_with (Some 0) (number_in (codes "serial") rows))
+
 abbrev pub campaign_with : Option Limits → Option ℕ → Option ℕ → Option CampaignOptions
 campaign_with (Some limits) (Some threads) (Some calls) =
     if nat_lt threads 256 && nat_lt calls 256 then Some
@@ -170,13 +190,14 @@ abbrev pub order_by : Text → List Row → Option Order
 order_by name rows =
     if bytes_eq name (codes "replay") then Some Replay
     else (if bytes_eq name (codes "trace") then Some Trace
+    else (if bytes_eq name (codes "explain") then explain_in rows
     else (if bytes_eq name (codes "serial") then option_map Serial (limits_in rows)
     else (if bytes_eq name (codes "check") then check_in rows
     else (if bytes_eq name (codes "certify") then option_map Certify (choice_in rows)
     else (if bytes_eq name (codes "refute") then Some Refute
     else (if bytes_eq name (codes "shrink") then option_map Shrink (limits_in rows)
     else (if bytes_eq name (codes "campaign") then option_map Campaign (campaign_in rows)
-    else None)))))))
+    else None))))))))
 
 abbrev pub order_in : Option (Text × List Row) → Option Order
 order_in entered = option_and_then (λ e. order_by e.0 e.1) entered

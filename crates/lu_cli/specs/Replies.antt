@@ -14,7 +14,7 @@ use Rattle.lu_test.specs.declared.schedule.Move.{Move}
 use Rattle.lu_test.specs.declared.schedule_fault.ScheduleFault.{ScheduleFault}
 use Rattle.lu_test.specs.Codes.{matrix_code_of, schedule_code_of}
 use Rattle.lu_test.specs.MatrixText.{matrix_grammar, matrix_text}
-use Rattle.lu_test.specs.ScheduleText.{schedule_of, schedule_text}
+use Rattle.lu_test.specs.ScheduleText.{IsScheduleUnlessMemory, schedule_of, schedule_text}
 use Rattle.lu_test.specs.Matrix.{Matrix}
 use Rattle.lu_machine.specs.declared.event.Event.{Event}
 use Rattle.lu_machine.specs.declared.event.Status.{Status}
@@ -57,7 +57,12 @@ use Rattle.lu_certify.specs.Certificates.{IsCertificate}
 use Rattle.lu_cli.specs.declared.counted.Counted.{Counted}
 use Rattle.lu_cli.specs.declared.order.CampaignOptions.{CampaignOptions}
 use Rattle.lu_cli.specs.declared.order.Order.{Order}
-use Rattle.lu_cli.specs.declared.order.Order.TheVariants.{Replay, Trace, Serial, Check, CheckAgainst, Certify, Refute, Shrink, Campaign as Campaigning}
+use Rattle.lu_cli.specs.declared.order.Order.TheVariants.{Replay, Trace, Explain, ExplainAgainst, Serial, Check, CheckAgainst, Certify, Refute, Shrink, Campaign as Campaigning}
+use Rattle.lu_cli.specs.declared.refusal.Refusal.{Refusal}
+use Rattle.lu_cli.specs.declared.refusal.Refusal.TheVariants as refusal
+use Rattle.lu_cli.specs.declared.explaining.Target.{Target}
+use Rattle.lu_cli.specs.declared.explaining.Target.TheVariants as target
+use Rattle.lu_cli.specs.Explaining.{IsExplained, IsExplainedSerially, is_report}
 use Rattle.lu_cli.specs.Bundle.{bundle_parts}
 use Rattle.lu_cli.specs.Args.{order_of}
 use Rattle.lu_cli.specs.Inputs.{most_bytes}
@@ -245,6 +250,36 @@ IsCheckAgainstFrom c matrix choice spec = ToSpec matrix spec (IsCheckedAgainst c
 abbrev pub IsRefutedBy : Declarations → Matrix → List ℕ → List ℕ → Answer → Type 0
 IsRefutedBy c matrix report spec = ToReport report (λ r. ToSpec matrix spec (IsRefuted c matrix r))
 
+-- ---- `explain`
+
+-- the answer to a text of a schedule or of a report: its refusal, or what is answered to it
+abbrev pub ToTarget : List ℕ → (Target → Answer → Type 0) → Answer → Type 0
+ToTarget text IsAnswer answer =
+    MatchBool (is_report text) (ToReport text (λ r. IsAnswer (target.Report r)) answer)
+    (ToSchedule (schedule_of text) (λ u. IsAnswer (target.Schedule u)) answer)
+
+-- what is read of such a text
+abbrev pub IsTarget : List ℕ → Target → Type 0
+IsTarget text t =
+    MatchBool (is_report text) ((r : Parts) × Spells text r × (t ≡ target.Report r))
+    ((u : List Move) × (schedule_of text ≡ Ok u) × (t ≡ target.Schedule u))
+
+-- why it is refused
+abbrev pub IsTargetRefusal : List ℕ → Refusal → Type 0
+IsTargetRefusal text refused =
+    MatchBool (is_report text)
+    ((fault : Fault ReportFaultKind) × IsFault text fault × (refused ≡ refusal.Report fault))
+    ((fault : ScheduleFault) × IsScheduleUnlessMemory fault (schedule_of text)
+    × (refused ≡ refusal.Schedule fault))
+
+abbrev pub IsExplainedText : Limits → Declarations → Matrix → List ℕ → Answer → Type 0
+IsExplainedText limits c m text = ToTarget text (IsExplainedSerially limits.serial c m)
+
+-- the schedule or the report is read first, and then the specification
+abbrev pub IsExplainedAgainst : Declarations → Matrix → List ℕ → List ℕ → Answer → Type 0
+IsExplainedAgainst c m text spec =
+    ToTarget text (λ t. ToSpec m spec (λ members. IsExplained members c m t))
+
 -- ---- `campaign`
 
 -- all matrices pass, and there are so many
@@ -315,6 +350,14 @@ IsTraceOf parts =
     ToParts (three parts)
     (λ p. ToTexts p.0 p.1 (λ c m. ToSchedule (schedule_of p.2) (IsTraced c m)))
 
+abbrev pub IsExplainOf : Limits → List (List ℕ) → Answer → Type 0
+IsExplainOf limits parts =
+    ToParts (three parts) (λ p. ToTexts p.0 p.1 (λ c m. IsExplainedText limits c m p.2))
+
+abbrev pub IsExplainAgainstOf : List (List ℕ) → Answer → Type 0
+IsExplainAgainstOf parts =
+    ToParts (four parts) (λ p. ToTexts p.0 p.1 (λ c m. IsExplainedAgainst c m p.2 p.3))
+
 abbrev pub IsSerialOf : Limits → List (List ℕ) → Answer → Type 0
 IsSerialOf limits parts =
     ToParts (two parts) (λ p. ToTexts p.0 p.1 (λ c m. IsRunSerially c m limits))
@@ -345,6 +388,8 @@ IsCampaignOf options parts =
 abbrev pub IsAnswerTo : Order → List (List ℕ) → Answer → Type 0
 IsAnswerTo Replay parts = IsReplayOf parts
 IsAnswerTo Trace parts = IsTraceOf parts
+IsAnswerTo (Explain limits) parts = IsExplainOf limits parts
+IsAnswerTo ExplainAgainst parts = IsExplainAgainstOf parts
 IsAnswerTo (Serial limits) parts = IsSerialOf limits parts
 IsAnswerTo (Check choice) parts = IsCheckOf choice parts
 IsAnswerTo (CheckAgainst choice) parts = IsCheckAgainstOf choice parts

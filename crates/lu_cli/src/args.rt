@@ -111,6 +111,14 @@ fn with_workers<'a>(
     with_option(command, number_option(alloc, "depth", 0, 8, "4"))
 }
 
+fn explain_command<'a>(alloc: Global) -> Result<Command<'a>, AllocError>
+    ensures { IfOk result (IsApp spec.explain_command) }
+{
+    let command = bare_command(alloc, "explain");
+    let command = with_option(command, number_option(alloc, "serial", 1, MOST_MOVES, "40"));
+    with_option(command, flag(alloc, "spec"))
+}
+
 fn check_command<'a>(alloc: Global) -> Result<Command<'a>, AllocError>
     ensures { IfOk result (IsApp spec.check_command) }
 {
@@ -136,12 +144,13 @@ fn bare_program<'a>(alloc: Global) -> Result<Command<'a>, AllocError>
     )
 }
 
-/// The program with the commands that play a schedule.
+/// The program with the commands that look at one schedule.
 fn schedule_commands<'a>(alloc: Global) -> Result<Command<'a>, AllocError>
     ensures { IfOk result (IsApp spec.schedule_commands) }
 {
     let program = with_command(bare_program(alloc), bare_command(alloc, "replay"));
-    with_command(program, bare_command(alloc, "trace"))
+    let program = with_command(program, bare_command(alloc, "trace"));
+    with_command(program, explain_command(alloc))
 }
 
 /// The program with the commands that look at one matrix.
@@ -226,6 +235,25 @@ fn check_in(given: &ArgMatches<'_>) -> Option<Order>
     Some(check_order(options, flag_in(given, "spec")))
 }
 
+/// An explanation by the serial runs, or one by a specification.
+fn explain_order(bounds: Bounds, against: bool) -> Order
+    ensures { result ≡ spec.explain_order against bounds }
+{
+    if against {
+        Order::ExplainAgainst
+    } else {
+        Order::Explain(bounds)
+    }
+}
+
+fn explain_in(given: &ArgMatches<'_>) -> Option<Order>
+    ensures { result ≡ spec.explain_in (rows_of (found_of given.now)) }
+{
+    let serial = number_in(given, "serial")?;
+    let bounds = Bounds::new(0, serial)?;
+    Some(explain_order(bounds, flag_in(given, "spec")))
+}
+
 /// The order of a command's name and of what is given to the command.
 fn order_by(name: &str, given: &ArgMatches<'_>) -> Option<Order>
     ensures { result ≡ spec.order_by name.now (rows_of (found_of given.now)) }
@@ -233,6 +261,7 @@ fn order_by(name: &str, given: &ArgMatches<'_>) -> Option<Order>
     match name {
         "replay" => Some(Order::Replay),
         "trace" => Some(Order::Trace),
+        "explain" => explain_in(given),
         "serial" => bounds_in(given).map(Order::Serial),
         "check" => check_in(given),
         "certify" => options_in(given).map(Order::Certify),

@@ -14,6 +14,7 @@ use crate::answer::{
     Answer, infeasible, show_certificate, show_count, show_matrix, show_refusal, show_report,
     show_schedule, show_spec,
 };
+use crate::explaining::{answer_explain, answer_explain_against};
 use crate::order::{CampaignOptions, Order};
 use crate::refusal::Refusal;
 use crate::texts::{read_texts, report_against, report_of};
@@ -351,6 +352,8 @@ fn carry_out<X: AllocGlobal + Threads + Wait>(
     match order {
         Order::Replay => answer_replay(rt.alloc(), parts),
         Order::Trace => answer_trace(rt.alloc(), parts),
+        Order::Explain(bounds) => answer_explain(rt.alloc(), bounds, parts),
+        Order::ExplainAgainst => answer_explain_against(rt.alloc(), parts),
         Order::Serial(bounds) => answer_serial(rt.alloc(), bounds, parts),
         Order::Check(options) => answer_check(rt, options, parts),
         Order::CheckAgainst(options) => answer_check_against(rt, options, parts),

@@ -7,6 +7,7 @@ mod args;
 mod bundle;
 mod commands;
 mod counted;
+mod explaining;
 mod input;
 mod order;
 mod output;

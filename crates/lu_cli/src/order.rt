@@ -24,6 +24,13 @@ pub enum Order {
     /// `lineup trace`: show what each move of a schedule does.
     Trace,
 
+    /// `lineup explain`: show why the history of a schedule has no serial witness, or its witness.
+    /// The bound of schedules is not used.
+    Explain(Bounds),
+
+    /// `lineup explain --spec`: the same by a specification.
+    ExplainAgainst,
+
     /// `lineup serial`: show the serial histories of a component and a matrix.
     Serial(Bounds),
 

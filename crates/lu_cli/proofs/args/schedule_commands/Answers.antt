@@ -3,4 +3,5 @@ use Rattle.lu_cli.proofs.args.schedule_commands.Goals as goal
 pub returns : goal.returns
 returns c =
     let one = c.with_command-program.ensures _ _ c.bare_program.ensures c.bare_command.ensures in
-    c.with_command.ensures _ _ one c.bare_command-2.ensures
+    let two = c.with_command-program-2.ensures _ _ one c.bare_command-2.ensures in
+    c.with_command.ensures _ _ two c.explain_command.ensures

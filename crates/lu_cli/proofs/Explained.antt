@@ -1,0 +1,61 @@
+-- Answers to schedules that are to be explained.
+use Rattle.std.proofs.Common.{◌≡◌, ℕ, Bool, true, false, List, Ok, inl, refl, sym, subst}
+use Rattle.std.specs.Prelude.{IfSome, MatchBool}
+use Rattle.lu_text.specs.declared.fault.Fault.{Fault}
+use Rattle.lu_component.specs.Component.{Declarations}
+use Rattle.lu_test.specs.declared.schedule.Move.{Move}
+use Rattle.lu_test.specs.declared.schedule_fault.ScheduleFault.{ScheduleFault}
+use Rattle.lu_test.specs.declared.schedule_fault.ScheduleFault.TheVariants.{Form, Number, Limit, Memory}
+use Rattle.lu_test.specs.Matrix.{Matrix}
+use Rattle.lu_test.specs.ScheduleText.{IsScheduleUnlessMemory, schedule_of}
+use Rattle.lu_machine.specs.declared.event.Event.{Event}
+use Rattle.lu_machine.specs.declared.event.Status.{Status}
+use Rattle.lu_machine.specs.States.{State}
+use Rattle.lu_machine.specs.Starts.{IsStart}
+use Rattle.lu_machine.specs.Runs.{Leads}
+use Rattle.lu_machine.specs.Schedules.{IsSchedule}
+use Rattle.lu_machine.proofs.Starting.{start_same}
+use Rattle.lu_report.specs.Parts.{Parts}
+use Rattle.lu_report.specs.declared.fault.ReportFaultKind.{ReportFaultKind}
+use Rattle.lu_report.specs.Forms.{IsFault, Spells}
+use Rattle.lu_replay.specs.Replays.{Shows}
+use Rattle.lu_cli.specs.declared.explaining.Target.{Target}
+use Rattle.lu_cli.specs.declared.explaining.Target.TheVariants as target
+use Rattle.lu_cli.specs.declared.refusal.Refusal.{Refusal}
+use Rattle.lu_cli.specs.declared.refusal.Refusal.TheVariants as refusal
+use Rattle.lu_cli.specs.Refusals.{refusal_answer, schedule_answer}
+use Rattle.lu_cli.specs.Explaining.{is_report}
+use Rattle.lu_cli.specs.Replies.{Answer, IsTarget, IsTargetRefusal, ToReport, ToSchedule, ToTarget}
+use Rattle.lu_cli.proofs.Refuted.{report_refused}
+
+-- what shows something is a schedule from each start
+pub schedule_from : (c : Declarations) (m : Matrix) (u : List Move) (h : List Event) (status : Status) → Shows c m u h status → (s : State) → IsStart c m s → IsSchedule s u
+schedule_from c m u h status shows s is =
+    let plays = shows.1 in
+    let same = start_same c m plays.0 s plays.1 is in
+    record { end = shows.0; history = h; leads = subst (λ (r : State). Leads r u shows.0 h) same plays.2; holds = tt }
+
+schedule_refused : (text : List ℕ) (fault : ScheduleFault) (IsAnswer : List Move → Answer → Type 0) → IsScheduleUnlessMemory fault (schedule_of text) → IfSome (schedule_answer fault) (ToSchedule (schedule_of text) IsAnswer)
+schedule_refused text Memory IsAnswer is = tt
+schedule_refused text Form IsAnswer is = rw is refl
+schedule_refused text Number IsAnswer is = rw is refl
+schedule_refused text Limit IsAnswer is = rw is refl
+
+module _ (text : List ℕ) (IsAnswer : Target → Answer → Type 0) where
+  -- why it is refused is what is answered
+  pub target_refused : (refused : Refusal) → IsTargetRefusal text refused → IfSome (refusal_answer refused) (ToTarget text IsAnswer)
+  target_refused refused is = go (is_report text) is
+    where
+      go : (b : Bool) → MatchBool b ((fault : Fault ReportFaultKind) × IsFault text fault × (refused ≡ refusal.Report fault)) ((fault : ScheduleFault) × IsScheduleUnlessMemory fault (schedule_of text) × (refused ≡ refusal.Schedule fault))
+          → IfSome (refusal_answer refused) (λ answer. MatchBool b (ToReport text (λ r. IsAnswer (target.Report r)) answer) (ToSchedule (schedule_of text) (λ u. IsAnswer (target.Schedule u)) answer))
+      go true (fault, is, e) = subst (λ (r : Refusal). IfSome (refusal_answer r) (ToReport text (λ r. IsAnswer (target.Report r)))) (sym e) (report_refused text fault (λ r. IsAnswer (target.Report r)) is)
+      go false (fault, is, e) = subst (λ (r : Refusal). IfSome (refusal_answer r) (ToSchedule (schedule_of text) (λ u. IsAnswer (target.Schedule u)))) (sym e) (schedule_refused text fault (λ u. IsAnswer (target.Schedule u)) is)
+
+  -- what is answered to what is read is the answer
+  pub target_answered : (t : Target) → IsTarget text t → (answer : Answer) → IsAnswer t answer → ToTarget text IsAnswer answer
+  target_answered t is answer says = go (is_report text) is
+    where
+      go : (b : Bool) → MatchBool b ((r : Parts) × Spells text r × (t ≡ target.Report r)) ((u : List Move) × (schedule_of text ≡ Ok u) × (t ≡ target.Schedule u))
+          → MatchBool b (ToReport text (λ r. IsAnswer (target.Report r)) answer) (ToSchedule (schedule_of text) (λ u. IsAnswer (target.Schedule u)) answer)
+      go true (r, spells, e) = inl (r, spells, subst (λ (x : Target). IsAnswer x answer) e says)
+      go false (u, spelled, e) = rw spelled (subst (λ (x : Target). IsAnswer x answer) e says)

@@ -1,0 +1,91 @@
+-- What `explain` answers.
+use Rattle.std.specs.Prelude.{◌≡◌, ◌⊎◌, ℕ, List, [], ◌++◌, codes, Bool, nat_eq}
+use Rattle.std.specs.List.{starts_with}
+use Rattle.lu_component.specs.Component.{Declarations}
+use Rattle.lu_test.specs.declared.schedule.Move.{Move}
+use Rattle.lu_test.specs.Matrix.{Matrix}
+pub use Rattle.lu_test.specs.ScheduleText.{schedule_text}
+use Rattle.lu_machine.specs.declared.event.Event.{Event}
+use Rattle.lu_machine.specs.declared.event.Status.{Status}
+use Rattle.lu_machine.specs.declared.event.Status.TheVariants.{Running, Complete, Stuck}
+use Rattle.lu_machine.specs.States.{State}
+use Rattle.lu_machine.specs.Starts.{FromEachStart, IsStart}
+use Rattle.lu_history.specs.declared.serial.SerialOp.{SerialOp}
+use Rattle.lu_serial.specs.Offences.{IsSetOf}
+use Rattle.lu_witness.specs.declared.judgement.Verdict.{Verdict}
+use Rattle.lu_witness.specs.declared.judgement.Verdict.TheVariants.{Good, NoWitness, NoWitnessFor}
+use Rattle.lu_witness.specs.Witnesses.{IsMember, IsVerdict}
+use Rattle.lu_report.specs.declared.report.Finding.{Finding}
+use Rattle.lu_report.specs.declared.report.Finding.TheVariants.{SerialCut, Nondeterministic, Fail, Pass}
+pub use Rattle.lu_report.specs.Parts.{IsOfOffence}
+use Rattle.lu_replay.specs.Replays.{IsInfeasibleAt, Shows}
+use Rattle.lu_replay.specs.Reports.{IsFinding}
+use Rattle.lu_explain.specs.Blocks.{IsTextFor, run_of}
+use Rattle.lu_explain.specs.EventMoves.{AreEventMoves}
+use Rattle.lu_cli.specs.declared.explaining.Target.{Target}
+use Rattle.lu_cli.specs.declared.explaining.Target.TheVariants as target
+use Rattle.lu_cli.specs.Outcomes.{Answer, infeasible}
+
+-- why nothing is explained, with a schedule that shows it, or none
+abbrev pub unexplained : List ℕ → List ℕ → Answer
+unexplained why schedule =
+    record { text = codes "explain " ++ why ++ codes "\n" ++ schedule; status = 1 }
+
+abbrev pub status_by : Verdict → ℕ
+status_by Good = 0
+status_by NoWitness = 1
+status_by (NoWitnessFor t) = 1
+
+-- the history of an ended schedule, explained by these serial histories
+abbrev pub IsExplainedBy : List (List SerialOp) → Declarations → Matrix → List Move → List Event
+    → Answer → Type 0
+IsExplainedBy members c m u h answer =
+    (moves : List ℕ) × (text : List ℕ) × (verdict : Verdict)
+    × AreEventMoves c m u moves × IsTextFor (IsMember members) (run_of c m h moves) text
+    × IsVerdict (IsMember members) h verdict
+    × (answer ≡ record { text = text; status = status_by verdict })
+
+-- a finding that is no failure explains nothing
+abbrev pub ToFinding : (List Move → Answer → Type 0) → Finding → Answer → Type 0
+ToFinding IsAnswer (SerialCut u) answer =
+    answer ≡ unexplained (codes "serial-cut") (schedule_text u)
+ToFinding IsAnswer (Nondeterministic u before earlier) answer =
+    answer ≡ unexplained (codes "nondeterministic") (schedule_text u)
+ToFinding IsAnswer (Fail u why) answer = IsAnswer u answer
+ToFinding IsAnswer (Pass counts) answer = answer ≡ unexplained (codes "pass") []
+
+-- a schedule that has not ended explains nothing
+abbrev pub ToEnded : Status → (Answer → Type 0) → Answer → Type 0
+ToEnded Running IsAnswer answer = answer ≡ unexplained (codes "running") []
+ToEnded Complete IsAnswer answer = IsAnswer answer
+ToEnded Stuck IsAnswer answer = IsAnswer answer
+
+-- a schedule, explained by these serial histories, or where it is infeasible
+abbrev pub IsExplainedSchedule : List (List SerialOp) → Declarations → Matrix → List Move → Answer
+    → Type 0
+IsExplainedSchedule members c m u answer =
+    ((h : List Event) × (status : Status) × Shows c m u h status
+    × ToEnded status (IsExplainedBy members c m u h) answer)
+    ⊎ ((i : ℕ) × IsInfeasibleAt c m u i × (answer ≡ infeasible i))
+
+-- a schedule, or that of a report
+abbrev pub IsExplained : List (List SerialOp) → Declarations → Matrix → Target → Answer → Type 0
+IsExplained members c m (target.Schedule u) = IsExplainedSchedule members c m u
+IsExplained members c m (target.Report r) =
+    ToFinding (IsExplainedSchedule members c m) r.finding
+
+-- what a check finds, with any bound of schedules, where a serial run offends
+abbrev pub IsOffenceOf : Declarations → Matrix → ℕ → Finding → Type 0
+IsOffenceOf c m serial f =
+    IsOfOffence f × ((bound : ℕ) → FromEachStart c m (λ s. IsFinding s bound serial f))
+
+-- by the serial histories, where no serial run offends; else that one does
+abbrev pub IsExplainedSerially : ℕ → Declarations → Matrix → Target → Answer → Type 0
+IsExplainedSerially serial c m explained answer =
+    ((s : State) × (members : List (List SerialOp)) × IsStart c m s × IsSetOf s serial members
+    × IsExplained members c m explained answer)
+    ⊎ ((f : Finding) × IsOffenceOf c m serial f × ToFinding (λ v a. ⊥) f answer)
+
+-- the text begins as a report does
+abbrev pub is_report : List ℕ → Bool
+is_report text = starts_with nat_eq text (codes "lineup")

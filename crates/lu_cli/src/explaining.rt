@@ -1,0 +1,257 @@
+//! Why the history of a schedule has no serial witness.
+
+ghost use Rattle.std.specs.Prelude.{◌≡◌, IfErr, IfOk};
+ghost use Rattle.lu_text.specs.Lines.{texts};
+ghost use Rattle.lu_machine.specs.Starts.{CanRun};
+ghost use Rattle.lu_replay.specs.Replays.{Shows};
+ghost use Rattle.lu_cli.specs.Refusals.{Answered};
+ghost use Rattle.lu_cli.specs.Explaining as spec;
+ghost use Rattle.lu_cli.specs.Replies.{IsExplainAgainstOf, IsExplainOf, IsExplainedAgainst, IsExplainedText, IsTarget, IsTargetRefusal};
+
+use crate::answer::{Answer, infeasible};
+use crate::refusal::Refusal;
+use crate::texts::read_texts;
+use lu_component::Component;
+use lu_explain::{event_moves, write_explanations};
+use lu_machine::Status;
+use lu_replay::{Replay, ReplayFault, replay, set_or_offence};
+use lu_report::{Bounds, Finding, Report, read_report};
+use lu_serial::learn;
+use lu_spec::read_spec;
+use lu_test::{Matrix, Schedule, read_schedule, write_schedule};
+use lu_text::{four, three};
+use lu_trie::SerialTree;
+use lu_witness::{Verdict, verdict};
+use std::alloc::{AllocError, Global};
+
+/// What is to be explained.
+#[derive(Debug, Drop)]
+pub(crate) enum Target {
+    /// The history of a schedule.
+    Schedule(Schedule),
+
+    /// That of the schedule of a report.
+    Report(Report),
+}
+
+/// Why nothing is explained.
+fn say(alloc: Global, why: &str, schedule: &str) -> Result<Answer, AllocError>
+    ensures { IfOk result (λ answer. answer ≡ spec.unexplained why.now schedule.now) }
+{
+    Ok(Answer {
+        text: format!(in alloc; "explain {why}\n{schedule}")?,
+        status: 1,
+    })
+}
+
+/// The same, with a schedule that shows it.
+fn say_with(alloc: Global, why: &str, schedule: &Schedule) -> Result<Answer, AllocError>
+    ensures { IfOk result (λ answer.
+        answer ≡ spec.unexplained why.now (spec.schedule_text schedule.now)) }
+{
+    let text = write_schedule(alloc, schedule)?;
+    say(alloc, why, text.as_str())
+}
+
+/// The status by a verdict.
+fn status_by(verdict: Verdict) -> u8
+    ensures { result ≡ spec.status_by verdict }
+{
+    match verdict {
+        Verdict::Good => 0,
+        Verdict::NoWitness | Verdict::NoWitnessFor(_) => 1,
+    }
+}
+
+/// The history of an ended schedule, explained by the serial histories of a tree.
+fn explain_by<T: SerialTree>(
+    alloc: Global,
+    component: &Component,
+    matrix: &Matrix,
+    tree: &T,
+    schedule: &Schedule,
+    shown: &Replay,
+) -> Result<Answer, AllocError>
+    requires run { CanRun component.now matrix.now }
+    requires shows { Shows component.now matrix.now schedule.now shown.now.history
+        shown.now.status }
+    ensures { IfOk result (spec.IsExplainedBy (T.members tree.now) component.now matrix.now
+        schedule.now shown.now.history) }
+{
+    let moves = event_moves(alloc, component, matrix, schedule)?;
+    let text = write_explanations(alloc, component, matrix, tree, &shown.history, &moves)?;
+    Ok(Answer {
+        text,
+        status: status_by(verdict(tree, &shown.history)),
+    })
+}
+
+/// What a report finds that is no failure.
+fn tell_offence(alloc: Global, finding: &Finding) -> Result<Answer, AllocError>
+    requires { spec.IsOfOffence finding.now }
+    ensures { IfOk result (spec.ToFinding (λ _u _a. ⊥) finding.now) }
+{
+    match finding {
+        Finding::SerialCut(schedule) => say_with(alloc, "serial-cut", schedule),
+        Finding::Nondeterministic { schedule, .. } => say_with(alloc, "nondeterministic", schedule),
+        Finding::Fail { .. } => unreachable!(),
+        Finding::Pass(_) => unreachable!(),
+    }
+}
+
+/// A schedule, explained by the serial histories of a tree, or where it is infeasible.
+fn explain_schedule<T: SerialTree>(
+    alloc: Global,
+    component: &Component,
+    matrix: &Matrix,
+    tree: &T,
+    schedule: &Schedule,
+) -> Result<Answer, AllocError>
+    requires { CanRun component.now matrix.now }
+    ensures { IfOk result (spec.IsExplainedSchedule (T.members tree.now) component.now matrix.now
+        schedule.now) }
+{
+    match replay(alloc, component, matrix, schedule) {
+        Ok(shown) => match shown.status {
+            Status::Running => say(alloc, "running", ""),
+            Status::Complete | Status::Stuck => {
+                explain_by(alloc, component, matrix, tree, schedule, &shown)
+            }
+        },
+        Err(ReplayFault::Infeasible(index)) => infeasible(alloc, index),
+        Err(ReplayFault::Memory) => Err(AllocError),
+    }
+}
+
+/// The schedule of a finding, explained by the serial histories of a tree, where it is a failure.
+fn explain_finding<T: SerialTree>(
+    alloc: Global,
+    component: &Component,
+    matrix: &Matrix,
+    tree: &T,
+    finding: &Finding,
+) -> Result<Answer, AllocError>
+    requires { CanRun component.now matrix.now }
+    ensures { IfOk result (spec.ToFinding
+        (spec.IsExplainedSchedule (T.members tree.now) component.now matrix.now) finding.now) }
+{
+    match finding {
+        Finding::SerialCut(schedule) => say_with(alloc, "serial-cut", schedule),
+        Finding::Nondeterministic { schedule, .. } => say_with(alloc, "nondeterministic", schedule),
+        Finding::Fail { schedule, .. } => {
+            explain_schedule(alloc, component, matrix, tree, schedule)
+        }
+        Finding::Pass(_) => say(alloc, "pass", ""),
+    }
+}
+
+/// A schedule or that of a report, explained by the serial histories of a tree.
+fn explain<T: SerialTree>(
+    alloc: Global,
+    component: &Component,
+    matrix: &Matrix,
+    tree: &T,
+    target: &Target,
+) -> Result<Answer, AllocError>
+    requires { CanRun component.now matrix.now }
+    ensures { IfOk result (spec.IsExplained (T.members tree.now) component.now matrix.now
+        target.now) }
+{
+    match target {
+        Target::Schedule(schedule) => explain_schedule(alloc, component, matrix, tree, schedule),
+        Target::Report(report) => {
+            explain_finding(alloc, component, matrix, tree, report.finding())
+        }
+    }
+}
+
+/// The same by the serial runs, or that one of these offends.
+fn explain_serially(
+    alloc: Global,
+    component: &Component,
+    matrix: &Matrix,
+    bounds: Bounds,
+    target: &Target,
+) -> Result<Answer, AllocError>
+    requires { CanRun component.now matrix.now }
+    ensures { IfOk result
+        (spec.IsExplainedSerially bounds.serial component.now matrix.now target.now) }
+{
+    match set_or_offence(learn(alloc, alloc, component, matrix, bounds.serial())?) {
+        Ok(set) => explain(alloc, component, matrix, &&set, target),
+        Err(offence) => tell_offence(alloc, &offence),
+    }
+}
+
+/// Whether a text begins as a report does.
+fn is_report(text: &[u8]) -> bool
+    ensures { result ≡ spec.is_report text.now }
+{
+    text.starts_with(b"lineup")
+}
+
+/// What a text says is to be explained.
+fn read_target(alloc: Global, text: &[u8]) -> Result<Target, Refusal>
+    ensures read { IfOk result (IsTarget text.now) }
+    ensures refused { IfErr result (IsTargetRefusal text.now) }
+{
+    if is_report(text) {
+        Ok(Target::Report(read_report(alloc, text)?))
+    } else {
+        Ok(Target::Schedule(read_schedule(alloc, text)?))
+    }
+}
+
+/// `lineup explain`: component, matrix, and a schedule or a report.
+pub(crate) fn answer_explain(
+    alloc: Global,
+    bounds: Bounds,
+    parts: &[&[u8]],
+) -> Result<Answer, Refusal>
+    ensures { Answered (IsExplainOf bounds (texts parts.now)) result }
+{
+    let (component, matrix, target) = three(parts).ok_or(Refusal::Parts)?;
+    let case = read_texts(alloc, component, matrix)?;
+    explain_text(alloc, &case.component, &case.matrix, bounds, target)
+}
+
+/// The text of a schedule or of a report, explained by the serial runs.
+fn explain_text(
+    alloc: Global,
+    component: &Component,
+    matrix: &Matrix,
+    bounds: Bounds,
+    target: &[u8],
+) -> Result<Answer, Refusal>
+    requires { CanRun component.now matrix.now }
+    ensures { Answered (IsExplainedText bounds component.now matrix.now target.now) result }
+{
+    let target = read_target(alloc, target)?;
+    Ok(explain_serially(alloc, component, matrix, bounds, &target)?)
+}
+
+/// The text of a schedule or of a report, explained by a specification.
+fn explain_against(
+    alloc: Global,
+    component: &Component,
+    matrix: &Matrix,
+    target: &[u8],
+    specification: &[u8],
+) -> Result<Answer, Refusal>
+    requires { CanRun component.now matrix.now }
+    ensures { Answered
+        (IsExplainedAgainst component.now matrix.now target.now specification.now) result }
+{
+    let target = read_target(alloc, target)?;
+    let specification = read_spec(alloc, matrix, specification)?;
+    Ok(explain(alloc, component, matrix, &specification.tree(), &target)?)
+}
+
+/// `lineup explain --spec`: component, matrix, a schedule or a report, and specification.
+pub(crate) fn answer_explain_against(alloc: Global, parts: &[&[u8]]) -> Result<Answer, Refusal>
+    ensures { Answered (IsExplainAgainstOf (texts parts.now)) result }
+{
+    let (component, matrix, target, specification) = four(parts).ok_or(Refusal::Parts)?;
+    let case = read_texts(alloc, component, matrix)?;
+    explain_against(alloc, &case.component, &case.matrix, target, specification)
+}

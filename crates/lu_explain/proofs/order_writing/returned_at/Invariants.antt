@@ -1,0 +1,7 @@
+use Rattle.std.proofs.Common.{◌≡◌, drop}
+use Rattle.lu_history.specs.Parts.{is_return}
+use Rattle.lu_explain.specs.OrderLines.{number_of}
+use Rattle.lu_explain.proofs.order_writing.returned_at.Given as goal
+
+abbrev pub invariant-loop-i : goal.invariant-loop-i
+invariant-loop-i l = number_of (is_return l.a) (drop l.i l.events) (drop l.i l.numbers) ≡ number_of (is_return l.a) l.events l.numbers

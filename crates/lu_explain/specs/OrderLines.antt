@@ -1,0 +1,53 @@
+-- The text of an order of the calls, precedence aside.
+use Rattle.std.specs.Prelude.{ℕ, Bool, false, ◌++◌, ◌==◌, ◌&&◌, if◌then◌else◌, List, [], ◌∷◌, codes, length, Option, Some, None}
+use Rattle.std.specs.Option.{option_map_or}
+use Rattle.std.specs.Fmt.{decimal}
+use Rattle.lu_component.specs.Component.{Declarations}
+use Rattle.lu_test.specs.Matrix.{Matrix}
+use Rattle.lu_machine.specs.declared.event.Event.{Event}
+use Rattle.lu_machine.specs.declared.event.Event.TheVariants.{Call, Return}
+use Rattle.lu_history.specs.declared.operation.OpId.{OpId}
+use Rattle.lu_history.specs.Parts.{is_return}
+use Rattle.lu_explain.specs.declared.orders.Precedence.{Precedence}
+use Rattle.lu_explain.specs.AnyOrders.{Ordered}
+use Rattle.lu_explain.specs.Lines.{first_lines, operation_words, order_line}
+
+-- the event is the call of the operation
+abbrev pub is_call : OpId → Event → Bool
+is_call a (Call t k) = (t == a.t) && (k == a.k)
+is_call a (Return t k outcome) = false
+
+-- the number of the first event of this kind, where each event of h has a number
+abbrev pub number_of : (Event → Bool) → List Event → List ℕ → ℕ
+number_of Kind [] numbers = 0
+number_of Kind (e ∷ h) [] = 0
+number_of Kind (e ∷ h) (n ∷ numbers) = if Kind e then n else number_of Kind h numbers
+
+-- `T1 pop stands before T0 push 5`
+abbrev pub stands_words : Declarations → Matrix → Precedence → List ℕ
+stands_words c matrix broken =
+    operation_words c matrix broken.second.t broken.second.k ++ codes " stands before "
+    ++ operation_words c matrix broken.first.t broken.first.k
+
+-- `, which had returned (move 7)`: the first of both
+abbrev pub returned_words : List Event → List ℕ → OpId → List ℕ
+returned_words h moves a =
+    codes ", which had returned (move " ++ decimal (number_of (is_return a) h moves) ++ codes ")"
+
+-- ` when it was called (move 14)`: the second of both
+abbrev pub called_words : List Event → List ℕ → OpId → List ℕ
+called_words h moves b =
+    codes " when it was called (move " ++ decimal (number_of (is_call b) h moves) ++ codes ")"
+
+-- a precedence that an order breaks, where each event of h has the number of its move
+abbrev pub broken_line : Declarations → Matrix → List Event → List ℕ → Precedence → List ℕ
+broken_line c matrix h moves broken =
+    stands_words c matrix broken ++ returned_words h moves broken.first
+    ++ called_words h moves broken.second ++ codes "\n"
+
+-- the order, and the first precedence that it breaks, where there is such an order
+abbrev pub any_order_text : Declarations → Matrix → List Event → List ℕ → Option Ordered → List ℕ
+any_order_text c matrix h moves None = codes "no order of the calls has these outcomes\n"
+any_order_text c matrix h moves (Some o) =
+    codes "any order\n" ++ first_lines (order_line c matrix o.order) (length o.order)
+    ++ option_map_or (broken_line c matrix h moves) o.broken []
