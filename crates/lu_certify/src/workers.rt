@@ -7,7 +7,7 @@ ghost use Rattle.lu_certify.specs.Certificates.{IsCertificate, NamesCutOf};
 ghost use Rattle.lu_certify.specs.Laws.{Decides};
 
 use crate::certificate::Certificate;
-use crate::certifying::{conclude, first_unclear, is_failure};
+use crate::certifying::{certify, conclude, first_unclear, is_failure};
 use crate::cuts::{count_cuts, cut_at};
 use lu_component::Component;
 use lu_parallel::{CheckFault, Gate, Options, check};
@@ -17,9 +17,9 @@ use std::sync::Wait;
 use std::thread::Threads;
 
 /// The same certificate, where each cut is checked by as many workers as the options say: it is the
-/// same for any number of workers and any depth. One worker searches on the calling thread, and no
-/// thread is started and the gate is not called. More of them pass the gate at each piece of each
-/// cut, and the calling thread waits until they are done, before the next cut.
+/// same for any number of workers and any depth. With one worker all is done on the calling thread,
+/// as by [`certify`]. More of them pass the gate at each piece of each cut, and the calling thread
+/// waits until they are done, before the next cut.
 ///
 /// # Errors
 ///
@@ -40,6 +40,10 @@ pub fn certify_by_workers<R: Threads + Wait, G: Gate>(
     ensures of { IfOk result (NamesCutOf component.now) }
     ensures alone { IfErr result (λ fault. options.workers ≡ 1 → fault ≡ Memory) }
 {
+    if options.workers() == 1 {
+        let certificate = certify(alloc, component, matrix, options.bound(), options.serial())?;
+        return Ok(certificate);
+    }
     let end = count_cuts(matrix);
     let mut unclear = None;
     for place in 0..end {

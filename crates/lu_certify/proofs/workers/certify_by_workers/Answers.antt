@@ -42,7 +42,7 @@ loop-place-preserved g c =
 pub conclude-requires-clause-none : goal.conclude-requires-clause-none
 conclude-requires-clause-none g c =
     let all : cut_count c.args.matrix.now.threads ≤ c.loop-place.place = omega (arith, c.count_cuts-end.ensures, c.loop-place-test.false) in
-    rw c.serial.ensures.serial (none_offends c.args.component.now c.args.matrix.now c.args.options.bound c.args.options.serial c.loop-place.place c.loop-place.unclear all c.loop-place.invariant.found)
+    rw c.serial-2.ensures.serial (none_offends c.args.component.now c.args.matrix.now c.args.options.bound c.args.options.serial c.loop-place.place c.loop-place.unclear all c.loop-place.invariant.found)
 
 pub returns-clause-certificate : goal.returns-clause-certificate
 returns-clause-certificate g c =
