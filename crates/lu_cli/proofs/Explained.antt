@@ -1,5 +1,6 @@
 -- Answers to schedules that are to be explained.
-use Rattle.std.proofs.Common.{◌≡◌, ℕ, Bool, true, false, List, Ok, inl, refl, sym, subst}
+use Rattle.std.proofs.Common.{◌≡◌, ℕ, Bool, true, false, List, Ok, Result, inl, inr, refl, sym, subst}
+use Rattle.std.proofs.lemmas.Option.{IfSome_then}
 use Rattle.std.specs.Prelude.{IfSome, MatchBool}
 use Rattle.lu_text.specs.declared.fault.Fault.{Fault}
 use Rattle.lu_component.specs.Component.{Declarations}
@@ -25,7 +26,7 @@ use Rattle.lu_cli.specs.declared.refusal.Refusal.{Refusal}
 use Rattle.lu_cli.specs.declared.refusal.Refusal.TheVariants as refusal
 use Rattle.lu_cli.specs.Refusals.{refusal_answer, schedule_answer}
 use Rattle.lu_cli.specs.Explaining.{is_report}
-use Rattle.lu_cli.specs.Replies.{Answer, IsTarget, IsTargetRefusal, ToReport, ToSchedule, ToTarget}
+use Rattle.lu_cli.specs.Replies.{Answer, IsShown, IsShownRefusal, IsTarget, IsTargetRefusal, ToReport, ToSchedule, ToShown, ToTarget, or_schedule}
 use Rattle.lu_cli.proofs.Refuted.{report_refused}
 
 -- what shows something is a schedule from each start
@@ -35,11 +36,23 @@ schedule_from c m u h status shows s is =
     let same = start_same c m plays.0 s plays.1 is in
     record { end = shows.0; history = h; leads = subst (λ (r : State). Leads r u shows.0 h) same plays.2; holds = tt }
 
-schedule_refused : (text : List ℕ) (fault : ScheduleFault) (IsAnswer : List Move → Answer → Type 0) → IsScheduleUnlessMemory fault (schedule_of text) → IfSome (schedule_answer fault) (ToSchedule (schedule_of text) IsAnswer)
-schedule_refused text Memory IsAnswer is = tt
-schedule_refused text Form IsAnswer is = rw is refl
-schedule_refused text Number IsAnswer is = rw is refl
-schedule_refused text Limit IsAnswer is = rw is refl
+schedule_refused : (read : Result (List Move) ScheduleFault) (fault : ScheduleFault) (IsAnswer : List Move → Answer → Type 0) → IsScheduleUnlessMemory fault read → IfSome (schedule_answer fault) (ToSchedule read IsAnswer)
+schedule_refused read Memory IsAnswer is = tt
+schedule_refused read Form IsAnswer is = rw is refl
+schedule_refused read Number IsAnswer is = rw is refl
+schedule_refused read Limit IsAnswer is = rw is refl
+
+module _ (text : List ℕ) (IsAnswer : List Move → Answer → Type 0) where
+  -- why a schedule or a report with one is refused is what is answered
+  pub shown_refused : (refused : Refusal) → IsShownRefusal text refused → IfSome (refusal_answer refused) (ToShown text IsAnswer)
+  shown_refused refused (inl (found, fault, of, is, e)) =
+      subst (λ (r : Refusal). IfSome (refusal_answer r) (ToShown text IsAnswer)) (sym e)
+      (IfSome_then (schedule_answer fault) {Q = ToShown text IsAnswer} (schedule_refused (or_schedule found text) fault IsAnswer is) (λ answer more. (found, of, more)))
+  shown_refused refused (inr e) = subst (λ (r : Refusal). IfSome (refusal_answer r) (ToShown text IsAnswer)) (sym e) tt
+
+  -- what is answered to the schedule that is read is the answer
+  pub shown_answered : (u : List Move) → IsShown text u → (answer : Answer) → IsAnswer u answer → ToShown text IsAnswer answer
+  shown_answered u (found, of, read) answer says = (found, of, rw read says)
 
 module _ (text : List ℕ) (IsAnswer : Target → Answer → Type 0) where
   -- why it is refused is what is answered
@@ -49,7 +62,7 @@ module _ (text : List ℕ) (IsAnswer : Target → Answer → Type 0) where
       go : (b : Bool) → MatchBool b ((fault : Fault ReportFaultKind) × IsFault text fault × (refused ≡ refusal.Report fault)) ((fault : ScheduleFault) × IsScheduleUnlessMemory fault (schedule_of text) × (refused ≡ refusal.Schedule fault))
           → IfSome (refusal_answer refused) (λ answer. MatchBool b (ToReport text (λ r. IsAnswer (target.Report r)) answer) (ToSchedule (schedule_of text) (λ u. IsAnswer (target.Schedule u)) answer))
       go true (fault, is, e) = subst (λ (r : Refusal). IfSome (refusal_answer r) (ToReport text (λ r. IsAnswer (target.Report r)))) (sym e) (report_refused text fault (λ r. IsAnswer (target.Report r)) is)
-      go false (fault, is, e) = subst (λ (r : Refusal). IfSome (refusal_answer r) (ToSchedule (schedule_of text) (λ u. IsAnswer (target.Schedule u)))) (sym e) (schedule_refused text fault (λ u. IsAnswer (target.Schedule u)) is)
+      go false (fault, is, e) = subst (λ (r : Refusal). IfSome (refusal_answer r) (ToSchedule (schedule_of text) (λ u. IsAnswer (target.Schedule u)))) (sym e) (schedule_refused (schedule_of text) fault (λ u. IsAnswer (target.Schedule u)) is)
 
   -- what is answered to what is read is the answer
   pub target_answered : (t : Target) → IsTarget text t → (answer : Answer) → IsAnswer t answer → ToTarget text IsAnswer answer

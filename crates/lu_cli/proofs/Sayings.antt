@@ -37,13 +37,13 @@ use Rattle.lu_certify.specs.declared.certificate.Certificate.{Certificate}
 use Rattle.lu_certify.specs.declared.certificate.Certificate.TheVariants.{Linearizable, NotLinearizable, Undecided}
 use Rattle.lu_cli.specs.declared.order.CampaignOptions.{CampaignOptions}
 use Rattle.lu_cli.specs.declared.order.Order.{Order}
-use Rattle.lu_cli.specs.declared.order.Order.TheVariants.{Replay, Trace, Explain, ExplainAgainst, Serial, Check, CheckAgainst, Certify, Refute, Shrink, Campaign as Campaigning}
+use Rattle.lu_cli.specs.declared.order.Order.TheVariants.{Replay, Trace, Draw, Explain, ExplainAgainst, Serial, Check, CheckAgainst, Certify, Refute, Shrink, Campaign as Campaigning}
 use Rattle.lu_cli.specs.declared.explaining.Target.{Target}
 use Rattle.lu_cli.specs.declared.explaining.Target.TheVariants as target
 use Rattle.lu_cli.specs.Explaining.{IsExplained, IsExplainedBy, IsExplainedSchedule, IsExplainedSerially, ToEnded, ToFinding, is_report, status_by, unexplained}
 use Rattle.lu_cli.specs.Bundle.{bundle_parts}
 use Rattle.lu_report.specs.Limits.{Limits}
-use Rattle.lu_cli.specs.Replies.{Answer, Answers, IsAnswerFrom, IsAnswerOf, IsAnswerTo, IsCampaignAnswer, IsCampaignFrom, IsCertified, IsCheckAgainstFrom, IsCheckAgainstOf, IsChecked, IsCheckedAgainst, IsExplainAgainstOf, IsExplainOf, IsExplainedAgainst, IsExplainedText, IsRefuted, IsRefutedBy, IsRefuteOf, IsReplayed, IsRunSerially, IsShrinkAnswer, IsTraced, ShowsCertificate, Tells, ToMatrix, ToParts, ToReport, ToSchedule, ToSettled, ToSpec, ToTarget, ToTexts, ToValue, found_answer, no_command, no_device, no_memory, refused, reported, status_of, with_matrix}
+use Rattle.lu_cli.specs.Replies.{Answer, Answers, IsAnswerFrom, IsAnswerOf, IsAnswerTo, IsCampaignAnswer, IsCampaignFrom, IsCertified, IsCheckAgainstFrom, IsCheckAgainstOf, IsChecked, IsCheckedAgainst, IsDrawn, IsExplainAgainstOf, IsExplainOf, IsExplainedAgainst, IsExplainedText, IsRefuted, IsRefutedBy, IsRefuteOf, IsReplayed, IsRunSerially, IsShrinkAnswer, IsTraced, ShowsCertificate, Tells, ToMatrix, ToParts, ToReport, ToSchedule, ToSettled, ToShown, ToSpec, ToTarget, ToTexts, ToValue, found_answer, no_command, no_device, no_memory, or_schedule, refused, reported, status_of, with_matrix}
 
 -- an answer that was made and said
 pub said : (IsAnswer : Answer → Type 0) (answer : Answer) (text : List ℕ) (old new : Option (List ℕ)) (status : ℕ) → IsAnswer answer → text ≡ answer.text → Appends old new text × (status ≡ answer.status) → Answers IsAnswer old new status
@@ -109,6 +109,10 @@ traced_else : (c : Declarations) (m : Matrix) (u : List Move) (answer : Answer) 
 traced_else c m u answer (inl is) = status_else answer 0 (ap (λ (a : Answer). a.status) is.2) (λ e. omega arith)
 traced_else c m u answer (inr is) = status_else answer 1 (ap (λ (a : Answer). a.status) is.2) (λ e. omega arith)
 
+drawn_else : (c : Declarations) (m : Matrix) (u : List Move) (answer : Answer) → IsDrawn c m u answer → IsElse answer
+drawn_else c m u answer (inl is) = status_else answer 0 (ap (λ (a : Answer). a.status) is.2) (λ e. omega arith)
+drawn_else c m u answer (inr is) = status_else answer 1 (ap (λ (a : Answer). a.status) is.2) (λ e. omega arith)
+
 scheduled_else : (r : Result (List Move) ScheduleFault) (IsAnswer : List Move → Answer → Type 0) (answer : Answer) → ((u : List Move) → IsAnswer u answer → IsElse answer) → ToSchedule r IsAnswer answer → IsElse answer
 scheduled_else (Ok u) IsAnswer answer h is = h u is
 scheduled_else (Err fault) IsAnswer answer h is = refused_else _ answer is
@@ -161,6 +165,14 @@ three_else : (parts : List (List ℕ)) (IsAnswer : Declarations → Matrix → L
 three_else parts IsAnswer answer h is =
     parts_else (three parts) (λ p. ToTexts p.0 p.1 (λ c m. ToSchedule (schedule_of p.2) (IsAnswer c m))) answer
     (λ p more. texts_else p.0 p.1 (λ c m. ToSchedule (schedule_of p.2) (IsAnswer c m)) answer (λ c m play. scheduled_else (schedule_of p.2) (IsAnswer c m) answer (h c m) play) more) is
+
+told_shown_else : (text : List ℕ) (IsAnswer : List Move → Answer → Type 0) (answer : Answer) → ((u : List Move) → IsAnswer u answer → IsElse answer) → ToShown text IsAnswer answer → IsElse answer
+told_shown_else text IsAnswer answer h (found, of, more) = scheduled_else (or_schedule found text) IsAnswer answer h more
+
+shown_parts_else : (parts : List (List ℕ)) (IsAnswer : Declarations → Matrix → List Move → Answer → Type 0) (answer : Answer) → ((c : Declarations) (m : Matrix) (u : List Move) → IsAnswer c m u answer → IsElse answer) → ToParts (three parts) (λ p. ToTexts p.0 p.1 (λ c m. ToShown p.2 (IsAnswer c m))) answer → IsElse answer
+shown_parts_else parts IsAnswer answer h is =
+    parts_else (three parts) (λ p. ToTexts p.0 p.1 (λ c m. ToShown p.2 (IsAnswer c m))) answer
+    (λ p more. texts_else p.0 p.1 (λ c m. ToShown p.2 (IsAnswer c m)) answer (λ c m play. told_shown_else p.2 (IsAnswer c m) answer (h c m) play) more) is
 
 matrix_else : (c : Declarations) (m : Matrix) (r : Parts) (answer : Answer) → answer ≡ with_matrix c m r → IsElse answer
 matrix_else c m r answer is = status_else answer (status_of r.finding) (ap (λ (a : Answer). a.status) is) (status_of_else r.finding)
@@ -266,7 +278,8 @@ candidates_else c options setup (a ∷ b ∷ m) answer is = refused_else (codes 
 
 pub order_else : (order : Order) (parts : List (List ℕ)) (answer : Answer) → IsAnswerTo order parts answer → IsElse answer
 order_else Replay parts answer is = three_else parts IsReplayed answer (λ c m u more. replayed_else c m u answer more) is
-order_else Trace parts answer is = three_else parts IsTraced answer (λ c m u more. traced_else c m u answer more) is
+order_else Trace parts answer is = shown_parts_else parts IsTraced answer (λ c m u more. traced_else c m u answer more) is
+order_else Draw parts answer is = shown_parts_else parts IsDrawn answer (λ c m u more. drawn_else c m u answer more) is
 order_else (Explain limits) parts answer is = explain_else limits parts answer is
 order_else ExplainAgainst parts answer is = explain_against_else parts answer is
 order_else (Serial limits) parts answer is = two_else parts (λ c m. IsRunSerially c m limits) answer (λ c m more. serial_else c m limits answer more) is

@@ -14,7 +14,7 @@ use Rattle.clap.specs.declared.builder.value_parser.ValueParser.TheVariants as v
 use Rattle.clap.specs.declared.error.kind.ErrorKind.{ErrorKind}
 use Rattle.lu_cli.specs.declared.order.CampaignOptions.{CampaignOptions}
 use Rattle.lu_cli.specs.declared.order.Order.{Order}
-use Rattle.lu_cli.specs.declared.order.Order.TheVariants.{Replay, Trace, Explain, ExplainAgainst, Serial, Check, CheckAgainst, Certify, Refute, Shrink, Campaign}
+use Rattle.lu_cli.specs.declared.order.Order.TheVariants.{Replay, Trace, Draw, Explain, ExplainAgainst, Serial, Check, CheckAgainst, Certify, Refute, Shrink, Campaign}
 use Rattle.lu_cli.specs.Orders.{choice_of}
 use Rattle.lu_report.specs.Limits.{Limits, limits_of, most_moves}
 use Rattle.lu_parallel.specs.Ranges.{Choice}
@@ -57,6 +57,9 @@ replay_command = new_app (codes "replay")
 abbrev pub trace_command : App
 trace_command = new_app (codes "trace")
 
+abbrev pub draw_command : App
+draw_command = new_app (codes "draw")
+
 abbrev pub explain_command : App
 explain_command =
     with_rule
@@ -98,7 +101,9 @@ program =
 abbrev pub schedule_commands : App
 schedule_commands =
     with_subcommand
+    (with_subcommand
     (with_subcommand (with_subcommand program replay_command.top) trace_command.top)
+    draw_command.top)
     explain_command.top
 
 -- the program with the commands that look at one matrix
@@ -190,6 +195,7 @@ abbrev pub order_by : Text → List Row → Option Order
 order_by name rows =
     if bytes_eq name (codes "replay") then Some Replay
     else (if bytes_eq name (codes "trace") then Some Trace
+    else (if bytes_eq name (codes "draw") then Some Draw
     else (if bytes_eq name (codes "explain") then explain_in rows
     else (if bytes_eq name (codes "serial") then option_map Serial (limits_in rows)
     else (if bytes_eq name (codes "check") then check_in rows
@@ -197,7 +203,7 @@ order_by name rows =
     else (if bytes_eq name (codes "refute") then Some Refute
     else (if bytes_eq name (codes "shrink") then option_map Shrink (limits_in rows)
     else (if bytes_eq name (codes "campaign") then option_map Campaign (campaign_in rows)
-    else None))))))))
+    else None)))))))))
 
 abbrev pub order_in : Option (Text × List Row) → Option Order
 order_in entered = option_and_then (λ e. order_by e.0 e.1) entered

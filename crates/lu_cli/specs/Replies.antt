@@ -26,7 +26,7 @@ use Rattle.lu_serial.specs.Offences.{NoOffence}
 use Rattle.lu_report.specs.declared.report.Finding.{Finding}
 use Rattle.lu_report.specs.declared.report.Finding.TheVariants.{SerialCut, Nondeterministic, Fail, Pass}
 use Rattle.lu_report.specs.Parts.{Parts}
-use Rattle.lu_report.specs.Parts.{IsOfOffence}
+use Rattle.lu_report.specs.Parts.{IsOfOffence, shown_schedule}
 use Rattle.lu_witness.specs.Witnesses.{IsMember}
 use Rattle.lu_replay.specs.Reports.{IsFinding, IsReport, IsReportAgainst}
 use Rattle.lu_report.specs.Text.{report_text}
@@ -37,6 +37,7 @@ use Rattle.lu_replay.specs.Confirmed.{IsFailure}
 use Rattle.lu_replay.specs.Replays.{Shows, IsInfeasibleAt}
 use Rattle.lu_replay.specs.Text.{replay_text}
 use Rattle.lu_trace.specs.Traces.{IsTrace}
+use Rattle.lu_picture.specs.Pictures.{IsPicture}
 use Rattle.lu_parallel.specs.Ranges.{Choice}
 use Rattle.lu_refine.specs.declared.campaigns.Campaign.{Campaign}
 use Rattle.lu_refine.specs.declared.campaigns.Campaign.TheVariants.{AllPass, First}
@@ -57,7 +58,7 @@ use Rattle.lu_certify.specs.Certificates.{IsCertificate}
 use Rattle.lu_cli.specs.declared.counted.Counted.{Counted}
 use Rattle.lu_cli.specs.declared.order.CampaignOptions.{CampaignOptions}
 use Rattle.lu_cli.specs.declared.order.Order.{Order}
-use Rattle.lu_cli.specs.declared.order.Order.TheVariants.{Replay, Trace, Explain, ExplainAgainst, Serial, Check, CheckAgainst, Certify, Refute, Shrink, Campaign as Campaigning}
+use Rattle.lu_cli.specs.declared.order.Order.TheVariants.{Replay, Trace, Draw, Explain, ExplainAgainst, Serial, Check, CheckAgainst, Certify, Refute, Shrink, Campaign as Campaigning}
 use Rattle.lu_cli.specs.declared.refusal.Refusal.{Refusal}
 use Rattle.lu_cli.specs.declared.refusal.Refusal.TheVariants as refusal
 use Rattle.lu_cli.specs.declared.explaining.Target.{Target}
@@ -97,6 +98,15 @@ IsReplayed c matrix u answer =
 abbrev pub IsTraced : Declarations → Matrix → List Move → Answer → Type 0
 IsTraced c matrix u answer =
     ((text : List ℕ) × IsTrace c matrix u text × (answer ≡ record { text = text; status = 0 }))
+    ⊎ ((i : ℕ) × IsInfeasibleAt c matrix u i
+    × (answer ≡ infeasible i))
+
+-- ---- `draw`
+
+-- the picture of the schedule, or where it is infeasible
+abbrev pub IsDrawn : Declarations → Matrix → List Move → Answer → Type 0
+IsDrawn c matrix u answer =
+    ((text : List ℕ) × IsPicture c matrix u text × (answer ≡ record { text = text; status = 0 }))
     ⊎ ((i : ℕ) × IsInfeasibleAt c matrix u i
     × (answer ≡ infeasible i))
 
@@ -250,6 +260,44 @@ IsCheckAgainstFrom c matrix choice spec = ToSpec matrix spec (IsCheckedAgainst c
 abbrev pub IsRefutedBy : Declarations → Matrix → List ℕ → List ℕ → Answer → Type 0
 IsRefutedBy c matrix report spec = ToReport report (λ r. ToSpec matrix spec (IsRefuted c matrix r))
 
+-- ---- `trace` and `draw`
+
+-- the schedule that the report which the text spells shows; none where it spells none with a
+-- schedule
+abbrev pub IsOfReport : List ℕ → Option (List Move) → Type 0
+IsOfReport text None = (r : Parts) → Spells text r → shown_schedule r.finding ≡ None
+IsOfReport text (Some u) = (r : Parts) × Spells text r × (shown_schedule r.finding ≡ Some u)
+
+-- that schedule, and else what the text says as a schedule
+abbrev pub or_schedule : Option (List Move) → List ℕ → Result (List Move) ScheduleFault
+or_schedule None text = schedule_of text
+or_schedule (Some u) text = Ok u
+
+-- the answer to a text of a schedule, or of a report that shows one; of any other text what is
+-- refused of it as a schedule
+abbrev pub ToShown : List ℕ → (List Move → Answer → Type 0) → Answer → Type 0
+ToShown text IsAnswer answer =
+    (found : Option (List Move)) × IsOfReport text found
+    × ToSchedule (or_schedule found text) IsAnswer answer
+
+-- what is read of such a text
+abbrev pub IsShown : List ℕ → List Move → Type 0
+IsShown text u =
+    (found : Option (List Move)) × IsOfReport text found × (or_schedule found text ≡ Ok u)
+
+-- why it is refused: by its fault as a schedule, or memory ran out
+abbrev pub IsShownRefusal : List ℕ → Refusal → Type 0
+IsShownRefusal text refused =
+    ((found : Option (List Move)) × (fault : ScheduleFault) × IsOfReport text found
+    × IsScheduleUnlessMemory fault (or_schedule found text) × (refused ≡ refusal.Schedule fault))
+    ⊎ (refused ≡ refusal.Memory)
+
+abbrev pub IsTracedText : Declarations → Matrix → List ℕ → Answer → Type 0
+IsTracedText c m text = ToShown text (IsTraced c m)
+
+abbrev pub IsDrawnText : Declarations → Matrix → List ℕ → Answer → Type 0
+IsDrawnText c m text = ToShown text (IsDrawn c m)
+
 -- ---- `explain`
 
 -- the answer to a text of a schedule or of a report: its refusal, or what is answered to it
@@ -347,8 +395,11 @@ IsReplayOf parts =
 
 abbrev pub IsTraceOf : List (List ℕ) → Answer → Type 0
 IsTraceOf parts =
-    ToParts (three parts)
-    (λ p. ToTexts p.0 p.1 (λ c m. ToSchedule (schedule_of p.2) (IsTraced c m)))
+    ToParts (three parts) (λ p. ToTexts p.0 p.1 (λ c m. IsTracedText c m p.2))
+
+abbrev pub IsDrawOf : List (List ℕ) → Answer → Type 0
+IsDrawOf parts =
+    ToParts (three parts) (λ p. ToTexts p.0 p.1 (λ c m. IsDrawnText c m p.2))
 
 abbrev pub IsExplainOf : Limits → List (List ℕ) → Answer → Type 0
 IsExplainOf limits parts =
@@ -388,6 +439,7 @@ IsCampaignOf options parts =
 abbrev pub IsAnswerTo : Order → List (List ℕ) → Answer → Type 0
 IsAnswerTo Replay parts = IsReplayOf parts
 IsAnswerTo Trace parts = IsTraceOf parts
+IsAnswerTo Draw parts = IsDrawOf parts
 IsAnswerTo (Explain limits) parts = IsExplainOf limits parts
 IsAnswerTo ExplainAgainst parts = IsExplainAgainstOf parts
 IsAnswerTo (Serial limits) parts = IsSerialOf limits parts

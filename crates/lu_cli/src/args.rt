@@ -150,6 +150,7 @@ fn schedule_commands<'a>(alloc: Global) -> Result<Command<'a>, AllocError>
 {
     let program = with_command(bare_program(alloc), bare_command(alloc, "replay"));
     let program = with_command(program, bare_command(alloc, "trace"));
+    let program = with_command(program, bare_command(alloc, "draw"));
     with_command(program, explain_command(alloc))
 }
 
@@ -261,6 +262,7 @@ fn order_by(name: &str, given: &ArgMatches<'_>) -> Option<Order>
     match name {
         "replay" => Some(Order::Replay),
         "trace" => Some(Order::Trace),
+        "draw" => Some(Order::Draw),
         "explain" => explain_in(given),
         "serial" => bounds_in(given).map(Order::Serial),
         "check" => check_in(given),

@@ -17,10 +17,12 @@ use crate::answer::{
 use crate::explaining::{answer_explain, answer_explain_against};
 use crate::order::{CampaignOptions, Order};
 use crate::refusal::Refusal;
+use crate::shown::read_shown;
 use crate::texts::{read_texts, report_against, report_of};
 use lu_certify::certify_by_workers;
 use lu_lang::Component;
 use lu_parallel::{OpenGate, Options};
+use lu_picture::write_picture;
 use lu_refine::{Campaign, CampaignFault, ShrinkFault, campaign, shrink};
 use lu_refute::refute;
 use lu_replay::{ReplayFault, replay, set_or_offence, write_replay};
@@ -81,14 +83,67 @@ fn trace(
     }
 }
 
-/// `lineup trace`: component, matrix and schedule.
+/// The trace of the schedule that a text says or a report shows.
+fn trace_text(
+    alloc: Global,
+    component: &Component,
+    matrix: &Matrix,
+    text: &[u8],
+) -> Result<Answer, Refusal>
+    requires { CanRun component.now matrix.now }
+    ensures { Answered (spec.IsTracedText component.now matrix.now text.now) result }
+{
+    let schedule = read_shown(alloc, text)?;
+    Ok(trace(alloc, component, matrix, &schedule)?)
+}
+
+/// `lineup trace`: component, matrix, and a schedule or a report.
 fn answer_trace(alloc: Global, parts: &[&[u8]]) -> Result<Answer, Refusal>
     ensures { Answered (spec.IsTraceOf (texts parts.now)) result }
 {
-    let (component, matrix, moves) = three(parts).ok_or(Refusal::Parts)?;
+    let (component, matrix, shown) = three(parts).ok_or(Refusal::Parts)?;
     let case = read_texts(alloc, component, matrix)?;
-    let schedule = read_schedule(alloc, moves)?;
-    Ok(trace(alloc, &case.component, &case.matrix, &schedule)?)
+    trace_text(alloc, &case.component, &case.matrix, shown)
+}
+
+/// The picture of the schedule, or where it is infeasible.
+fn draw(
+    alloc: Global,
+    component: &Component,
+    matrix: &Matrix,
+    schedule: &Schedule,
+) -> Result<Answer, AllocError>
+    requires { CanRun component.now matrix.now }
+    ensures { IfOk result (spec.IsDrawn component.now matrix.now schedule.now) }
+{
+    match write_picture(alloc, component, matrix, schedule) {
+        Ok(text) => Ok(Answer { text, status: 0 }),
+        Err(TraceFault::Infeasible(index)) => infeasible(alloc, index),
+        Err(TraceFault::Memory) => Err(AllocError),
+    }
+}
+
+/// The picture of the schedule that a text says or a report shows.
+fn draw_text(
+    alloc: Global,
+    component: &Component,
+    matrix: &Matrix,
+    text: &[u8],
+) -> Result<Answer, Refusal>
+    requires { CanRun component.now matrix.now }
+    ensures { Answered (spec.IsDrawnText component.now matrix.now text.now) result }
+{
+    let schedule = read_shown(alloc, text)?;
+    Ok(draw(alloc, component, matrix, &schedule)?)
+}
+
+/// `lineup draw`: component, matrix, and a schedule or a report.
+fn answer_draw(alloc: Global, parts: &[&[u8]]) -> Result<Answer, Refusal>
+    ensures { Answered (spec.IsDrawOf (texts parts.now)) result }
+{
+    let (component, matrix, shown) = three(parts).ok_or(Refusal::Parts)?;
+    let case = read_texts(alloc, component, matrix)?;
+    draw_text(alloc, &case.component, &case.matrix, shown)
 }
 
 /// The report of a serial offence.
@@ -352,6 +407,7 @@ fn carry_out<X: AllocGlobal + Threads + Wait>(
     match order {
         Order::Replay => answer_replay(rt.alloc(), parts),
         Order::Trace => answer_trace(rt.alloc(), parts),
+        Order::Draw => answer_draw(rt.alloc(), parts),
         Order::Explain(bounds) => answer_explain(rt.alloc(), bounds, parts),
         Order::ExplainAgainst => answer_explain_against(rt.alloc(), parts),
         Order::Serial(bounds) => answer_serial(rt.alloc(), bounds, parts),

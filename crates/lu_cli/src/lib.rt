@@ -13,6 +13,7 @@ mod order;
 mod output;
 mod program;
 mod refusal;
+mod shown;
 mod texts;
 
 pub use counted::Counted;

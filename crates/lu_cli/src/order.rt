@@ -24,6 +24,9 @@ pub enum Order {
     /// `lineup trace`: show what each move of a schedule does.
     Trace,
 
+    /// `lineup draw`: show a schedule as a picture.
+    Draw,
+
     /// `lineup explain`: show why the history of a schedule has no serial witness, or its witness.
     /// The bound of schedules is not used.
     Explain(Bounds),

@@ -1,5 +1,6 @@
 -- What a report holds, and its limits.
-use Rattle.std.specs.Prelude.{ℕ, ◌≤◌, Option, IfSome, IfNone}
+use Rattle.std.specs.Prelude.{ℕ, ◌≤◌, List, Option, Some, None, IfSome, IfNone}
+use Rattle.lu_test.specs.declared.schedule.Move.{Move}
 use Rattle.lu_witness.specs.declared.judgement.Why.{Why}
 use Rattle.lu_witness.specs.declared.judgement.Why.TheVariants.{Complete, Stuck}
 use Rattle.lu_report.specs.declared.report.Finding.{Finding}
@@ -48,6 +49,13 @@ IsJudgement (SerialCut u) = ⊥
 IsJudgement (Nondeterministic u before earlier) = ⊥
 IsJudgement (Fail u why) = Unit {0}
 IsJudgement (Pass counts) = Unit {0}
+
+-- the schedule that shows it; of a pass none
+abbrev pub shown_schedule : Finding → Option (List Move)
+shown_schedule (SerialCut u) = Some u
+shown_schedule (Nondeterministic u before earlier) = Some u
+shown_schedule (Fail u why) = Some u
+shown_schedule (Pass counts) = None
 
 -- the limits of a report; a check against a specification finds a failure or a pass
 pub record AreLimits (r : Parts) : Type 0 where

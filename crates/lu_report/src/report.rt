@@ -1,7 +1,7 @@
 //! Reports of checks.
 
 ghost use Rattle.std.specs.Prelude.{◌≡◌, ◌≤◌, None, Some, IfNone, IfSome};
-ghost use Rattle.lu_report.specs.Parts.{IsJudgement, IsSerialBound, IsWithin, most_moves, parts_of};
+ghost use Rattle.lu_report.specs.Parts.{IsJudgement, IsSerialBound, IsWithin, most_moves, parts_of, shown_schedule};
 
 use lu_history::SerialOutcome;
 use lu_machine::Counts;
@@ -35,6 +35,20 @@ pub enum Finding {
     /// Every schedule that ends within the bound has its serial witnesses, and no serial run
     /// offends: how many are complete and stuck within the bound, and how many are cut at it.
     Pass(Counts),
+}
+
+impl Finding {
+    /// The schedule that shows it; of a pass none.
+    pub fn into_schedule(self) -> Option<Schedule>
+        ensures { result ≡ shown_schedule self }
+    {
+        match self {
+            Finding::SerialCut(schedule) => Some(schedule),
+            Finding::Nondeterministic { schedule, .. } => Some(schedule),
+            Finding::Fail { schedule, .. } => Some(schedule),
+            Finding::Pass(_) => None,
+        }
+    }
 }
 
 /// The report of a check, with its bounds (Burckhardt, Dern, Musuvathi and Tan, 2010). A check is
@@ -127,5 +141,12 @@ impl Report {
         ensures judged { IfNone self.now.serial (IsJudgement self.now.finding) }
     {
         &self.finding
+    }
+
+    /// What was found, without the rest of the report.
+    pub fn into_finding(self) -> Finding
+        ensures { result ≡ self.finding }
+    {
+        self.finding
     }
 }

@@ -21,4 +21,6 @@ mod waiting;
 
 pub use fault::TraceFault;
 pub use laws::trace_laws;
+pub use lines::{write_call_text, write_step};
 pub use tracing::write_trace;
+pub use waiting::write_awaited;

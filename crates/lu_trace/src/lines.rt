@@ -2,7 +2,7 @@
 
 ghost use Rattle.std.specs.Prelude.{◌≡◌};
 ghost use Rattle.lu_text.specs.Writing.{Writes};
-ghost use Rattle.lu_test.specs.MatrixText.{argument_text, arguments_text, operation_name};
+ghost use Rattle.lu_test.specs.MatrixText.{argument_text, arguments_text, call_text, operation_name};
 ghost use Rattle.lu_trace.specs.Lines as spec;
 
 use crate::deeds::write_deed;
@@ -117,13 +117,24 @@ fn write_arguments(text: &mut String, arguments: &[u32]) -> Result<(), AllocErro
     Ok(())
 }
 
+/// Adds the words of a call, as a matrix has them.
+pub fn write_call_text(
+    text: &mut String,
+    component: &Component,
+    call: &Call,
+) -> Result<(), AllocError>
+    ensures { Writes result text.old text.new (call_text component.now.operations call.now) }
+{
+    write_name(text, component, call.op)?;
+    write_arguments(text, call.args.as_slice())
+}
+
 /// Adds a call, as a matrix has it.
 fn write_call(text: &mut String, component: &Component, call: &Call) -> Result<(), AllocError>
     ensures { Writes result text.old text.new (spec.call_words component.now call.now) }
 {
     text.push_str("call ")?;
-    write_name(text, component, call.op)?;
-    write_arguments(text, call.args.as_slice())
+    write_call_text(text, component, call)
 }
 
 /// Adds the next call of an idle thread that has made `done` of them, where one is left.
@@ -162,7 +173,7 @@ fn write_next_instr(
 }
 
 /// Adds what the thread of the move does next.
-fn write_step(text: &mut String, machine: &Machine<'_>, next: Move) -> Result<(), AllocError>
+pub fn write_step(text: &mut String, machine: &Machine<'_>, next: Move) -> Result<(), AllocError>
     ensures { Writes result text.old text.new (spec.step_words machine.now next) }
 {
     let Some(standing) = machine.standing(next.thread) else {

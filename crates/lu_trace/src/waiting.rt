@@ -102,7 +102,7 @@ fn write_await_not(
 }
 
 /// Adds what a blocked instruction waits for.
-fn write_awaited(
+pub fn write_awaited(
     text: &mut String,
     machine: &Machine<'_>,
     frame: &Frame,
