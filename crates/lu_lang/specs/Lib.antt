@@ -6,3 +6,6 @@ pub mod Sound
 pub mod ComponentText
 pub mod Laws
 pub mod Parts
+pub mod Going
+pub mod Mend
+pub mod Place

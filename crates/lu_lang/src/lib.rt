@@ -3,17 +3,24 @@
 
 mod draft;
 mod fault;
+mod going;
 mod instructions;
 mod keyword;
 mod laws;
+mod mending;
+mod place;
 mod reading;
 mod writing;
 
+pub use draft::{Draft, Label, OpenOp, Statement};
 pub use fault::{LangFault, LangFaultKind};
+pub use going::{end_fault, line_or_fault};
 pub use laws::round_trip;
 pub use lu_component::{
     Arithmetic, Array, Code, Component, Instr, MOST_ARGUMENTS, MOST_ARRAYS, MOST_CELLS,
     MOST_INSTRS, MOST_LOCAL, MOST_LOCKS, MOST_OPS, MOST_PICKS, Op, Operand,
 };
+pub use mending::mended;
+pub use place::message_backs;
 pub use reading::read_component;
 pub use writing::{array_name, lock_name, write_component, write_instr, write_label};

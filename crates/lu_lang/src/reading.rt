@@ -27,7 +27,7 @@ use lu_text::{
 use std::alloc::{AllocError, Global};
 
 /// The name of `component NAME`.
-fn name_in(alloc: Global, line: usize, words: &[&[u8]]) -> Result<Name, LangFault>
+pub(crate) fn name_in(alloc: Global, line: usize, words: &[&[u8]]) -> Result<Name, LangFault>
     ensures { (d : Drafted) → PutsOnLine (λ name. record d { name = Some name })
         line result (spec.component_line d (one (texts words.now))) }
 {
@@ -57,7 +57,7 @@ fn component_line(
 }
 
 /// The number of `local L`.
-fn local_in(line: usize, draft: &Draft, words: &[&[u8]]) -> Result<u8, LangFault>
+pub(crate) fn local_in(line: usize, draft: &Draft, words: &[&[u8]]) -> Result<u8, LangFault>
     ensures { PutsOnLine (λ most. record draft.now { local = Some most })
         line result (spec.local_line draft.now (one (texts words.now))) }
 {
@@ -84,14 +84,19 @@ fn local_line(line: usize, mut draft: Draft, words: &[&[u8]]) -> Result<Draft, L
     Ok(draft)
 }
 
-fn has_most_arrays(draft: &Draft) -> bool
+pub(crate) fn has_most_arrays(draft: &Draft) -> bool
     ensures { result ≡ nat_le 16 (length draft.now.arrays) }
 {
     draft.arrays.len() >= MOST_ARRAYS
 }
 
 /// The array of `word NAME LEN INIT`.
-fn array_in(alloc: Global, line: usize, draft: &Draft, words: &[&[u8]]) -> Result<Array, LangFault>
+pub(crate) fn array_in(
+    alloc: Global,
+    line: usize,
+    draft: &Draft,
+    words: &[&[u8]],
+) -> Result<Array, LangFault>
     ensures { PutsOnLine (λ array. record draft.now { arrays = draft.now.arrays ++ array ∷ [] })
         line result (spec.array_line draft.now (three (texts words.now))) }
 {
@@ -131,14 +136,19 @@ fn array_line(
     Ok(draft)
 }
 
-fn has_most_locks(draft: &Draft) -> bool
+pub(crate) fn has_most_locks(draft: &Draft) -> bool
     ensures { result ≡ nat_le 8 (length draft.now.locks) }
 {
     draft.locks.len() >= MOST_LOCKS
 }
 
 /// The name of `lock NAME`, outside an operation.
-fn lock_in(alloc: Global, line: usize, draft: &Draft, words: &[&[u8]]) -> Result<Name, LangFault>
+pub(crate) fn lock_in(
+    alloc: Global,
+    line: usize,
+    draft: &Draft,
+    words: &[&[u8]],
+) -> Result<Name, LangFault>
     ensures { PutsOnLine (λ lock. record draft.now { locks = draft.now.locks ++ lock ∷ [] })
         line result (spec.lock_line draft.now (one (texts words.now))) }
 {
@@ -178,7 +188,12 @@ fn has_most_operations(draft: &Draft) -> bool
 }
 
 /// The operation that `op NAME ARGS` begins.
-fn op_in(alloc: Global, line: usize, draft: &Draft, words: &[&[u8]]) -> Result<OpenOp, LangFault>
+pub(crate) fn op_in(
+    alloc: Global,
+    line: usize,
+    draft: &Draft,
+    words: &[&[u8]],
+) -> Result<OpenOp, LangFault>
     ensures { PutsOnLine (λ op. record draft.now { begun = Some op })
         line result (spec.op_line draft.now (two (texts words.now))) }
 {
@@ -241,7 +256,7 @@ fn declaration(
 }
 
 /// Which of two faults is looked for first.
-fn sooner(fault: Option<LangFaultKind>, other: LangFaultKind) -> LangFaultKind
+pub(crate) fn sooner(fault: Option<LangFaultKind>, other: LangFaultKind) -> LangFaultKind
     ensures { Some result ≡ spec.sooner fault (Some other) }
 {
     match fault {
@@ -251,7 +266,7 @@ fn sooner(fault: Option<LangFaultKind>, other: LangFaultKind) -> LangFaultKind
 }
 
 /// The label that a word is, `NAME:`, without the colon.
-fn label_in(word: &[u8]) -> Option<&[u8]>
+pub(crate) fn label_in(word: &[u8]) -> Option<&[u8]>
     ensures { option_map (λ label. label.now) result ≡ spec.label_in word.now }
 {
     match word {
@@ -279,7 +294,7 @@ fn has_most_statements(op: &OpenOp) -> bool
 }
 
 /// What is wrong with a label, and with one more instruction.
-fn place_fault(op: &OpenOp, label: Option<&[u8]>) -> Option<LangFaultKind>
+pub(crate) fn place_fault(op: &OpenOp, label: Option<&[u8]>) -> Option<LangFaultKind>
     ensures { result ≡ spec.place_fault op.now (text_if label.entry) }
 {
     let Some(label) = label else {
@@ -398,7 +413,7 @@ fn is_last(statement: &Statement) -> bool
 }
 
 /// Whether there is an instruction, and the last is `return` or `jump`.
-fn ends_well(op: &OpenOp) -> bool
+pub(crate) fn ends_well(op: &OpenOp) -> bool
     ensures { result ≡ spec.ends_well op.now }
 {
     match op.statements.last() {
@@ -408,7 +423,7 @@ fn ends_well(op: &OpenOp) -> bool
 }
 
 /// Whether the label that a statement uses is there.
-fn is_there(labels: &[Label], statement: &Statement) -> bool
+pub(crate) fn is_there(labels: &[Label], statement: &Statement) -> bool
     ensures { result ≡ spec.is_there labels.now (spec.label_used statement.now) }
 {
     match statement {
@@ -427,7 +442,7 @@ fn all_there(labels: &[Label], statements: &[Statement]) -> bool
 }
 
 /// Whether each label that is used is there.
-fn are_there(op: &OpenOp) -> bool
+pub(crate) fn are_there(op: &OpenOp) -> bool
     ensures { result ≡ spec.are_there op.now }
 {
     all_there(&op.labels, &op.statements)
@@ -471,7 +486,7 @@ fn resolve_all(
         .collect(alloc)
 }
 
-fn op_of(alloc: Global, op: OpenOp) -> Result<Op, AllocError>
+pub(crate) fn op_of(alloc: Global, op: OpenOp) -> Result<Op, AllocError>
     ensures { IfOk result (λ done. done ≡ spec.op_of op) }
 {
     let instrs = resolve_all(alloc, &op.labels, &op.statements)?;
@@ -584,7 +599,12 @@ fn by_words(alloc: Global, line: usize, draft: Draft, words: &[&[u8]]) -> Result
 }
 
 #[tactic(auto, unfolding(crate::specs::Grammar::line_of))]
-fn read_line(alloc: Global, line: usize, draft: Draft, text: &[u8]) -> Result<Draft, LangFault>
+pub(crate) fn read_line(
+    alloc: Global,
+    line: usize,
+    draft: Draft,
+    text: &[u8],
+) -> Result<Draft, LangFault>
     ensures { OnLine line result (spec.line_of draft text.now) }
 {
     if !are_allowed(text) {

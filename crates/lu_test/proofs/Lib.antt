@@ -9,3 +9,5 @@ pub mod SomeComponent
 pub mod FewerCalls
 pub mod Cutting
 pub mod MatrixRoundTrip
+pub mod Left
+pub mod MatrixLeft

@@ -4,3 +4,4 @@ pub mod Codes
 pub mod ScheduleText
 pub mod MatrixText
 pub mod Laws
+pub mod MatrixGoing

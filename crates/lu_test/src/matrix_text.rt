@@ -23,7 +23,7 @@ use std::marker::Model;
 
 /// The words of one part of a line.
 #[derive(Debug, Drop)]
-struct Part<'a> {
+pub(crate) struct Part<'a> {
     words: Vec<&'a [u8]>,
 }
 
@@ -170,10 +170,10 @@ fn calls_said(alloc: Global, operations: &[Op], parts: &[Part<'_>]) -> Result<Ve
 
 /// The lines of a matrix of which not all are read.
 #[derive(Debug, Drop)]
-struct Draft {
+pub struct Draft {
     /// Of the setup line, where there was one.
-    setup: Option<Calls>,
-    threads: Vec<Calls>,
+    pub setup: Option<Calls>,
+    pub threads: Vec<Calls>,
 }
 
 impl Model for Draft {
@@ -186,7 +186,7 @@ impl Model for Draft {
 
 impl Draft {
     /// Whether no line with words is read.
-    fn is_nothing(&self) -> bool
+    pub(crate) fn is_nothing(&self) -> bool
         ensures { result ≡ spec.is_nothing self.now }
     {
         self.setup.is_none() && self.threads.is_empty()
@@ -201,7 +201,7 @@ fn total_calls(threads: &[Calls]) -> usize
 }
 
 /// Whether there is no room for one more thread of so many calls.
-fn is_full(threads: &[Calls], calls: usize) -> bool
+pub(crate) fn is_full(threads: &[Calls], calls: usize) -> bool
     requires { AreThreads threads.now }
     ensures { result ≡ spec.is_full threads.now calls }
 {
@@ -211,7 +211,11 @@ fn is_full(threads: &[Calls], calls: usize) -> bool
 }
 
 /// What is wrong with the calls of a line, if anything is. `full`: there is no room for them.
-fn calls_fault(operations: &[Op], calls: &[Part<'_>], full: bool) -> Option<MatrixFaultKind>
+pub(crate) fn calls_fault(
+    operations: &[Op],
+    calls: &[Part<'_>],
+    full: bool,
+) -> Option<MatrixFaultKind>
     ensures { result ≡ spec.calls_fault operations.now calls.now full }
 {
     if !all_have_names(calls) {
@@ -275,7 +279,7 @@ fn with_setup(
 
 /// The parts behind the first word: none, or the words of the first and the other parts of the
 /// line.
-fn call_parts<'a>(
+pub(crate) fn call_parts<'a>(
     alloc: Global,
     words: &[&'a [u8]],
     others: &[&'a [u8]],
@@ -352,7 +356,7 @@ fn by_parts(
 }
 
 #[tactic(auto, unfolding(crate::specs::MatrixText::line_of))]
-fn read_line(
+pub(crate) fn read_line(
     alloc: Global,
     line: usize,
     operations: &[Op],

@@ -1,0 +1,152 @@
+-- What a line with a fault leaves, so that the lines behind it are told for their own faults alone.
+use Rattle.std.specs.Prelude.{ℕ, ◌-◌, Bool, false, List, [], ◌∷◌, ◌++◌, length, take, slice_index, Option, Some, None, is_some, option_and_then, codes, ◌==◌, ◌&&◌, ◌||◌, not, nat_le, if◌then◌else◌}
+use Rattle.std.specs.Str.{bytes_eq}
+use Rattle.std.specs.Option.{unwrap_or}
+use Rattle.lu_text.specs.Names.{has_name_form, is_long}
+use Rattle.lu_text.specs.Lines.{words_of}
+use Rattle.lu_text.specs.Words.{Word}
+use Rattle.lu_component.specs.declared.instr.Operand.TheVariants.{Num}
+use Rattle.lu_component.specs.declared.instr.Instr.TheVariants.{Return}
+use Rattle.lu_lang.specs.declared.draft.Label.{Label}
+use Rattle.lu_lang.specs.declared.draft.Statement.{Statement}
+use Rattle.lu_lang.specs.declared.draft.Statement.TheVariants.{Plain}
+use Rattle.lu_lang.specs.Draft.{Begun, Drafted}
+use Rattle.lu_lang.specs.Words.{keyword_in}
+use Rattle.lu_lang.specs.Grammar.{label_in, op_of, closed}
+
+-- the word without a comma or a semicolon behind it
+abbrev pub bare : Word → Word
+bare word =
+    if slice_index word (length word - 1) == 44 then take (length word - 1) word
+    else (if slice_index word (length word - 1) == 59 then take (length word - 1) word else word)
+
+-- the word, where it is a name
+abbrev pub name_if : Word → Option Word
+name_if word = if has_name_form word && not (is_long word) then Some word else None
+
+-- the first word, where it is a name
+abbrev pub first_name : List Word → Option Word
+first_name [] = None
+first_name (word ∷ words) = name_if (bare word)
+
+-- an array of this name is declared, where there is a name and room
+abbrev pub with_array : Drafted → Option Word → Drafted
+with_array d None = d
+with_array d (Some name) =
+    if nat_le 16 (length d.arrays) then d
+    else record d { arrays = d.arrays ++ record { name = name; len = 64; init = 0 } ∷ [] }
+
+-- a lock
+abbrev pub with_lock : Drafted → Option Word → Drafted
+with_lock d None = d
+with_lock d (Some name) =
+    if nat_le 8 (length d.locks) then d else record d { locks = d.locks ++ name ∷ [] }
+
+-- an operation of this name, or, where there is none, `_`
+abbrev pub op_begun : Option Word → Begun
+op_begun name = record { name = unwrap_or name (codes "_"); args = 0; statements = []; labels = [] }
+
+-- an operation of this name is begun
+abbrev pub with_op : Drafted → Option Word → Drafted
+with_op d name = record d { begun = Some (op_begun name) }
+
+-- this operation is closed
+abbrev pub with_end : Drafted → Begun → Drafted
+with_end d b = record d { operations = d.operations ++ op_of b ∷ [] }
+
+abbrev pub labels_with : List Label → Option Word → List Label
+labels_with labels None = labels
+labels_with labels (Some name) = labels ++ record { name = name; place = 0 } ∷ []
+
+-- `return 0` stands in this operation, behind this label
+abbrev pub with_return : Drafted → Begun → Option Word → Drafted
+with_return d b label =
+    record d {
+      begun = Some (record b {
+        statements = b.statements ++ Plain (Return (Num 0)) ∷ [];
+        labels = labels_with b.labels label;
+      });
+    }
+
+-- ---- what the words of the next line show
+
+-- the words of the first of these lines that has any
+abbrev pub next_words : List (List ℕ) → List Word
+next_words [] = []
+next_words (line ∷ lines) =
+    if length (words_of line) == 0 then next_words lines else words_of line
+
+-- a label, or an instruction's first word that begins no declaration too
+abbrev pub is_code : Word → Bool
+is_code word =
+    is_some (label_in word) || is_some (keyword_in word) && not (bytes_eq word (codes "lock"))
+
+-- a line that stands inside an operation alone
+abbrev pub begins_code : List Word → Bool
+begins_code [] = false
+begins_code (word ∷ words) = is_code word || bytes_eq word (codes "end")
+
+-- a line that stands outside operations alone
+abbrev pub begins_outside : List Word → Bool
+begins_outside [] = false
+begins_outside (word ∷ words) = bytes_eq word (codes "op") || bytes_eq word (codes "word")
+
+-- ---- a line by its words, and by those of the next line
+
+-- A line that begins no declaration, before a line of an operation: `op` was meant, or, where it is
+-- an instruction, an `op` line is missing before it.
+abbrev pub mend_other : Drafted → Word → List Word → List Word → Drafted
+mend_other d word words next =
+    if not (begins_code next) || bytes_eq word (codes "end") then d
+    else (if is_code word
+    then with_return d (op_begun None) (option_and_then name_if (label_in word))
+    else with_op d (first_name words))
+
+-- outside an operation a declaration declares its name
+abbrev pub mend_outside : Drafted → Word → List Word → List Word → Drafted
+mend_outside d word words next =
+    if bytes_eq word (codes "word") then with_array d (first_name words)
+    else (if bytes_eq word (codes "lock") then with_lock d (first_name words)
+    else (if bytes_eq word (codes "op") then with_op d (first_name words)
+    else mend_other d word words next))
+
+-- `word` inside an operation declares an array; the operation lacks its `end` where the next line
+-- stands outside operations
+abbrev pub mend_array_inside : Drafted → Begun → Option Word → List Word → List Word → Drafted
+mend_array_inside d b label words next =
+    if begins_outside next then with_array (with_end d b) (first_name words)
+    else with_return (with_array d (first_name words)) b label
+
+-- inside an operation `op` closes it and begins the next, and `end` closes it; each other line is an
+-- instruction
+abbrev pub mend_inside : Drafted → Begun → Option Word → Word → List Word → List Word → Drafted
+mend_inside d b label word words next =
+    if bytes_eq word (codes "op") then with_op (with_end d b) (first_name words)
+    else (if bytes_eq word (codes "end") then with_end d b
+    else (if bytes_eq word (codes "word") then mend_array_inside d b label words next
+    else with_return d b label))
+
+-- behind a label, or without one
+abbrev pub mend_labelled : Drafted → Begun → Option Word → Word → List Word → List Word → Drafted
+mend_labelled d b None word words next = mend_inside d b None word words next
+mend_labelled d b (Some label) word [] next = with_return d b (name_if label)
+mend_labelled d b (Some label) word (first ∷ words) next =
+    mend_inside d b (name_if label) (bare first) words next
+
+-- where there is no `component` line yet, the component is called `_`
+abbrev pub mend_by_state : Drafted → Option Word → Option Begun → Word → List Word → List Word
+    → Drafted
+mend_by_state d None begun word words next =
+    mend_outside (record d { name = Some (codes "_") }) word words next
+mend_by_state d (Some name) None word words next = mend_outside d word words next
+mend_by_state d (Some name) (Some b) word words next =
+    mend_labelled d b (label_in word) word words next
+
+abbrev pub mend_words : Drafted → List Word → List Word → Drafted
+mend_words d [] next = d
+mend_words d (word ∷ words) next =
+    mend_by_state (closed d) d.name d.begun (bare word) words next
+
+-- what a line with a fault leaves, before these lines
+abbrev pub mend : Drafted → List ℕ → List (List ℕ) → Drafted
+mend d line lines = mend_words d (words_of line) (next_words lines)

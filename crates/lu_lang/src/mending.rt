@@ -1,0 +1,398 @@
+//! What a line with a fault leaves, so that the lines behind it are told for their own faults alone.
+
+ghost use Rattle.std.specs.Prelude.{◌≡◌, IfOk, Some, codes, option_and_then};
+ghost use Rattle.std.specs.Option.{unwrap_or};
+ghost use Rattle.lu_text.specs.Lines.{texts};
+ghost use Rattle.lu_lang.specs.Mend as spec;
+ghost use Rattle.lu_lang.specs.Mend.{mend};
+ghost use Rattle.lu_lang.specs.Grammar as grammar;
+ghost use Rattle.lu_lang.specs.Grammar.{closed};
+
+use crate::draft::{Draft, Label, OpenOp, Statement};
+use crate::keyword::keyword_in;
+use crate::reading::{has_most_arrays, has_most_locks, label_in, op_of};
+use lu_component::{Array, Instr, Operand};
+use lu_text::{Name, has_name_form, is_long, words_of};
+use std::alloc::{AllocError, Global};
+
+/// The word without a comma or a semicolon behind it.
+fn bare(word: &[u8]) -> &[u8]
+    ensures { result.now ≡ spec.bare word.now }
+{
+    match word {
+        [front @ .., b','] => front,
+        [front @ .., b';'] => front,
+        _ => word,
+    }
+}
+
+/// The word, where it is a name.
+fn name_if(alloc: Global, word: &[u8]) -> Result<Option<Name>, AllocError>
+    ensures { IfOk result (λ name. name ≡ spec.name_if word.now) }
+{
+    if has_name_form(word) && !is_long(word) {
+        Ok(Some(Name::new(alloc, word)?))
+    } else {
+        Ok(None)
+    }
+}
+
+/// The first word, where it is a name.
+fn first_name(alloc: Global, words: &[&[u8]]) -> Result<Option<Name>, AllocError>
+    ensures { IfOk result (λ name. name ≡ spec.first_name (texts words.now)) }
+{
+    match words.split_first() {
+        None => Ok(None),
+        Some((word, _)) => name_if(alloc, bare(word)),
+    }
+}
+
+/// The name, or `_`.
+fn or_blank(alloc: Global, name: Option<Name>) -> Result<Name, AllocError>
+    ensures { IfOk result (λ it. it ≡ unwrap_or name (codes "_")) }
+{
+    match name {
+        Some(name) => Ok(name),
+        None => Name::new(alloc, b"_"),
+    }
+}
+
+/// The draft with an array of this name.
+fn with_array(mut draft: Draft, name: Option<Name>) -> Result<Draft, AllocError>
+    ensures { IfOk result (λ next. next ≡ spec.with_array draft name) }
+{
+    match name {
+        None => Ok(draft),
+        Some(name) => {
+            if has_most_arrays(&draft) {
+                return Ok(draft);
+            }
+            draft.arrays.push(Array {
+                name,
+                len: 64,
+                init: 0,
+            })?;
+            Ok(draft)
+        }
+    }
+}
+
+/// The draft with a lock of this name.
+fn with_lock(mut draft: Draft, name: Option<Name>) -> Result<Draft, AllocError>
+    ensures { IfOk result (λ next. next ≡ spec.with_lock draft name) }
+{
+    match name {
+        None => Ok(draft),
+        Some(name) => {
+            if has_most_locks(&draft) {
+                return Ok(draft);
+            }
+            draft.locks.push(name)?;
+            Ok(draft)
+        }
+    }
+}
+
+/// An operation of this name, of which no line is read.
+fn op_begun(alloc: Global, name: Option<Name>) -> Result<OpenOp, AllocError>
+    ensures { IfOk result (λ op. op ≡ spec.op_begun name) }
+{
+    Ok(OpenOp {
+        name: or_blank(alloc, name)?,
+        args: 0,
+        statements: Vec::new(alloc),
+        labels: Vec::new(alloc),
+    })
+}
+
+/// The draft with an operation begun.
+fn with_op(alloc: Global, mut draft: Draft, name: Option<Name>) -> Result<Draft, AllocError>
+    ensures { IfOk result (λ next. next ≡ spec.with_op draft name) }
+{
+    draft.begun = Some(op_begun(alloc, name)?);
+    Ok(draft)
+}
+
+/// The draft with this operation closed.
+fn with_end(alloc: Global, mut draft: Draft, op: OpenOp) -> Result<Draft, AllocError>
+    ensures { IfOk result (λ next. next ≡ spec.with_end draft op) }
+{
+    draft.operations.push(op_of(alloc, op)?)?;
+    Ok(draft)
+}
+
+/// The operation with a label, where there is one.
+fn with_label(mut op: OpenOp, label: Option<Name>) -> Result<OpenOp, AllocError>
+    ensures { IfOk result (λ next. next ≡ record op { labels = spec.labels_with op.labels label }) }
+{
+    match label {
+        None => Ok(op),
+        Some(name) => {
+            op.labels.push(Label { name, place: 0 })?;
+            Ok(op)
+        }
+    }
+}
+
+/// The draft with one more instruction of this operation.
+fn with_return(mut draft: Draft, op: OpenOp, label: Option<Name>) -> Result<Draft, AllocError>
+    ensures { IfOk result (λ next. next ≡ spec.with_return draft op label) }
+{
+    let mut op = with_label(op, label)?;
+    op.statements
+        .push(Statement::Plain(Instr::Return(Operand::Num(0))))?;
+    draft.begun = Some(op);
+    Ok(draft)
+}
+
+/// The words of the first of these lines that has any.
+fn next_words<'a>(alloc: Global, lines: &[&'a [u8]]) -> Result<Vec<&'a [u8]>, AllocError>
+    ensures { IfOk result (λ words. texts words.items ≡ spec.next_words (texts lines.now)) }
+{
+    for line in lines {
+        let words = words_of(alloc, line)?;
+        if !words.is_empty() {
+            return Ok(words);
+        }
+    }
+    Ok(Vec::new(alloc))
+}
+
+/// Whether a word is a label, or begins an instruction and no declaration.
+fn is_code(word: &[u8]) -> bool
+    ensures { result ≡ spec.is_code word.now }
+{
+    label_in(word).is_some() || keyword_in(word).is_some() && word != b"lock".as_slice()
+}
+
+/// Whether a line of these words stands inside an operation alone.
+fn begins_code(words: &[&[u8]]) -> bool
+    ensures { result ≡ spec.begins_code (texts words.now) }
+{
+    match words.split_first() {
+        None => false,
+        Some((word, _)) => is_code(word) || *word == b"end".as_slice(),
+    }
+}
+
+/// Whether a line of these words stands outside operations alone.
+fn begins_outside(words: &[&[u8]]) -> bool
+    ensures { result ≡ spec.begins_outside (texts words.now) }
+{
+    match words.split_first() {
+        None => false,
+        Some((word, _)) => *word == b"op".as_slice() || *word == b"word".as_slice(),
+    }
+}
+
+/// The name of the label that a word is, where it has a good one.
+fn label_name(alloc: Global, word: &[u8]) -> Result<Option<Name>, AllocError>
+    ensures { IfOk result (λ name.
+        name ≡ option_and_then spec.name_if (grammar.label_in word.now)) }
+{
+    match label_in(word) {
+        None => Ok(None),
+        Some(label) => name_if(alloc, label),
+    }
+}
+
+/// The draft with an operation begun, which has one instruction.
+fn with_first(alloc: Global, draft: Draft, word: &[u8]) -> Result<Draft, AllocError>
+    ensures { IfOk result (λ next. next ≡ spec.with_return draft (spec.op_begun None)
+        (option_and_then spec.name_if (grammar.label_in word.now))) }
+{
+    let op = op_begun(alloc, None)?;
+    with_return(draft, op, label_name(alloc, word)?)
+}
+
+/// A line that begins no declaration.
+fn mend_other(
+    alloc: Global,
+    draft: Draft,
+    word: &[u8],
+    words: &[&[u8]],
+    next: &[&[u8]],
+) -> Result<Draft, AllocError>
+    ensures { IfOk result (λ after. after ≡
+        spec.mend_other draft word.now (texts words.now) (texts next.now)) }
+{
+    if !begins_code(next) || word == b"end".as_slice() {
+        Ok(draft)
+    } else if is_code(word) {
+        with_first(alloc, draft, word)
+    } else {
+        with_op(alloc, draft, first_name(alloc, words)?)
+    }
+}
+
+fn mend_outside(
+    alloc: Global,
+    draft: Draft,
+    word: &[u8],
+    words: &[&[u8]],
+    next: &[&[u8]],
+) -> Result<Draft, AllocError>
+    ensures { IfOk result (λ after. after ≡
+        spec.mend_outside draft word.now (texts words.now) (texts next.now)) }
+{
+    if word == b"word".as_slice() {
+        with_array(draft, first_name(alloc, words)?)
+    } else if word == b"lock".as_slice() {
+        with_lock(draft, first_name(alloc, words)?)
+    } else if word == b"op".as_slice() {
+        with_op(alloc, draft, first_name(alloc, words)?)
+    } else {
+        mend_other(alloc, draft, word, words, next)
+    }
+}
+
+/// A line `word` inside an operation.
+fn mend_array_inside(
+    alloc: Global,
+    draft: Draft,
+    op: OpenOp,
+    label: Option<Name>,
+    words: &[&[u8]],
+    next: &[&[u8]],
+) -> Result<Draft, AllocError>
+    ensures { IfOk result (λ after. after ≡
+        spec.mend_array_inside draft op label (texts words.now) (texts next.now)) }
+{
+    let name = first_name(alloc, words)?;
+    if begins_outside(next) {
+        let draft = with_end(alloc, draft, op)?;
+        return with_array(draft, name);
+    }
+    let draft = with_array(draft, name)?;
+    with_return(draft, op, label)
+}
+
+fn mend_inside(
+    alloc: Global,
+    draft: Draft,
+    op: OpenOp,
+    label: Option<Name>,
+    word: &[u8],
+    words: &[&[u8]],
+    next: &[&[u8]],
+) -> Result<Draft, AllocError>
+    ensures { IfOk result (λ after. after ≡
+        spec.mend_inside draft op label word.now (texts words.now) (texts next.now)) }
+{
+    if word == b"op".as_slice() {
+        let draft = with_end(alloc, draft, op)?;
+        with_op(alloc, draft, first_name(alloc, words)?)
+    } else if word == b"end".as_slice() {
+        with_end(alloc, draft, op)
+    } else if word == b"word".as_slice() {
+        mend_array_inside(alloc, draft, op, label, words, next)
+    } else {
+        with_return(draft, op, label)
+    }
+}
+
+fn mend_behind(
+    alloc: Global,
+    draft: Draft,
+    op: OpenOp,
+    label: &[u8],
+    word: &[u8],
+    words: &[&[u8]],
+    next: &[&[u8]],
+) -> Result<Draft, AllocError>
+    ensures { IfOk result (λ after. after ≡ spec.mend_labelled
+        draft op (Some label.now) word.now (texts words.now) (texts next.now)) }
+{
+    let label = name_if(alloc, label)?;
+    match words.split_first() {
+        None => with_return(draft, op, label),
+        Some((first, rest)) => mend_inside(alloc, draft, op, label, bare(first), rest, next),
+    }
+}
+
+fn mend_labelled(
+    alloc: Global,
+    draft: Draft,
+    op: OpenOp,
+    word: &[u8],
+    words: &[&[u8]],
+    next: &[&[u8]],
+) -> Result<Draft, AllocError>
+    ensures { IfOk result (λ after. after ≡ spec.mend_labelled
+        draft op (grammar.label_in word.now) word.now (texts words.now) (texts next.now)) }
+{
+    if let Some(label) = label_in(word) {
+        return mend_behind(alloc, draft, op, label, word, words, next);
+    }
+    mend_inside(alloc, draft, op, None, word, words, next)
+}
+
+/// Where there is no component line yet, the component is called `_`.
+fn mend_first(
+    alloc: Global,
+    mut draft: Draft,
+    word: &[u8],
+    words: &[&[u8]],
+    next: &[&[u8]],
+) -> Result<Draft, AllocError>
+    ensures { IfOk result (λ after. after ≡ spec.mend_outside
+        (record draft { name = Some (codes "_") }) word.now (texts words.now) (texts next.now)) }
+{
+    draft.name = Some(or_blank(alloc, None)?);
+    mend_outside(alloc, draft, word, words, next)
+}
+
+fn mend_by_state(
+    alloc: Global,
+    mut draft: Draft,
+    word: &[u8],
+    words: &[&[u8]],
+    next: &[&[u8]],
+) -> Result<Draft, AllocError>
+    ensures { IfOk result (λ after. after ≡ spec.mend_by_state
+        (closed draft) draft.name draft.begun word.now (texts words.now) (texts next.now)) }
+{
+    let begun = draft.begun.take();
+    if draft.name.is_none() {
+        return mend_first(alloc, draft, word, words, next);
+    }
+    match begun {
+        None => mend_outside(alloc, draft, word, words, next),
+        Some(op) => mend_labelled(alloc, draft, op, word, words, next),
+    }
+}
+
+fn mend_words(
+    alloc: Global,
+    draft: Draft,
+    words: &[&[u8]],
+    lines: &[&[u8]],
+) -> Result<Draft, AllocError>
+    ensures { IfOk result (λ after. after ≡
+        spec.mend_words draft (texts words.now) (spec.next_words (texts lines.now))) }
+{
+    match words.split_first() {
+        None => Ok(draft),
+        Some((word, rest)) => {
+            let next = next_words(alloc, lines)?;
+            mend_by_state(alloc, draft, bare(word), rest, &next)
+        }
+    }
+}
+
+/// The draft from which the lines behind a line with a fault are read; `lines` are these.
+///
+/// # Errors
+///
+/// There is no memory for what the line leaves.
+pub fn mended(
+    alloc: Global,
+    draft: Draft,
+    text: &[u8],
+    lines: &[&[u8]],
+) -> Result<Draft, AllocError>
+    ensures { IfOk result (λ after. after ≡ mend draft text.now (texts lines.now)) }
+{
+    let words = words_of(alloc, text)?;
+    mend_words(alloc, draft, &words, lines)
+}
