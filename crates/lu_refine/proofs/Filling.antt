@@ -1,17 +1,70 @@
--- The matrix that a choice fills.
-use Rattle.std.proofs.Common.{◌≡◌, ℕ, zero, suc, ◌+◌, ◌-◌, ◌*◌, ◌<◌, ◌≤◌, List, [], ◌∷◌, ◌++◌, length, map, take, drop, refl, sym, ap, subst, ◌∙◌, arith, append_assoc, append-nil}
+-- The matrix that a choice fills, thread after thread.
+use Rattle.std.proofs.Common.{◌≡◌, ℕ, zero, suc, ◌+◌, ◌<◌, ◌≤◌, List, [], ◌∷◌, ◌++◌, length, length-append, map, take, drop, replicate, get_or, refl, sym, ap, subst, ◌∙◌, arith, add-one, append_assoc, append-nil}
 use Rattle.std.specs.Prelude.{All, sum_by}
-use Rattle.std.proofs.Math.Nat.{suc-mul}
-use Rattle.std.proofs.lemmas.List.{length-map, length-take-le, length-drop}
-use Rattle.std.proofs.lemmas.List.Elements.{All-take, All-drop}
+use Rattle.std.proofs.Math.Seq.{drop-cons}
+use Rattle.std.proofs.lemmas.List.{drop_all, length-map, length-replicate, length-take-le}
+use Rattle.std.proofs.lemmas.List.Elements.{All-append, All-cons, All-nil, All-replicate}
 use Rattle.std.proofs.lemmas.List.Sums.{sum_by-cons}
 use Rattle.lu_component.specs.Component.{Declarations}
 use Rattle.lu_test.specs.declared.matrix.Call.{Call}
 use Rattle.lu_test.specs.Matrix.{AreArguments, AreThreads, IsCallOf, IsOf, Matrix}
 use Rattle.lu_machine.specs.Starts.{AllEnd, CanRun}
-use Rattle.lu_refine.specs.Choices.{IsChoice, candidate_at, filled}
-use Rattle.lu_refine.specs.Campaigns.{AreCallsOf, HaveArguments, IsGrid}
-use Rattle.lu_refine.proofs.Places.{AreBelow}
+use Rattle.lu_refine.specs.Choices.{AreEnough, ArePositions, IsChoiceIn, candidate_at}
+use Rattle.lu_refine.specs.Roles.{AllCallsOf, AllHaveArguments, AreWithinLimits, bases, rows, rows_matrix, width}
+
+abbrev pub AreBelow : ℕ → List ℕ → Type 0
+AreBelow n choice = All (λ m. m < n) choice
+
+-- ---- the positions
+
+-- a position's thread has candidates
+row_enough : (calls : ℕ) (thread : List Call) → length thread ≤ 8 → All AreEnough (replicate (width calls thread) (length thread))
+row_enough calls [] few = All-nil AreEnough
+row_enough calls (candidate ∷ others) few = All-replicate AreEnough calls (length (candidate ∷ others)) (omega arith, few)
+
+bases_enough : (calls : ℕ) (candidates : List (List Call)) → All (λ thread. length thread ≤ 8) candidates → All AreEnough (bases calls candidates)
+bases_enough calls [] all = All-nil AreEnough
+bases_enough calls (thread ∷ threads) all =
+    All-append AreEnough (replicate (width calls thread) (length thread)) (bases calls threads) (row_enough calls thread (all 0 [] (omega arith))) (bases_enough calls threads (λ k d h. all (suc k) d (omega arith)))
+
+pub positions : (calls : ℕ) (candidates : List (List Call)) → AreWithinLimits calls candidates → ArePositions (bases calls candidates)
+positions calls candidates limits = record {
+  each = bases_enough calls candidates limits.0.few_candidates;
+  few = limits.1.positions;
+}
+
+-- the threads from i on
+pub threads_from : (candidates : List (List Call)) (i : ℕ) (thread : List Call) → i < length candidates → thread ≡ get_or candidates i thread → drop i candidates ≡ thread ∷ drop (i + 1) candidates
+threads_from candidates i thread h is =
+    rw (add-one i) (drop-cons candidates i thread h ∙ ap (λ (t : List Call). t ∷ drop (suc i) candidates) (sym is))
+
+-- the bases so far, with those of the threads behind, are all
+abbrev pub AreFound : ℕ → List (List Call) → ℕ → List ℕ → Type 0
+AreFound calls candidates i found = found ++ bases calls (drop i candidates) ≡ bases calls candidates
+
+pub found_none : (calls : ℕ) (candidates : List (List Call)) (found : List ℕ) → found ≡ [] → AreFound calls candidates 0 found
+found_none calls candidates found none = ap (λ (xs : List ℕ). xs ++ bases calls candidates) none
+
+pub found_more : (calls : ℕ) (candidates : List (List Call)) (i : ℕ) (thread : List Call) (found row new : List ℕ) → i < length candidates → thread ≡ get_or candidates i thread → row ≡ replicate (width calls thread) (length thread) → new ≡ found ++ row → AreFound calls candidates i found → AreFound calls candidates (i + 1) new
+found_more calls candidates i thread found row new h is row_is pushed so_far =
+    let next = threads_from candidates i thread h is in
+    let behind = bases calls (drop (i + 1) candidates) in
+    let here : row ++ behind ≡ bases calls (drop i candidates) = ap (λ (xs : List ℕ). xs ++ behind) row_is ∙ sym (ap (bases calls) next) in
+    ap (λ (xs : List ℕ). xs ++ behind) pushed ∙ (append_assoc found row behind ∙ (ap (λ (xs : List ℕ). found ++ xs) here ∙ so_far))
+
+pub found_all : (calls : ℕ) (candidates : List (List Call)) (i : ℕ) (found : List ℕ) → length candidates ≤ i → AreFound calls candidates i found → found ≡ bases calls candidates
+found_all calls candidates i found h so_far =
+    sym (append-nil found) ∙ (sym (ap (λ (xs : List (List Call)). found ++ bases calls xs) (drop_all i candidates h)) ∙ so_far)
+
+-- ---- the rows
+
+-- a thread's numbers, and those of the threads behind it
+pub parts : (n base : ℕ) (behind choice : List ℕ) → IsChoiceIn (replicate n base ++ behind) choice → (n ≤ length choice) × AreBelow base (take n choice) × IsChoiceIn behind (drop n choice)
+parts zero base behind choice chosen = (omega arith, All-nil (λ m. m < base), chosen)
+parts (suc n) base behind [] chosen = absurd chosen
+parts (suc n) base behind (m ∷ choice) chosen =
+    let rest = parts n base behind choice chosen.1 in
+    (omega (arith, rest.0), All-cons (λ m. m < base) m (take n choice) chosen.0 rest.1, rest.2)
 
 -- what holds of each candidate holds of the chosen ones
 row_all : (P : Call → Type 0) (candidates : List Call) → All P candidates → (numbers : List ℕ) → AreBelow (length candidates) numbers → All P (map (candidate_at candidates) numbers)
@@ -19,98 +72,102 @@ row_all P candidates all [] below k d h = absurd (omega arith)
 row_all P candidates all (n ∷ numbers) below zero d h = all n (record { op = 0; args = [] }) (below zero 0 (omega arith))
 row_all P candidates all (n ∷ numbers) below (suc k) d h = row_all P candidates all numbers (λ i e w. below (suc i) e (omega arith)) k d (omega arith)
 
-pub filled_all : (P : Call → Type 0) (candidates : List Call) → All P candidates → (threads calls : ℕ) (choice : List ℕ) → AreBelow (length candidates) choice → All (λ row. All P row) (filled candidates threads calls choice)
-filled_all P candidates all zero calls choice below k d h = absurd (omega arith)
-filled_all P candidates all (suc threads) calls choice below zero d h = row_all P candidates all (take calls choice) (All-take (λ m. m < length candidates) calls choice below)
-filled_all P candidates all (suc threads) calls choice below (suc k) d h = filled_all P candidates all threads calls (drop calls choice) (All-drop (λ m. m < length candidates) calls choice below) k d (omega arith)
+rows_all : (P : Call → Type 0) (calls : ℕ) (candidates : List (List Call)) → All (λ thread. All P thread) candidates → (choice : List ℕ) → IsChoiceIn (bases calls candidates) choice → All (λ row. All P row) (rows calls candidates choice)
+rows_all P calls [] all choice chosen k d h = absurd (omega arith)
+rows_all P calls (thread ∷ threads) all choice chosen zero d h =
+    row_all P thread (all 0 [] (omega arith)) (take (width calls thread) choice) (parts (width calls thread) (length thread) (bases calls threads) choice chosen).1
+rows_all P calls (thread ∷ threads) all choice chosen (suc k) d h =
+    rows_all P calls threads (λ i e w. all (suc i) e (omega arith)) (drop (width calls thread) choice) (parts (width calls thread) (length thread) (bases calls threads) choice chosen).2 k d (omega arith)
 
-length-filled : (candidates : List Call) (threads calls : ℕ) (choice : List ℕ) → length (filled candidates threads calls choice) ≡ threads
-length-filled candidates zero calls choice = refl
-length-filled candidates (suc threads) calls choice = omega (arith, length-filled candidates threads calls (drop calls choice))
+length-rows : (calls : ℕ) (candidates : List (List Call)) (choice : List ℕ) → length (rows calls candidates choice) ≡ length candidates
+length-rows calls [] choice = refl
+length-rows calls (thread ∷ threads) choice = omega (arith, length-rows calls threads (drop (width calls thread) choice))
 
 row_long : (candidates : List Call) (numbers : List ℕ) → length (map (candidate_at candidates) numbers) ≡ length numbers
 row_long candidates numbers = length-map numbers (candidate_at candidates)
 
--- a thread's numbers, and those of the threads behind it
-parts : (threads calls : ℕ) (choice : List ℕ) → length choice ≡ suc threads * calls → (calls ≤ length choice) × (length (drop calls choice) ≡ threads * calls)
-parts threads calls choice long =
-    let more : suc threads * calls ≡ threads * calls + calls = suc-mul threads calls in
-    (omega (arith, long, more), omega (arith, long, more, length-drop calls choice))
+row_width : (calls : ℕ) (thread : List Call) (behind choice : List ℕ) → IsChoiceIn (replicate (width calls thread) (length thread) ++ behind) choice → length (map (candidate_at thread) (take (width calls thread) choice)) ≡ width calls thread
+row_width calls thread behind choice chosen =
+    row_long thread (take (width calls thread) choice) ∙ length-take-le (width calls thread) choice (parts (width calls thread) (length thread) behind choice chosen).0
 
-count_filled : (candidates : List Call) (threads calls : ℕ) (choice : List ℕ) → length choice ≡ threads * calls → sum_by length (filled candidates threads calls choice) ≡ threads * calls
-count_filled candidates zero calls choice long = omega arith
-count_filled candidates (suc threads) calls choice long =
-    let parted = parts threads calls choice long in
-    let row = map (candidate_at candidates) (take calls choice) in
-    let rows = filled candidates threads calls (drop calls choice) in
-    omega (arith, sum_by-cons length row rows, row_long candidates (take calls choice), length-take-le calls choice parted.0, count_filled candidates threads calls (drop calls choice) parted.1, suc-mul threads calls)
+width_few : (calls : ℕ) (thread : List Call) → width calls thread ≤ calls
+width_few calls [] = omega arith
+width_few calls (candidate ∷ others) = omega arith
 
-rows_short : (candidates : List Call) (threads calls : ℕ) (choice : List ℕ) → length choice ≡ threads * calls → calls ≤ 8 → All (λ (row : List Call). length row ≤ 8) (filled candidates threads calls choice)
-rows_short candidates zero calls choice long few k d h = absurd (omega arith)
-rows_short candidates (suc threads) calls choice long few zero d h =
-    omega (arith, row_long candidates (take calls choice), length-take-le calls choice (parts threads calls choice long).0, few)
-rows_short candidates (suc threads) calls choice long few (suc k) d h = rows_short candidates threads calls (drop calls choice) (parts threads calls choice long).1 few k d (omega arith)
+count_rows : (calls : ℕ) (candidates : List (List Call)) (choice : List ℕ) → IsChoiceIn (bases calls candidates) choice → sum_by length (rows calls candidates choice) ≡ length (bases calls candidates)
+count_rows calls [] choice chosen = refl
+count_rows calls (thread ∷ threads) choice chosen =
+    let w = width calls thread in
+    let parted = parts w (length thread) (bases calls threads) choice chosen in
+    let row = map (candidate_at thread) (take w choice) in
+    let behind = rows calls threads (drop w choice) in
+    let here : length row ≡ w = row_width calls thread (bases calls threads) choice chosen in
+    let whole : length (replicate w (length thread) ++ bases calls threads) ≡ length (replicate w (length thread)) + length (bases calls threads) = length-append (replicate w (length thread)) (bases calls threads) in
+    omega (arith, sum_by-cons length row behind, here, whole, length-replicate w (length thread), count_rows calls threads (drop w choice) parted.2)
 
-pub filled_some : (candidates : List Call) (threads calls : ℕ) (choice : List ℕ) → IsGrid threads calls → 1 ≤ length (filled candidates threads calls choice)
-filled_some candidates threads calls choice grid = omega (arith, length-filled candidates threads calls choice, grid.some_threads)
+rows_short : (calls : ℕ) (candidates : List (List Call)) (choice : List ℕ) → IsChoiceIn (bases calls candidates) choice → calls ≤ 8 → All (λ (row : List Call). length row ≤ 8) (rows calls candidates choice)
+rows_short calls [] choice chosen few k d h = absurd (omega arith)
+rows_short calls (thread ∷ threads) choice chosen few zero d h = omega (arith, row_width calls thread (bases calls threads) choice chosen, width_few calls thread, few)
+rows_short calls (thread ∷ threads) choice chosen few (suc k) d h =
+    rows_short calls threads (drop (width calls thread) choice) (parts (width calls thread) (length thread) (bases calls threads) choice chosen).2 few k d (omega arith)
 
-pub filled_limits : (candidates : List Call) (threads calls : ℕ) (choice : List ℕ) → IsGrid threads calls → IsChoice (length candidates) (threads * calls) choice → HaveArguments candidates → AreThreads (filled candidates threads calls choice)
-filled_limits candidates threads calls choice grid chosen arguments = record {
-  few = omega (arith, length-filled candidates threads calls choice, grid.few_threads);
-  each = rows_short candidates threads calls choice chosen.0 grid.few_calls;
-  calls = omega (arith, count_filled candidates threads calls choice chosen.0, grid.positions);
-  arguments = filled_all (λ call. AreArguments call.args) candidates arguments threads calls choice chosen.1;
+pub rows_some : (calls : ℕ) (candidates : List (List Call)) (choice : List ℕ) → AreWithinLimits calls candidates → 1 ≤ length (rows calls candidates choice)
+rows_some calls candidates choice limits = omega (arith, length-rows calls candidates choice, limits.0.some_threads)
+
+pub rows_limits : (calls : ℕ) (candidates : List (List Call)) (choice : List ℕ) → AreWithinLimits calls candidates → AllHaveArguments candidates → IsChoiceIn (bases calls candidates) choice → AreThreads (rows calls candidates choice)
+rows_limits calls candidates choice limits arguments chosen = record {
+  few = omega (arith, length-rows calls candidates choice, limits.0.few_threads);
+  each = rows_short calls candidates choice chosen limits.1.few_calls;
+  calls = omega (arith, count_rows calls candidates choice chosen, limits.1.positions);
+  arguments = rows_all (λ call. AreArguments call.args) calls candidates arguments choice chosen;
 }
 
-pub filled_of : (c : Declarations) (setup candidates : List Call) (threads calls : ℕ) (choice : List ℕ) → AreCallsOf c setup → AreCallsOf c candidates → AreBelow (length candidates) choice → IsOf (record { setup = setup; threads = filled candidates threads calls choice }) c
-filled_of c setup candidates threads calls choice before of below = (before, filled_all (λ call. IsCallOf c call) candidates of threads calls choice below)
+pub rows_of : (c : Declarations) (setup : List Call) (calls : ℕ) (candidates : List (List Call)) (choice : List ℕ) → All (IsCallOf c) setup → AllCallsOf c candidates → IsChoiceIn (bases calls candidates) choice → IsOf (rows_matrix setup calls candidates choice) c
+rows_of c setup calls candidates choice before of chosen = (before, rows_all (λ call. IsCallOf c call) calls candidates of choice chosen)
 
 -- and it can run where the setup does
-pub filled_runs : (c : Declarations) (setup candidates : List Call) (threads calls : ℕ) (choice : List ℕ) → AreCallsOf c setup → AllEnd c setup → AreCallsOf c candidates → AreBelow (length candidates) choice → CanRun c (record { setup = setup; threads = filled candidates threads calls choice })
-filled_runs c setup candidates threads calls choice before ends of below = record { of = filled_of c setup candidates threads calls choice before of below; settles = ends }
+pub rows_run : (c : Declarations) (setup : List Call) (calls : ℕ) (candidates : List (List Call)) (choice : List ℕ) → All (IsCallOf c) setup → AllEnd c setup → AllCallsOf c candidates → IsChoiceIn (bases calls candidates) choice → CanRun c (rows_matrix setup calls candidates choice)
+rows_run c setup calls candidates choice before ends of chosen = record { of = rows_of c setup calls candidates choice before of chosen; settles = ends }
 
 -- the same of a setup and rows that are these
-pub filled_made : (setup now : List Call) (rows all : List (List Call)) → now ≡ setup → rows ≡ all → let made : Matrix = record { setup = now; threads = rows } in made ≡ record { setup = setup; threads = all }
-filled_made setup now rows all p q = rw (p, q) refl
+pub rows_made : (setup now : List Call) (made all : List (List Call)) → now ≡ setup → made ≡ all → let matrix : Matrix = record { setup = now; threads = made } in matrix ≡ record { setup = setup; threads = all }
+rows_made setup now made all p q = rw (p, q) refl
 
 -- ---- thread after thread
 
 -- the rows so far, with those that the rest of the choice fills, are all
-pub record IsFilledTo (candidates : List Call) (threads calls t : ℕ) (rest : List ℕ) (rows all : List (List Call)) : Type 0 where
-  pub long : length rest ≡ (threads - t) * calls
-  pub below : AreBelow (length candidates) rest
-  pub rows_are : rows ++ filled candidates (threads - t) calls rest ≡ all
+pub record IsFilledTo (candidates : List (List Call)) (calls i : ℕ) (rest : List ℕ) (made all : List (List Call)) : Type 0 where
+  pub chosen : IsChoiceIn (bases calls (drop i candidates)) rest
+  pub rows_are : made ++ rows calls (drop i candidates) rest ≡ all
 
-pub filled_none : (candidates : List Call) (threads calls : ℕ) (choice : List ℕ) (rows : List (List Call)) → IsChoice (length candidates) (threads * calls) choice → rows ≡ [] → IsFilledTo candidates threads calls 0 choice rows (filled candidates threads calls choice)
-filled_none candidates threads calls choice rows chosen none =
-    let left : threads - 0 ≡ threads = omega arith in
+pub filled_none : (candidates : List (List Call)) (calls : ℕ) (choice : List ℕ) (made : List (List Call)) → IsChoiceIn (bases calls candidates) choice → made ≡ [] → IsFilledTo candidates calls 0 choice made (rows calls candidates choice)
+filled_none candidates calls choice made chosen none = record {
+  chosen = chosen;
+  rows_are = ap (λ (xs : List (List Call)). xs ++ rows calls candidates choice) none;
+}
+
+-- the thread's numbers are there
+pub next_parts : (candidates : List (List Call)) (calls i : ℕ) (thread : List Call) (rest : List ℕ) (made all : List (List Call)) → i < length candidates → thread ≡ get_or candidates i thread → IsFilledTo candidates calls i rest made all
+    → (width calls thread ≤ length rest) × AreBelow (length thread) (take (width calls thread) rest) × IsChoiceIn (bases calls (drop (i + 1) candidates)) (drop (width calls thread) rest)
+next_parts candidates calls i thread rest made all h is so_far =
+    let next = threads_from candidates i thread h is in
+    parts (width calls thread) (length thread) (bases calls (drop (i + 1) candidates)) rest (subst (λ (xs : List (List Call)). IsChoiceIn (bases calls xs) rest) next so_far.chosen)
+
+pub filled_more : (candidates : List (List Call)) (calls i : ℕ) (thread : List Call) (rest numbers others : List ℕ) (row : List Call) (made new all : List (List Call)) → i < length candidates → thread ≡ get_or candidates i thread → IsFilledTo candidates calls i rest made all
+    → numbers ≡ take (width calls thread) rest → others ≡ drop (width calls thread) rest → row ≡ map (candidate_at thread) numbers → new ≡ made ++ row ∷ [] → IsFilledTo candidates calls (i + 1) others new all
+filled_more candidates calls i thread rest numbers others row made new all h is so_far front back chosen pushed =
+    let next = threads_from candidates i thread h is in
+    let parted = next_parts candidates calls i thread rest made all h is so_far in
+    let behind = drop (i + 1) candidates in
+    let here : row ≡ map (candidate_at thread) (take (width calls thread) rest) = chosen ∙ ap (map (candidate_at thread)) front in
+    let whole : made ++ rows calls (thread ∷ behind) rest ≡ all = ap (λ (xs : List (List Call)). made ++ rows calls xs rest) (sym next) ∙ so_far.rows_are in
     record {
-      long = chosen.0 ∙ ap (λ (k : ℕ). k * calls) (sym left);
-      below = chosen.1;
-      rows_are = rw none (ap (λ (k : ℕ). filled candidates k calls choice) left);
-    }
-
-pub room : (candidates : List Call) (threads calls t : ℕ) (rest : List ℕ) (rows all : List (List Call)) → t < threads → IsFilledTo candidates threads calls t rest rows all → calls ≤ length rest
-room candidates threads calls t rest rows all within so_far =
-    let left : threads - t ≡ suc (threads - (t + 1)) = omega arith in
-    (parts (threads - (t + 1)) calls rest (so_far.long ∙ ap (λ (k : ℕ). k * calls) left)).0
-
-pub filled_more : (candidates : List Call) (threads calls t : ℕ) (rest numbers others : List ℕ) (row : List Call) (rows new all : List (List Call)) → t < threads → IsFilledTo candidates threads calls t rest rows all
-    → numbers ≡ take calls rest → others ≡ drop calls rest → row ≡ map (candidate_at candidates) numbers → new ≡ rows ++ row ∷ [] → IsFilledTo candidates threads calls (t + 1) others new all
-filled_more candidates threads calls t rest numbers others row rows new all within so_far front back chosen pushed =
-    let j = threads - (t + 1) in
-    let left : threads - t ≡ suc j = omega arith in
-    let parted = parts j calls rest (so_far.long ∙ ap (λ (k : ℕ). k * calls) left) in
-    let here : row ≡ map (candidate_at candidates) (take calls rest) = chosen ∙ ap (map (candidate_at candidates)) front in
-    let whole : rows ++ filled candidates (suc j) calls rest ≡ all = ap (λ (k : ℕ). rows ++ filled candidates k calls rest) (sym left) ∙ so_far.rows_are in
-    record {
-      long = ap length back ∙ parted.1;
-      below = subst (AreBelow (length candidates)) (sym back) (All-drop (λ m. m < length candidates) calls rest so_far.below);
+      chosen = subst (IsChoiceIn (bases calls behind)) (sym back) parted.2;
       rows_are = rw (pushed, back, here, append_assoc) whole;
     }
 
-pub filled_whole : (candidates : List Call) (threads calls t : ℕ) (rest : List ℕ) (rows all : List (List Call)) → threads ≤ t → IsFilledTo candidates threads calls t rest rows all → rows ≡ all
-filled_whole candidates threads calls t rest rows all past so_far =
-    let left : threads - t ≡ 0 = omega arith in
-    let whole : rows ++ filled candidates 0 calls rest ≡ all = ap (λ (k : ℕ). rows ++ filled candidates k calls rest) (sym left) ∙ so_far.rows_are in
-    sym (append-nil rows) ∙ whole
+pub filled_whole : (candidates : List (List Call)) (calls i : ℕ) (rest : List ℕ) (made all : List (List Call)) → length candidates ≤ i → IsFilledTo candidates calls i rest made all → made ≡ all
+filled_whole candidates calls i rest made all past so_far =
+    let left : drop i candidates ≡ [] = drop_all i candidates past in
+    let whole : made ++ rows calls [] rest ≡ all = ap (λ (xs : List (List Call)). made ++ rows calls xs rest) (sym left) ∙ so_far.rows_are in
+    sym (append-nil made) ∙ whole

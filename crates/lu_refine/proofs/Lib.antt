@@ -1,4 +1,5 @@
 pub mod Chained
-pub mod Places
+pub mod Numbered
 pub mod Filling
-pub mod Rounds
+pub mod Alike
+pub mod Passing

@@ -10,7 +10,7 @@ use Rattle.lu_refine.specs.declared.campaigns.Campaign.{Campaign}
 use Rattle.lu_refine.specs.declared.campaigns.Campaign.TheVariants.{AllPass, First}
 use Rattle.lu_refine.specs.declared.campaigns.CampaignFault.{CampaignFault}
 use Rattle.lu_refine.specs.declared.campaigns.CampaignFault.TheVariants.{Candidates, Limit, Memory}
-use Rattle.lu_refine.specs.Choices.{IsChoice, IsBefore, filled_matrix}
+use Rattle.lu_refine.specs.Choices.{AreEnough, IsChoice, IsBefore, filled_matrix}
 
 -- what a campaign is asked for
 pub record Campaigned : Type 0 where
@@ -40,10 +40,6 @@ AreCallsOf c candidates = All (IsCallOf c) candidates
 -- at most 4 arguments of each, which are numbers of 32 bits
 abbrev pub HaveArguments : List Call → Type 0
 HaveArguments candidates = All (λ call. AreArguments call.args) candidates
-
--- 1 to 8 candidates
-abbrev pub AreEnough : ℕ → Type 0
-AreEnough candidates = (1 ≤ candidates) × (candidates ≤ 8)
 
 -- 1 to 8 threads of 1 to 8 calls, and at most 16 positions
 pub record IsGrid (threads calls : ℕ) : Type 0 where

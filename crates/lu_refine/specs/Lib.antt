@@ -1,4 +1,7 @@
 pub mod Removals
 pub mod Choices
 pub mod Campaigns
+pub mod Roles
+pub mod ByThread
+pub mod Slices
 pub mod Codes

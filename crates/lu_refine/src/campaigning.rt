@@ -1,20 +1,23 @@
-//! All matrices of a size over some calls.
+//! All matrices of a size over some calls, and slices of them.
 
-ghost use Rattle.std.specs.Prelude.{◌≡◌, ◌≤◌, ◌↔◌, ◌*◌, IsTrue, IsOk, IfOk, IfErr, length};
+ghost use Rattle.std.specs.Prelude.{◌≡◌, ◌≤◌, ◌↔◌, IsTrue, IsOk, IfOk, IfErr, length, All, Any};
 ghost use Rattle.lu_test.specs.Matrix.{IsSetup};
 ghost use Rattle.lu_machine.specs.Starts.{AllEnd};
 ghost use Rattle.lu_replay.specs.Confirmed.{IsPass};
-ghost use Rattle.lu_refine.specs.Campaigns.{AreCallsOf, AreEnough, Chooses, HaveArguments, IsFoundOf, IsGrid, IsLimitFault};
+ghost use Rattle.lu_refine.specs.Choices.{AreEnough, choice_count};
+ghost use Rattle.lu_refine.specs.Campaigns.{AreCallsOf, Chooses, HaveArguments, IsFoundOf, IsGrid, IsLimitFault};
+ghost use Rattle.lu_refine.specs.Roles.{AllCallsOf, AllHaveArguments, AreWithinLimits, bases};
+ghost use Rattle.lu_refine.specs.ByThread.{ChoosesByThread, ChoosesInSlice, IsRolesFault};
 
 use crate::arena::check_in_arena;
 use crate::campaigns::{Campaign, CampaignFault};
-use crate::choice::{choice_at, fill};
+use crate::choice::{Positions, bases_of, choice_at, count_choices, fill, same_lists};
 use lu_component::Component;
 use lu_report::{Finding, Report};
 use lu_test::{Call, Calls, MOST_CALLS, MOST_CALLS_OF_THREAD, MOST_THREADS};
 use std::alloc::Global;
 
-/// The most candidates of a campaign.
+/// The most candidates of a thread.
 pub const MOST_CANDIDATES: usize = 8;
 
 /// Whether the report is a pass.
@@ -29,9 +32,48 @@ fn is_pass(report: &Report) -> bool
     }
 }
 
-/// The number of positions of a matrix, where the limits hold.
-fn positions_of(candidates: usize, threads: u8, calls: u8) -> Result<u32, CampaignFault>
-    ensures positions { IfOk result (λ positions. positions ≡ threads * calls) }
+/// Whether some thread has candidates.
+fn are_some(candidates: &[Calls]) -> bool
+    ensures { IsTrue result ↔ Any (λ thread. 1 ≤ length thread) candidates.now }
+{
+    candidates
+        .iter()
+        .any(|thread| !thread.as_slice().is_empty())
+}
+
+/// Whether no thread has more than 8 candidates.
+fn are_few(candidates: &[Calls]) -> bool
+    ensures { IsTrue result ↔ All (λ thread. length thread ≤ 8) candidates.now }
+{
+    candidates
+        .iter()
+        .all(|thread| thread.as_slice().len() <= MOST_CANDIDATES)
+}
+
+/// How many candidates each position has, where the limits hold.
+fn positions_of(alloc: Global, candidates: &[Calls], calls: u8) -> Result<Positions, CampaignFault>
+    ensures positions { IfOk result (λ found. found.items ≡ bases calls candidates.now) }
+    ensures within { IsOk result → AreWithinLimits calls candidates.now }
+    ensures fault { IfErr result (IsRolesFault candidates.now calls) }
+{
+    if candidates.is_empty() || candidates.len() > MOST_THREADS {
+        return Err(CampaignFault::Candidates);
+    }
+    if !are_some(candidates) || !are_few(candidates) {
+        return Err(CampaignFault::Candidates);
+    }
+    if calls == 0 || usize::from(calls) > MOST_CALLS_OF_THREAD {
+        return Err(CampaignFault::Limit);
+    }
+    let positions = bases_of(alloc, candidates, calls)?;
+    if positions.as_slice().len() > MOST_CALLS {
+        return Err(CampaignFault::Limit);
+    }
+    Ok(positions)
+}
+
+/// That there are matrices of so many threads with so many calls each, over so many candidates.
+fn check_grid(candidates: usize, threads: u8, calls: u8) -> Result<(), CampaignFault>
     ensures within { IsOk result → AreEnough candidates × IsGrid threads calls }
     ensures fault { IfErr result (IsLimitFault candidates threads calls) }
 {
@@ -44,11 +86,10 @@ fn positions_of(candidates: usize, threads: u8, calls: u8) -> Result<u32, Campai
     if calls == 0 || usize::from(calls) > MOST_CALLS_OF_THREAD {
         return Err(CampaignFault::Limit);
     }
-    let positions = u32::from(threads) * u32::from(calls);
-    if positions as usize > MOST_CALLS {
+    if usize::from(threads) * usize::from(calls) > MOST_CALLS {
         return Err(CampaignFault::Limit);
     }
-    Ok(positions)
+    Ok(())
 }
 
 /// Checks all matrices of `threads` threads with `calls` calls each, filled from the candidates, in
@@ -87,16 +128,115 @@ pub fn campaign(
     ensures of { IfOk result (IsFoundOf component.now) }
     ensures fault { IfErr result (IsLimitFault (length candidates.now) threads calls) }
 {
-    let positions = positions_of(candidates.len(), threads, calls)?;
-    let count = (candidates.len() as u64).pow(positions);
-    for place in 0..count {
-        let choice = choice_at(alloc, place, candidates.len() as u64, positions)?;
+    check_grid(candidates.len(), threads, calls)?;
+    let lists = same_lists(alloc, candidates, threads)?;
+    campaign_by_thread(alloc, component, setup, &lists, calls, bound, serial)
+}
+
+/// Checks all matrices in which each thread makes calls of its own candidates: `calls` calls of
+/// each thread that has candidates, and none of a thread that has none. Else it is as
+/// [`campaign`]: the matrices are taken in lexicographic order of the numbers of the candidates,
+/// each within its thread's list, thread 0's calls first. Asks of each thread's candidates what
+/// [`campaign`] asks of its list.
+///
+/// # Errors
+///
+/// [`CampaignFault::Candidates`] where there are not 1 to 8 threads, where no thread has
+/// candidates, or where one has more than 8. [`CampaignFault::Limit`] where none of these holds,
+/// and `calls` is not 1 to 8, or there are more than 16 positions. [`CampaignFault::Memory`] where
+/// memory was refused.
+pub fn campaign_by_thread(
+    alloc: Global,
+    component: &Component,
+    setup: &Calls,
+    candidates: &[Calls],
+    calls: u8,
+    bound: u16,
+    serial: u16,
+) -> Result<Campaign, CampaignFault>
+    requires setup { IsSetup setup.now }
+    requires setup_of { AreCallsOf component.now setup.now }
+    requires settles { AllEnd component.now setup.now }
+    requires of { AllCallsOf component.now candidates.now }
+    requires arguments { AllHaveArguments candidates.now }
+    requires bound { bound ≤ 256 }
+    requires serial { (1 ≤ serial) × (serial ≤ 256) }
+    ensures answer { ChoosesByThread component.now setup.now candidates.now calls
+        bound serial result }
+    ensures of { IfOk result (IsFoundOf component.now) }
+    ensures fault { IfErr result (IsRolesFault candidates.now calls) }
+{
+    campaign_slice(
+        alloc,
+        component,
+        setup,
+        candidates,
+        calls,
+        bound,
+        serial,
+        0,
+        u64::MAX,
+    )
+}
+
+/// Checks some of the matrices of [`campaign_by_thread`]: those with the numbers `from` to `to - 1`
+/// in its order, counted from 0; a `to` past the last matrix is the end. The answer is the first of
+/// them whose report is no pass, with that report, or how many they are: 0 where `from` is not
+/// below `to` or not below the number of matrices. Slices that follow one another answer together
+/// what one slice answers ([`slices_join`](crate::laws::slices_join)).
+///
+/// # Errors
+///
+/// Those of [`campaign_by_thread`].
+pub fn campaign_slice(
+    alloc: Global,
+    component: &Component,
+    setup: &Calls,
+    candidates: &[Calls],
+    calls: u8,
+    bound: u16,
+    serial: u16,
+    from: u64,
+    to: u64,
+) -> Result<Campaign, CampaignFault>
+    requires setup { IsSetup setup.now }
+    requires setup_of { AreCallsOf component.now setup.now }
+    requires settles { AllEnd component.now setup.now }
+    requires of { AllCallsOf component.now candidates.now }
+    requires arguments { AllHaveArguments candidates.now }
+    requires bound { bound ≤ 256 }
+    requires serial { (1 ≤ serial) × (serial ≤ 256) }
+    ensures answer { ChoosesInSlice component.now setup.now candidates.now calls
+        bound serial from to result }
+    ensures of { IfOk result (IsFoundOf component.now) }
+    ensures fault { IfErr result (IsRolesFault candidates.now calls) }
+{
+    let positions = positions_of(alloc, candidates, calls)?;
+    let bases = positions.as_slice();
+    let end = to.min(count_choices(bases));
+    let start = from.min(end);
+    for place in start..end {
+        let choice = choice_at(alloc, bases, place)?;
         let choice = choice.as_slice();
-        let matrix = fill(alloc, component, setup, candidates, threads, calls, choice)?;
+        let matrix = fill(alloc, component, setup, candidates, calls, choice)?;
         let report = check_in_arena(alloc, component, &matrix, bound, serial)?;
         if !is_pass(&report) {
             return Ok(Campaign::First { matrix, report });
         }
     }
-    Ok(Campaign::AllPass(count))
+    Ok(Campaign::AllPass(end - start))
+}
+
+/// How many matrices [`campaign_by_thread`] has. None is checked.
+///
+/// # Errors
+///
+/// Those of [`campaign_by_thread`].
+pub fn count_matrices(alloc: Global, candidates: &[Calls], calls: u8) -> Result<u64, CampaignFault>
+    ensures count { IfOk result (λ count. count ≡ choice_count (bases calls candidates.now)) }
+    ensures within { IsOk result → AreWithinLimits calls candidates.now }
+    ensures fault { IfErr result (IsRolesFault candidates.now calls) }
+{
+    let positions = positions_of(alloc, candidates, calls)?;
+    Ok(count_choices(positions.as_slice()))
 }

@@ -1,36 +1,72 @@
 //! Choices of candidates: a number for each position of a matrix.
 
-ghost use Rattle.std.specs.Prelude.{◌≡◌, ◌<◌, ◌≤◌, ◌*◌, ◌^◌, IfOk, length, map, All};
+ghost use Rattle.std.specs.Prelude.{◌≡◌, ◌<◌, ◌≤◌, IfOk, length, map, replicate, All};
 ghost use Rattle.lu_test.specs.Matrix.{IsSetup};
-ghost use Rattle.lu_refine.specs.Campaigns.{AreCallsOf, AreEnough, HaveArguments, IsGrid};
-ghost use Rattle.lu_refine.specs.Choices.{IsChoice, candidate_at, filled_matrix, place_of};
+ghost use Rattle.lu_refine.specs.Campaigns.{AreCallsOf};
+ghost use Rattle.lu_refine.specs.Choices.{ArePositions, IsChoiceIn, candidate_at, choice_count, place_in};
+ghost use Rattle.lu_refine.specs.Roles.{AllCallsOf, AllHaveArguments, AreWithinLimits, bases, rows_matrix, width};
 
 use lu_component::Component;
 use lu_test::{Call, Calls, MOST_CALLS, Matrix, copy_call, copy_calls};
 use smallvec::SmallVec;
 use std::alloc::{AllocError, Global};
 
-/// The number of a candidate for each position of a matrix, thread 0's first.
-pub(crate) type Choice = SmallVec<u8, MOST_CALLS>;
+/// A number for each position of a matrix, thread 0's positions first.
+pub(crate) type Positions = SmallVec<u8, MOST_CALLS>;
 
-/// The choice at this place in lexicographic order, from 0.
-pub(crate) fn choice_at(
-    alloc: Global,
-    place: u64,
-    candidates: u64,
-    positions: u32,
-) -> Result<Choice, AllocError>
-    requires candidates { AreEnough candidates }
-    requires positions { positions ≤ 16 }
-    requires place { place < candidates ^ positions }
-    ensures choice { IfOk result (λ choice. IsChoice candidates positions choice.items) }
-    ensures place { IfOk result (λ choice. place_of candidates choice.items ≡ place) }
+/// How many calls a thread makes that has these candidates: none where it has none.
+fn width(calls: u8, candidates: &Calls) -> u8
+    ensures { result ≡ width calls candidates.now }
 {
-    let mut choice = Choice::new(alloc);
-    let mut round = candidates.pow(positions);
+    if candidates.as_slice().is_empty() {
+        0
+    } else {
+        calls
+    }
+}
+
+/// How many candidates each position has.
+pub(crate) fn bases_of(
+    alloc: Global,
+    candidates: &[Calls],
+    calls: u8,
+) -> Result<Positions, AllocError>
+    requires { All (λ thread. length thread ≤ 8) candidates.now }
+    ensures { IfOk result (λ found. found.items ≡ bases calls candidates.now) }
+{
+    let mut found = Positions::new(alloc);
+    for thread in candidates {
+        let base = thread.as_slice().len() as u8;
+        let row = Positions::from_elem(alloc, base, usize::from(width(calls, thread)))?;
+        found.extend_from_slice(row.as_slice())?;
+    }
+    Ok(found)
+}
+
+/// How many choices there are.
+pub(crate) fn count_choices(bases: &[u8]) -> u64
+    requires { ArePositions bases.now }
+    ensures { result ≡ choice_count bases.now }
+{
+    let mut count: u64 = 1;
+    for base in bases {
+        count *= u64::from(*base);
+    }
+    count
+}
+
+/// The choice with this number in lexicographic order, from 0.
+pub(crate) fn choice_at(alloc: Global, bases: &[u8], place: u64) -> Result<Positions, AllocError>
+    requires positions { ArePositions bases.now }
+    requires place { place < choice_count bases.now }
+    ensures choice { IfOk result (λ choice. IsChoiceIn bases.now choice.items) }
+    ensures place { IfOk result (λ choice. place_in bases.now choice.items ≡ place) }
+{
+    let mut choice = Positions::new(alloc);
+    let mut round = count_choices(bases);
     let mut rest = place;
-    for _position in 0..positions {
-        round /= candidates;
+    for base in bases {
+        round /= u64::from(*base);
         choice.push((rest / round) as u8)?;
         rest %= round;
     }
@@ -49,33 +85,46 @@ fn calls_of(alloc: Global, candidates: &[Call], numbers: &[u8]) -> Result<Calls,
     Ok(Calls::new(calls))
 }
 
-/// The component's matrix of this setup and of so many threads of so many calls: the candidates of
-/// the choice, thread 0's calls first.
+/// The component's matrix of this setup, in which each thread makes the calls that the choice takes
+/// from its candidates.
 pub(crate) fn fill(
     alloc: Global,
     component: &Component,
     setup: &Calls,
-    candidates: &[Call],
-    threads: u8,
+    candidates: &[Calls],
     calls: u8,
     choice: &[u8],
 ) -> Result<Matrix, AllocError>
     requires setup { IsSetup setup.now }
     requires setup_of { AreCallsOf component.now setup.now }
-    requires of { AreCallsOf component.now candidates.now }
-    requires grid { IsGrid threads calls }
-    requires choice { IsChoice (length candidates.now) (threads * calls) choice.now }
-    requires arguments { HaveArguments candidates.now }
-    ensures { IfOk result (λ m.
-        m ≡ filled_matrix setup.now candidates.now threads calls choice.now) }
+    requires of { AllCallsOf component.now candidates.now }
+    requires arguments { AllHaveArguments candidates.now }
+    requires limits { AreWithinLimits calls candidates.now }
+    requires choice { IsChoiceIn (bases calls candidates.now) choice.now }
+    ensures { IfOk result (λ m. m ≡ rows_matrix setup.now calls candidates.now choice.now) }
 {
-    let mut rows = Vec::with_capacity(alloc, usize::from(threads))?;
+    let mut rows = Vec::with_capacity(alloc, candidates.len())?;
     let mut rest = choice;
-    for _thread in 0..threads {
-        let (row, others) = rest.split_at(usize::from(calls));
-        rows.push(calls_of(alloc, candidates, row)?)?;
+    for thread in candidates {
+        let (row, others) = rest.split_at(usize::from(width(calls, thread)));
+        rows.push(calls_of(alloc, thread.as_slice(), row)?)?;
         rest = others;
     }
     let setup = copy_calls(alloc, setup.as_slice())?;
     Ok(Matrix::new(component, setup, rows).unwrap())
+}
+
+/// The same candidates for each thread.
+pub(crate) fn same_lists(
+    alloc: Global,
+    candidates: &[Call],
+    threads: u8,
+) -> Result<Vec<Calls>, AllocError>
+    ensures { IfOk result (λ lists. lists.items ≡ replicate threads candidates.now) }
+{
+    let mut lists = Vec::with_capacity(alloc, usize::from(threads))?;
+    for _thread in 0..threads {
+        lists.push(copy_calls(alloc, candidates)?)?;
+    }
+    Ok(lists)
 }

@@ -4,6 +4,9 @@
 //! [`shrink`] takes calls away from a matrix that fails, one after the other, as long as it goes on
 //! failing. [`campaign`] tries all matrices of a size over some calls, and answers the first that
 //! does not pass. Both stand on checks of one matrix (Burckhardt, Dern, Musuvathi and Tan, 2010).
+//! [`campaign_by_thread`] does so where each thread has calls of its own to choose from, as the
+//! owner and the thieves of a deque; [`campaign_slice`] tries a part of its matrices, so that
+//! several processors can share them.
 //!
 //! ```text
 //! let (smaller, report) = shrink(alloc, &component, &matrix, 40, 40)?;
@@ -18,7 +21,7 @@ pub mod laws;
 mod shrink_fault;
 mod shrinking;
 
-pub use campaigning::campaign;
+pub use campaigning::{campaign, campaign_by_thread, campaign_slice, count_matrices};
 pub use campaigns::{Campaign, CampaignFault};
 pub use lu_spec::{Spec, SpecFault, SpecFaultKind, read_spec, write_spec};
 pub use shrink_fault::ShrinkFault;

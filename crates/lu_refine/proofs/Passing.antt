@@ -1,0 +1,115 @@
+-- What is known of the matrices of a slice up to a number, and of slices that follow one another.
+use Rattle.std.proofs.Common.{◌≡◌, ℕ, ◌+◌, ◌-◌, ◌^◌, ◌<◌, ◌≤◌, List, sym, subst, inl, inr, arith}
+use Rattle.std.specs.Prelude.{min, Result}
+use Rattle.std.proofs.lemmas.Bool.{cases_lt}
+use Rattle.std.proofs.lemmas.Result.{IfOk-weaker}
+use Rattle.lu_component.specs.Component.{Declarations}
+use Rattle.lu_test.specs.declared.matrix.Call.{Call}
+use Rattle.lu_test.specs.Matrix.{Matrix}
+use Rattle.lu_report.specs.declared.report.Report.{Report}
+use Rattle.lu_replay.specs.Confirmed.{IsPass}
+use Rattle.lu_refine.specs.declared.campaigns.Campaign.{Campaign}
+use Rattle.lu_refine.specs.declared.campaigns.Campaign.TheVariants.{AllPass, First}
+use Rattle.lu_refine.specs.declared.campaigns.CampaignFault.{CampaignFault}
+use Rattle.lu_refine.specs.ByThread.{Asked, ChoosesByThread, ChoosesInSlice, IsFirstAmong, IsFoundByThread, IsFoundInSlice, IsRoleChoice, IsRoleReport, IsSliceAnswer, IsThreadsAnswer, IsWithin, RolePasses, asked_for, bases_of, matrix_count, number_of, role_matrix}
+use Rattle.lu_refine.specs.Slices.{joined}
+use Rattle.lu_refine.proofs.Numbered.{before_earlier, choices_fit, place_below, place_same}
+use Rattle.lu_refine.proofs.Filling.{positions}
+
+-- the matrices with these numbers pass
+abbrev pub PassWithin : Asked → ℕ → ℕ → Type 0
+PassWithin asked from to = (choice : List ℕ) → IsWithin asked from to choice → RolePasses asked choice
+
+pub passes_none : (asked : Asked) (start : ℕ) → PassWithin asked start start
+passes_none asked start other within = absurd (omega (arith, within.least, within.less))
+
+pub passes_more : (asked : Asked) (start place : ℕ) (choice : List ℕ) (r : Report) → PassWithin asked start place → IsRoleChoice asked choice → number_of asked choice ≡ place → IsRoleReport asked choice r → IsPass r.finding → PassWithin asked start (place + 1)
+passes_more asked start place choice r before chosen is report passes other within = elim (cases_lt (number_of asked other) place) [
+  | inl less ↦ before other (record { chosen = within.chosen; least = within.least; less = less })
+  | inr least ↦
+      let here : number_of asked other ≡ number_of asked choice = omega (arith, is, within.less, least) in
+      let same : other ≡ choice = place_same (bases_of asked) other choice within.chosen chosen here in
+      subst (RolePasses asked) (sym same) (r, report, passes)
+]
+
+-- the first that does not pass, in the slice that begins where the search did
+pub first_found : (asked : Asked) (from to start end place : ℕ) (choice : List ℕ) (matrix : Matrix) (r : Report) → end ≡ min to (matrix_count asked) → start ≡ min from end → start ≤ place → place < end → PassWithin asked start place → IsRoleChoice asked choice → number_of asked choice ≡ place
+    → matrix ≡ role_matrix asked choice → IsRoleReport asked choice r → (IsPass r.finding → ⊥) → IsFirstAmong asked (IsWithin asked from to) matrix r
+first_found asked from to start end place choice matrix r end_is start_is least less before chosen is same report fails = record {
+  choice = choice;
+  among = record { chosen = chosen; least = omega arith; less = omega arith };
+  is = same;
+  report = report;
+  no_pass = fails;
+  before = λ other within earlier.
+      let sooner = before_earlier (bases_of asked) other choice within.chosen chosen earlier in
+      before other (record { chosen = within.chosen; least = omega (arith, within.least, start_is, end_is, least, less); less = omega (arith, sooner, is) });
+}
+
+-- all of the slice pass
+pub passes_all : (asked : Asked) (from to start end place : ℕ) → end ≡ min to (matrix_count asked) → start ≡ min from end → end ≤ place → PassWithin asked start place → PassWithin asked from to
+passes_all asked from to start end place end_is start_is past before choice within =
+    let fits = place_below (bases_of asked) choice within.chosen in
+    before choice (record { chosen = within.chosen; least = omega (arith, within.least, start_is); less = omega (arith, within.less, fits, end_is, past) })
+
+pub slice_passes : (asked : Asked) (from to start end place count : ℕ) → end ≡ min to (matrix_count asked) → start ≡ min from end → end ≤ place → count ≡ end - start → PassWithin asked start place → IsFoundInSlice asked from to (AllPass count)
+slice_passes asked from to start end place count end_is start_is past count_is before =
+    (omega (arith, end_is, start_is, count_is), passes_all asked from to start end place end_is start_is past before)
+
+-- ---- a slice of all
+
+pub whole_found : (asked : Asked) (to : ℕ) (found : Campaign) → matrix_count asked ≤ to → IsFoundInSlice asked 0 to found → IsFoundByThread asked found
+whole_found asked to (AllPass count) all is =
+    (omega (arith, is.0, all), λ choice chosen. is.1 choice (in_all asked to choice all chosen))
+  where
+    in_all : (asked : Asked) (to : ℕ) (choice : List ℕ) → matrix_count asked ≤ to → IsRoleChoice asked choice → IsWithin asked 0 to choice
+    in_all asked to choice all chosen = record { chosen = chosen; least = omega arith; less = omega (arith, all, place_below (bases_of asked) choice chosen) }
+whole_found asked to (First matrix r) all is = record {
+  choice = is.choice;
+  among = is.among.chosen;
+  is = is.is;
+  report = is.report;
+  no_pass = is.no_pass;
+  before = λ other chosen earlier. is.before other (record { chosen = chosen; least = omega arith; less = omega (arith, all, place_below (bases_of asked) other chosen) }) earlier;
+}
+
+-- ---- slices that follow one another
+
+passes_both : (asked : Asked) (from middle to : ℕ) → PassWithin asked from middle → PassWithin asked middle to → PassWithin asked from to
+passes_both asked from middle to earlier later choice within = elim (cases_lt (number_of asked choice) middle) [
+  | inl less ↦ earlier choice (record { chosen = within.chosen; least = within.least; less = less })
+  | inr least ↦ later choice (record { chosen = within.chosen; least = least; less = within.less })
+]
+
+pub slices_joined : (asked : Asked) (from middle to : ℕ) (earlier later : Campaign) → from ≤ middle → middle ≤ to → IsFoundInSlice asked from middle earlier → IsFoundInSlice asked middle to later → IsFoundInSlice asked from to (joined earlier later)
+slices_joined asked from middle to (First matrix r) later low high is then = record {
+  choice = is.choice;
+  among = record { chosen = is.among.chosen; least = is.among.least; less = omega (arith, is.among.less, high) };
+  is = is.is;
+  report = is.report;
+  no_pass = is.no_pass;
+  before = λ other within earlier.
+      let sooner = before_earlier (bases_of asked) other is.choice within.chosen is.among.chosen earlier in
+      is.before other (record { chosen = within.chosen; least = within.least; less = omega (arith, sooner, is.among.less) }) earlier;
+}
+slices_joined asked from middle to (AllPass count) (First matrix r) low high is then = record {
+  choice = then.choice;
+  among = record { chosen = then.among.chosen; least = omega (arith, then.among.least, low); less = then.among.less };
+  is = then.is;
+  report = then.report;
+  no_pass = then.no_pass;
+  before = λ other within earlier. elim (cases_lt (number_of asked other) middle) [
+    | inl less ↦ is.1 other (record { chosen = within.chosen; least = within.least; less = less })
+    | inr least ↦ then.before other (record { chosen = within.chosen; least = least; less = within.less }) earlier
+  ];
+}
+slices_joined asked from middle to (AllPass count) (AllPass others) low high is then =
+    (omega (arith, is.0, then.0, low, high), passes_both asked from middle to is.1 then.1)
+
+-- what a slice of all is asked for and answers
+pub whole_chosen : (c : Declarations) (setup : List Call) (candidates : List (List Call)) (calls bound serial to : ℕ) (result : Result Campaign CampaignFault) → 2 ^ 64 ≤ to + 1 → ChoosesInSlice c setup candidates calls bound serial 0 to result → ChoosesByThread c setup candidates calls bound serial result
+whole_chosen c setup candidates calls bound serial to result past is =
+    let asked = asked_for c setup candidates calls bound serial in
+    IfOk-weaker result (IsSliceAnswer asked 0 to) (IsThreadsAnswer asked) (λ found answer.
+    let fits = choices_fit (bases_of asked) (positions calls candidates answer.0) in
+    (answer.0, whole_found asked to found (omega (arith, fits, past)) answer.1)) is

@@ -1,0 +1,21 @@
+-- Slices of a campaign that follow one another.
+use Rattle.std.specs.Prelude.{ℕ, ◌+◌, ◌≤◌}
+use Rattle.lu_refine.specs.declared.campaigns.Campaign.{Campaign}
+use Rattle.lu_refine.specs.declared.campaigns.Campaign.TheVariants.{AllPass, First}
+use Rattle.lu_refine.specs.ByThread.{Asked, IsFoundByThread, IsFoundInSlice, matrix_count}
+
+-- what two answers say together: the first matrix that does not pass, or the sum
+abbrev pub joined : Campaign → Campaign → Campaign
+joined (First matrix r) later = First matrix r
+joined (AllPass count) (First matrix r) = First matrix r
+joined (AllPass count) (AllPass others) = AllPass (count + others)
+
+-- Two slices that follow one another answer together what one slice does, and a slice of all
+-- answers what the campaign does.
+pub record SlicesJoin : Type 0 where
+  pub join : (asked : Asked) (from middle to : ℕ) (earlier later : Campaign) →
+      from ≤ middle → middle ≤ to
+      → IsFoundInSlice asked from middle earlier → IsFoundInSlice asked middle to later
+      → IsFoundInSlice asked from to (joined earlier later)
+  pub whole : (asked : Asked) (to : ℕ) (found : Campaign) →
+      matrix_count asked ≤ to → IsFoundInSlice asked 0 to found → IsFoundByThread asked found
