@@ -7,6 +7,7 @@ pub mod EntryLists
 pub mod HistoryLines
 pub mod Listings
 pub mod Nexts
+pub mod Collected
 pub mod LinesRead
 pub mod Ends
 pub mod Spelling

@@ -91,24 +91,42 @@ split_push (y ∷ xs) (b ∷ before) after q x e =
       | inr (rest, is) ↦ inr (rest, rw (head, is) refl)
     ]
 
-module _ (matrix : Matrix) (listed set : List (List SerialOp)) (last : List SerialOp) (draft : IsListedDraft matrix listed set last) (line : List ℕ) (q : List SerialOp) (next : IsNextOf matrix listed line q) where
+module _ (listed : List (List SerialOp)) (q : List SerialOp) where
   either : (x : List SerialOp) → Has (listed ++ q ∷ []) x → Has listed x ⊎ (x ≡ q)
   either x has = elim (has_either listed (q ∷ []) x has) [
     | inl was ↦ inl was
     | inr here ↦ elim (has_cons q [] x here) [ inl is ↦ inr is | inr none ↦ absurd cc ]
   ]
 
-  deterministic : IsDeterministic (listed ++ q ∷ [])
-  deterministic a b i o x y conflict = by_parts (either a x) (either b y)
+  pub deterministic_more : IsDeterministic listed → (HasConflictIn listed q → ⊥) → IsDeterministic (listed ++ q ∷ [])
+  deterministic_more were apart a b i o x y conflict = by_parts (either a x) (either b y)
     where
       by_parts : Has listed a ⊎ (a ≡ q) → Has listed b ⊎ (b ≡ q) → ⊥
-      by_parts (inl was) (inl also) = draft.are.deterministic a b i o was also conflict
+      by_parts (inl was) (inl also) = were a b i o was also conflict
       by_parts (inl was) (inr is) =
           let back = conflict_back a b i o conflict in
-          next.apart (a, was, i, back.0, subst (λ (z : List SerialOp). ConflictAt z a i back.0) is back.1)
-      by_parts (inr is) (inl also) = next.apart (b, also, i, o, subst (λ (z : List SerialOp). ConflictAt z b i o) is conflict)
+          apart (a, was, i, back.0, subst (λ (z : List SerialOp). ConflictAt z a i back.0) is back.1)
+      by_parts (inr is) (inl also) = apart (b, also, i, o, subst (λ (z : List SerialOp). ConflictAt z b i o) is conflict)
       by_parts (inr is) (inr same) = no_self_conflict q i o (subst (λ (z : List SerialOp). ConflictAt z q i o) is (subst (λ (z : List SerialOp). ConflictAt a z i o) same conflict))
 
+  pub closure_more : (set new : List (List SerialOp)) → IsClosureOf listed set → AddsBeginnings set new q → IsClosureOf (listed ++ q ∷ []) new
+  closure_more set new closure adds x = (λ has. forth ((adds x).0 has), λ part. (adds x).1 (back part))
+    where
+      forth : Has set x ⊎ Begins x q → (x ≡ []) ⊎ ((h : List SerialOp) × Begins x h × Has (listed ++ q ∷ []) h)
+      forth (inl was) = elim ((closure x).0 was) [
+        | inl empty ↦ inl empty
+        | inr (h, begins, has) ↦ inr (h, begins, has_left listed (q ∷ []) h has)
+      ]
+      forth (inr begins) = inr (q, begins, has_right listed (q ∷ []) q (has_first q []))
+
+      back : (x ≡ []) ⊎ ((h : List SerialOp) × Begins x h × Has (listed ++ q ∷ []) h) → Has set x ⊎ Begins x q
+      back (inl empty) = inl ((closure x).1 (inl empty))
+      back (inr (h, begins, has)) = elim (either h has) [
+        | inl was ↦ inl ((closure x).1 (inr (h, begins, was)))
+        | inr is ↦ inr (subst (Begins x) is begins)
+      ]
+
+module _ (matrix : Matrix) (listed set : List (List SerialOp)) (last : List SerialOp) (draft : IsListedDraft matrix listed set last) (line : List ℕ) (q : List SerialOp) (next : IsNextOf matrix listed line q) where
   order : (before : List (List SerialOp)) (x : List SerialOp) (after : List (List SerialOp)) → listed ++ q ∷ [] ≡ before ++ x ∷ after → GoesOn before x
   order before x after is = elim (split_push listed before after q x is) [
     | inl (all, here) ↦ subst (λ (z : List SerialOp). GoesOn before z) (sym here) (subst (λ (z : List (List SerialOp)). GoesOn z q) (sym all) next.is.2)
@@ -117,33 +135,16 @@ module _ (matrix : Matrix) (listed set : List (List SerialOp)) (last : List Seri
 
   listed_more : AreListed matrix (listed ++ q ∷ [])
   listed_more = record {
-    each = λ x has. elim (either x has) [
+    each = λ x has. elim (either listed q x has) [
       | inl was ↦ draft.are.each x was
       | inr is ↦ subst (λ (z : List SerialOp). IsListable z × FitsMatrix matrix z) (sym is) (next.is.1, next.fits)
     ];
     order = order;
-    deterministic = deterministic;
+    deterministic = deterministic_more listed q draft.are.deterministic next.apart;
   }
 
-  closure_more : (new : List (List SerialOp)) → AddsBeginnings set new q → IsClosureOf (listed ++ q ∷ []) new
-  closure_more new adds x = (λ has. forth ((adds x).0 has), λ part. (adds x).1 (back part))
-    where
-      forth : Has set x ⊎ Begins x q → (x ≡ []) ⊎ ((h : List SerialOp) × Begins x h × Has (listed ++ q ∷ []) h)
-      forth (inl was) = elim ((draft.closure x).0 was) [
-        | inl empty ↦ inl empty
-        | inr (h, begins, has) ↦ inr (h, begins, has_left listed (q ∷ []) h has)
-      ]
-      forth (inr begins) = inr (q, begins, has_right listed (q ∷ []) q (has_first q []))
-
-      back : (x ≡ []) ⊎ ((h : List SerialOp) × Begins x h × Has (listed ++ q ∷ []) h) → Has set x ⊎ Begins x q
-      back (inl empty) = inl ((draft.closure x).1 (inl empty))
-      back (inr (h, begins, has)) = elim (either h has) [
-        | inl was ↦ inl ((draft.closure x).1 (inr (h, begins, was)))
-        | inr is ↦ inr (subst (Begins x) is begins)
-      ]
-
   pub next_draft : (new : List (List SerialOp)) → AddsBeginnings set new q → IsNextDraft matrix listed line new q
-  next_draft new adds = (next.is.0, record { are = listed_more; closure = closure_more new adds; ends = inr (listed, refl) })
+  next_draft new adds = (next.is.0, record { are = listed_more; closure = closure_more listed q set new draft.closure adds; ends = inr (listed, refl) })
 
 -- ---- the answer of a conflict
 
@@ -157,6 +158,25 @@ is_not_there (Some y) b e f x is = cc
 
 -- ---- no history
 
+-- the closure of no histories is what the empty one is added to
+pub of_nothing : (old set : List (List SerialOp)) (h : List SerialOp) → old ≡ [] → h ≡ [] → AddsBeginnings old set h → IsClosureOf [] set
+of_nothing old set h none empty adds q = (λ has. forth ((added q).0 has), λ part. (added q).1 (back part))
+  where
+    added : AddsBeginnings [] set []
+    added = subst (λ (x : List SerialOp). AddsBeginnings [] set x) empty (subst (λ (x : List (List SerialOp)). AddsBeginnings x set h) none adds)
+
+    only_empty : (x rest : List SerialOp) → [] ≡ x ++ rest → x ≡ []
+    only_empty [] rest e = refl
+    only_empty (op ∷ x) rest e = absurd cc
+
+    forth : Has [] q ⊎ Begins q [] → (q ≡ []) ⊎ ((g : List SerialOp) × Begins q g × Has [] g)
+    forth (inl was) = absurd cc
+    forth (inr begins) = inl (only_empty q begins.0 begins.1)
+
+    back : (q ≡ []) ⊎ ((g : List SerialOp) × Begins q g × Has [] g) → Has [] q ⊎ Begins q []
+    back (inl is) = inr (subst (λ (x : List SerialOp). Begins x []) (sym is) ([], refl))
+    back (inr (g, begins, has)) = absurd cc
+
 pub none_listed : (matrix : Matrix) (old set : List (List SerialOp)) (h last : List SerialOp) → old ≡ [] → h ≡ [] → last ≡ [] → AddsBeginnings old set h → IsListedDraft matrix [] set last
 none_listed matrix old set h last none empty at_start adds = record {
   are = record {
@@ -164,25 +184,10 @@ none_listed matrix old set h last none empty at_start adds = record {
     order = λ before q after is. absurd (no_middle before q after is);
     deterministic = λ a b i o has also conflict. let none_there = has in absurd cc;
   };
-  closure = λ q. (λ has. forth q ((added q).0 has), λ part. (added q).1 (back q part));
+  closure = of_nothing old set h none empty adds;
   ends = inl (refl, at_start);
 }
   where
-    added : AddsBeginnings [] set []
-    added = subst (λ (x : List SerialOp). AddsBeginnings [] set x) empty (subst (λ (x : List (List SerialOp)). AddsBeginnings x set h) none adds)
-
     no_middle : (before : List (List SerialOp)) (q : List SerialOp) (after : List (List SerialOp)) → [] ≡ before ++ q ∷ after → ⊥
     no_middle [] q after e = cc
     no_middle (x ∷ before) q after e = cc
-
-    only_empty : (q rest : List SerialOp) → [] ≡ q ++ rest → q ≡ []
-    only_empty [] rest e = refl
-    only_empty (op ∷ q) rest e = absurd cc
-
-    forth : (q : List SerialOp) → Has [] q ⊎ Begins q [] → (q ≡ []) ⊎ ((g : List SerialOp) × Begins q g × Has [] g)
-    forth q (inl was) = absurd cc
-    forth q (inr begins) = inl (only_empty q begins.0 begins.1)
-
-    back : (q : List SerialOp) → (q ≡ []) ⊎ ((g : List SerialOp) × Begins q g × Has [] g) → Has [] q ⊎ Begins q []
-    back q (inl is) = inr (subst (λ (x : List SerialOp). Begins x []) (sym is) ([], refl))
-    back q (inr (g, begins, has)) = absurd cc

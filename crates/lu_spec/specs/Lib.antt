@@ -5,3 +5,4 @@ pub mod Codes
 pub mod Reading
 pub mod Listed
 pub mod Laws
+pub mod Collecting

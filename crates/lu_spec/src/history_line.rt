@@ -105,7 +105,10 @@ fn is_listable(entries: &[SerialOp]) -> bool
 }
 
 /// The history that words say behind `history`, where a specification may list it.
-fn history_of(alloc: Global, words: &[&[u8]]) -> Result<Option<Vec<SerialOp>>, AllocError>
+pub(crate) fn history_of(
+    alloc: Global,
+    words: &[&[u8]],
+) -> Result<Option<Vec<SerialOp>>, AllocError>
     ensures some { IfOk result (λ read. IfSome read (λ q. SayHistory (texts words.now) q.items)) }
     ensures none { IfOk result (λ read. IfNone read (SayNoHistory (texts words.now))) }
 {

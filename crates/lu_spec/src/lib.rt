@@ -10,6 +10,7 @@
 #![tactic(auto)]
 
 mod closing;
+mod collecting;
 mod fault;
 mod fitting;
 mod history_line;
@@ -18,6 +19,7 @@ mod reader;
 mod spec;
 mod writer;
 
+pub use collecting::collect_spec;
 pub use fault::{SpecFault, SpecFaultKind};
 pub use reader::read_spec;
 pub use spec::Spec;

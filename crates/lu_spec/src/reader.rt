@@ -27,7 +27,7 @@ struct Draft {
 }
 
 /// Adds all beginnings of a history, and the history.
-fn add_beginnings<A: Allocator + Clone>(
+pub(crate) fn add_beginnings<A: Allocator + Clone>(
     set: &mut Trie<A>,
     history: &[SerialOp],
 ) -> Result<(), AllocError>
