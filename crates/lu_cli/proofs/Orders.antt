@@ -39,29 +39,30 @@ digits_from (d ∷ ds) e =
     let parts = both _ _ e in
     (ltb-true _ _ parts.0, digits_from ds parts.1)
 
-abbrev is_said : List ℕ → Bool
-is_said ds = nat_lt 0 (length ds) && (list_all (λ d. nat_lt (digit_value d) 10) ds && nat_lt (digits_value 10 ds) (2 ^ 16))
+abbrev is_said : ℕ → List ℕ → Bool
+is_said bits ds = nat_lt 0 (length ds) && (list_all (λ d. nat_lt (digit_value d) 10) ds && nat_lt (digits_value 10 ds) (2 ^ bits))
 
-number_read : {E : Type 0} (text : Text) (r : Result ℕ E) → ParsesUnsigned 16 10 text r → result_ok r ≡ number_by (without_leading_plus text)
-number_read text (Ok n) h =
-    let ds = without_leading_plus text in
-    rw (lt-ltb 0 (length ds) h.0.0.0, digits_pass ds h.0.0.1, lt-ltb (digits_value 10 ds) (2 ^ 16) h.0.1) (ap (λ (k : ℕ). Some k) h.1)
-number_read text (Err e) h = go (is_said (without_leading_plus text)) refl
-  where
-    go : (b : Bool) → is_said (without_leading_plus text) ≡ b → None ≡ number_by (without_leading_plus text)
-    go false t = rw t refl
-    go true t =
-        let outer = both _ _ t in
-        let inner = both _ _ outer.1 in
-        absurd (h ((ltb-true _ _ outer.0, digits_from (without_leading_plus text) inner.0), ltb-true _ _ inner.1))
+module _ (bits : ℕ) where
+  number_read : {E : Type 0} (text : Text) (r : Result ℕ E) → ParsesUnsigned bits 10 text r → result_ok r ≡ number_by bits (without_leading_plus text)
+  number_read text (Ok n) h =
+      let ds = without_leading_plus text in
+      rw (lt-ltb 0 (length ds) h.0.0.0, digits_pass ds h.0.0.1, lt-ltb (digits_value 10 ds) (2 ^ bits) h.0.1) (ap (λ (k : ℕ). Some k) h.1)
+  number_read text (Err e) h = go (is_said bits (without_leading_plus text)) refl
+    where
+      go : (b : Bool) → is_said bits (without_leading_plus text) ≡ b → None ≡ number_by bits (without_leading_plus text)
+      go false t = rw t refl
+      go true t =
+          let outer = both _ _ t in
+          let inner = both _ _ outer.1 in
+          absurd (h ((ltb-true _ _ outer.0, digits_from (without_leading_plus text) inner.0), ltb-true _ _ inner.1))
 
-pub number_got : {E : Type 0} (gives : List ℕ → Result ℕ E → Type 0) (word : Option Text) (result : Option ℕ) → ((text : Text) (r : Result ℕ E) → gives text r → ParsesUnsigned 16 10 text r)
-    → (word ≡ None → result ≡ None) → ((text : Text) → word ≡ Some text → ReadsOne gives text result) → result ≡ number_said word
-number_got gives None result parses none some = none refl
-number_got {E} gives (Some text) None parses none some =
-    let read = some text refl in
-    number_read {E = E} text (Err read.0) (parses text (Err read.0) read.1)
-number_got {E} gives (Some text) (Some n) parses none some = number_read {E = E} text (Ok n) (parses text (Ok n) (some text refl))
+  pub number_got : {E : Type 0} (gives : List ℕ → Result ℕ E → Type 0) (word : Option Text) (result : Option ℕ) → ((text : Text) (r : Result ℕ E) → gives text r → ParsesUnsigned bits 10 text r)
+      → (word ≡ None → result ≡ None) → ((text : Text) → word ≡ Some text → ReadsOne gives text result) → result ≡ number_said bits word
+  number_got gives None result parses none some = none refl
+  number_got {E} gives (Some text) None parses none some =
+      let read = some text refl in
+      number_read {E = E} text (Err read.0) (parses text (Err read.0) read.1)
+  number_got {E} gives (Some text) (Some n) parses none some = number_read {E = E} text (Ok n) (parses text (Ok n) (some text refl))
 
 -- ---- flags
 

@@ -36,14 +36,18 @@ use Rattle.lu_refine.specs.declared.campaigns.Campaign.TheVariants.{AllPass, Fir
 use Rattle.lu_certify.specs.declared.certificate.Certificate.{Certificate}
 use Rattle.lu_certify.specs.declared.certificate.Certificate.TheVariants.{Linearizable, NotLinearizable, Undecided}
 use Rattle.lu_cli.specs.declared.order.CampaignOptions.{CampaignOptions}
+use Rattle.lu_cli.specs.declared.order.CampaignPart.{CampaignPart}
+use Rattle.lu_cli.specs.declared.order.CampaignPart.TheVariants.{Whole, Slice, Count}
+use Rattle.lu_cli.specs.declared.order.CampaignThreads.{CampaignThreads}
+use Rattle.lu_cli.specs.declared.order.CampaignThreads.TheVariants.{Alike, Own}
 use Rattle.lu_cli.specs.declared.order.Order.{Order}
-use Rattle.lu_cli.specs.declared.order.Order.TheVariants.{Replay, Trace, Draw, Explain, ExplainAgainst, Serial, Check, CheckAgainst, Certify, Refute, Shrink, Campaign as Campaigning}
+use Rattle.lu_cli.specs.declared.order.Order.TheVariants.{Replay, Trace, Draw, Explain, ExplainAgainst, Serial, Spec, Check, CheckAgainst, Certify, Refute, Shrink, Campaign as Campaigning}
 use Rattle.lu_cli.specs.declared.explaining.Target.{Target}
 use Rattle.lu_cli.specs.declared.explaining.Target.TheVariants as target
 use Rattle.lu_cli.specs.Explaining.{IsExplained, IsExplainedBy, IsExplainedSchedule, IsExplainedSerially, ToEnded, ToFinding, is_report, status_by, unexplained}
 use Rattle.lu_cli.specs.Bundle.{bundle_parts}
 use Rattle.lu_report.specs.Limits.{Limits}
-use Rattle.lu_cli.specs.Replies.{Answer, Answers, IsAnswerFrom, IsAnswerOf, IsAnswerTo, IsCampaignAnswer, IsCampaignFrom, IsCertified, IsCheckAgainstFrom, IsCheckAgainstOf, IsChecked, IsCheckedAgainst, IsDrawn, IsExplainAgainstOf, IsExplainOf, IsExplainedAgainst, IsExplainedText, IsRefuted, IsRefutedBy, IsRefuteOf, IsReplayed, IsRunSerially, IsShrinkAnswer, IsTraced, ShowsCertificate, Tells, ToMatrix, ToParts, ToReport, ToSchedule, ToSettled, ToShown, ToSpec, ToTarget, ToTexts, ToValue, found_answer, no_command, no_device, no_memory, or_schedule, refused, reported, status_of, with_matrix}
+use Rattle.lu_cli.specs.Replies.{Answer, Answers, IsAnswerFrom, IsAnswerOf, IsAnswerTo, IsAnswerToAlike, IsAnswerToPart, IsByThreadAnswer, IsCampaignAlike, IsCampaignAnswer, IsCampaignBy, IsCampaignFrom, IsCertified, IsCheckAgainstFrom, IsCheckAgainstOf, IsChecked, IsCheckedAgainst, IsCollected, IsCountAnswer, IsDrawn, IsExplainAgainstOf, IsExplainOf, IsExplainedAgainst, IsExplainedText, IsRefuted, IsRefutedBy, IsRefuteOf, IsReplayed, IsRunSerially, IsShrinkAnswer, IsSliceAnswer, IsSpecOf, IsTraced, ShowsCertificate, Tells, ToMatrix, ToParts, ToReport, ToSchedule, ToSettled, ToShown, ToSpec, ToTarget, ToTexts, ToValue, found_answer, no_command, no_device, no_memory, or_schedule, refused, reported, status_of, with_matrix}
 
 -- an answer that was made and said
 pub said : (IsAnswer : Answer → Type 0) (answer : Answer) (text : List ℕ) (old new : Option (List ℕ)) (status : ℕ) → IsAnswer answer → text ≡ answer.text → Appends old new text × (status ≡ answer.status) → Answers IsAnswer old new status
@@ -267,14 +271,49 @@ found_else : (c : Declarations) (found : Campaign) (answer : Answer) → answer 
 found_else c (AllPass count) answer is = status_else answer 0 (ap (λ (a : Answer). a.status) is) (λ e. omega arith)
 found_else c (First m r) answer is = matrix_else c m r answer is
 
-campaign_else : (c : Declarations) (options : CampaignOptions) (setup candidates : List Call) (answer : Answer) → IsCampaignAnswer c setup candidates options answer → IsElse answer
-campaign_else c options setup candidates answer (inl is) = found_else c is.0 answer is.2
-campaign_else c options setup candidates answer (inr is) = refused_else _ answer is.3
+campaign_else : (c : Declarations) (options : CampaignOptions) (setup candidates : List Call) (threads : ℕ) (answer : Answer) → IsCampaignAnswer c setup candidates threads options answer → IsElse answer
+campaign_else c options setup candidates threads answer (inl is) = found_else c is.0 answer is.2
+campaign_else c options setup candidates threads answer (inr is) = refused_else _ answer is.3
 
-candidates_else : (c : Declarations) (options : CampaignOptions) (setup : List Call) (threads : List (List Call)) (answer : Answer) → IsCampaignFrom c options (record { setup = setup; threads = threads }) answer → IsElse answer
-candidates_else c options setup [] answer is = refused_else (codes "G2") answer is
-candidates_else c options setup (candidates ∷ []) answer is = campaign_else c options setup candidates answer is
-candidates_else c options setup (a ∷ b ∷ m) answer is = refused_else (codes "G2") answer is
+by_thread_else : (c : Declarations) (options : CampaignOptions) (setup : List Call) (lists : List (List Call)) (answer : Answer) → IsByThreadAnswer c setup lists options answer → IsElse answer
+by_thread_else c options setup lists answer (inl is) = found_else c is.0 answer is.2
+by_thread_else c options setup lists answer (inr is) = refused_else _ answer is.3
+
+slice_else : (c : Declarations) (options : CampaignOptions) (setup : List Call) (lists : List (List Call)) (from upto : ℕ) (answer : Answer) → IsSliceAnswer c setup lists options from upto answer → IsElse answer
+slice_else c options setup lists from upto answer (inl is) = found_else c is.0 answer is.2
+slice_else c options setup lists from upto answer (inr is) = refused_else _ answer is.3
+
+count_else : (lists : List (List Call)) (calls : ℕ) (answer : Answer) → IsCountAnswer lists calls answer → IsElse answer
+count_else lists calls answer (inl is) = status_else answer 0 (ap (λ (a : Answer). a.status) is.1) (λ e. omega arith)
+count_else lists calls answer (inr is) = refused_else _ answer is.3
+
+lists_else : (part : CampaignPart) (c : Declarations) (options : CampaignOptions) (setup : List Call) (lists : List (List Call)) (answer : Answer) → IsAnswerToPart part c setup lists options answer → IsElse answer
+lists_else Whole c options setup lists answer is = by_thread_else c options setup lists answer is
+lists_else (Slice from upto) c options setup lists answer is = slice_else c options setup lists from upto answer is
+lists_else Count c options setup lists answer is = count_else lists options.calls answer is
+
+alike_else : (part : CampaignPart) (c : Declarations) (options : CampaignOptions) (setup candidates : List Call) (threads : ℕ) (answer : Answer) → IsAnswerToAlike part c setup candidates threads options answer → IsElse answer
+alike_else Whole c options setup candidates threads answer is = campaign_else c options setup candidates threads answer is
+alike_else (Slice from upto) c options setup candidates threads answer is = lists_else options.part c options setup (replicate threads candidates) answer is
+alike_else Count c options setup candidates threads answer is = lists_else options.part c options setup (replicate threads candidates) answer is
+
+candidates_else : (c : Declarations) (threads : ℕ) (options : CampaignOptions) (setup : List Call) (lists : List (List Call)) (answer : Answer) → IsCampaignAlike c threads options (record { setup = setup; threads = lists }) answer → IsElse answer
+candidates_else c threads options setup [] answer is = refused_else (codes "G2") answer is
+candidates_else c threads options setup (candidates ∷ []) answer is = alike_else options.part c options setup candidates threads answer is
+candidates_else c threads options setup (a ∷ b ∷ m) answer is = refused_else (codes "G2") answer is
+
+matrices_else : (threads : CampaignThreads) (c : Declarations) (options : CampaignOptions) (m : Matrix) (answer : Answer) → IsCampaignBy threads c options m answer → IsElse answer
+matrices_else (Alike threads) c options m answer is = candidates_else c threads options m.setup m.threads answer is
+matrices_else Own c options m answer is = lists_else options.part c options m.setup m.threads answer is
+
+collected_else : (m : Matrix) (text : List ℕ) (answer : Answer) → IsCollected m text answer → IsElse answer
+collected_else m text answer (inl is) = status_else answer 0 (ap (λ (a : Answer). a.status) is.2.2) (λ e. omega arith)
+collected_else m text answer (inr is) = refused_else (spec_code_of is.0 ++ codes " line " ++ decimal is.1) answer is.3
+
+collected_parts_else : (parts : List (List ℕ)) (answer : Answer) → IsSpecOf parts answer → IsElse answer
+collected_parts_else parts answer is =
+    parts_else (three parts) (λ p. ToTexts p.0 p.1 (λ c m. IsCollected m p.2)) answer
+    (λ p more. texts_else p.0 p.1 (λ c m. IsCollected m p.2) answer (λ c m last. collected_else m p.2 answer last) more) is
 
 pub order_else : (order : Order) (parts : List (List ℕ)) (answer : Answer) → IsAnswerTo order parts answer → IsElse answer
 order_else Replay parts answer is = three_else parts IsReplayed answer (λ c m u more. replayed_else c m u answer more) is
@@ -283,12 +322,13 @@ order_else Draw parts answer is = shown_parts_else parts IsDrawn answer (λ c m 
 order_else (Explain limits) parts answer is = explain_else limits parts answer is
 order_else ExplainAgainst parts answer is = explain_against_else parts answer is
 order_else (Serial limits) parts answer is = two_else parts (λ c m. IsRunSerially c m limits) answer (λ c m more. serial_else c m limits answer more) is
+order_else Spec parts answer is = collected_parts_else parts answer is
 order_else (Check choice) parts answer is = two_else parts (λ c m. IsChecked c m choice) answer (λ c m more. checked_else c m choice answer more) is
 order_else (CheckAgainst choice) parts answer is = spec_parts_else choice parts answer is
 order_else (Certify choice) parts answer is = two_else parts (λ c m. IsCertified c m choice) answer (λ c m more. certified_else c m choice answer more) is
 order_else Refute parts answer is = four_else parts answer is
 order_else (Shrink limits) parts answer is = two_else parts (λ c m. IsShrinkAnswer c m limits) answer (λ c m more. shrink_else c m limits answer more) is
-order_else (Campaigning options) parts answer is = two_else parts (λ c m. IsCampaignFrom c options m) answer (λ c m more. candidates_else c options m.setup m.threads answer more) is
+order_else (Campaigning options) parts answer is = two_else parts (λ c m. IsCampaignFrom c options m) answer (λ c m more. matrices_else options.threads c options m answer more) is
 
 either_else : (long : Bool) (order : Order) (parts : List (List ℕ)) (answer : Answer) → MatchBool long (answer ≡ refused (codes "B2")) (IsAnswerTo order parts answer) → IsElse answer
 either_else true order parts answer is = refused_else (codes "B2") answer is

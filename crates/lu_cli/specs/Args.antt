@@ -1,5 +1,5 @@
 -- The commands of the program, and what words ask for.
-use Rattle.std.specs.Prelude.{◌≡◌, ℕ, ◌^◌, ◌&&◌, Bool, true, false, pos, List, [], ◌∷◌, length, Option, Some, None, option_and_then, codes, nat_lt, if◌then◌else◌}
+use Rattle.std.specs.Prelude.{◌≡◌, ℕ, ◌^◌, ◌&&◌, ◌==◌, Bool, true, false, pos, List, [], ◌∷◌, length, Option, Some, None, option_and_then, codes, nat_lt, if◌then◌else◌}
 use Rattle.std.specs.List.{list_all}
 use Rattle.std.specs.Option.{option_map}
 use Rattle.std.specs.Str.{bytes_eq}
@@ -13,11 +13,19 @@ use Rattle.clap.specs.declared.builder.command.Command.TheViews.{out-Command}
 use Rattle.clap.specs.declared.builder.value_parser.ValueParser.TheVariants as vp
 use Rattle.clap.specs.declared.error.kind.ErrorKind.{ErrorKind}
 use Rattle.lu_cli.specs.declared.order.CampaignOptions.{CampaignOptions}
+use Rattle.lu_cli.specs.declared.order.CampaignPart.{CampaignPart}
+use Rattle.lu_cli.specs.declared.order.CampaignPart.TheVariants.{Whole, Slice, Count}
+use Rattle.lu_cli.specs.declared.order.CampaignThreads.{CampaignThreads}
+use Rattle.lu_cli.specs.declared.order.CampaignThreads.TheVariants.{Alike, Own}
 use Rattle.lu_cli.specs.declared.order.Order.{Order}
-use Rattle.lu_cli.specs.declared.order.Order.TheVariants.{Replay, Trace, Draw, Explain, ExplainAgainst, Serial, Check, CheckAgainst, Certify, Refute, Shrink, Campaign}
+use Rattle.lu_cli.specs.declared.order.Order.TheVariants.{Replay, Trace, Draw, Explain, ExplainAgainst, Serial, Spec, Check, CheckAgainst, Certify, Refute, Shrink, Campaign}
 use Rattle.lu_cli.specs.Orders.{choice_of}
 use Rattle.lu_report.specs.Limits.{Limits, limits_of, most_moves}
 use Rattle.lu_parallel.specs.Ranges.{Choice}
+
+-- the greatest number of 64 bits
+abbrev pub most_long : ℕ
+most_long = 18446744073709551615
 
 -- ---- the commands
 
@@ -31,6 +39,21 @@ abbrev pub number_option : Text → ℕ → ℕ → Text → Rule
 number_option name least most default = record (new_rule name) {
   long = Some name;
   parser = Some (vp.Signed (pos least) (pos most));
+  defaults = default ∷ [];
+}
+
+-- an option `--NAME N` without a default
+abbrev pub optional_number : Text → ℕ → ℕ → Rule
+optional_number name least most = record (new_rule name) {
+  long = Some name;
+  parser = Some (vp.Signed (pos least) (pos most));
+}
+
+-- an option `--NAME N` of any number of 64 bits
+abbrev pub long_option : Text → Text → Rule
+long_option name default = record (new_rule name) {
+  long = Some name;
+  parser = Some (vp.Unsigned 0 most_long);
   defaults = default ∷ [];
 }
 
@@ -67,6 +90,9 @@ explain_command =
     (number_option (codes "serial") 1 most_moves (codes "40")))
     (flag (codes "spec"))
 
+abbrev pub spec_command : App
+spec_command = new_app (codes "spec")
+
 abbrev pub serial_command : App
 serial_command = bounded (codes "serial") (codes "40")
 
@@ -82,12 +108,21 @@ refute_command = new_app (codes "refute")
 abbrev pub shrink_command : App
 shrink_command = bounded (codes "shrink") (codes "40")
 
+-- a campaign's options but for those that take a part of it
+abbrev pub sized_command : App
+sized_command =
+    with_rule
+    (with_rule (bounded (codes "campaign") (codes "40")) (optional_number (codes "threads") 1 8))
+    (number_option (codes "calls") 1 8 (codes "1"))
+
 abbrev pub campaign_command : App
 campaign_command =
     with_rule
-    (with_rule (bounded (codes "campaign") (codes "40"))
-    (number_option (codes "threads") 1 8 (codes "2")))
-    (number_option (codes "calls") 1 8 (codes "1"))
+    (with_rule
+    (with_rule (with_rule sized_command (flag (codes "by-thread")))
+    (long_option (codes "from") (codes "0")))
+    (long_option (codes "upto") (codes "18446744073709551615")))
+    (flag (codes "count"))
 
 -- the program, which takes the words behind its name, and wants a command
 abbrev pub program : App
@@ -110,7 +145,9 @@ schedule_commands =
 abbrev pub single_commands : App
 single_commands =
     with_subcommand
-    (with_subcommand (with_subcommand schedule_commands serial_command.top) check_command.top)
+    (with_subcommand
+    (with_subcommand (with_subcommand schedule_commands serial_command.top) spec_command.top)
+    check_command.top)
     certify_command.top
 
 abbrev pub lineup : App
@@ -121,20 +158,24 @@ lineup =
 
 -- ---- what words ask for
 
--- the number of 16 bits that a word says, where it says one
-abbrev pub number_by : Text → Option ℕ
-number_by digits =
+-- the number of so many bits that a word says, where it says one
+abbrev pub number_by : ℕ → Text → Option ℕ
+number_by bits digits =
     if nat_lt 0 (length digits) &&
     (list_all (λ d. nat_lt (digit_value d) 10) digits && nat_lt (digits_value 10 digits)
-    (2 ^ 16))
+    (2 ^ bits))
     then Some (digits_value 10 digits)
     else None
 
-abbrev pub number_said : Option Text → Option ℕ
-number_said word = option_and_then (λ text. number_by (without_leading_plus text)) word
+abbrev pub number_said : ℕ → Option Text → Option ℕ
+number_said bits word =
+    option_and_then (λ text. number_by bits (without_leading_plus text)) word
 
 abbrev pub number_in : Text → List Row → Option ℕ
-number_in name rows = number_said (one_of name rows)
+number_in name rows = number_said 16 (one_of name rows)
+
+abbrev pub long_number_in : Text → List Row → Option ℕ
+long_number_in name rows = number_said 64 (one_of name rows)
 
 -- whether the flag is there
 abbrev pub flag_said : Option Text → Bool
@@ -180,16 +221,49 @@ explain_in rows =
     option_map (explain_order (flag_in (codes "spec") rows))
     (limits_with (Some 0) (number_in (codes "serial") rows))
 
-abbrev pub campaign_with : Option Limits → Option ℕ → Option ℕ → Option CampaignOptions
-campaign_with (Some limits) (Some threads) (Some calls) =
-    if nat_lt threads 256 && nat_lt calls 256 then Some
-    (record { bounds = limits; threads = threads; calls = calls }) else None
-campaign_with _ _ _ = None
+-- so many threads, where the number is one of 8 bits
+abbrev pub alike : ℕ → Option CampaignThreads
+alike threads = if nat_lt threads 256 then Some (Alike threads) else None
+
+-- which threads: `--by-thread` and `--threads` are not said together, and 2 where neither is
+abbrev pub threads_with : Bool → Option ℕ → Option CampaignThreads
+threads_with true None = Some Own
+threads_with true (Some threads) = None
+threads_with false None = alike 2
+threads_with false (Some threads) = alike threads
+
+abbrev pub threads_in : List Row → Option CampaignThreads
+threads_in rows = threads_with (flag_in (codes "by-thread") rows) (number_in (codes "threads") rows)
+
+-- the matrices from one number to another: all, where these are the least and the greatest
+abbrev pub slice_of : ℕ → ℕ → CampaignPart
+slice_of from upto = if from == 0 && upto == most_long then Whole else Slice from upto
+
+-- what is asked of the campaign: nothing where its end lies before its beginning
+abbrev pub part_of : Bool → ℕ → ℕ → Option CampaignPart
+part_of count from upto =
+    if nat_lt upto from then None else if count then Some Count else Some (slice_of from upto)
+
+abbrev pub part_with : Bool → Option ℕ → Option ℕ → Option CampaignPart
+part_with count (Some from) (Some upto) = part_of count from upto
+part_with count _ _ = None
+
+abbrev pub part_in : List Row → Option CampaignPart
+part_in rows =
+    part_with (flag_in (codes "count") rows) (long_number_in (codes "from") rows)
+    (long_number_in (codes "upto") rows)
+
+abbrev pub campaign_with : Option Limits → Option CampaignThreads → Option ℕ
+    → Option CampaignPart → Option CampaignOptions
+campaign_with (Some limits) (Some threads) (Some calls) (Some part) =
+    if nat_lt calls 256 then Some
+    (record { bounds = limits; threads = threads; calls = calls; part = part }) else None
+campaign_with _ _ _ _ = None
 
 abbrev pub campaign_in : List Row → Option CampaignOptions
 campaign_in rows =
-    campaign_with (limits_in rows) (number_in (codes "threads") rows)
-    (number_in (codes "calls") rows)
+    campaign_with (limits_in rows) (threads_in rows) (number_in (codes "calls") rows)
+    (part_in rows)
 
 abbrev pub order_by : Text → List Row → Option Order
 order_by name rows =
@@ -198,12 +272,13 @@ order_by name rows =
     else (if bytes_eq name (codes "draw") then Some Draw
     else (if bytes_eq name (codes "explain") then explain_in rows
     else (if bytes_eq name (codes "serial") then option_map Serial (limits_in rows)
+    else (if bytes_eq name (codes "spec") then Some Spec
     else (if bytes_eq name (codes "check") then check_in rows
     else (if bytes_eq name (codes "certify") then option_map Certify (choice_in rows)
     else (if bytes_eq name (codes "refute") then Some Refute
     else (if bytes_eq name (codes "shrink") then option_map Shrink (limits_in rows)
     else (if bytes_eq name (codes "campaign") then option_map Campaign (campaign_in rows)
-    else None)))))))))
+    else None))))))))))
 
 abbrev pub order_in : Option (Text × List Row) → Option Order
 order_in entered = option_and_then (λ e. order_by e.0 e.1) entered

@@ -1,5 +1,5 @@
 -- What the program writes, and its status.
-use Rattle.std.specs.Prelude.{◌≡◌, ◌≢◌, ◌⊎◌, ◌↔◌, ℕ, List, [], ◌∷◌, ◌++◌, length, map, Option, Some, None, Result, Ok, Err, MatchBool, IfSome, codes, nat_lt}
+use Rattle.std.specs.Prelude.{◌≡◌, ◌≢◌, ◌⊎◌, ◌↔◌, ℕ, List, [], ◌∷◌, ◌++◌, length, map, replicate, Option, Some, None, Result, Ok, Err, MatchBool, IfSome, codes, nat_lt}
 use Rattle.std.specs.Fmt.{decimal}
 use Rattle.std.specs.Io.KnownBytes.{Appends}
 use Rattle.lu_text.specs.declared.fault.Fault.{Fault}
@@ -44,11 +44,15 @@ use Rattle.lu_refine.specs.declared.campaigns.Campaign.TheVariants.{AllPass, Fir
 use Rattle.lu_refine.specs.declared.campaigns.CampaignFault.{CampaignFault}
 use Rattle.lu_refine.specs.declared.campaigns.CampaignFault.TheVariants.{Memory as NoMemory}
 use Rattle.lu_refine.specs.Campaigns.{Campaigned, IsCampaignAnswer as IsFound, IsLimitFault, campaigned}
+use Rattle.lu_refine.specs.Choices.{choice_count}
+use Rattle.lu_refine.specs.Roles.{AreWithinLimits, bases}
+use Rattle.lu_refine.specs.ByThread.{Asked, IsRolesFault, IsSliceAnswer as IsFoundOfSlice, IsThreadsAnswer as IsFoundOfThreads, asked_for}
 use Rattle.lu_refine.specs.Codes.{campaign_code_of}
 use Rattle.lu_refine.specs.Removals.{IsShrunk}
 use Rattle.lu_spec.specs.declared.fault.SpecFaultKind.{SpecFaultKind}
 use Rattle.lu_spec.specs.Beginnings.{Has, IsClosureOf}
 use Rattle.lu_spec.specs.Codes.{spec_code_of}
+use Rattle.lu_spec.specs.Collecting.{IsCollectFault, IsCollectedAs}
 use Rattle.lu_spec.specs.Listed.{IsListing}
 use Rattle.lu_spec.specs.SpecText.{IsReadAs, IsSpecFault, spec_text}
 use Rattle.lu_refute.specs.Answers.{IsAnswer as IsRefutation, IsConfirmedFailure}
@@ -57,8 +61,12 @@ use Rattle.lu_certify.specs.declared.certificate.Certificate.TheVariants.{Linear
 use Rattle.lu_certify.specs.Certificates.{IsCertificate}
 use Rattle.lu_cli.specs.declared.counted.Counted.{Counted}
 use Rattle.lu_cli.specs.declared.order.CampaignOptions.{CampaignOptions}
+use Rattle.lu_cli.specs.declared.order.CampaignPart.{CampaignPart}
+use Rattle.lu_cli.specs.declared.order.CampaignPart.TheVariants.{Whole, Slice, Count}
+use Rattle.lu_cli.specs.declared.order.CampaignThreads.{CampaignThreads}
+use Rattle.lu_cli.specs.declared.order.CampaignThreads.TheVariants.{Alike, Own}
 use Rattle.lu_cli.specs.declared.order.Order.{Order}
-use Rattle.lu_cli.specs.declared.order.Order.TheVariants.{Replay, Trace, Draw, Explain, ExplainAgainst, Serial, Check, CheckAgainst, Certify, Refute, Shrink, Campaign as Campaigning}
+use Rattle.lu_cli.specs.declared.order.Order.TheVariants.{Replay, Trace, Draw, Explain, ExplainAgainst, Serial, Spec, Check, CheckAgainst, Certify, Refute, Shrink, Campaign as Campaigning}
 use Rattle.lu_cli.specs.declared.refusal.Refusal.{Refusal}
 use Rattle.lu_cli.specs.declared.refusal.Refusal.TheVariants as refusal
 use Rattle.lu_cli.specs.declared.explaining.Target.{Target}
@@ -252,6 +260,13 @@ ToSpec matrix text IsAnswer answer =
     ⊎ ((kind : SpecFaultKind) × (n : ℕ) × IsSpecFault matrix text (At kind n)
     × (answer ≡ refused_on_line (spec_code_of kind) n))
 
+-- the specification that a person wrote, in its one spelling, or its fault with its line
+abbrev pub IsCollected : Matrix → List ℕ → Answer → Type 0
+IsCollected matrix text answer =
+    ((members : List (List SerialOp)) × IsCollectedAs matrix text members × IsListed members answer)
+    ⊎ ((kind : SpecFaultKind) × (n : ℕ) × IsCollectFault matrix text (At kind n)
+    × (answer ≡ refused_on_line (spec_code_of kind) n))
+
 -- the specification is read, and then the matrix is checked against it
 abbrev pub IsCheckAgainstFrom : Declarations → Matrix → Choice → List ℕ → Answer → Type 0
 IsCheckAgainstFrom c matrix choice spec = ToSpec matrix spec (IsCheckedAgainst c matrix choice)
@@ -339,29 +354,106 @@ abbrev pub found_answer : Declarations → Campaign → Answer
 found_answer c (AllPass count) = all_pass count
 found_answer c (First matrix r) = with_matrix c matrix r
 
-abbrev pub options_of : Declarations → List Call → List Call → CampaignOptions → Campaigned
-options_of c setup candidates o =
-    campaigned c setup candidates o.threads o.calls o.bounds.bound o.bounds.serial
+-- a number on a line of its own
+abbrev pub numbered : ℕ → Answer
+numbered n = record { text = decimal n ++ codes "\n"; status = 0 }
 
--- what the campaign over these calls finds, with this setup, or why there is none
-abbrev pub IsCampaignAnswer : Declarations → List Call → List Call → CampaignOptions → Answer
+abbrev pub options_of : Declarations → List Call → List Call → ℕ → CampaignOptions → Campaigned
+options_of c setup candidates threads o =
+    campaigned c setup candidates threads o.calls o.bounds.bound o.bounds.serial
+
+-- what the campaign of so many threads over these calls finds, with this setup, or why there is
+-- none
+abbrev pub IsCampaignAnswer : Declarations → List Call → List Call → ℕ → CampaignOptions → Answer
     → Type 0
-IsCampaignAnswer c setup candidates o answer =
-    ((found : Campaign) × IsFound (options_of c setup candidates o) found
+IsCampaignAnswer c setup candidates threads o answer =
+    ((found : Campaign) × IsFound (options_of c setup candidates threads o) found
     × (answer ≡ found_answer c found))
     ⊎ ((fault : CampaignFault) × (fault ≢ NoMemory)
-    × IsLimitFault (length candidates) o.threads o.calls fault
+    × IsLimitFault (length candidates) threads o.calls fault
     × (answer ≡ refused (campaign_code_of fault)))
+
+abbrev pub lists_of : Declarations → List Call → List (List Call) → CampaignOptions → Asked
+lists_of c setup candidates o =
+    asked_for c setup candidates o.calls o.bounds.bound o.bounds.serial
+
+-- why there is no campaign over these lists
+abbrev pub IsListsRefusal : List (List Call) → ℕ → Answer → Type 0
+IsListsRefusal candidates calls answer =
+    (fault : CampaignFault) × (fault ≢ NoMemory) × IsRolesFault candidates calls fault
+    × (answer ≡ refused (campaign_code_of fault))
+
+-- what the campaign finds in which each thread has its own candidates, or why there is none
+abbrev pub IsByThreadAnswer : Declarations → List Call → List (List Call) → CampaignOptions
+    → Answer → Type 0
+IsByThreadAnswer c setup candidates o answer =
+    ((found : Campaign) × IsFoundOfThreads (lists_of c setup candidates o) found
+    × (answer ≡ found_answer c found))
+    ⊎ IsListsRefusal candidates o.calls answer
+
+-- what its matrices with these numbers show
+abbrev pub IsSliceAnswer : Declarations → List Call → List (List Call) → CampaignOptions → ℕ → ℕ
+    → Answer → Type 0
+IsSliceAnswer c setup candidates o from upto answer =
+    ((found : Campaign) × IsFoundOfSlice (lists_of c setup candidates o) from upto found
+    × (answer ≡ found_answer c found))
+    ⊎ IsListsRefusal candidates o.calls answer
+
+-- how many matrices it has
+abbrev pub IsCountAnswer : List (List Call) → ℕ → Answer → Type 0
+IsCountAnswer candidates calls answer =
+    (AreWithinLimits calls candidates
+    × (answer ≡ numbered (choice_count (bases calls candidates))))
+    ⊎ IsListsRefusal candidates calls answer
+
+abbrev pub IsAnswerToPart : CampaignPart → Declarations → List Call → List (List Call)
+    → CampaignOptions → Answer → Type 0
+IsAnswerToPart Whole c setup candidates o = IsByThreadAnswer c setup candidates o
+IsAnswerToPart (Slice from upto) c setup candidates o =
+    IsSliceAnswer c setup candidates o from upto
+IsAnswerToPart Count c setup candidates o = IsCountAnswer candidates o.calls
+
+-- what is answered where each thread has its own candidates
+abbrev pub IsListsAnswer : Declarations → List Call → List (List Call) → CampaignOptions → Answer
+    → Type 0
+IsListsAnswer c setup candidates o = IsAnswerToPart o.part c setup candidates o
+
+-- what is answered where so many threads have the same, and a part is asked for
+abbrev pub IsPartAnswer : Declarations → List Call → List Call → ℕ → CampaignOptions → Answer
+    → Type 0
+IsPartAnswer c setup candidates threads o = IsListsAnswer c setup (replicate threads candidates) o
+
+abbrev pub IsAnswerToAlike : CampaignPart → Declarations → List Call → List Call → ℕ
+    → CampaignOptions → Answer → Type 0
+IsAnswerToAlike Whole c setup candidates threads o = IsCampaignAnswer c setup candidates threads o
+IsAnswerToAlike (Slice from upto) c setup candidates threads o =
+    IsPartAnswer c setup candidates threads o
+IsAnswerToAlike Count c setup candidates threads o = IsPartAnswer c setup candidates threads o
+
+-- what is answered where so many threads have the same
+abbrev pub IsAlikeAnswer : Declarations → List Call → List Call → ℕ → CampaignOptions → Answer
+    → Type 0
+IsAlikeAnswer c setup candidates threads o = IsAnswerToAlike o.part c setup candidates threads o
 
 -- the calls of the one thread are the candidates
 abbrev pub ToCandidates : List (List Call) → (List Call → Answer → Type 0) → Answer → Type 0
 ToCandidates (candidates ∷ []) IsAnswer answer = IsAnswer candidates answer
 ToCandidates threads IsAnswer answer = answer ≡ refused (codes "G2")
 
--- what the campaign over the calls of the matrix's one thread finds, with the matrix's setup
+-- what is answered to the calls of the matrix's one thread, with the matrix's setup
+abbrev pub IsCampaignAlike : Declarations → ℕ → CampaignOptions → Matrix → Answer → Type 0
+IsCampaignAlike c threads o matrix =
+    ToCandidates matrix.threads
+    (λ candidates. IsAlikeAnswer c matrix.setup candidates threads o)
+
+abbrev pub IsCampaignBy : CampaignThreads → Declarations → CampaignOptions → Matrix → Answer
+    → Type 0
+IsCampaignBy (Alike threads) c o matrix = IsCampaignAlike c threads o matrix
+IsCampaignBy Own c o matrix = IsListsAnswer c matrix.setup matrix.threads o
+
+-- what is answered to the matrix: to its one thread, or to each of its lines
 abbrev pub IsCampaignFrom : Declarations → CampaignOptions → Matrix → Answer → Type 0
-IsCampaignFrom c options matrix =
-    ToCandidates matrix.threads (λ candidates. IsCampaignAnswer c matrix.setup candidates options)
+IsCampaignFrom c o matrix = IsCampaignBy o.threads c o matrix
 
 -- ---- texts of components and matrices
 
@@ -413,6 +505,10 @@ abbrev pub IsSerialOf : Limits → List (List ℕ) → Answer → Type 0
 IsSerialOf limits parts =
     ToParts (two parts) (λ p. ToTexts p.0 p.1 (λ c m. IsRunSerially c m limits))
 
+abbrev pub IsSpecOf : List (List ℕ) → Answer → Type 0
+IsSpecOf parts =
+    ToParts (three parts) (λ p. ToTexts p.0 p.1 (λ c m. IsCollected m p.2))
+
 abbrev pub IsCheckOf : Choice → List (List ℕ) → Answer → Type 0
 IsCheckOf choice parts = ToParts (two parts) (λ p. ToTexts p.0 p.1 (λ c m. IsChecked c m choice))
 
@@ -443,6 +539,7 @@ IsAnswerTo Draw parts = IsDrawOf parts
 IsAnswerTo (Explain limits) parts = IsExplainOf limits parts
 IsAnswerTo ExplainAgainst parts = IsExplainAgainstOf parts
 IsAnswerTo (Serial limits) parts = IsSerialOf limits parts
+IsAnswerTo Spec parts = IsSpecOf parts
 IsAnswerTo (Check choice) parts = IsCheckOf choice parts
 IsAnswerTo (CheckAgainst choice) parts = IsCheckAgainstOf choice parts
 IsAnswerTo (Certify choice) parts = IsCertifyOf choice parts

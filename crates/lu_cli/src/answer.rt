@@ -168,6 +168,16 @@ pub fn show_count(alloc: Global, count: u64) -> Result<Answer, AllocError>
     })
 }
 
+/// A number, on a line of its own.
+pub fn show_number(alloc: Global, number: u64) -> Result<Answer, AllocError>
+    ensures { IfOk result (λ answer. answer ≡ spec.numbered number) }
+{
+    Ok(Answer {
+        text: format!(in alloc; "{number}\n")?,
+        status: 0,
+    })
+}
+
 /// The text of a specification.
 pub fn show_spec(alloc: Global, spec: &Spec) -> Result<Answer, AllocError>
     ensures { IfOk result (IsListed spec.now) }

@@ -6,7 +6,7 @@ ghost use Rattle.clap.specs.declared.builder.value_parser.ValueParser.TheVariant
 ghost use Rattle.lu_cli.specs.Args as spec;
 ghost use Rattle.lu_cli.specs.Args.{IsApp, lineup, order_of};
 
-use crate::order::{ArgsFault, CampaignOptions, Order};
+use crate::order::{ArgsFault, CampaignOptions, CampaignPart, CampaignThreads, Order};
 use clap::builder::{ValueParser, ValueParserFactory};
 use clap::error::ErrorKind;
 use clap::{Arg, ArgAction, ArgMatches, Command};
@@ -38,6 +38,28 @@ fn number_option<'a>(
     Arg::new(alloc, name)
         .long(name)
         .value_parser(number_parser(least, most))
+        .default_value(default)
+}
+
+/// An option `--NAME N` without a default.
+fn optional_number<'a>(alloc: Global, name: &'a str, least: u8, most: u16) -> Arg<'a>
+    requires { least ≤ most }
+    ensures rule { rule_of result ≡ spec.optional_number name.entry.now least most }
+    ensures local { result.global ≡ false }
+{
+    Arg::new(alloc, name)
+        .long(name)
+        .value_parser(number_parser(least, most))
+}
+
+/// An option `--NAME N` of any number of 64 bits.
+fn long_option<'a>(alloc: Global, name: &'a str, default: &'a str) -> Arg<'a>
+    ensures rule { rule_of result ≡ spec.long_option name.entry.now default.entry.now }
+    ensures local { result.global ≡ false }
+{
+    Arg::new(alloc, name)
+        .long(name)
+        .value_parser(clap::value_parser!(u64))
         .default_value(default)
 }
 
@@ -125,12 +147,22 @@ fn check_command<'a>(alloc: Global) -> Result<Command<'a>, AllocError>
     with_option(with_workers(alloc, "check", "40"), flag(alloc, "spec"))
 }
 
+/// A campaign's options but for those that take a part of it.
+fn sized_command<'a>(alloc: Global) -> Result<Command<'a>, AllocError>
+    ensures { IfOk result (IsApp spec.sized_command) }
+{
+    let command = with_bounds(alloc, "campaign", "40");
+    let command = with_option(command, optional_number(alloc, "threads", 1, 8));
+    with_option(command, number_option(alloc, "calls", 1, 8, "1"))
+}
+
 fn campaign_command<'a>(alloc: Global) -> Result<Command<'a>, AllocError>
     ensures { IfOk result (IsApp spec.campaign_command) }
 {
-    let command = with_bounds(alloc, "campaign", "40");
-    let command = with_option(command, number_option(alloc, "threads", 1, 8, "2"));
-    with_option(command, number_option(alloc, "calls", 1, 8, "1"))
+    let command = with_option(sized_command(alloc), flag(alloc, "by-thread"));
+    let command = with_option(command, long_option(alloc, "from", "0"));
+    let command = with_option(command, long_option(alloc, "upto", "18446744073709551615"));
+    with_option(command, flag(alloc, "count"))
 }
 
 /// The program without its commands. It takes the words behind its name.
@@ -159,6 +191,7 @@ fn single_commands<'a>(alloc: Global) -> Result<Command<'a>, AllocError>
     ensures { IfOk result (IsApp spec.single_commands) }
 {
     let program = with_command(schedule_commands(alloc), with_bounds(alloc, "serial", "40"));
+    let program = with_command(program, bare_command(alloc, "spec"));
     let program = with_command(program, check_command(alloc));
     with_command(program, with_workers(alloc, "certify", "256"))
 }
@@ -175,6 +208,12 @@ fn number_in(given: &ArgMatches<'_>, name: &str) -> Option<u16>
     ensures { result ≡ spec.number_in name.now (rows_of (found_of given.now)) }
 {
     given.get_one::<u16>(name)
+}
+
+fn long_number_in(given: &ArgMatches<'_>, name: &str) -> Option<u64>
+    ensures { result ≡ spec.long_number_in name.now (rows_of (found_of given.now)) }
+{
+    given.get_one::<u64>(name)
 }
 
 fn flag_in(given: &ArgMatches<'_>, name: &str) -> bool
@@ -203,18 +242,79 @@ fn options_in(given: &ArgMatches<'_>) -> Option<Options>
     Options::new(bound, serial, workers, depth)
 }
 
+/// So many threads.
+fn alike(threads: u16) -> Option<CampaignThreads>
+    ensures { result ≡ spec.alike threads }
+{
+    let threads = u8::try_from(threads).ok()?;
+    Some(CampaignThreads::Alike(threads))
+}
+
+/// Which threads `--by-thread` and `--threads` ask for.
+fn threads_with(own: bool, threads: Option<u16>) -> Option<CampaignThreads>
+    ensures { result ≡ spec.threads_with own threads }
+{
+    match threads {
+        None => if own {
+            Some(CampaignThreads::Own)
+        } else {
+            alike(2)
+        },
+        Some(threads) => if own { None } else { alike(threads) },
+    }
+}
+
+fn threads_in(given: &ArgMatches<'_>) -> Option<CampaignThreads>
+    ensures { result ≡ spec.threads_in (rows_of (found_of given.now)) }
+{
+    threads_with(flag_in(given, "by-thread"), number_in(given, "threads"))
+}
+
+/// The matrices from one number to another.
+fn slice_of(from: u64, upto: u64) -> CampaignPart
+    ensures { result ≡ spec.slice_of from upto }
+{
+    if from == 0 && upto == u64::MAX {
+        CampaignPart::Whole
+    } else {
+        CampaignPart::Slice { from, upto }
+    }
+}
+
+/// What is asked of a campaign.
+fn part_of(count: bool, from: u64, upto: u64) -> Option<CampaignPart>
+    ensures { result ≡ spec.part_of count from upto }
+{
+    if upto < from {
+        None
+    } else if count {
+        Some(CampaignPart::Count)
+    } else {
+        Some(slice_of(from, upto))
+    }
+}
+
+fn part_in(given: &ArgMatches<'_>) -> Option<CampaignPart>
+    ensures { result ≡ spec.part_in (rows_of (found_of given.now)) }
+{
+    let from = long_number_in(given, "from")?;
+    let upto = long_number_in(given, "upto")?;
+    part_of(flag_in(given, "count"), from, upto)
+}
+
 fn campaign_in(given: &ArgMatches<'_>) -> Option<CampaignOptions>
     ensures { result ≡ spec.campaign_in (rows_of (found_of given.now)) }
 {
     let bounds = bounds_in(given)?;
-    let threads = number_in(given, "threads")?;
+    let threads = threads_in(given)?;
     let calls = number_in(given, "calls")?;
-    let threads = u8::try_from(threads).ok()?;
+    let part = part_in(given)?;
     let calls = u8::try_from(calls).ok()?;
     Some(CampaignOptions {
         bounds,
         threads,
         calls,
+        part,
     })
 }
 
@@ -265,6 +365,7 @@ fn order_by(name: &str, given: &ArgMatches<'_>) -> Option<Order>
         "draw" => Some(Order::Draw),
         "explain" => explain_in(given),
         "serial" => bounds_in(given).map(Order::Serial),
+        "spec" => Some(Order::Spec),
         "check" => check_in(given),
         "certify" => options_in(given).map(Order::Certify),
         "refute" => Some(Order::Refute),

@@ -2,20 +2,20 @@
 
 ghost use Rattle.std.specs.Prelude.{◌≡◌, IfOk};
 ghost use Rattle.lu_text.specs.Lines.{texts};
-ghost use Rattle.lu_test.specs.Matrix.{IsMatrix, IsSetup};
-ghost use Rattle.lu_machine.specs.Starts.{AllEnd, CanRun};
+ghost use Rattle.lu_test.specs.Matrix.{IsMatrix};
+ghost use Rattle.lu_machine.specs.Starts.{CanRun};
 ghost use Rattle.lu_report.specs.Parts.{IsOfOffence};
 ghost use Rattle.lu_spec.specs.Specs.{AreOf};
-ghost use Rattle.lu_refine.specs.Campaigns.{AreCallsOf, HaveArguments};
 ghost use Rattle.lu_cli.specs.Refusals.{Answered};
 ghost use Rattle.lu_cli.specs.Replies as spec;
 
 use crate::answer::{
-    Answer, infeasible, show_certificate, show_count, show_matrix, show_refusal, show_report,
-    show_schedule, show_spec,
+    Answer, infeasible, show_certificate, show_matrix, show_refusal, show_report, show_schedule,
+    show_spec,
 };
+use crate::campaigning::answer_campaign;
 use crate::explaining::{answer_explain, answer_explain_against};
-use crate::order::{CampaignOptions, Order};
+use crate::order::Order;
 use crate::refusal::Refusal;
 use crate::shown::read_shown;
 use crate::texts::{read_texts, report_against, report_of};
@@ -23,13 +23,13 @@ use lu_certify::certify_by_workers;
 use lu_lang::Component;
 use lu_parallel::{OpenGate, Options};
 use lu_picture::write_picture;
-use lu_refine::{Campaign, CampaignFault, ShrinkFault, campaign, shrink};
+use lu_refine::{ShrinkFault, shrink};
 use lu_refute::refute;
 use lu_replay::{ReplayFault, replay, set_or_offence, write_replay};
 use lu_report::{Bounds, Finding, Report, read_report};
 use lu_serial::learn;
-use lu_spec::{Spec, read_spec};
-use lu_test::{Call, Calls, Matrix, Schedule, read_schedule};
+use lu_spec::{Spec, collect_spec, read_spec};
+use lu_test::{Matrix, Schedule, read_schedule};
 use lu_text::{four, three, two};
 use lu_trace::{TraceFault, write_trace};
 use std::alloc::{AllocError, Global};
@@ -192,6 +192,23 @@ fn answer_serial(alloc: Global, bounds: Bounds, parts: &[&[u8]]) -> Result<Answe
     Ok(run_serially(alloc, &case.component, &case.matrix, bounds)?)
 }
 
+/// A specification of the matrix that a person wrote, as this program spells it.
+fn collect_text(alloc: Global, matrix: &Matrix, text: &[u8]) -> Result<Answer, Refusal>
+    ensures { Answered (spec.IsCollected matrix.now text.now) result }
+{
+    let collected = collect_spec(alloc, matrix, text)?;
+    Ok(show_spec(alloc, &collected)?)
+}
+
+/// `lineup spec`: component, matrix, and a specification as a person writes it.
+fn answer_spec(alloc: Global, parts: &[&[u8]]) -> Result<Answer, Refusal>
+    ensures { Answered (spec.IsSpecOf (texts parts.now)) result }
+{
+    let (component, matrix, specification) = three(parts).ok_or(Refusal::Parts)?;
+    let case = read_texts(alloc, component, matrix)?;
+    collect_text(alloc, &case.matrix, specification)
+}
+
 /// `lineup check`: component and matrix.
 fn answer_check<X: AllocGlobal + Threads + Wait>(
     rt: &X,
@@ -331,71 +348,6 @@ fn answer_shrink(alloc: Global, bounds: Bounds, parts: &[&[u8]]) -> Result<Answe
     Ok(shrink_matrix(alloc, &case.component, &case.matrix, bounds)?)
 }
 
-/// What the campaign over these calls finds, with this setup.
-fn try_matrices(
-    alloc: Global,
-    component: &Component,
-    setup: &Calls,
-    candidates: &[Call],
-    options: CampaignOptions,
-) -> Result<Answer, Refusal>
-    requires setup { IsSetup setup.now }
-    requires setup_of { AreCallsOf component.now setup.now }
-    requires settles { AllEnd component.now setup.now }
-    requires of { AreCallsOf component.now candidates.now }
-    requires arguments { HaveArguments candidates.now }
-    ensures { Answered
-        (spec.IsCampaignAnswer component.now setup.now candidates.now options) result }
-{
-    let bounds = options.bounds;
-    let found = campaign(
-        alloc,
-        component,
-        setup,
-        candidates,
-        options.threads,
-        options.calls,
-        bounds.bound(),
-        bounds.serial(),
-    )?;
-    match found {
-        Campaign::AllPass(count) => Ok(show_count(alloc, count)?),
-        Campaign::First { matrix, report } => Ok(show_matrix(alloc, component, &matrix, &report)?),
-    }
-}
-
-/// What the campaign over the calls of the matrix's one thread finds, with the matrix's setup.
-fn try_candidates(
-    alloc: Global,
-    component: &Component,
-    matrix: &Matrix,
-    options: CampaignOptions,
-) -> Result<Answer, Refusal>
-    requires { CanRun component.now matrix.now }
-    ensures { Answered (spec.IsCampaignFrom component.now options matrix.now) result }
-{
-    match matrix.as_slice() {
-        [candidates] => {
-            let setup = matrix.setup();
-            try_matrices(alloc, component, setup, candidates.as_slice(), options)
-        }
-        _ => Err(Refusal::Campaign(CampaignFault::Candidates)),
-    }
-}
-
-/// `lineup campaign`: component, and a matrix whose one thread makes the calls to choose from.
-fn answer_campaign(
-    alloc: Global,
-    options: CampaignOptions,
-    parts: &[&[u8]],
-) -> Result<Answer, Refusal>
-    ensures { Answered (spec.IsCampaignOf options (texts parts.now)) result }
-{
-    let (component, matrix) = two(parts).ok_or(Refusal::Parts)?;
-    let case = read_texts(alloc, component, matrix)?;
-    try_candidates(alloc, &case.component, &case.matrix, options)
-}
-
 /// What is answered to an order, or why it is refused.
 fn carry_out<X: AllocGlobal + Threads + Wait>(
     rt: &X,
@@ -411,6 +363,7 @@ fn carry_out<X: AllocGlobal + Threads + Wait>(
         Order::Explain(bounds) => answer_explain(rt.alloc(), bounds, parts),
         Order::ExplainAgainst => answer_explain_against(rt.alloc(), parts),
         Order::Serial(bounds) => answer_serial(rt.alloc(), bounds, parts),
+        Order::Spec => answer_spec(rt.alloc(), parts),
         Order::Check(options) => answer_check(rt, options, parts),
         Order::CheckAgainst(options) => answer_check_against(rt, options, parts),
         Order::Certify(options) => answer_certify(rt, options, parts),

@@ -5,6 +5,7 @@
 mod answer;
 mod args;
 mod bundle;
+mod campaigning;
 mod commands;
 mod counted;
 mod explaining;

@@ -3,16 +3,40 @@
 use lu_parallel::Options;
 use lu_report::Bounds;
 
+/// Which threads the matrices of a campaign have, and what each takes its calls from.
+#[derive(Clone, Copy, Debug, PartialEq, Eq)]
+pub enum CampaignThreads {
+    /// So many threads; each takes its calls from the one list of candidates.
+    Alike(u8),
+
+    /// Those of the bundle's matrix; each takes its calls from its own line.
+    Own,
+}
+
+/// What is asked of a campaign.
+#[derive(Clone, Copy, Debug, PartialEq, Eq)]
+pub enum CampaignPart {
+    /// To try all its matrices.
+    Whole,
+
+    /// To try those with the numbers `from` to `upto - 1`, counted from 0.
+    Slice { from: u64, upto: u64 },
+
+    /// How many there are.
+    Count,
+}
+
 /// The options of a campaign.
 #[derive(Clone, Copy, Debug, PartialEq, Eq)]
 pub struct CampaignOptions {
     pub bounds: Bounds,
 
-    /// The threads of each matrix.
-    pub threads: u8,
+    pub threads: CampaignThreads,
 
-    /// The calls of each thread.
+    /// The calls of each thread that has candidates.
     pub calls: u8,
+
+    pub part: CampaignPart,
 }
 
 /// A command with its options.
@@ -36,6 +60,9 @@ pub enum Order {
 
     /// `lineup serial`: show the serial histories of a component and a matrix.
     Serial(Bounds),
+
+    /// `lineup spec`: write a specification that a person wrote as this program spells it.
+    Spec,
 
     /// `lineup check`: report the first fault of a component and a matrix.
     Check(Options),

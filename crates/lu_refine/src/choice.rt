@@ -114,12 +114,12 @@ pub(crate) fn fill(
     Ok(Matrix::new(component, setup, rows).unwrap())
 }
 
-/// The same candidates for each thread.
-pub(crate) fn same_lists(
-    alloc: Global,
-    candidates: &[Call],
-    threads: u8,
-) -> Result<Vec<Calls>, AllocError>
+/// The same candidates for each of so many threads, as [`campaign`](crate::campaign) has them.
+///
+/// # Errors
+///
+/// `AllocError` where memory was refused.
+pub fn same_lists(alloc: Global, candidates: &[Call], threads: u8) -> Result<Vec<Calls>, AllocError>
     ensures { IfOk result (λ lists. lists.items ≡ replicate threads candidates.now) }
 {
     let mut lists = Vec::with_capacity(alloc, usize::from(threads))?;

@@ -1,0 +1,281 @@
+//! What is answered to campaigns.
+
+ghost use Rattle.std.specs.Prelude.{◌≡◌, IfOk};
+ghost use Rattle.lu_text.specs.Lines.{texts};
+ghost use Rattle.lu_test.specs.Matrix.{IsSetup};
+ghost use Rattle.lu_machine.specs.Starts.{AllEnd, CanRun};
+ghost use Rattle.lu_refine.specs.Campaigns.{AreCallsOf, HaveArguments, IsFoundOf};
+ghost use Rattle.lu_refine.specs.Roles.{AllCallsOf, AllHaveArguments};
+ghost use Rattle.lu_cli.specs.Refusals.{Answered};
+ghost use Rattle.lu_cli.specs.Replies as spec;
+
+use crate::answer::{Answer, show_count, show_matrix, show_number};
+use crate::order::{CampaignOptions, CampaignPart, CampaignThreads};
+use crate::refusal::Refusal;
+use crate::texts::read_texts;
+use lu_component::Component;
+use lu_refine::{
+    Campaign, CampaignFault, campaign, campaign_by_thread, campaign_slice, count_matrices,
+    same_lists,
+};
+use lu_test::{Call, Calls, Matrix};
+use lu_text::two;
+use std::alloc::{AllocError, Global};
+
+/// How many matrices there are, where all pass; or the first that does not, with its report.
+fn show_found(alloc: Global, component: &Component, found: &Campaign) -> Result<Answer, AllocError>
+    requires { IsFoundOf component.now found.now }
+    ensures { IfOk result (λ answer. answer ≡ spec.found_answer component.now found.now) }
+{
+    match found {
+        Campaign::AllPass(count) => show_count(alloc, *count),
+        Campaign::First { matrix, report } => show_matrix(alloc, component, matrix, report),
+    }
+}
+
+/// What the campaign of so many threads over these calls finds, with this setup.
+fn try_matrices(
+    alloc: Global,
+    component: &Component,
+    setup: &Calls,
+    candidates: &[Call],
+    threads: u8,
+    options: CampaignOptions,
+) -> Result<Answer, Refusal>
+    requires setup { IsSetup setup.now }
+    requires setup_of { AreCallsOf component.now setup.now }
+    requires settles { AllEnd component.now setup.now }
+    requires of { AreCallsOf component.now candidates.now }
+    requires arguments { HaveArguments candidates.now }
+    ensures { Answered
+        (spec.IsCampaignAnswer component.now setup.now candidates.now threads options) result }
+{
+    let bounds = options.bounds;
+    let found = campaign(
+        alloc,
+        component,
+        setup,
+        candidates,
+        threads,
+        options.calls,
+        bounds.bound(),
+        bounds.serial(),
+    )?;
+    Ok(show_found(alloc, component, &found)?)
+}
+
+/// What the campaign in which each thread has its own candidates finds, with this setup.
+fn try_by_thread(
+    alloc: Global,
+    component: &Component,
+    setup: &Calls,
+    candidates: &[Calls],
+    options: CampaignOptions,
+) -> Result<Answer, Refusal>
+    requires setup { IsSetup setup.now }
+    requires setup_of { AreCallsOf component.now setup.now }
+    requires settles { AllEnd component.now setup.now }
+    requires of { AllCallsOf component.now candidates.now }
+    requires arguments { AllHaveArguments candidates.now }
+    ensures { Answered
+        (spec.IsByThreadAnswer component.now setup.now candidates.now options) result }
+{
+    let bounds = options.bounds;
+    let found = campaign_by_thread(
+        alloc,
+        component,
+        setup,
+        candidates,
+        options.calls,
+        bounds.bound(),
+        bounds.serial(),
+    )?;
+    Ok(show_found(alloc, component, &found)?)
+}
+
+/// What the matrices of that campaign with the numbers `from` to `upto - 1` show.
+fn try_slice(
+    alloc: Global,
+    component: &Component,
+    setup: &Calls,
+    candidates: &[Calls],
+    options: CampaignOptions,
+    from: u64,
+    upto: u64,
+) -> Result<Answer, Refusal>
+    requires setup { IsSetup setup.now }
+    requires setup_of { AreCallsOf component.now setup.now }
+    requires settles { AllEnd component.now setup.now }
+    requires of { AllCallsOf component.now candidates.now }
+    requires arguments { AllHaveArguments candidates.now }
+    ensures { Answered
+        (spec.IsSliceAnswer component.now setup.now candidates.now options from upto) result }
+{
+    let bounds = options.bounds;
+    let found = campaign_slice(
+        alloc,
+        component,
+        setup,
+        candidates,
+        options.calls,
+        bounds.bound(),
+        bounds.serial(),
+        from,
+        upto,
+    )?;
+    Ok(show_found(alloc, component, &found)?)
+}
+
+/// How many matrices that campaign has.
+fn count_all(alloc: Global, candidates: &[Calls], calls: u8) -> Result<Answer, Refusal>
+    ensures { Answered (spec.IsCountAnswer candidates.now calls) result }
+{
+    let count = count_matrices(alloc, candidates, calls)?;
+    Ok(show_number(alloc, count)?)
+}
+
+/// What is answered where each thread has its own candidates.
+fn try_lists(
+    alloc: Global,
+    component: &Component,
+    setup: &Calls,
+    candidates: &[Calls],
+    options: CampaignOptions,
+) -> Result<Answer, Refusal>
+    requires setup { IsSetup setup.now }
+    requires setup_of { AreCallsOf component.now setup.now }
+    requires settles { AllEnd component.now setup.now }
+    requires of { AllCallsOf component.now candidates.now }
+    requires arguments { AllHaveArguments candidates.now }
+    ensures { Answered
+        (spec.IsListsAnswer component.now setup.now candidates.now options) result }
+{
+    match options.part {
+        CampaignPart::Whole => try_by_thread(alloc, component, setup, candidates, options),
+        CampaignPart::Slice { from, upto } => {
+            try_slice(alloc, component, setup, candidates, options, from, upto)
+        }
+        CampaignPart::Count => count_all(alloc, candidates, options.calls),
+    }
+}
+
+/// What is answered where so many threads have the same candidates, and a part is asked for.
+fn try_part(
+    alloc: Global,
+    component: &Component,
+    setup: &Calls,
+    candidates: &[Call],
+    threads: u8,
+    options: CampaignOptions,
+) -> Result<Answer, Refusal>
+    requires setup { IsSetup setup.now }
+    requires setup_of { AreCallsOf component.now setup.now }
+    requires settles { AllEnd component.now setup.now }
+    requires of { AreCallsOf component.now candidates.now }
+    requires arguments { HaveArguments candidates.now }
+    ensures { Answered
+        (spec.IsPartAnswer component.now setup.now candidates.now threads options) result }
+{
+    let lists = same_lists(alloc, candidates, threads)?;
+    try_lists(alloc, component, setup, &lists, options)
+}
+
+/// What is answered where so many threads have the same candidates.
+fn try_alike(
+    alloc: Global,
+    component: &Component,
+    setup: &Calls,
+    candidates: &[Call],
+    threads: u8,
+    options: CampaignOptions,
+) -> Result<Answer, Refusal>
+    requires setup { IsSetup setup.now }
+    requires setup_of { AreCallsOf component.now setup.now }
+    requires settles { AllEnd component.now setup.now }
+    requires of { AreCallsOf component.now candidates.now }
+    requires arguments { HaveArguments candidates.now }
+    ensures { Answered
+        (spec.IsAlikeAnswer component.now setup.now candidates.now threads options) result }
+{
+    match options.part {
+        CampaignPart::Whole => {
+            try_matrices(alloc, component, setup, candidates, threads, options)
+        }
+        CampaignPart::Slice { .. } | CampaignPart::Count => {
+            try_part(alloc, component, setup, candidates, threads, options)
+        }
+    }
+}
+
+/// What is answered to the calls of the matrix's one thread, with the matrix's setup.
+fn try_candidates(
+    alloc: Global,
+    component: &Component,
+    matrix: &Matrix,
+    threads: u8,
+    options: CampaignOptions,
+) -> Result<Answer, Refusal>
+    requires { CanRun component.now matrix.now }
+    ensures { Answered (spec.IsCampaignAlike component.now threads options matrix.now) result }
+{
+    match matrix.as_slice() {
+        [candidates] => {
+            let setup = matrix.setup();
+            try_alike(
+                alloc,
+                component,
+                setup,
+                candidates.as_slice(),
+                threads,
+                options,
+            )
+        }
+        _ => Err(Refusal::Campaign(CampaignFault::Candidates)),
+    }
+}
+
+/// What is answered to the lines of the matrix, with its setup.
+fn try_lines(
+    alloc: Global,
+    component: &Component,
+    matrix: &Matrix,
+    options: CampaignOptions,
+) -> Result<Answer, Refusal>
+    requires { CanRun component.now matrix.now }
+    ensures { Answered
+        (spec.IsListsAnswer component.now matrix.now.setup matrix.now.threads options) result }
+{
+    try_lists(alloc, component, matrix.setup(), matrix.as_slice(), options)
+}
+
+/// What is answered to a matrix of the component.
+fn try_matrix(
+    alloc: Global,
+    component: &Component,
+    matrix: &Matrix,
+    options: CampaignOptions,
+) -> Result<Answer, Refusal>
+    requires { CanRun component.now matrix.now }
+    ensures { Answered (spec.IsCampaignFrom component.now options matrix.now) result }
+{
+    match options.threads {
+        CampaignThreads::Alike(threads) => {
+            try_candidates(alloc, component, matrix, threads, options)
+        }
+        CampaignThreads::Own => try_lines(alloc, component, matrix, options),
+    }
+}
+
+/// `lineup campaign`: component, and a matrix whose one thread, or each of whose threads, makes the
+/// calls to choose from.
+pub(crate) fn answer_campaign(
+    alloc: Global,
+    options: CampaignOptions,
+    parts: &[&[u8]],
+) -> Result<Answer, Refusal>
+    ensures { Answered (spec.IsCampaignOf options (texts parts.now)) result }
+{
+    let (component, matrix) = two(parts).ok_or(Refusal::Parts)?;
+    let case = read_texts(alloc, component, matrix)?;
+    try_matrix(alloc, &case.component, &case.matrix, options)
+}
