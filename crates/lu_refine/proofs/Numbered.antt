@@ -1,11 +1,11 @@
 -- How many choices there are, and which one stands at a place.
 use Rattle.std.proofs.Common.{arith, ◌≡◌, ◌<◌, ◌≤◌, ◌+◌, ◌*◌, ◌/◌, ◌%◌, ◌^◌, ℕ, zero, suc, List, [], ◌∷◌, ◌++◌, append_assoc, add-one, length, drop, get_or, refl, sym, ◌∙◌, ap, subst, inl, inr}
-use Rattle.std.specs.Prelude.{All}
+use Rattle.std.specs.Prelude.{All, ◌⊎◌}
 use Rattle.std.proofs.lemmas.Bool.{cases_lt}
 use Rattle.std.proofs.lemmas.List.{append-nil, drop_all}
 use Rattle.std.proofs.lemmas.Nat.{mul-le}
 use Rattle.std.proofs.Math.Seq.{drop-cons}
-use Rattle.std.proofs.Math.Nat.{add-mul, div-lt_iff_lt-mul, mod-add-div', mod-lt, mul-div_cancel_left, mul-le-mul_right, mul_assoc, pow-le-pow_right, pow-succ', pow-zero}
+use Rattle.std.proofs.Math.Nat.{add-mul, div-lt_iff_lt-mul, mod-add-div', mod-lt, mul-div_cancel_left, mul-le-mul_right, mul-zero, mul_assoc, pow-le-pow_right, pow-succ', pow-zero}
 use Rattle.lu_refine.specs.Choices.{AreEnough, ArePositions, IsBefore, IsChoiceIn, choice_count, place_in}
 
 -- ---- the number of choices
@@ -118,6 +118,42 @@ place_same (base ∷ bases) (m ∷ u) (n ∷ v) low high is = elim (cases_lt m n
         rw (eq, rest) refl
   ]
 ]
+
+-- of two choices one comes before, or they are the same
+pub compare : (bases u v : List ℕ) → IsChoiceIn bases u → IsChoiceIn bases v → IsBefore u v ⊎ (IsBefore v u ⊎ (u ≡ v))
+compare bases [] [] low high = inr (inr refl)
+compare [] [] (n ∷ v) low high = absurd high
+compare (base ∷ bases) [] (n ∷ v) low high = absurd low
+compare [] (m ∷ u) v low high = absurd low
+compare (base ∷ bases) (m ∷ u) [] low high = absurd high
+compare (base ∷ bases) (m ∷ u) (n ∷ v) low high = elim (cases_lt m n) [
+  | inl less ↦ inl (inl less)
+  | inr least ↦ elim (cases_lt n m) [
+    | inl more ↦ inr (inl (inl more))
+    | inr most ↦
+        let eq : m ≡ n = omega arith in
+        elim (compare bases u v low.1 high.1) [
+          | inl before ↦ inl (inr (eq, before))
+          | inr others ↦ elim others [
+            | inl behind ↦ inr (inl (inr (sym eq, behind)))
+            | inr same ↦ inr (inr (rw (eq, same) refl))
+          ]
+        ]
+  ]
+]
+
+-- each place has a choice
+pub choice_there : (bases : List ℕ) (n : ℕ) → n < choice_count bases → (choice : List ℕ) × IsChoiceIn bases choice × (place_in bases choice ≡ n)
+choice_there [] n h = ([], tt, omega (arith, h))
+choice_there (base ∷ bases) n h =
+    let round = choice_count bases in
+    let some : 0 < round = elim (cases_lt 0 round) [
+      | inl more ↦ more
+      | inr none ↦ absurd (let nothing : base * round ≡ base * 0 = ap (λ (k : ℕ). base * k) (omega arith) in omega (arith, nothing, mul-zero base, h))
+    ] in
+    let behind = choice_there bases (n % round) (mod-lt n some) in
+    let below : n / round < base = (div-lt_iff_lt-mul {k = round} {x = n} {y = base} some).1 h in
+    (n / round ∷ behind.0, (below, behind.1), omega (arith, behind.2, mod-add-div' n round))
 
 -- ---- the choice at a place, position by position
 

@@ -1,5 +1,5 @@
 -- What is known of the matrices of a slice up to a number, and of slices that follow one another.
-use Rattle.std.proofs.Common.{◌≡◌, ℕ, ◌+◌, ◌-◌, ◌^◌, ◌<◌, ◌≤◌, List, sym, subst, inl, inr, arith}
+use Rattle.std.proofs.Common.{◌≡◌, ℕ, ◌+◌, ◌-◌, ◌^◌, ◌<◌, ◌≤◌, ◌∙◌, List, ap, sym, subst, inl, inr, arith}
 use Rattle.std.specs.Prelude.{min, Result}
 use Rattle.std.proofs.lemmas.Bool.{cases_lt}
 use Rattle.std.proofs.lemmas.Result.{IfOk-weaker}
@@ -7,13 +7,15 @@ use Rattle.lu_component.specs.Component.{Declarations}
 use Rattle.lu_test.specs.declared.matrix.Call.{Call}
 use Rattle.lu_test.specs.Matrix.{Matrix}
 use Rattle.lu_report.specs.declared.report.Report.{Report}
+use Rattle.lu_machine.specs.Starts.{AllEnd}
 use Rattle.lu_replay.specs.Confirmed.{IsPass}
+use Rattle.lu_replay.proofs.Determined.{one_report}
 use Rattle.lu_refine.specs.declared.campaigns.Campaign.{Campaign}
 use Rattle.lu_refine.specs.declared.campaigns.Campaign.TheVariants.{AllPass, First}
 use Rattle.lu_refine.specs.declared.campaigns.CampaignFault.{CampaignFault}
 use Rattle.lu_refine.specs.ByThread.{Asked, ChoosesByThread, ChoosesInSlice, IsFirstAmong, IsFoundByThread, IsFoundInSlice, IsRoleChoice, IsRoleReport, IsSliceAnswer, IsThreadsAnswer, IsWithin, RolePasses, asked_for, bases_of, matrix_count, number_of, role_matrix}
-use Rattle.lu_refine.specs.Slices.{joined}
-use Rattle.lu_refine.proofs.Numbered.{before_earlier, choices_fit, place_below, place_same}
+use Rattle.lu_refine.specs.Laws.{joined}
+use Rattle.lu_refine.proofs.Numbered.{before_earlier, compare, choices_fit, place_below, place_same}
 use Rattle.lu_refine.proofs.Filling.{positions}
 
 -- the matrices with these numbers pass
@@ -113,3 +115,31 @@ whole_chosen c setup candidates calls bound serial to result past is =
     IfOk-weaker result (IsSliceAnswer asked 0 to) (IsThreadsAnswer asked) (λ found answer.
     let fits = choices_fit (bases_of asked) (positions calls candidates answer.0) in
     (answer.0, whole_found asked to found (omega (arith, fits, past)) answer.1)) is
+
+-- ---- a slice has one answer
+
+-- what passes has no report that is no pass
+one_judged : (asked : Asked) (choice : List ℕ) (r : Report) → AllEnd asked.component asked.setup → RolePasses asked choice → IsRoleReport asked choice r → (IsPass r.finding → ⊥) → ⊥
+one_judged asked choice r ends passes report no_pass =
+    let same : passes.0 ≡ r = one_report asked.component (role_matrix asked choice) asked.bound asked.serial passes.0 r ends passes.1 report in
+    no_pass (subst (λ (x : Report). IsPass x.finding) same passes.2)
+
+same_first : (asked : Asked) (matrix other : Matrix) (r q : Report) (choice : List ℕ) → AllEnd asked.component asked.setup → matrix ≡ role_matrix asked choice → IsRoleReport asked choice r → other ≡ role_matrix asked choice → IsRoleReport asked choice q → First matrix r ≡ First other q
+same_first asked matrix other r q choice ends is report same its =
+    let one : r ≡ q = one_report asked.component (role_matrix asked choice) asked.bound asked.serial r q ends report its in
+    ap (λ (m : Matrix). First m r) (is ∙ sym same) ∙ ap (First other) one
+
+one_first : (asked : Asked) (from to : ℕ) (matrix other : Matrix) (r q : Report) → AllEnd asked.component asked.setup → IsFirstAmong asked (IsWithin asked from to) matrix r → IsFirstAmong asked (IsWithin asked from to) other q → First matrix r ≡ First other q
+one_first asked from to matrix other r q ends x y = elim (compare (bases_of asked) x.choice y.choice x.among.chosen y.among.chosen) [
+  | inl before ↦ absurd (one_judged asked x.choice r ends (y.before x.choice x.among before) x.report x.no_pass)
+  | inr others ↦ elim others [
+    | inl behind ↦ absurd (one_judged asked y.choice q ends (x.before y.choice y.among behind) y.report y.no_pass)
+    | inr same ↦ same_first asked matrix other r q y.choice ends (x.is ∙ ap (role_matrix asked) same) (subst (λ (choice : List ℕ). IsRoleReport asked choice r) same x.report) y.is y.report
+  ]
+]
+
+pub one_answer : (asked : Asked) (from to : ℕ) (found other : Campaign) → AllEnd asked.component asked.setup → IsFoundInSlice asked from to found → IsFoundInSlice asked from to other → found ≡ other
+one_answer asked from to (AllPass count) (AllPass others) ends x y = ap AllPass (x.0 ∙ sym y.0)
+one_answer asked from to (AllPass count) (First other q) ends x y = absurd (one_judged asked y.choice q ends (x.1 y.choice y.among) y.report y.no_pass)
+one_answer asked from to (First matrix r) (AllPass others) ends x y = absurd (one_judged asked x.choice r ends (y.1 x.choice x.among) x.report x.no_pass)
+one_answer asked from to (First matrix r) (First other q) ends x y = one_first asked from to matrix other r q ends x y

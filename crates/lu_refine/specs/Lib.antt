@@ -3,5 +3,5 @@ pub mod Choices
 pub mod Campaigns
 pub mod Roles
 pub mod ByThread
-pub mod Slices
+pub mod Laws
 pub mod Codes

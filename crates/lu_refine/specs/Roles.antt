@@ -2,7 +2,8 @@
 use Rattle.std.specs.Prelude.{ℕ, ◌≤◌, List, [], ◌∷◌, ◌++◌, length, map, take, drop, replicate, All, Any}
 use Rattle.lu_component.specs.Component.{Declarations}
 use Rattle.lu_test.specs.declared.matrix.Call.{Call}
-use Rattle.lu_test.specs.Matrix.{AreArguments, IsCallOf, Matrix}
+use Rattle.lu_test.specs.Matrix.{Matrix}
+use Rattle.lu_refine.specs.Campaigns.{AreCallsOf, HaveArguments}
 use Rattle.lu_refine.specs.Choices.{candidate_at}
 
 -- how many calls a thread makes that has these candidates: none where it has none
@@ -47,10 +48,10 @@ pub record AreRows (calls : ℕ) (candidates : List (List Call)) : Type 0 where
 abbrev pub AreWithinLimits : ℕ → List (List Call) → Type 0
 AreWithinLimits calls candidates = AreRoles candidates × AreRows calls candidates
 
--- each candidate is a call of the component
+-- each thread's candidates are calls of the component
 abbrev pub AllCallsOf : Declarations → List (List Call) → Type 0
-AllCallsOf c candidates = All (λ thread. All (IsCallOf c) thread) candidates
+AllCallsOf c candidates = All (AreCallsOf c) candidates
 
--- each has at most 4 arguments, which are numbers of 32 bits
+-- at most 4 arguments of each, which are numbers of 32 bits
 abbrev pub AllHaveArguments : List (List Call) → Type 0
-AllHaveArguments candidates = All (λ thread. All (λ call. AreArguments call.args) thread) candidates
+AllHaveArguments candidates = All HaveArguments candidates

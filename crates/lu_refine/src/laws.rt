@@ -1,7 +1,7 @@
 //! Laws of removals and of slices, for the crates above. Their functions do nothing.
 
+ghost use Rattle.lu_refine.specs.Laws.{ChoicesNumbered, OneAnswer, SlicesJoin};
 ghost use Rattle.lu_refine.specs.Removals.{OneShrunk};
-ghost use Rattle.lu_refine.specs.Slices.{SlicesJoin};
 
 /// A chain of least removals has one end: so a matrix that fails shrinks to one matrix.
 pub fn one_shrunk()
@@ -10,7 +10,14 @@ pub fn one_shrunk()
 
 /// Slices of a campaign that follow one another answer together what one slice answers: the first
 /// answer that names a matrix, or, where all pass, the sum of the counts. A slice of all matrices
-/// answers what the campaign answers.
+/// answers what the campaign answers. A slice has one answer, so it does not matter who tries it.
 pub fn slices_join()
-    ensures { SlicesJoin }
+    ensures join { SlicesJoin }
+    ensures one_answer { OneAnswer }
+{}
+
+/// What is numbered in a slice: each choice of candidates has a number of its own, from 0 to the
+/// one before their count, and in lexicographic order.
+pub fn choices_numbered()
+    ensures { ChoicesNumbered }
 {}
