@@ -8,7 +8,6 @@ use Rattle.lu_text.specs.Words.{Word}
 use Rattle.lu_component.specs.declared.instr.Operand.TheVariants.{Num}
 use Rattle.lu_component.specs.declared.instr.Instr.TheVariants.{Return}
 use Rattle.lu_lang.specs.declared.draft.Label.{Label}
-use Rattle.lu_lang.specs.declared.draft.Statement.{Statement}
 use Rattle.lu_lang.specs.declared.draft.Statement.TheVariants.{Plain}
 use Rattle.lu_lang.specs.Draft.{Begun, Drafted}
 use Rattle.lu_lang.specs.Words.{keyword_in}

@@ -1,5 +1,5 @@
 -- What a line with a fault leaves of a matrix keeps the limits, and its calls are the component's.
-use Rattle.std.proofs.Common.{◌≡◌, ℕ, ◌+◌, ◌≤◌, ◌<◌, Bool, true, false, cond, List, [], ◌∷◌, ◌++◌, length, Option, Some, None, refl, arith}
+use Rattle.std.proofs.Common.{◌≡◌, ℕ, ◌+◌, ◌≤◌, Bool, true, false, cond, List, [], ◌∷◌, ◌++◌, length, Some, refl, arith}
 use Rattle.std.specs.Prelude.{◌&&◌, nat_le, All, sum_by, codes}
 use Rattle.std.specs.Str.{bytes_eq}
 use Rattle.std.proofs.lemmas.Bool.{leb-false}
@@ -10,7 +10,7 @@ use Rattle.lu_text.specs.Words.{Word}
 use Rattle.lu_text.proofs.Written.{All-last}
 use Rattle.lu_component.specs.Component.{Declarations}
 use Rattle.lu_test.specs.declared.matrix.Call.{Call}
-use Rattle.lu_test.specs.Matrix.{AreArguments, AreThreads, IsOf, IsCallOf, Matrix}
+use Rattle.lu_test.specs.Matrix.{AreArguments, AreThreads, IsOf, IsCallOf}
 use Rattle.lu_test.specs.MatrixText.{Drafted, IsDraft, is_nothing, matrix_of, parts_in}
 use Rattle.lu_test.specs.MatrixGoing.{with_empty, mend_parts, mend}
 

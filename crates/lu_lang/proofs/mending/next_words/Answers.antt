@@ -1,4 +1,4 @@
-use Rattle.std.proofs.Common.{◌≡◌, ◌∙◌, sym, length, drop, arith}
+use Rattle.std.proofs.Common.{◌∙◌, sym, arith}
 use Rattle.std.specs.Prelude.{vec_len}
 use Rattle.lu_lang.proofs.Behind.{is_next, is_passed}
 use Rattle.lu_lang.proofs.mending.next_words.Goals as goal

@@ -1,0 +1,119 @@
+-- Going on behind faults: the loop, and that the first fault is the reader's.
+use Rattle.std.proofs.Common.{arith, ◌≡◌, ℕ, ◌+◌, true, false, eqb, List, [], ◌∷◌, ◌++◌, length, map, drop, Option, Some, None, Result, Ok, Err, refl, sym, ap, ◌∙◌}
+use Rattle.std.proofs.lemmas.Bool.{eqb-true, eqb-false}
+use Rattle.std.proofs.lemmas.List.{append_assoc, append-nil, drop-map, map-append}
+use Rattle.lu_text.specs.declared.fault.Fault.TheVariants.{At}
+use Rattle.lu_text.specs.Faults.{on_line, then_lines, lines_after, meaning_of}
+use Rattle.lu_text.specs.Lines.{lines_of, texts}
+use denote.Ref.{Bor}
+use Rattle.lu_component.specs.Component.{Declarations}
+use Rattle.lu_lang.specs.Going.{going_on}
+use Rattle.lu_lang.specs.Grammar.{fault_in as component_fault}
+use Rattle.lu_lang.specs.declared.fault.LangFaultKind.{LangFaultKind}
+use Rattle.lu_test.specs.declared.matrix_fault.MatrixFaultKind.{MatrixFaultKind}
+use Rattle.lu_test.specs.MatrixGoing.{fault_in as matrix_fault}
+use Rattle.lu_lint.specs.declared.remark.Said.{Said}
+use Rattle.lu_lint.specs.declared.remark.Remark.{Remark}
+use Rattle.lu_lint.specs.declared.remark.FaultKind.{FaultKind}
+use Rattle.lu_lint.specs.Said.{said_of, said_told, said_faults}
+use Rattle.lu_lint.specs.Lint.{Lint, Told, with_words, told, told_here, told_at, told_on, left_by, end_told, end_faults, then_faults, faults_after, faults_in, Agree}
+use Rattle.lu_lint.specs.Component.{component_lint}
+use Rattle.lu_lint.specs.Matrix.{matrix_lint}
+
+pub said_push : (all : List Remark) (r : Remark) → said_of (all ++ r ∷ []) ≡ said_of all ++ r.said ∷ []
+said_push all r = map-append (λ r. r.said) all (r ∷ [])
+
+-- what is said of two lists of faults
+pub said_more : {Kind : Type 0} (of : Kind → FaultKind) (above : ℕ) (xs ys : List (Told Kind)) → said_faults of above (xs ++ ys) ≡ said_faults of above xs ++ said_faults of above ys
+said_more of above xs ys = map-append (said_told of above) xs ys
+
+-- one message on the line itself
+pub told_once : {Kind : Type 0} (seen : List ℕ) (n : ℕ) (kind : Kind) (backs : List ℕ) (m : ℕ) → m ≡ length backs → eqb m 0 ≡ true → told seen n kind backs ≡ told_here n kind ∷ []
+told_once seen n kind [] m len e = refl
+told_once seen n kind (b ∷ bs) m len e = absurd (omega (arith, eqb-true m 0 e, len))
+
+-- or one for each number
+pub told_each : {Kind : Type 0} (seen : List ℕ) (n : ℕ) (kind : Kind) (backs : List ℕ) (m : ℕ) → m ≡ length backs → eqb m 0 ≡ false → told seen n kind backs ≡ map (told_at seen n kind) backs
+told_each seen n kind [] m len e = absurd (eqb-false m 0 e len)
+told_each seen n kind (b ∷ bs) m len e = refl
+
+-- a fault is told once, on its line
+pub is_once : {Kind : Type 0} (of : Kind → FaultKind) (above : ℕ) (before next : List Said) (said : Said) (seen : List ℕ) (n : ℕ) (kind : Kind) (backs meant : List ℕ) (m : ℕ)
+    → next ≡ before ++ said ∷ [] → said ≡ said_told of above (told_here n kind) → backs ≡ meant → m ≡ length backs → eqb m 0 ≡ true → next ≡ before ++ said_faults of above (told seen n kind meant)
+is_once of above before next said seen n kind backs meant m more is same len e = rw (more, is, ← same, told_once seen n kind backs m len e) refl
+
+-- or once for each jump
+pub is_each : {Kind : Type 0} (of : Kind → FaultKind) (above : ℕ) (before next : List Said) (seen : List ℕ) (n : ℕ) (kind : Kind) (backs meant : List ℕ) (m : ℕ)
+    → next ≡ before ++ said_faults of above (map (told_at seen n kind) backs) → backs ≡ meant → m ≡ length backs → eqb m 0 ≡ false → next ≡ before ++ said_faults of above (told seen n kind meant)
+is_each of above before next seen n kind backs meant m more same len e = rw (more, ← same, told_each seen n kind backs m len e) refl
+
+-- a line is told or not, and the rest is read from the draft that it leaves
+pub goes_on : {Kind Draft Value : Type 0} (l : Lint Kind Draft Value) (of : Kind → FaultKind) (above : ℕ) (seen : List ℕ) (n : ℕ) (d d1 next : Draft) (fault : Option Kind) (line : List ℕ) (rest behind : List (List ℕ)) (before total : List Said)
+    → (d1, fault) ≡ going_on d (l.grammar.line d line) → next ≡ left_by l.mend d1 line behind fault → behind ≡ rest
+    → before ++ said_faults of above (faults_after l seen n d (line ∷ rest)) ≡ total → (before ++ said_faults of above (told_on l seen n d1 line fault)) ++ said_faults of above (faults_after l (with_words seen n line) (n + 1) next rest) ≡ total
+unfolding faults_after
+goes_on {Kind = Kind} {Draft = Draft} l of above seen n d d1 next fault line rest behind before total e left is so_far = go (l.grammar.line d line) e so_far
+  where
+    go : (r : Result Draft Kind) → (d1, fault) ≡ going_on d r → before ++ said_faults of above (then_faults l seen n d line rest r (λ x. faults_after l (with_words seen n line) (n + 1) x rest)) ≡ total → (before ++ said_faults of above (told_on l seen n d1 line fault)) ++ said_faults of above (faults_after l (with_words seen n line) (n + 1) next rest) ≡ total
+    go (Ok y) f h =
+        let same : d1 ≡ y = ap (λ (x : Draft × Option Kind). x.0) f in
+        let none : fault ≡ None = ap (λ (x : Draft × Option Kind). x.1) f in
+        rw (left, is, same, none, append-nil before) h
+    go (Err k) f h =
+        let same : d1 ≡ d = ap (λ (x : Draft × Option Kind). x.0) f in
+        let some : fault ≡ Some k = ap (λ (x : Draft × Option Kind). x.1) f in
+        let these = told seen n k (l.backs d line k) in
+        let others = faults_after l (with_words seen n line) (n + 1) (l.mend d line rest) rest in
+        rw (left, is, same, some) (append_assoc before (said_faults of above these) (said_faults of above others) ∙ ap (λ (x : List Said). before ++ x) (sym (said_more of above these others)) ∙ h)
+
+-- no line is left
+pub is_done : {Kind Draft Value : Type 0} (l : Lint Kind Draft Value) (of : Kind → FaultKind) (above : ℕ) (seen : List ℕ) (n m : ℕ) (d : Draft) (fault : Option Kind) (before total : List Said)
+    → n ≡ m → ((r : Result Value Kind) → l.grammar.finish d ≡ r → end_faults n r ≡ end_told n fault)
+    → before ++ said_faults of above (faults_after l seen n d []) ≡ total → before ++ said_faults of above (end_told m fault) ≡ total
+unfolding faults_after
+is_done l of above seen n m d fault before total e end so_far = rw (← e, ← end (l.grammar.finish d) refl) so_far
+
+-- a text is read where there is no fault; else the reader's fault is the first
+first_told : {Kind : Type 0} (A : Type 0) (seen : List ℕ) (n : ℕ) (kind : Kind) (backs : List ℕ) (others : List (Told Kind)) → Agree {Kind = Kind} {A = A} (Err (At kind n)) (told seen n kind backs ++ others)
+first_told A seen n kind [] others = refl
+first_told A seen n kind (b ∷ bs) others = refl
+
+pub agree_after : {Kind Draft Value : Type 0} (l : Lint Kind Draft Value) (seen : List ℕ) (n : ℕ) (d : Draft) (lines : List (List ℕ)) → Agree (lines_after l.grammar n d lines) (faults_after l seen n d lines)
+unfolding faults_after lines_after
+agree_after {Kind = Kind} {Value = Value} l seen n d [] = go (l.grammar.finish d)
+  where
+    go : (r : Result Value Kind) → Agree (on_line n r) (end_faults n r)
+    go (Ok v) = tt
+    go (Err k) = refl
+agree_after {Kind = Kind} {Draft = Draft} {Value = Value} l seen n d (line ∷ lines) = go (l.grammar.line d line) (λ x. agree_after l (with_words seen n line) (n + 1) x lines)
+  where
+    go : (r : Result Draft Kind) → ((x : Draft) → Agree (lines_after l.grammar (n + 1) x lines) (faults_after l (with_words seen n line) (n + 1) x lines)) → Agree (then_lines (on_line n r) (λ x. lines_after l.grammar (n + 1) x lines)) (then_faults l seen n d line lines r (λ x. faults_after l (with_words seen n line) (n + 1) x lines))
+    go (Ok x) again = again x
+    go (Err k) again = first_told Value seen n k (l.backs d line k) (faults_after l (with_words seen n line) (n + 1) (l.mend d line lines) lines)
+
+pub agrees : {Kind Draft Value : Type 0} (l : Lint Kind Draft Value) (text : List ℕ) → Agree (meaning_of l.grammar text) (faults_in l text)
+agrees l text = agree_after l [] 1 l.grammar.nothing (lines_of text)
+
+pub component_agrees : (text : List ℕ) → Agree (meaning_of component_lint.grammar text) (faults_in component_lint text)
+component_agrees text = agrees component_lint text
+
+pub matrix_agrees : (c : Declarations) (text : List ℕ) → Agree (meaning_of (matrix_lint c).grammar text) (faults_in (matrix_lint c) text)
+matrix_agrees c text = agrees (matrix_lint c) text
+
+-- the lines behind a line, in memory
+pub texts_behind : (lines : List (Bor (List ℕ))) (i : ℕ) → texts (drop i lines) ≡ drop i (texts lines)
+texts_behind lines i = sym (drop-map (λ w. w.now) i lines)
+
+-- what is wrong at the end of a component
+pub component_end : {Value : Type 0} (n : ℕ) (fault : Option LangFaultKind) (meant r : Result Value LangFaultKind) → fault ≡ component_fault meant → meant ≡ r → end_faults n r ≡ end_told n fault
+component_end n fault meant (Ok v) e is = rw (e, is) refl
+component_end n fault meant (Err k) e is = rw (e, is) refl
+
+-- and of a matrix
+pub matrix_end : {Value : Type 0} (n : ℕ) (fault : Option MatrixFaultKind) (meant r : Result Value MatrixFaultKind) → fault ≡ matrix_fault meant → meant ≡ r → end_faults n r ≡ end_told n fault
+matrix_end n fault meant (Ok v) e is = rw (e, is) refl
+matrix_end n fault meant (Err k) e is = rw (e, is) refl
+
+-- what is said first, and then
+pub two_more : (all one two x y : List Said) → one ≡ all ++ x → two ≡ one ++ y → two ≡ all ++ (x ++ y)
+two_more all one two x y e f = rw (f, e) (append_assoc all x y)

@@ -1,0 +1,12 @@
+use Rattle.std.proofs.Common.{◌∙◌, sym, vec_len}
+use Rattle.lu_lint.specs.declared.remark.FaultKind.TheVariants as part
+use Rattle.lu_lint.proofs.Going.{is_once, is_each}
+use Rattle.lu_lint.proofs.component.with_fault.Goals as goal
+
+pub returns-then-is_empty : goal.returns-then-is_empty
+returns-then-is_empty c =
+    is_once part.Component c.args.at.now.above _ _ _ c.args.at.now.seen.items c.args.at.now.line c.args.kind c.in_ok-backs.backs.items _ (vec_len c.in_ok-backs.backs) c.in_ok-all.ensures c.said.ensures c.in_ok-backs.ensures c.in_ok-backs.backs.ok.0 (sym c.is_empty.ensures ∙ c.if-is_empty.true)
+
+pub returns : goal.returns
+returns c =
+    is_each part.Component c.args.at.now.above _ _ c.args.at.now.seen.items c.args.at.now.line c.args.kind c.in_ok-backs.backs.items _ (vec_len c.in_ok-backs.backs) (rw c.deref.ensures.value at c.in_ok-all-2.ensures) c.in_ok-backs.ensures c.in_ok-backs.backs.ok.0 (sym c.is_empty.ensures ∙ c.if-is_empty.false)

@@ -1,0 +1,8 @@
+use Rattle.lu_lint.proofs.Going.{component_agrees, matrix_agrees}
+use Rattle.lu_lint.proofs.laws.agree.Goals as goal
+
+pub returns-clause-component : goal.returns-clause-component
+returns-clause-component c = component_agrees
+
+pub returns-clause-matrix : goal.returns-clause-matrix
+returns-clause-matrix c = matrix_agrees

@@ -1,0 +1,17 @@
+-- What lint and the readers say of one text.
+use Rattle.std.specs.Prelude.{ℕ, List}
+use Rattle.lu_component.specs.Component.{Declarations}
+use Rattle.lu_text.specs.Faults.{meaning_of}
+use Rattle.lu_lint.specs.Lint.{Agree, faults_in}
+use Rattle.lu_lint.specs.Component.{component_lint}
+use Rattle.lu_lint.specs.Matrix.{matrix_lint}
+
+-- a component's text has no fault exactly where the reader reads it; else the first is the reader's
+abbrev pub ComponentAgrees : Type 0
+ComponentAgrees =
+    (text : List ℕ) → Agree (meaning_of component_lint.grammar text) (faults_in component_lint text)
+
+-- the same for a matrix of any component
+abbrev pub MatrixAgrees : Type 0
+MatrixAgrees = (c : Declarations) (text : List ℕ)
+    → Agree (meaning_of (matrix_lint c).grammar text) (faults_in (matrix_lint c) text)

@@ -1,0 +1,107 @@
+-- All faults of a text that is read by lines.
+use Rattle.std.specs.Prelude.{◌≡◌, ℕ, ◌+◌, ◌-◌, List, [], ◌∷◌, ◌++◌, length, map, Option, Some, None, Result, Ok, Err, slice_get, ◌==◌, if◌then◌else◌}
+use Rattle.std.specs.Option.{unwrap_or}
+use Rattle.lu_text.specs.declared.fault.Fault.{Fault}
+use Rattle.lu_text.specs.declared.fault.Fault.TheVariants.{At}
+use Rattle.lu_text.specs.Lines.{lines_of, words_of}
+use Rattle.lu_text.specs.Faults.{Grammar}
+
+-- A fault, the line that it is a fault of, and the line that its message stands on.
+pub record Told (Kind : Type 0) : Type 0 where
+  pub kind : Kind
+  pub line : ℕ
+  pub place : ℕ
+
+-- How a text is read behind its first fault. A line that has a fault leaves `mend` of the draft before
+-- it, of the line, and of the lines behind it. Each message stands one of `backs` lines with words
+-- before the line; one stands on the line itself where that is empty.
+pub record Lint (Kind Draft Value : Type 0) : Type 0 where
+  pub grammar : Grammar Kind Draft Value
+  pub mend : Draft → List ℕ → List (List ℕ) → Draft
+  pub backs : Draft → List ℕ → Kind → List ℕ
+
+-- the lines with words so far, with line n
+abbrev pub with_words : List ℕ → ℕ → List ℕ → List ℕ
+with_words seen n line = if length (words_of line) == 0 then seen else seen ++ n ∷ []
+
+-- the line so many lines with words before line n
+abbrev pub place_of : List ℕ → ℕ → ℕ → ℕ
+place_of seen n back = unwrap_or (slice_get seen (length seen - back)) n
+
+abbrev pub told_at : {Kind : Type 0} → List ℕ → ℕ → Kind → ℕ → Told Kind
+told_at seen n kind back = record { kind = kind; line = n; place = place_of seen n back }
+
+-- a fault of line n that is told on its line
+abbrev pub told_here : {Kind : Type 0} → ℕ → Kind → Told Kind
+told_here n kind = record { kind = kind; line = n; place = n }
+
+-- what is told of a fault of line n
+abbrev pub told : {Kind : Type 0} → List ℕ → ℕ → Kind → List ℕ → List (Told Kind)
+told seen n kind [] = told_here n kind ∷ []
+told seen n kind (back ∷ backs) = map (told_at seen n kind) (back ∷ backs)
+
+-- the same, where there is one
+abbrev pub told_on : {Kind Draft Value : Type 0} → Lint Kind Draft Value → List ℕ → ℕ → Draft
+    → List ℕ
+    → Option Kind
+    → List (Told Kind)
+told_on l seen n d line None = []
+told_on l seen n d line (Some kind) = told seen n kind (l.backs d line kind)
+
+-- the fault of the end, on line n, where there is one
+abbrev pub end_told : {Kind : Type 0} → ℕ → Option Kind → List (Told Kind)
+end_told n None = []
+end_told n (Some kind) = told_here n kind ∷ []
+
+abbrev pub end_faults : {Kind A : Type 0} → ℕ → Result A Kind → List (Told Kind)
+end_faults n (Ok x) = []
+end_faults n (Err kind) = told_here n kind ∷ []
+
+-- the draft from which the lines behind a line are read, where the line left this or has a fault
+abbrev pub left_by : {Kind Draft : Type 0} → (Draft → List ℕ → List (List ℕ) → Draft) → Draft
+    → List ℕ
+    → List (List ℕ)
+    → Option Kind
+    → Draft
+left_by mend d line lines None = d
+left_by mend d line lines (Some kind) = mend d line lines
+
+-- what a line gives, which is line n, and then the lines behind it: from the next draft, or, where
+-- the line has a fault, that fault and then the lines from what it leaves
+abbrev pub then_faults : {Kind Draft Value : Type 0} → Lint Kind Draft Value → List ℕ → ℕ → Draft
+    → List ℕ
+    → List (List ℕ)
+    → Result Draft Kind
+    → (Draft → List (Told Kind))
+    → List (Told Kind)
+then_faults l seen n d line lines (Ok next) rest = rest next
+then_faults l seen n d line lines (Err kind) rest =
+    told seen n kind (l.backs d line kind) ++ rest (l.mend d line lines)
+
+-- the faults of these lines, which begin with line n, behind this draft
+unfoldable pub faults_after : {Kind Draft Value : Type 0} → Lint Kind Draft Value → List ℕ → ℕ
+    → Draft
+    → List (List ℕ)
+    → List (Told Kind)
+faults_after l seen n d [] = end_faults n (l.grammar.finish d)
+faults_after l seen n d (line ∷ lines) =
+    then_faults l seen n d line lines (l.grammar.line d line)
+    (λ next. faults_after l (with_words seen n line) (n + 1) next lines)
+
+-- the faults of a text's lines
+abbrev pub faults_of_lines : {Kind Draft Value : Type 0} → Lint Kind Draft Value → List (List ℕ)
+    → List (Told Kind)
+faults_of_lines l lines = faults_after l [] 1 l.grammar.nothing lines
+
+-- the faults of a text
+abbrev pub faults_in : {Kind Draft Value : Type 0} → Lint Kind Draft Value → List ℕ
+    → List (Told Kind)
+faults_in l text = faults_of_lines l (lines_of text)
+
+-- what a reader and lint say of one text: it is read where there is no fault, and else the first
+-- fault is the reader's
+abbrev pub Agree : {Kind A : Type 0} → Result A (Fault Kind) → List (Told Kind) → Type 0
+Agree (Ok x) [] = Unit {0}
+Agree (Ok x) (first ∷ others) = ⊥
+Agree (Err e) [] = ⊥
+Agree (Err e) (first ∷ others) = e ≡ At first.kind first.line

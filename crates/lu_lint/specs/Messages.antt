@@ -1,0 +1,43 @@
+-- The lines in which lint says what it says.
+use Rattle.std.specs.Prelude.{ℕ, List, ◌++◌, codes, string_bytes}
+use Rattle.std.specs.List.{flat_map}
+use Rattle.std.specs.Fmt.{decimal}
+use Rattle.lu_lang.specs.Kinds.{code_of}
+use Rattle.lu_test.specs.Codes.{matrix_code_of}
+use Rattle.lu_lint.specs.declared.remark.Remark.{Remark}
+use Rattle.lu_lint.specs.declared.remark.FaultKind.{FaultKind}
+use Rattle.lu_lint.specs.declared.remark.FaultKind.TheVariants as part
+use Rattle.lu_lint.specs.declared.remark.Cause.{Cause}
+use Rattle.lu_lint.specs.declared.remark.Cause.TheVariants.{Fault, Separator}
+
+-- the code of the refusal
+abbrev pub fault_code : FaultKind → List ℕ
+fault_code (part.Component kind) = code_of kind
+fault_code (part.Matrix kind) = matrix_code_of kind
+
+-- the part that it is a fault of
+abbrev pub fault_part : FaultKind → List ℕ
+fault_part (part.Component kind) = codes "component"
+fault_part (part.Matrix kind) = codes "matrix"
+
+-- the line of the bundle, and the words
+abbrev pub remark_head : ℕ → List ℕ → List ℕ
+remark_head place words = codes "line " ++ decimal place ++ codes ": " ++ words
+
+-- the code of a fault and its line in the part, as the other commands name them
+abbrev pub fault_tail : FaultKind → ℕ → List ℕ
+fault_tail kind n =
+    codes " (" ++ fault_code kind ++ codes ", line " ++ decimal n ++ codes " of the "
+    ++ fault_part kind
+    ++ codes ")\n"
+
+abbrev pub remark_tail : Cause → List ℕ
+remark_tail (Fault kind n) = fault_tail kind n
+remark_tail Separator = codes "\n"
+
+-- a line for one remark
+abbrev pub remark_text : Remark → List ℕ
+remark_text r = remark_head r.said.place (string_bytes r.words) ++ remark_tail r.said.cause
+
+abbrev pub remarks_text : List Remark → List ℕ
+remarks_text remarks = flat_map remark_text remarks

@@ -1,0 +1,181 @@
+//! The faults of a component's text.
+
+ghost use Rattle.std.specs.Prelude.{◌≡◌, ◌++◌, IfOk, map};
+ghost use Rattle.lu_lang.specs.Grammar.{component_grammar, fault_in};
+ghost use Rattle.lu_lang.specs.Mend.{mend};
+ghost use Rattle.lu_lint.specs.Component.{component_lint};
+ghost use Rattle.lu_lint.specs.Lint as spec;
+ghost use Rattle.lu_lint.specs.Lint.{end_told, faults_in, faults_of_lines, told_on};
+ghost use Rattle.lu_lint.specs.Said.{said_faults, said_of, said_told};
+ghost use Rattle.lu_lint.specs.declared.remark.FaultKind.TheVariants as part;
+ghost use Rattle.lu_text.specs.Lines.{texts};
+
+use crate::remark::{
+    Cause, FaultKind, Position, Remark, Said, line_below, place_of, with_remark, with_words,
+};
+use crate::wording::{end_wording, jump_wording, wording};
+use lu_lang::{Draft, LangFaultKind, end_fault, line_or_fault, mended, message_backs};
+use lu_text::lines_of;
+use std::alloc::{AllocError, Global};
+
+/// What is said of a fault of a component, whose message stands on line `place` of it.
+fn said(at: &Position, kind: LangFaultKind, place: usize) -> Said
+    ensures { result ≡ said_told part.Component at.now.above
+        (record { kind = kind; line = at.now.line; place = place }) }
+{
+    Said {
+        place: line_below(at.above, place),
+        cause: Cause::Fault(FaultKind::Component(kind), at.line),
+    }
+}
+
+/// The remarks with those on jumps to labels that are not there, which stand so many lines before.
+fn with_jumps(
+    alloc: Global,
+    mut all: Vec<Remark>,
+    at: &Position,
+    draft: &Draft,
+    kind: LangFaultKind,
+    backs: &[usize],
+) -> Result<Vec<Remark>, AllocError>
+    ensures { IfOk result (λ next. said_of next.items ≡ said_of all.items
+        ++ said_faults part.Component at.now.above
+        (map (spec.told_at at.now.seen.items at.now.line kind) backs.now)) }
+{
+    for back in backs {
+        let words = jump_wording(alloc, draft, *back)?;
+        let place = place_of(&at.seen, at.line, *back);
+        all = with_remark(all, said(at, kind, place), words)?;
+    }
+    Ok(all)
+}
+
+/// The remarks with those on a fault of this line.
+fn with_fault(
+    alloc: Global,
+    all: Vec<Remark>,
+    at: &Position,
+    draft: &Draft,
+    kind: LangFaultKind,
+    text: &[u8],
+) -> Result<Vec<Remark>, AllocError>
+    ensures { IfOk result (λ next. said_of next.items ≡ said_of all.items
+        ++ said_faults part.Component at.now.above
+        (told_on component_lint at.now.seen.items at.now.line draft.now text.now (Some kind))) }
+{
+    let backs = message_backs(alloc, draft, text, kind)?;
+    if backs.is_empty() {
+        let words = wording(alloc, draft, kind, text)?;
+        let all = with_remark(all, said(at, kind, at.line), words)?;
+        return Ok(all);
+    }
+    let all = with_jumps(alloc, all, at, draft, kind, &backs)?;
+    Ok(all)
+}
+
+/// The remarks with those on this line, where it has a fault.
+fn with_line(
+    alloc: Global,
+    all: Vec<Remark>,
+    at: &Position,
+    draft: &Draft,
+    fault: Option<LangFaultKind>,
+    text: &[u8],
+) -> Result<Vec<Remark>, AllocError>
+    ensures { IfOk result (λ next. said_of next.items ≡ said_of all.items
+        ++ said_faults part.Component at.now.above
+        (told_on component_lint at.now.seen.items at.now.line draft.now text.now fault)) }
+{
+    match fault {
+        None => Ok(all),
+        Some(kind) => with_fault(alloc, all, at, draft, kind, text),
+    }
+}
+
+/// The draft from which the lines behind a line are read.
+fn left_by(
+    alloc: Global,
+    draft: Draft,
+    fault: Option<LangFaultKind>,
+    text: &[u8],
+    lines: &[&[u8]],
+) -> Result<Draft, AllocError>
+    ensures { IfOk result (λ next.
+        next ≡ spec.left_by mend draft text.now (texts lines.now) fault) }
+{
+    match fault {
+        None => Ok(draft),
+        Some(_) => mended(alloc, draft, text, lines),
+    }
+}
+
+/// The remarks with that on the end of the text, where it has a fault.
+fn with_end(
+    alloc: Global,
+    all: Vec<Remark>,
+    at: &Position,
+    draft: &Draft,
+) -> Result<Vec<Remark>, AllocError>
+    ensures { IfOk result (λ next. said_of next.items ≡ said_of all.items
+        ++ said_faults part.Component at.now.above
+        (end_told at.now.line (fault_in (component_grammar.finish draft.now)))) }
+{
+    match end_fault(draft) {
+        None => Ok(all),
+        Some(kind) => {
+            let words = end_wording(alloc, draft)?;
+            with_remark(all, said(at, kind, at.line), words)
+        }
+    }
+}
+
+fn faults_of_lines(
+    alloc: Global,
+    mut all: Vec<Remark>,
+    above: usize,
+    lines: &[&[u8]],
+) -> Result<Vec<Remark>, AllocError>
+    ensures { IfOk result (λ next. said_of next.items ≡ said_of all.items
+        ++ said_faults part.Component above (faults_of_lines component_lint (texts lines.now))) }
+{
+    let mut draft = Draft::new(alloc);
+    let mut seen = Vec::new(alloc);
+    for (before, text) in lines.iter().enumerate() {
+        let at = Position {
+            above,
+            line: before + 1,
+            seen,
+        };
+        let (next, fault) = line_or_fault(alloc, draft, text)?;
+        all = with_line(alloc, all, &at, &next, fault, text)?;
+        let (_, behind) = lines.split_at(before + 1);
+        draft = left_by(alloc, next, fault, text, behind)?;
+        seen = with_words(alloc, at.seen, before + 1, text)?;
+    }
+    let at = Position {
+        above,
+        line: lines.len() + 1,
+        seen,
+    };
+    let all = with_end(alloc, all, &at, &draft)?;
+    Ok(all)
+}
+
+/// The remarks with those on a component's text, before which `above` lines of the bundle stand:
+/// one on every fault that does not only follow from another, in the order of their lines.
+///
+/// # Errors
+///
+/// There is no memory for the remarks.
+pub(crate) fn with_component(
+    alloc: Global,
+    all: Vec<Remark>,
+    above: usize,
+    text: &[u8],
+) -> Result<Vec<Remark>, AllocError>
+    ensures { IfOk result (λ next. said_of next.items ≡
+        said_of all.items ++ said_faults part.Component above (faults_in component_lint text.now)) }
+{
+    let lines = lines_of(alloc, text)?;
+    faults_of_lines(alloc, all, above, &lines)
+}

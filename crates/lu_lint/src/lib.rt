@@ -1,0 +1,17 @@
+//! Every fault of a bundle, in words.
+#![tactic(auto)]
+
+mod bundle;
+mod component;
+mod laws;
+mod linting;
+mod matrix;
+mod matrix_wording;
+mod remark;
+mod shape;
+mod wording;
+mod writing;
+
+pub use laws::agree;
+pub use linting::{Linted, lint};
+pub use remark::{Cause, FaultKind, Remark, Said};

@@ -1,0 +1,203 @@
+//! The words for a fault of a matrix's line: what stands there, and what was wanted.
+
+use crate::wording::{hint, is_near, is_register, shown, unknown_byte};
+use lu_component::{Component, Op};
+use lu_test::{Draft, MatrixFaultKind};
+use lu_text::{before_comment, has_name_form, parts_of, value_in, words_of};
+use std::alloc::{AllocError, Global};
+
+/// The words of a call: those of a part, without the line's first word.
+fn call_words<'a>(
+    alloc: Global,
+    number: usize,
+    part: &'a [u8],
+) -> Result<Vec<&'a [u8]>, AllocError> {
+    let words = words_of(alloc, part)?;
+    if number > 0 {
+        return Ok(words);
+    }
+    match words.split_first() {
+        None => Ok(Vec::new(alloc)),
+        Some((_, rest)) => Vec::from_slice(alloc, rest),
+    }
+}
+
+fn operation<'a>(component: &'a Component, name: &[u8]) -> Option<&'a Op> {
+    component.operations().iter().find(|op| op.name.is(name))
+}
+
+fn near_operation<'a>(component: &'a Component, word: &[u8]) -> Option<&'a str> {
+    match component
+        .operations()
+        .iter()
+        .find(|op| is_near(word, op.name.as_bytes()))
+    {
+        None => None,
+        Some(op) => Some(op.name.as_str()),
+    }
+}
+
+/// The first words of a line that are none of a matrix's.
+fn form(alloc: Global, draft: &Draft, first: &[u8], is_empty: bool) -> Result<String, AllocError> {
+    let setup = first == b"setup".as_slice();
+    if setup && (draft.setup.is_some() || !draft.threads.is_empty()) {
+        return String::from_str(
+            alloc,
+            "setup stands once, before all threads; this line has one before it",
+        );
+    }
+    if is_empty || setup || first == b"thread".as_slice() {
+        return String::from_str(
+            alloc,
+            "beside a `;` stands nothing; a `;` parts calls and ends none, and a call is an operation's name and its arguments",
+        );
+    }
+    let near = if is_near(first, b"thread") {
+        Some("thread")
+    } else if is_near(first, b"setup") {
+        Some("setup")
+    } else {
+        None
+    };
+    let (hint, first) = (hint(alloc, near)?, shown(first));
+    format!(in alloc;
+        "{first} begins no line of a matrix; its lines are `thread CALL; CALL ..` and, first of all, `setup CALL; ..`{hint}"
+    )
+}
+
+/// The operations that there are, parted by commas.
+fn names(alloc: Global, component: &Component) -> Result<String, AllocError> {
+    let mut out = String::new(alloc);
+    for op in component.operations() {
+        if !out.is_empty() {
+            out.push_str(", ")?;
+        }
+        out.push_str(op.name.as_str())?;
+    }
+    Ok(out)
+}
+
+fn no_operation(alloc: Global, component: &Component, name: &[u8]) -> Result<String, AllocError> {
+    let said = shown(name);
+    match near_operation(component, name) {
+        Some(near) => format!(in alloc; "the component has no operation {said}; is it {near}?"),
+        None => {
+            let names = names(alloc, component)?;
+            format!(in alloc; "the component has no operation {said}; it has {names}")
+        }
+    }
+}
+
+fn arguments(alloc: Global, op: &Op, given: usize) -> Result<String, AllocError> {
+    let (name, takes) = (op.name.as_str(), op.args);
+    let (many, are) = (
+        if takes == 1 { "argument" } else { "arguments" },
+        if given == 1 { "is" } else { "are" },
+    );
+    format!(in alloc; "{name} takes {takes} {many}, here {are} {given}")
+}
+
+fn no_number(alloc: Global, word: &[u8]) -> Result<String, AllocError> {
+    let said = shown(word);
+    if is_register(word) || has_name_form(word) {
+        return format!(in alloc;
+            "{said} is no number; an argument is a number up to 4294967295, and a matrix has no registers or names"
+        );
+    }
+    format!(in alloc;
+        "{said} is no number; one is 0, or digits that do not begin with 0, at most 4294967295"
+    )
+}
+
+/// The words for the first call that has a fault of this kind, where one has.
+fn of_call(
+    alloc: Global,
+    component: &Component,
+    kind: MatrixFaultKind,
+    words: &[&[u8]],
+) -> Result<Option<String>, AllocError> {
+    let Some((name, rest)) = words.split_first() else {
+        return Ok(None);
+    };
+    match kind {
+        MatrixFaultKind::UnknownOp => match operation(component, name) {
+            Some(_) => Ok(None),
+            None => Ok(Some(no_operation(alloc, component, name)?)),
+        },
+        MatrixFaultKind::Arguments => match operation(component, name) {
+            Some(op) if usize::from(op.args) != rest.len() => {
+                Ok(Some(arguments(alloc, op, rest.len())?))
+            }
+            _ => Ok(None),
+        },
+        _ => match rest.iter().find(|word| value_in(word).is_none()) {
+            Some(word) => Ok(Some(no_number(alloc, word)?)),
+            None => Ok(None),
+        },
+    }
+}
+
+fn of_calls(
+    alloc: Global,
+    component: &Component,
+    kind: MatrixFaultKind,
+    parts: &[&[u8]],
+) -> Result<String, AllocError> {
+    for (number, part) in parts.iter().enumerate() {
+        let words = call_words(alloc, number, part)?;
+        if let Some(said) = of_call(alloc, component, kind, &words)? {
+            return Ok(said);
+        }
+    }
+    String::from_str(alloc, "a call of this line has a fault")
+}
+
+/// A line for which there is no room: of so many calls.
+fn limit(alloc: Global, draft: &Draft, first: &[u8], calls: usize) -> Result<String, AllocError> {
+    if first == b"setup".as_slice() {
+        return format!(in alloc; "a setup has at most 8 calls, here are {calls}");
+    }
+    if draft.threads.len() >= 8 {
+        return String::from_str(alloc, "there are 8 threads, and no matrix may have more");
+    }
+    if calls > 8 {
+        return format!(in alloc; "a thread has at most 8 calls, here are {calls}");
+    }
+    String::from_str(
+        alloc,
+        "all threads have at most 16 calls, and with this line there are more",
+    )
+}
+
+/// The words for a fault of this kind on a line, behind this draft.
+pub(crate) fn matrix_wording(
+    alloc: Global,
+    component: &Component,
+    draft: &Draft,
+    kind: MatrixFaultKind,
+    text: &[u8],
+) -> Result<String, AllocError> {
+    let parts = parts_of(alloc, b';', before_comment(text))?;
+    let first = match parts.first() {
+        None => Vec::new(alloc),
+        Some(part) => words_of(alloc, part)?,
+    };
+    let word: &[u8] = match first.first() {
+        None => b"",
+        Some(word) => word,
+    };
+    match kind {
+        MatrixFaultKind::Byte => unknown_byte(alloc, text),
+        MatrixFaultKind::Form => form(alloc, draft, word, first.is_empty()),
+        MatrixFaultKind::Limit => limit(alloc, draft, word, parts.len()),
+        _ => of_calls(alloc, component, kind, &parts),
+    }
+}
+
+/// The words for a fault at the end of the text.
+pub(crate) fn end_wording(alloc: Global) -> Result<String, AllocError> {
+    String::from_str(
+        alloc,
+        "there is no thread; a line is `thread CALL; CALL ..`",
+    )
+}

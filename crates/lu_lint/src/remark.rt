@@ -1,0 +1,141 @@
+//! What lint says of a bundle.
+
+ghost use Rattle.std.specs.Prelude.{◌≡◌, ◌++◌, ◌∷◌, [], IfOk};
+ghost use Rattle.lu_lint.specs.Lint as spec;
+ghost use Rattle.lu_lint.specs.Messages.{fault_code, fault_part};
+ghost use Rattle.lu_lint.specs.Said as said;
+ghost use Rattle.lu_lint.specs.Said.{said_of};
+
+use lu_lang::LangFaultKind;
+use lu_test::MatrixFaultKind;
+use lu_text::words_of;
+use std::alloc::{AllocError, Global};
+
+/// What is wrong with a line of a part.
+#[derive(Clone, Copy, Debug, Drop, PartialEq, Eq)]
+pub enum FaultKind {
+    /// Of the component.
+    Component(LangFaultKind),
+
+    /// Of the matrix.
+    Matrix(MatrixFaultKind),
+}
+
+impl FaultKind {
+    /// The code of the refusal, as `L1`.
+    pub fn code(self) -> &'static str
+        ensures { result.now ≡ fault_code self }
+    {
+        match self {
+            FaultKind::Component(kind) => kind.code(),
+            FaultKind::Matrix(kind) => kind.code(),
+        }
+    }
+
+    /// The part that it is a fault of.
+    pub fn part(self) -> &'static str
+        ensures { result.now ≡ fault_part self }
+    {
+        match self {
+            FaultKind::Component(_) => "component",
+            FaultKind::Matrix(_) => "matrix",
+        }
+    }
+}
+
+/// What a remark is about.
+#[derive(Clone, Copy, Debug, Drop, PartialEq, Eq)]
+pub enum Cause {
+    /// A fault, and the line of the part that it is a fault of, from 1.
+    Fault(FaultKind, usize),
+
+    /// A line that is nearly `---`, and parts nothing.
+    Separator,
+}
+
+impl Cause {
+    /// Whether this is a fault: everything but a warning.
+    pub fn is_fault(self) -> bool
+        ensures { result ≡ said.is_fault self }
+    {
+        match self {
+            Cause::Fault(_, _) => true,
+            Cause::Separator => true,
+        }
+    }
+}
+
+/// A line of the bundle, from 1, and what is said of it.
+#[derive(Clone, Copy, Debug, Drop, PartialEq, Eq)]
+pub struct Said {
+    pub place: usize,
+    pub cause: Cause,
+}
+
+/// What is said of a line, and the words for it.
+#[derive(Debug, Drop)]
+pub struct Remark {
+    pub said: Said,
+    pub words: String,
+}
+
+/// Where a line stands.
+#[derive(Drop)]
+pub(crate) struct Position {
+    /// How many lines of the bundle stand before its part.
+    pub above: usize,
+
+    /// Its number in the part, from 1.
+    pub line: usize,
+
+    /// The lines with words of the part before it.
+    pub seen: Vec<usize>,
+}
+
+/// Line `line` of a part, before which so many lines of the bundle stand, as a line of the bundle.
+pub(crate) fn line_below(above: usize, line: usize) -> usize
+    ensures { result ≡ said.line_below above line }
+{
+    above.saturating_add(line)
+}
+
+/// The remarks with one more.
+#[tactic(auto, using(crate::proofs::Going::said_push))]
+pub(crate) fn with_remark(
+    mut all: Vec<Remark>,
+    said: Said,
+    words: String,
+) -> Result<Vec<Remark>, AllocError>
+    ensures { IfOk result (λ next. said_of next.items ≡ said_of all.items ++ said ∷ []) }
+{
+    all.push(Remark { said, words })?;
+    Ok(all)
+}
+
+/// The lines with words so far, with one more line.
+pub(crate) fn with_words(
+    alloc: Global,
+    mut seen: Vec<usize>,
+    line: usize,
+    text: &[u8],
+) -> Result<Vec<usize>, AllocError>
+    ensures { IfOk result (λ next. next.items ≡ spec.with_words seen.items line text.now) }
+{
+    let words = words_of(alloc, text)?;
+    if words.is_empty() {
+        return Ok(seen);
+    }
+    seen.push(line)?;
+    Ok(seen)
+}
+
+/// The line so many lines with words before a line.
+pub(crate) fn place_of(seen: &[usize], line: usize, back: usize) -> usize
+    ensures { result ≡ spec.place_of seen.now line back }
+{
+    let place = seen.len().saturating_sub(back);
+    match seen.get(place) {
+        None => line,
+        Some(found) => *found,
+    }
+}
