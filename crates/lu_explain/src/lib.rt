@@ -37,4 +37,4 @@ pub use explanation::{Explanation, Reason};
 pub use laws::{any_order_laws, explanation_laws, witness_laws};
 pub use moves::event_moves;
 pub use orders::{AnyOrder, Precedence, any_order};
-pub use writing::write_explanation;
+pub use writing::{count, write_explanation, write_outcome, write_reason};

@@ -1,0 +1,350 @@
+-- The words of a state need no escape.
+use Rattle.std.proofs.Common.{◌≡◌, ℕ, ◌==◌, List, [], ◌++◌, Option, Some, None, slice_get, length, unwrap_or, codes, refl}
+use Rattle.std.specs.Fmt.{decimal}
+use Rattle.std.specs.List.{join_with_byte, list_any}
+use Rattle.std.specs.Option.{option_map, option_map_or}
+use Rattle.lu_component.specs.declared.component.Array.{Array}
+use Rattle.lu_component.specs.declared.component.Op.{Op}
+use Rattle.lu_component.specs.declared.instr.Arithmetic.{Arithmetic}
+use Rattle.lu_component.specs.declared.instr.Arithmetic.TheVariants.{Add, Sub, Mul, Eq, Lt}
+use Rattle.lu_component.specs.declared.instr.Instr.{Instr}
+use Rattle.lu_component.specs.declared.instr.Instr.TheVariants.{Set, Compute, Load, Store, Cas, Lock, Unlock, Await, AwaitNot, Pick, Jump, JumpIfZero, Return}
+use Rattle.lu_component.specs.declared.instr.Operand.{Operand}
+use Rattle.lu_component.specs.declared.instr.Operand.TheVariants.{Reg, Num}
+use Rattle.lu_component.specs.Component.{Declarations, IsArray, IsComponent, IsOp}
+use Rattle.lu_component.specs.Operands.{arithmetic_word, operand_word, register_word}
+use Rattle.lu_text.specs.Names.{IsName}
+use Rattle.lu_lang.specs.ComponentText.{array_word, instr_words, label_text, label_word, leads_to, lock_word}
+use Rattle.lu_test.specs.declared.matrix.Call.{Call}
+use Rattle.lu_test.specs.declared.schedule.Move.{Move}
+use Rattle.lu_test.specs.Matrix.{Matrix, calls_of}
+use Rattle.lu_test.specs.MatrixText.{argument_text, arguments_text, call_text, operation_name}
+use Rattle.lu_machine.specs.declared.event.Event.{Event}
+use Rattle.lu_machine.specs.declared.event.Event.TheVariants.{Call as Called, Return as Returned}
+use Rattle.lu_machine.specs.declared.event.Outcome.{Outcome as AnOutcome}
+use Rattle.lu_machine.specs.declared.event.Outcome.TheVariants.{Ret as Returns, Trap as Traps}
+use Rattle.lu_machine.specs.declared.event.Status.{Status}
+use Rattle.lu_machine.specs.declared.event.Status.TheVariants.{Running, Complete, Stuck as Stands}
+use Rattle.lu_machine.specs.declared.thread.Activity.{Activity}
+use Rattle.lu_machine.specs.declared.thread.Activity.TheVariants.{Idle, Open}
+use Rattle.lu_machine.specs.declared.thread.Frame.{Frame}
+use Rattle.lu_machine.specs.declared.thread.Thread.{Thread}
+use Rattle.lu_machine.specs.Effects.{computed, value_of}
+use Rattle.lu_machine.specs.States.{State, instr_at, owner_of}
+use Rattle.lu_machine.specs.Steps.{is_blocked, owns}
+use Rattle.lu_machine.proofs.Moves.{all_at}
+use Rattle.lu_history.specs.Text.{event_text, history_text, operation_text, outcome_text}
+use Rattle.lu_history.specs.declared.serial.SerialOutcome.{SerialOutcome}
+use Rattle.lu_history.specs.declared.serial.SerialOutcome.TheVariants.{Ret, Trap, Stuck}
+use Rattle.lu_witness.specs.Witnesses.{entries}
+use Rattle.lu_explain.specs.declared.explanation.Reason.{Reason}
+use Rattle.lu_explain.specs.declared.explanation.Reason.TheVariants.{After, Outcome, Nothing}
+use Rattle.lu_explain.specs.Explanations.{Explained, reason_of}
+use Rattle.lu_explain.specs.Lines.{call_words as call_behind, operation_words, outcome_words as ended_words, reason_words}
+use Rattle.lu_replay.specs.Text.{replay_text, status_text}
+use Rattle.lu_trace.specs.Deeds.{awaited, cell_becomes, cell_is, cell_is_not, cell_word, deed, goes_on_at, jump_deed, look_deed, or_trap, owned_by, present, register_becomes, seen, swap_deed}
+use Rattle.lu_trace.specs.Lines.{call_words as call_said, code_of, instr_text, next_call, next_instr, next_words}
+use Rattle.lu_picture.specs.declared.mark.End.{End}
+use Rattle.lu_picture.specs.Reasons.{outcome_of, why_words}
+use Rattle.lu_picture.specs.Shapes.{activity_waits, call_words, heading, instr_waits, outcome_words, status_words, step_words, wait_words}
+use Rattle.lu_picture.specs.Escapes.{IsPlain, SaysPlain}
+use Rattle.lu_picture.proofs.Plain.{ArePlain, plain_append, plain_decimal, plain_each, plain_five, plain_four, plain_if, plain_joined, plain_name, plain_three}
+
+-- ---- names
+
+array_plain : (c : Declarations) (w : ℕ) → IsComponent c → IsPlain (array_word c w)
+array_plain c w limits = by_array (slice_get c.arrays w) refl
+  where
+    by_array : (o : Option Array) → slice_get c.arrays w ≡ o → IsPlain (unwrap_or (option_map (λ (a : Array). a.name) o) [])
+    by_array None at = refl
+    by_array (Some a) at = plain_name a.name (all_at IsArray c.arrays w a limits.arrays at).name
+
+lock_plain : (c : Declarations) (l : ℕ) → IsComponent c → IsPlain (lock_word c l)
+lock_plain c l limits = by_lock (slice_get c.locks l) refl
+  where
+    by_lock : (o : Option (List ℕ)) → slice_get c.locks l ≡ o → IsPlain (unwrap_or o [])
+    by_lock None at = refl
+    by_lock (Some name) at = plain_name name (all_at IsName c.locks l name limits.locks at)
+
+operation_plain : (c : Declarations) (op : ℕ) → IsComponent c → IsPlain (operation_name c.operations op)
+operation_plain c op limits = by_op (slice_get c.operations op) refl
+  where
+    by_op : (o : Option Op) → slice_get c.operations op ≡ o → IsPlain (unwrap_or (option_map (λ (x : Op). x.name) o) [])
+    by_op None at = refl
+    by_op (Some x) at =
+        plain_name x.name (all_at (IsOp (length c.arrays) (length c.locks)) c.operations op x limits.operations at).name
+
+-- ---- calls and outcomes
+
+argument_plain : (n : ℕ) → IsPlain (argument_text n)
+argument_plain n = plain_append (codes " ") (decimal n) refl (plain_decimal n)
+
+pub call_plain : (c : Declarations) (call : Call) → IsComponent c → IsPlain (call_text c.operations call)
+call_plain c call limits =
+    plain_append (operation_name c.operations call.op) (arguments_text call.args) (operation_plain c call.op limits) (plain_each argument_text argument_plain call.args)
+
+calls_plain : (c : Declarations) (matrix : Matrix) (t k : ℕ) → IsComponent c → IsPlain (call_words c matrix t k)
+calls_plain c matrix t k limits = by_call (slice_get (calls_of matrix t) k)
+  where
+    by_call : (o : Option Call) → IsPlain (option_map_or (λ call. call_text c.operations call) o [])
+    by_call None = refl
+    by_call (Some call) = call_plain c call limits
+
+outcome_plain : (outcome : AnOutcome) → IsPlain (outcome_words outcome)
+outcome_plain (Returns n) = plain_append (codes "ret ") (decimal n) refl (plain_decimal n)
+outcome_plain Traps = refl
+
+-- ---- instructions
+
+register_plain : (r : ℕ) → IsPlain (register_word r)
+register_plain r = plain_append (codes "r") (decimal r) refl (plain_decimal r)
+
+operand_plain : (v : Operand) → IsPlain (operand_word v)
+operand_plain (Reg r) = register_plain r
+operand_plain (Num n) = plain_decimal n
+
+arithmetic_plain : (a : Arithmetic) → IsPlain (arithmetic_word a)
+arithmetic_plain Add = refl
+arithmetic_plain Sub = refl
+arithmetic_plain Mul = refl
+arithmetic_plain Eq = refl
+arithmetic_plain Lt = refl
+
+label_plain : (place : ℕ) → IsPlain (label_word place)
+label_plain place = plain_append (codes "L") (decimal place) refl (plain_decimal place)
+
+words_plain : (c : Declarations) (instr : Instr) → IsComponent c → ArePlain (instr_words c instr)
+words_plain c (Set to v) limits = (refl, (register_plain to, (operand_plain v, tt)))
+words_plain c (Compute by to a b) limits =
+    (arithmetic_plain by, (register_plain to, (operand_plain a, (operand_plain b, tt))))
+words_plain c (Load to w i) limits =
+    (refl, (register_plain to, (array_plain c w limits, (operand_plain i, tt))))
+words_plain c (Store w i v) limits =
+    (refl, (array_plain c w limits, (operand_plain i, (operand_plain v, tt))))
+words_plain c (Cas to w i old new) limits =
+    (refl, (register_plain to, (array_plain c w limits, (operand_plain i, (operand_plain old, (operand_plain new, tt))))))
+words_plain c (Lock l) limits = (refl, (lock_plain c l limits, tt))
+words_plain c (Unlock l) limits = (refl, (lock_plain c l limits, tt))
+words_plain c (Await w i v) limits =
+    (refl, (array_plain c w limits, (operand_plain i, (operand_plain v, tt))))
+words_plain c (AwaitNot w i v) limits =
+    (refl, (array_plain c w limits, (operand_plain i, (operand_plain v, tt))))
+words_plain c (Pick to count) limits = (refl, (register_plain to, (plain_decimal count, tt)))
+words_plain c (Jump target) limits = (refl, (label_plain target, tt))
+words_plain c (JumpIfZero v target) limits = (refl, (operand_plain v, (label_plain target, tt)))
+words_plain c (Return v) limits = (refl, (operand_plain v, tt))
+
+label_text_plain : (code : List Instr) (place : ℕ) → IsPlain (label_text code place)
+label_text_plain code place =
+    plain_if (list_any (leads_to place) code) (label_word place ++ codes ": ") [] (plain_append (label_word place) (codes ": ") (label_plain place) refl) refl
+
+instr_plain : (c : Declarations) (f : Frame) (instr : Instr) → IsComponent c → IsPlain (instr_text c f instr)
+instr_plain c f instr limits =
+    plain_three (label_text (code_of c f.op) f.place) (join_with_byte 32 (instr_words c instr)) (codes "  # ") (label_text_plain (code_of c f.op) f.place) (plain_joined (instr_words c instr) (words_plain c instr limits)) refl
+
+-- ---- what instructions do
+
+becomes_plain : (r n : ℕ) → IsPlain (register_becomes r n)
+becomes_plain r n =
+    plain_three (register_word r) (codes " = ") (decimal n) (register_plain r) refl (plain_decimal n)
+
+cell_plain : (c : Declarations) (w i : ℕ) → IsComponent c → IsPlain (cell_word c w i)
+cell_plain c w i limits =
+    plain_four (array_word c w) (codes "[") (decimal i) (codes "]") (array_plain c w limits) refl (plain_decimal i) refl
+
+-- a cell, what is said of it, and a number
+cell_said : (c : Declarations) (w i n : ℕ) (said : List ℕ) → IsComponent c → IsPlain said → IsPlain (cell_word c w i ++ said ++ decimal n)
+cell_said c w i n said limits p =
+    plain_three (cell_word c w i) said (decimal n) (cell_plain c w i limits) p (plain_decimal n)
+
+or_trap_plain : (said : ℕ → List ℕ) → ((n : ℕ) → IsPlain (said n)) → (o : Option ℕ) → IsPlain (or_trap said o)
+or_trap_plain said p None = refl
+or_trap_plain said p (Some n) = p n
+
+look_plain : (s : State) (f : Frame) (w : ℕ) (i : Operand) → IsComponent s.component → IsPlain (look_deed s f w i)
+look_plain s f w i limits =
+    or_trap_plain (λ n. cell_is s.component w (value_of f i) n) (λ n. cell_said s.component w (value_of f i) n (codes " is ") limits refl) (seen s f w i)
+
+swap_plain : (c : Declarations) (to w i expected desired n : ℕ) → IsComponent c → IsPlain (swap_deed c to w i expected desired n)
+swap_plain c to w i expected desired n limits =
+    plain_if (n == expected) (cell_becomes c w i desired ++ codes ", " ++ register_becomes to 1) (cell_is c w i n ++ codes ", " ++ register_becomes to 0) (two (cell_becomes c w i desired) (register_becomes to 1) (cell_said c w i desired (codes " = ") limits refl) (becomes_plain to 1)) (two (cell_is c w i n) (register_becomes to 0) (cell_said c w i n (codes " is ") limits refl) (becomes_plain to 0))
+  where
+    two : (a b : List ℕ) → IsPlain a → IsPlain b → IsPlain (a ++ codes ", " ++ b)
+    two a b p q = plain_three a (codes ", ") b p refl q
+
+goes_on_plain : (place : ℕ) → IsPlain (goes_on_at place)
+goes_on_plain place =
+    plain_append (codes "goes on at ") (label_word place) refl (label_plain place)
+
+jump_plain : (target n : ℕ) → IsPlain (jump_deed target n)
+jump_plain target n =
+    plain_if (n == 0) (goes_on_at target) (codes "goes on") (goes_on_plain target) refl
+
+deed_plain : (s : State) (m : Move) (f : Frame) (instr : Instr) → IsComponent s.component → IsPlain (deed s m f instr)
+deed_plain s m f (Set to v) limits = becomes_plain to (value_of f v)
+deed_plain s m f (Compute by to a b) limits =
+    becomes_plain to (computed by (value_of f a) (value_of f b))
+deed_plain s m f (Load to w i) limits =
+    or_trap_plain (λ n. register_becomes to n) (λ n. becomes_plain to n) (seen s f w i)
+deed_plain s m f (Store w i v) limits =
+    or_trap_plain (λ n. cell_becomes s.component w (value_of f i) (value_of f v)) (λ n. cell_said s.component w (value_of f i) (value_of f v) (codes " = ") limits refl) (seen s f w i)
+deed_plain s m f (Cas to w i expected desired) limits =
+    or_trap_plain (λ n. swap_deed s.component to w (value_of f i) (value_of f expected) (value_of f desired) n) (λ n. swap_plain s.component to w (value_of f i) (value_of f expected) (value_of f desired) n limits) (seen s f w i)
+deed_plain s m f (Lock l) limits =
+    plain_append (lock_word s.component l) (codes " is taken") (lock_plain s.component l limits) refl
+deed_plain s m f (Unlock l) limits =
+    plain_if (owns s m.thread l) (lock_word s.component l ++ codes " is free") (codes "trap") (plain_append (lock_word s.component l) (codes " is free") (lock_plain s.component l limits) refl) refl
+deed_plain s m f (Await w i v) limits = look_plain s f w i limits
+deed_plain s m f (AwaitNot w i v) limits = look_plain s f w i limits
+deed_plain s m f (Pick to count) limits = becomes_plain to m.pick
+deed_plain s m f (Jump target) limits = goes_on_plain target
+deed_plain s m f (JumpIfZero v target) limits = jump_plain target (value_of f v)
+deed_plain s m f (Return v) limits =
+    plain_append (codes "ret ") (decimal (value_of f v)) refl (plain_decimal (value_of f v))
+
+-- ---- steps
+
+next_call_plain : (s : State) (t done : ℕ) → IsComponent s.component → IsPlain (next_call s t done)
+next_call_plain s t done limits = by_call (slice_get (calls_of s.matrix t) done)
+  where
+    by_call : (o : Option Call) → IsPlain (option_map_or (λ call. call_said s.component call) o [])
+    by_call None = refl
+    by_call (Some call) =
+        plain_append (codes "call ") (call_text s.component.operations call) refl (call_plain s.component call limits)
+
+next_instr_plain : (s : State) (m : Move) (f : Frame) → IsComponent s.component → IsPlain (next_instr s m f)
+next_instr_plain s m f limits = by_instr (instr_at s.component f.op f.place)
+  where
+    by_instr : (o : Option Instr) → IsPlain (option_map_or (λ instr. instr_text s.component f instr ++ deed s m f instr) o [])
+    by_instr None = refl
+    by_instr (Some instr) =
+        plain_append (instr_text s.component f instr) (deed s m f instr) (instr_plain s.component f instr limits) (deed_plain s m f instr limits)
+
+next_plain : (s : State) (m : Move) (done : ℕ) (activity : Activity) → IsComponent s.component → IsPlain (next_words s m done activity)
+next_plain s m done Idle limits = next_call_plain s m.thread done limits
+next_plain s m done (Open f) limits = next_instr_plain s m f limits
+
+steps_plain : (s : State) (m : Move) → IsComponent s.component → IsPlain (step_words s m)
+steps_plain s m limits = by_thread (slice_get s.threads m.thread)
+  where
+    by_thread : (o : Option Thread) → IsPlain (option_map_or (λ thread. next_words s m thread.done thread.activity) o [])
+    by_thread None = refl
+    by_thread (Some thread) = next_plain s m thread.done thread.activity limits
+
+-- ---- waits
+
+owned_plain : (o : Option ℕ) → IsPlain (owned_by o)
+owned_plain None = refl
+owned_plain (Some t) =
+    plain_three (codes ", which thread ") (decimal t) (codes " has") refl (plain_decimal t) refl
+
+present_plain : (o : Option ℕ) → IsPlain (present o)
+present_plain None = refl
+present_plain (Some n) = plain_append (codes ", and it is ") (decimal n) refl (plain_decimal n)
+
+awaited_plain : (s : State) (f : Frame) (instr : Instr) → IsComponent s.component → IsPlain (awaited s f instr)
+awaited_plain s f (Lock l) limits =
+    plain_three (codes "waits for lock ") (lock_word s.component l) (owned_by (owner_of s l)) refl (lock_plain s.component l limits) (owned_plain (owner_of s l))
+awaited_plain s f (Await w i v) limits =
+    let cell = cell_is s.component w (value_of f i) (value_of f v) in
+    plain_three (codes "waits until ") cell (present (seen s f w i)) refl (cell_said s.component w (value_of f i) (value_of f v) (codes " is ") limits refl) (present_plain (seen s f w i))
+awaited_plain s f (AwaitNot w i v) limits =
+    plain_append (codes "waits until ") (cell_is_not s.component w (value_of f i) (value_of f v)) refl (cell_said s.component w (value_of f i) (value_of f v) (codes " is not ") limits refl)
+awaited_plain s f _ limits = refl
+
+waits_plain : (s : State) (t : ℕ) → IsComponent s.component → IsPlain (wait_words s t)
+waits_plain s t limits = by_thread (slice_get s.threads t)
+  where
+    by_instr : (f : Frame) (o : Option Instr) → IsPlain (option_map_or (instr_waits s f) o [])
+    by_instr f None = refl
+    by_instr f (Some instr) =
+        plain_if (is_blocked s f instr) (awaited s f instr) [] (awaited_plain s f instr limits) refl
+
+    by_activity : (activity : Activity) → IsPlain (activity_waits s activity)
+    by_activity Idle = refl
+    by_activity (Open f) = by_instr f (instr_at s.component f.op f.place)
+
+    by_thread : (o : Option Thread) → IsPlain (option_map_or (λ thread. activity_waits s thread.activity) o [])
+    by_thread None = refl
+    by_thread (Some thread) = by_activity thread.activity
+
+-- ---- the heading and the replay
+
+heading_plain : (c : Declarations) (n : ℕ) (status : Status) → IsComponent c → IsPlain (heading c n status)
+heading_plain c n status limits =
+    plain_five c.name (codes ", ") (decimal n) (codes " moves, ") (status_words status) (plain_name c.name limits.name) refl (plain_decimal n) refl (stands status)
+  where
+    stands : (status : Status) → IsPlain (status_words status)
+    stands Running = refl
+    stands Complete = refl
+    stands Stands = refl
+
+numbers_plain : (t k : ℕ) → IsPlain (operation_text t k)
+numbers_plain t k =
+    plain_three (decimal t) (codes " ") (decimal k) (plain_decimal t) refl (plain_decimal k)
+
+event_plain : (event : Event) → IsPlain (event_text event)
+event_plain (Called t k) =
+    plain_three (codes "call ") (operation_text t k) (codes "\n") refl (numbers_plain t k) refl
+event_plain (Returned t k outcome) =
+    plain_five (codes "return ") (operation_text t k) (codes " ") (outcome_text outcome) (codes "\n") refl (numbers_plain t k) refl (ended outcome) refl
+  where
+    ended : (outcome : AnOutcome) → IsPlain (outcome_text outcome)
+    ended (Returns n) = plain_append (codes "ret ") (decimal n) refl (plain_decimal n)
+    ended Traps = refl
+
+replay_plain : (history : List Event) (status : Status) → IsPlain (replay_text history status)
+replay_plain history status =
+    plain_append (status_text status) (history_text history) (stands status) (plain_each event_text event_plain history)
+  where
+    stands : (status : Status) → IsPlain (status_text status)
+    stands Running = refl
+    stands Complete = refl
+    stands Stands = refl
+
+-- ---- reasons
+
+ended_plain : (o : SerialOutcome) → IsPlain (ended_words o)
+ended_plain (Ret n) = plain_append (codes "ret ") (decimal n) refl (plain_decimal n)
+ended_plain Trap = refl
+ended_plain Stuck = refl
+
+named_plain : (c : Declarations) (matrix : Matrix) (t k : ℕ) → IsComponent c → IsPlain (operation_words c matrix t k)
+named_plain c matrix t k limits =
+    plain_three (codes "T") (decimal t) (option_map_or (call_behind c) (slice_get (calls_of matrix t) k) []) refl (plain_decimal t) (by_call (slice_get (calls_of matrix t) k))
+  where
+    by_call : (o : Option Call) → IsPlain (option_map_or (call_behind c) o [])
+    by_call None = refl
+    by_call (Some call) =
+        plain_append (codes " ") (call_text c.operations call) refl (call_plain c call limits)
+
+reason_plain : (c : Declarations) (matrix : Matrix) (reason : Reason) → IsComponent c → IsPlain (reason_words c matrix reason)
+reason_plain c matrix (After a) limits =
+    plain_three (codes ", but ") (operation_words c matrix a.t a.k) (codes " precedes it") refl (named_plain c matrix a.t a.k limits) refl
+reason_plain c matrix (Outcome o) limits =
+    plain_append (codes ", but serially ") (ended_words o) refl (ended_plain o)
+reason_plain c matrix Nothing limits = refl
+
+why_plain : (c : Declarations) (matrix : Matrix) (why : Option Explained) (t k : ℕ) (end : Option End) → IsComponent c → IsPlain (why_words c matrix why t k end)
+why_plain c matrix None t k end limits = refl
+why_plain c matrix (Some e) t k end limits =
+    plain_if (k == length (entries t e.order)) (option_map_or said (reason_of e t) []) [] (by_reason (reason_of e t)) refl
+  where
+    said : Reason → List ℕ
+    said reason = ended_words (outcome_of end) ++ reason_words c matrix reason
+
+    by_reason : (o : Option Reason) → IsPlain (option_map_or said o [])
+    by_reason None = refl
+    by_reason (Some reason) =
+        plain_append (ended_words (outcome_of end)) (reason_words c matrix reason) (ended_plain (outcome_of end)) (reason_plain c matrix reason limits)
+
+pub says_plain : (s : State) → IsComponent s.component → SaysPlain s
+says_plain s limits = record {
+  heading = λ n status. heading_plain s.component n status limits;
+  replay = replay_plain;
+  calls = λ t k. calls_plain s.component s.matrix t k limits;
+  outcomes = outcome_plain;
+  steps = λ m. steps_plain s m limits;
+  waits = λ t. waits_plain s t limits;
+  why = λ why t k end. why_plain s.component s.matrix why t k end limits;
+}

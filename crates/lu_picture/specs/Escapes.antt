@@ -1,0 +1,36 @@
+-- What is put in between tags needs no escape.
+use Rattle.std.specs.Prelude.{ℕ, ◌==◌, ◌||◌, not, Bool, List, Option, IsTrue}
+use Rattle.std.specs.List.{list_all}
+use Rattle.lu_component.specs.Component.{IsComponent}
+use Rattle.lu_test.specs.declared.schedule.Move.{Move}
+use Rattle.lu_machine.specs.declared.event.Event.{Event}
+use Rattle.lu_machine.specs.declared.event.Outcome.{Outcome}
+use Rattle.lu_machine.specs.declared.event.Status.{Status}
+use Rattle.lu_machine.specs.States.{State}
+use Rattle.lu_explain.specs.Explanations.{Explained}
+use Rattle.lu_replay.specs.Text.{replay_text}
+use Rattle.lu_picture.specs.declared.mark.End.{End}
+use Rattle.lu_picture.specs.Reasons.{why_words}
+use Rattle.lu_picture.specs.Shapes.{call_words, heading, outcome_words, step_words, wait_words}
+
+-- none of `<`, `>`, `&`, `'` and `"`
+abbrev pub is_plain : ℕ → Bool
+is_plain b = not (b == 60 || (b == 62 || (b == 38 || (b == 39 || b == 34))))
+
+abbrev pub IsPlain : List ℕ → Type 0
+IsPlain words = IsTrue (list_all is_plain words)
+
+-- all words of the state s that a picture has are plain
+pub record SaysPlain (s : State) : Type 0 where
+  pub heading : (n : ℕ) (status : Status) → IsPlain (heading s.component n status)
+  pub replay : (history : List Event) (status : Status) → IsPlain (replay_text history status)
+  pub calls : (t k : ℕ) → IsPlain (call_words s.component s.matrix t k)
+  pub outcomes : (outcome : Outcome) → IsPlain (outcome_words outcome)
+  pub steps : (m : Move) → IsPlain (step_words s m)
+  pub waits : (t : ℕ) → IsPlain (wait_words s t)
+  pub why : (why : Option Explained) (t k : ℕ) (end : Option End)
+      → IsPlain (why_words s.component s.matrix why t k end)
+
+-- names are made of letters, digits and `_`, and all else is made of keywords and numbers
+abbrev pub NoEscape : Type 0
+NoEscape = (s : State) → IsComponent s.component → SaysPlain s
