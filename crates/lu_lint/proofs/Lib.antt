@@ -1,3 +1,5 @@
 pub mod Going
 pub mod MatrixSteps
 pub mod Cuts
+pub mod Moves
+pub mod Whole

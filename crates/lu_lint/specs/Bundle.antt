@@ -1,17 +1,19 @@
 -- The parts of a bundle, and what is said of it.
-use Rattle.std.specs.Prelude.{ℕ, ◌+◌, Bool, List, [], ◌∷◌, ◌++◌, length, map, take, drop, Result, Ok, Err, codes, ◌==◌, ◌&&◌, ◌||◌, not, if◌then◌else◌}
+use Rattle.std.specs.Prelude.{◌≡◌, ℕ, ◌+◌, Bool, Option, Some, None, IsPermutation, List, [], ◌∷◌, ◌++◌, length, map, take, drop, codes, ◌==◌, ◌&&◌, ◌||◌, not, if◌then◌else◌}
 use Rattle.std.specs.List.{concat, list_all, slice_split}
 use Rattle.std.specs.Str.{bytes_eq}
-use Rattle.lu_text.specs.declared.fault.Fault.{Fault}
+use Rattle.std.specs.Result.{result_ok}
 use Rattle.lu_text.specs.Faults.{meaning_of}
 use Rattle.lu_text.specs.Lines.{is_blank, kept_lines}
 use Rattle.lu_component.specs.Component.{Declarations}
-use Rattle.lu_lang.specs.declared.fault.LangFaultKind.{LangFaultKind}
 use Rattle.lu_lang.specs.Grammar.{component_grammar}
 use Rattle.lu_lint.specs.declared.remark.Said.{Said}
 use Rattle.lu_lint.specs.declared.remark.FaultKind.TheVariants as part
 use Rattle.lu_lint.specs.declared.remark.Cause.TheVariants.{Separator}
+use Rattle.lu_test.specs.Matrix.{Matrix}
+use Rattle.lu_test.specs.MatrixText.{matrix_grammar}
 use Rattle.lu_lint.specs.Lint.{faults_in}
+use Rattle.lu_lint.specs.Third.{Adds, ThirdSaid, third_of}
 use Rattle.lu_lint.specs.Component.{component_lint}
 use Rattle.lu_lint.specs.Matrix.{matrix_lint}
 use Rattle.lu_lint.specs.Said.{line_below, said_faults}
@@ -54,26 +56,54 @@ parts_by lines = map concat (slice_split is_meant lines)
 abbrev pub above_next : ℕ → List ℕ → ℕ
 above_next above part = line_below above (length (kept_lines part) + 1)
 
--- what is said of the parts behind a component, before which so many lines stand; where the component
--- is not read, nothing is said of its matrix
-abbrev pub behind_component : ℕ → Result Declarations (Fault LangFaultKind) → List (List ℕ)
-    → List Said
-behind_component above (Err e) parts = []
-behind_component above (Ok c) [] = []
-behind_component above (Ok c) (matrix ∷ parts) =
-    said_faults part.Matrix above (faults_in (matrix_lint c) matrix)
+-- the component of a text, where it is read
+abbrev pub component_read : List ℕ → Option Declarations
+component_read text = result_ok (meaning_of component_grammar text)
 
--- what is said of parts, of which the first is a component
+-- the matrix of a text, where it and its component are read
+abbrev pub matrix_read : Option Declarations → List ℕ → Option Matrix
+matrix_read None text = None
+matrix_read (Some c) text = result_ok (meaning_of (matrix_grammar c) text)
+
+-- what is said of a matrix, where its component is read
+abbrev pub matrix_said : Option Declarations → ℕ → List ℕ → List Said
+matrix_said None above text = []
+matrix_said (Some c) above text = said_faults part.Matrix above (faults_in (matrix_lint c) text)
+
+-- what is said of a component and of the parts behind it, without the third part
+abbrev pub behind_component : List ℕ → List (List ℕ) → List Said
+behind_component component [] = []
+behind_component component (matrix ∷ parts) =
+    matrix_said (component_read component) (above_next 0 component) matrix
+
 abbrev pub parts_said : List (List ℕ) → List Said
 parts_said [] = []
 parts_said (component ∷ parts) =
     said_faults part.Component 0 (faults_in component_lint component)
-    ++ behind_component (above_next 0 component) (meaning_of component_grammar component) parts
+    ++ behind_component component parts
 
--- what is said of the lines of a bundle
+-- what is said of the lines of a bundle, without its third part
 abbrev pub lines_said : List (List ℕ) → List Said
 lines_said lines = separators_from 1 lines ++ parts_said (parts_by lines)
 
+-- what is said of the third part
+abbrev pub ThirdOfParts : List ℕ → List ℕ → List ℕ → List Said → Type 0
+ThirdOfParts component matrix text said =
+    ThirdSaid (third_of text) (matrix_read (component_read component) matrix)
+    (above_next (above_next 0 component) matrix) text said
+
+-- the same, where there is one
+abbrev pub ThirdOf : List (List ℕ) → List Said → Type 0
+ThirdOf [] said = said ≡ []
+ThirdOf (component ∷ []) said = said ≡ []
+ThirdOf (component ∷ matrix ∷ []) said = said ≡ []
+ThirdOf (component ∷ matrix ∷ third ∷ parts) said = ThirdOfParts component matrix third said
+
 -- what is said of a bundle
-abbrev pub bundle_said : List ℕ → List Said
-bundle_said bundle = lines_said (kept_lines bundle)
+abbrev pub BundleSaid : List ℕ → List Said → Type 0
+BundleSaid bundle said =
+    Adds (ThirdOf (parts_by (kept_lines bundle))) (lines_said (kept_lines bundle)) said
+
+-- this is said of a bundle, in any order
+abbrev pub IsSaidOf : List ℕ → List Said → Type 0
+IsSaidOf bundle said = (found : List Said) × BundleSaid bundle found × IsPermutation found said

@@ -2,6 +2,8 @@
 use Rattle.std.specs.Prelude.{ℕ, List}
 use Rattle.lu_component.specs.Component.{Declarations}
 use Rattle.lu_text.specs.Faults.{meaning_of}
+use Rattle.lu_test.specs.ScheduleText.{schedule_of}
+use Rattle.lu_lint.specs.Schedule.{AgreeOn, schedule_faults}
 use Rattle.lu_lint.specs.Lint.{Agree, faults_in}
 use Rattle.lu_lint.specs.Component.{component_lint}
 use Rattle.lu_lint.specs.Matrix.{matrix_lint}
@@ -15,3 +17,7 @@ ComponentAgrees =
 abbrev pub MatrixAgrees : Type 0
 MatrixAgrees = (c : Declarations) (text : List ℕ)
     → Agree (meaning_of (matrix_lint c).grammar text) (faults_in (matrix_lint c) text)
+
+-- the same for a schedule
+abbrev pub ScheduleAgrees : Type 0
+ScheduleAgrees = (text : List ℕ) → AgreeOn (schedule_of text) (schedule_faults text)

@@ -3,5 +3,7 @@ pub mod Component
 pub mod Matrix
 pub mod Said
 pub mod Messages
+pub mod Schedule
+pub mod Third
 pub mod Bundle
 pub mod Laws

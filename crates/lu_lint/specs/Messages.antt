@@ -3,7 +3,9 @@ use Rattle.std.specs.Prelude.{ℕ, List, ◌++◌, codes, string_bytes}
 use Rattle.std.specs.List.{flat_map}
 use Rattle.std.specs.Fmt.{decimal}
 use Rattle.lu_lang.specs.Kinds.{code_of}
-use Rattle.lu_test.specs.Codes.{matrix_code_of}
+use Rattle.lu_test.specs.Codes.{matrix_code_of, schedule_code_of}
+use Rattle.lu_report.specs.Codes.{report_code_of}
+use Rattle.lu_spec.specs.Codes.{spec_code_of}
 use Rattle.lu_lint.specs.declared.remark.Remark.{Remark}
 use Rattle.lu_lint.specs.declared.remark.FaultKind.{FaultKind}
 use Rattle.lu_lint.specs.declared.remark.FaultKind.TheVariants as part
@@ -14,11 +16,17 @@ use Rattle.lu_lint.specs.declared.remark.Cause.TheVariants.{Fault, Separator}
 abbrev pub fault_code : FaultKind → List ℕ
 fault_code (part.Component kind) = code_of kind
 fault_code (part.Matrix kind) = matrix_code_of kind
+fault_code (part.Schedule kind) = schedule_code_of kind
+fault_code (part.Report kind) = report_code_of kind
+fault_code (part.Specification kind) = spec_code_of kind
 
 -- the part that it is a fault of
 abbrev pub fault_part : FaultKind → List ℕ
 fault_part (part.Component kind) = codes "component"
 fault_part (part.Matrix kind) = codes "matrix"
+fault_part (part.Schedule kind) = codes "schedule"
+fault_part (part.Report kind) = codes "report"
+fault_part (part.Specification kind) = codes "specification"
 
 -- the line of the bundle, and the words
 abbrev pub remark_head : ℕ → List ℕ → List ℕ

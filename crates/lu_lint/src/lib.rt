@@ -8,7 +8,10 @@ mod linting;
 mod matrix;
 mod matrix_wording;
 mod remark;
+mod schedule;
 mod shape;
+mod third;
+mod third_wording;
 mod wording;
 mod writing;
 

@@ -1,13 +1,12 @@
 //! What lint says of a bundle.
 
-ghost use Rattle.std.specs.Prelude.{◌≡◌, ◌++◌, ◌∷◌, IfOk, Ok, IsPermutation, string_bytes};
+ghost use Rattle.std.specs.Prelude.{◌≡◌, ◌++◌, ◌∷◌, IfOk, Some, string_bytes};
 ghost use Rattle.std.specs.List.{list_any};
 ghost use Rattle.std.specs.List.Sorted.{IsNonDecreasingBy};
-ghost use Rattle.lu_text.specs.Faults.{meaning_of};
 ghost use Rattle.lu_text.specs.Lines.{texts};
-ghost use Rattle.lu_lang.specs.Grammar.{component_grammar};
 ghost use Rattle.lu_lint.specs.Bundle as spec;
-ghost use Rattle.lu_lint.specs.Bundle.{behind_component, bundle_said, parts_said};
+ghost use Rattle.lu_lint.specs.Bundle.{BundleSaid, IsSaidOf, ThirdOf, ThirdOfParts, parts_by, parts_said};
+ghost use Rattle.lu_lint.specs.Third.{Adds};
 ghost use Rattle.lu_lint.specs.Messages.{remarks_text};
 ghost use Rattle.lu_lint.specs.Said.{is_fault, said_of};
 
@@ -15,9 +14,11 @@ use crate::bundle::{above_next, kept_in, parts_in, with_separators};
 use crate::component::with_component;
 use crate::matrix::with_matrix;
 use crate::remark::Remark;
+use crate::third::with_third;
 use crate::writing::write_remarks;
 use lu_component::Component;
 use lu_lang::read_component;
+use lu_test::{Matrix, read_matrix};
 use lu_text::Fault;
 use std::alloc::{AllocError, Global};
 
@@ -34,41 +35,93 @@ pub struct Linted {
     pub faults: bool,
 }
 
-/// The remarks with those on the parts behind a component that is read.
-fn behind(
-    alloc: Global,
-    all: Vec<Remark>,
-    above: usize,
-    component: &Component,
-    parts: &[&[u8]],
-) -> Result<Vec<Remark>, AllocError>
-    ensures { IfOk result (λ next. said_of next.items ≡
-        said_of all.items ++ behind_component above (Ok component.now) (texts parts.now)) }
+/// The component of a text, where it is read.
+fn component_read(alloc: Global, text: &[u8]) -> Result<Option<Component>, AllocError>
+    ensures { IfOk result (λ read. read ≡ spec.component_read text.now) }
 {
-    match parts.split_first() {
-        None => Ok(all),
-        Some((matrix, _)) => with_matrix(alloc, component, all, above, matrix),
+    match read_component(alloc, text) {
+        Ok(component) => Ok(Some(component)),
+        Err(Fault::At(_, _)) => Ok(None),
+        Err(Fault::Memory) => Err(AllocError),
     }
 }
 
-/// The remarks with those on the parts behind a component, where it is read.
-fn with_others(
+/// The matrix of a text, where it is read.
+fn matrix_of(
+    alloc: Global,
+    component: &Component,
+    text: &[u8],
+) -> Result<Option<Matrix>, AllocError>
+    ensures { IfOk result (λ read. read ≡ spec.matrix_read (Some component.now) text.now) }
+{
+    match read_matrix(alloc, component, text) {
+        Ok(matrix) => Ok(Some(matrix)),
+        Err(Fault::At(_, _)) => Ok(None),
+        Err(Fault::Memory) => Err(AllocError),
+    }
+}
+
+/// The matrix of a text, where it and its component are read.
+fn matrix_read(
+    alloc: Global,
+    component: &Option<Component>,
+    text: &[u8],
+) -> Result<Option<Matrix>, AllocError>
+    ensures { IfOk result (λ read. read ≡ spec.matrix_read component.now text.now) }
+{
+    match component {
+        None => Ok(None),
+        Some(component) => matrix_of(alloc, component, text),
+    }
+}
+
+/// The remarks with those on a matrix, where its component is read.
+fn with_matrix_of(
+    alloc: Global,
+    all: Vec<Remark>,
+    component: &Option<Component>,
+    above: usize,
+    text: &[u8],
+) -> Result<Vec<Remark>, AllocError>
+    ensures { IfOk result (λ next. said_of next.items ≡
+        said_of all.items ++ spec.matrix_said component.now above text.now) }
+{
+    match component {
+        None => Ok(all),
+        Some(component) => with_matrix(alloc, component, all, above, text),
+    }
+}
+
+/// The remarks with those on the matrix behind a component.
+fn with_second(
+    alloc: Global,
+    all: Vec<Remark>,
+    component: &[u8],
+    matrix: &[u8],
+) -> Result<Vec<Remark>, AllocError>
+    ensures { IfOk result (λ next. said_of next.items ≡ said_of all.items
+        ++ spec.matrix_said (spec.component_read component.now)
+        (spec.above_next 0 component.now) matrix.now) }
+{
+    let read = component_read(alloc, component)?;
+    let above = above_next(alloc, 0, component)?;
+    let all = with_matrix_of(alloc, all, &read, above, matrix)?;
+    Ok(all)
+}
+
+/// The remarks with those on the parts behind a component.
+fn behind(
     alloc: Global,
     all: Vec<Remark>,
     component: &[u8],
     parts: &[&[u8]],
 ) -> Result<Vec<Remark>, AllocError>
-    ensures { IfOk result (λ next. said_of next.items ≡ said_of all.items
-        ++ behind_component (spec.above_next 0 component.now)
-        (meaning_of component_grammar component.now) (texts parts.now)) }
+    ensures { IfOk result (λ next. said_of next.items ≡
+        said_of all.items ++ spec.behind_component component.now (texts parts.now)) }
 {
-    match read_component(alloc, component) {
-        Ok(read) => {
-            let above = above_next(alloc, 0, component)?;
-            behind(alloc, all, above, &read, parts)
-        }
-        Err(Fault::At(_, _)) => Ok(all),
-        Err(Fault::Memory) => Err(AllocError),
+    match parts.split_first() {
+        None => Ok(all),
+        Some((matrix, _)) => with_second(alloc, all, component, matrix),
     }
 }
 
@@ -83,11 +136,11 @@ fn with_first(
         said_of all.items ++ parts_said (component.now ∷ texts parts.now)) }
 {
     let all = with_component(alloc, all, 0, component)?;
-    let all = with_others(alloc, all, component, parts)?;
+    let all = behind(alloc, all, component, parts)?;
     Ok(all)
 }
 
-/// The remarks with those on the parts, of which the first is a component.
+/// The remarks with those on the parts, of which the first is a component, without the third.
 fn with_parts(alloc: Global, all: Vec<Remark>, parts: &[&[u8]]) -> Result<Vec<Remark>, AllocError>
     ensures { IfOk result (λ next.
         said_of next.items ≡ said_of all.items ++ parts_said (texts parts.now)) }
@@ -98,14 +151,92 @@ fn with_parts(alloc: Global, all: Vec<Remark>, parts: &[&[u8]]) -> Result<Vec<Re
     }
 }
 
+/// The remarks with those on a third part.
+fn with_third_part(
+    alloc: Global,
+    all: Vec<Remark>,
+    component: &[u8],
+    matrix: &[u8],
+    text: &[u8],
+) -> Result<Vec<Remark>, AllocError>
+    ensures { IfOk result (λ next. Adds (ThirdOfParts component.now matrix.now text.now)
+        (said_of all.items) (said_of next.items)) }
+{
+    let read = component_read(alloc, component)?;
+    let read = matrix_read(alloc, &read, matrix)?;
+    let above = above_next(alloc, 0, component)?;
+    let above = above_next(alloc, above, matrix)?;
+    let all = with_third(alloc, all, &read, above, text)?;
+    Ok(all)
+}
+
+/// The remarks with those on the third part, where there is one behind a component and a matrix.
+fn third_behind(
+    alloc: Global,
+    all: Vec<Remark>,
+    component: &[u8],
+    matrix: &[u8],
+    parts: &[&[u8]],
+) -> Result<Vec<Remark>, AllocError>
+    ensures { IfOk result (λ next.
+        Adds (ThirdOf (component.now ∷ matrix.now ∷ texts parts.now))
+        (said_of all.items) (said_of next.items)) }
+{
+    match parts.split_first() {
+        None => Ok(all),
+        Some((third, _)) => with_third_part(alloc, all, component, matrix, third),
+    }
+}
+
+/// The remarks with those on the third part, where there is one behind a component.
+fn second_behind(
+    alloc: Global,
+    all: Vec<Remark>,
+    component: &[u8],
+    parts: &[&[u8]],
+) -> Result<Vec<Remark>, AllocError>
+    ensures { IfOk result (λ next. Adds (ThirdOf (component.now ∷ texts parts.now))
+        (said_of all.items) (said_of next.items)) }
+{
+    match parts.split_first() {
+        None => Ok(all),
+        Some((matrix, others)) => third_behind(alloc, all, component, matrix, others),
+    }
+}
+
+/// The remarks with those on the third part, where there is one.
+fn with_last(alloc: Global, all: Vec<Remark>, parts: &[&[u8]]) -> Result<Vec<Remark>, AllocError>
+    ensures { IfOk result (λ next. Adds (ThirdOf (texts parts.now))
+        (said_of all.items) (said_of next.items)) }
+{
+    match parts.split_first() {
+        None => Ok(all),
+        Some((component, others)) => second_behind(alloc, all, component, others),
+    }
+}
+
+/// What is said of the parts of a bundle and of the lines between them, without the third part.
+fn remarks_on_lines(
+    alloc: Global,
+    lines: &[&[u8]],
+    parts: &[&[u8]],
+) -> Result<Vec<Remark>, AllocError>
+    requires { texts parts.now ≡ parts_by (texts lines.now) }
+    ensures { IfOk result (λ all. said_of all.items ≡ spec.lines_said (texts lines.now)) }
+{
+    let all = with_separators(alloc, Vec::new(alloc), lines)?;
+    let all = with_parts(alloc, all, parts)?;
+    Ok(all)
+}
+
 /// What is said of a bundle, in the order in which it is found.
 fn remarks_on(alloc: Global, bundle: &[u8]) -> Result<Vec<Remark>, AllocError>
-    ensures { IfOk result (λ all. said_of all.items ≡ bundle_said bundle.now) }
+    ensures { IfOk result (λ all. BundleSaid bundle.now (said_of all.items)) }
 {
     let lines = kept_in(alloc, bundle)?;
-    let all = with_separators(alloc, Vec::new(alloc), &lines)?;
     let parts = parts_in(alloc, bundle)?;
-    let all = with_parts(alloc, all, &parts)?;
+    let all = remarks_on_lines(alloc, &lines, &parts)?;
+    let all = with_last(alloc, all, &parts)?;
     Ok(all)
 }
 
@@ -117,7 +248,10 @@ fn have_fault(remarks: &[Remark]) -> bool
 }
 
 /// Every fault of a bundle, in words: of its component, of its matrix, where the component is read,
-/// and of the lines between its parts.
+/// and of the lines between its parts. Of a third part, which is a specification where it begins
+/// with `lineup spec`, else a report where it begins with `lineup`, and else a schedule: each fault
+/// of a schedule, the first of a report, and the first of a specification, where the matrix is
+/// read.
 ///
 /// A line that is nearly `---` parts too, so that what stands behind it is not told for it.
 ///
@@ -126,8 +260,7 @@ fn have_fault(remarks: &[Remark]) -> bool
 /// There is no memory for what is said.
 pub fn lint(alloc: Global, bundle: &[u8]) -> Result<Linted, AllocError>
     // What is said, and of which lines.
-    ensures said { IfOk result (λ l.
-        IsPermutation (bundle_said bundle.now) (said_of l.remarks.items)) }
+    ensures said { IfOk result (λ l. IsSaidOf bundle.now (said_of l.remarks.items)) }
     // It is in the order of the lines.
     ensures ordered { IfOk result (λ l. IsNonDecreasingBy (λ r. r.said.place) l.remarks.items) }
     // The text says it, in the words of the remarks.

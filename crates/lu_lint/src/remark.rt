@@ -7,7 +7,9 @@ ghost use Rattle.lu_lint.specs.Said as said;
 ghost use Rattle.lu_lint.specs.Said.{said_of};
 
 use lu_lang::LangFaultKind;
-use lu_test::MatrixFaultKind;
+use lu_report::ReportFaultKind;
+use lu_spec::SpecFaultKind;
+use lu_test::{MatrixFaultKind, ScheduleFault};
 use lu_text::words_of;
 use std::alloc::{AllocError, Global};
 
@@ -19,6 +21,15 @@ pub enum FaultKind {
 
     /// Of the matrix.
     Matrix(MatrixFaultKind),
+
+    /// Of the schedule.
+    Schedule(ScheduleFault),
+
+    /// Of the report.
+    Report(ReportFaultKind),
+
+    /// Of the specification.
+    Specification(SpecFaultKind),
 }
 
 impl FaultKind {
@@ -29,6 +40,9 @@ impl FaultKind {
         match self {
             FaultKind::Component(kind) => kind.code(),
             FaultKind::Matrix(kind) => kind.code(),
+            FaultKind::Schedule(kind) => kind.code(),
+            FaultKind::Report(kind) => kind.code(),
+            FaultKind::Specification(kind) => kind.code(),
         }
     }
 
@@ -39,6 +53,9 @@ impl FaultKind {
         match self {
             FaultKind::Component(_) => "component",
             FaultKind::Matrix(_) => "matrix",
+            FaultKind::Schedule(_) => "schedule",
+            FaultKind::Report(_) => "report",
+            FaultKind::Specification(_) => "specification",
         }
     }
 }

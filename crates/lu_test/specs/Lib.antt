@@ -5,3 +5,4 @@ pub mod ScheduleText
 pub mod MatrixText
 pub mod Laws
 pub mod MatrixGoing
+pub mod ScheduleGoing

@@ -10,6 +10,7 @@ mod matrix_text;
 mod matrix_writer;
 mod schedule;
 mod schedule_fault;
+mod schedule_going;
 mod schedule_text;
 
 pub use edits::{copy_call, copy_calls, copy_matrix, cut_to, remove, setup_alone};
@@ -21,4 +22,5 @@ pub use matrix_text::{Draft, read_matrix};
 pub use matrix_writer::write_matrix;
 pub use schedule::{MOST_MOVES, Move, Schedule};
 pub use schedule_fault::ScheduleFault;
-pub use schedule_text::{read_schedule, write_schedule};
+pub use schedule_going::schedule_words;
+pub use schedule_text::{move_in, read_schedule, write_schedule};

@@ -31,8 +31,14 @@ fn move_with(thread: &[u8], pick: &[u8]) -> Result<Move, ScheduleFault>
     })
 }
 
+/// The move that a word says: a thread, or a thread and a pick above 0 with a colon between them.
+///
+/// # Errors
+///
+/// [`ScheduleFault::Number`] where the word says no move, and [`ScheduleFault::Limit`] where its
+/// thread or its pick is above 7.
 #[tactic(auto, unfolding(crate::specs::ScheduleText::move_of))]
-fn move_in(word: &[u8]) -> Result<Move, ScheduleFault>
+pub fn move_in(word: &[u8]) -> Result<Move, ScheduleFault>
     ensures { result ≡ move_of word.now }
 {
     match place_of(b':', word) {
@@ -47,7 +53,7 @@ fn move_in(word: &[u8]) -> Result<Move, ScheduleFault>
     }
 }
 
-fn line_in(text: &[u8]) -> Option<&[u8]>
+pub(crate) fn line_in(text: &[u8]) -> Option<&[u8]>
     ensures { option_map (λ line. line.now) result ≡ one_line text.now }
 {
     match place_of(b'\n', text) {
@@ -62,7 +68,7 @@ fn are_words(words: &[&[u8]]) -> bool
     words.iter().all(|word| !word.is_empty())
 }
 
-fn has_form(words: &[&[u8]]) -> bool
+pub(crate) fn has_form(words: &[&[u8]]) -> bool
     ensures { result ≡ spec.has_form (texts words.now) }
 {
     match words {

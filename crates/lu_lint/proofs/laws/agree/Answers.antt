@@ -1,4 +1,5 @@
 use Rattle.lu_lint.proofs.Going.{component_agrees, matrix_agrees}
+use Rattle.lu_lint.proofs.Moves.{schedule_agrees}
 use Rattle.lu_lint.proofs.laws.agree.Goals as goal
 
 pub returns-clause-component : goal.returns-clause-component
@@ -6,3 +7,6 @@ returns-clause-component c = component_agrees
 
 pub returns-clause-matrix : goal.returns-clause-matrix
 returns-clause-matrix c = matrix_agrees
+
+pub returns-clause-schedule : goal.returns-clause-schedule
+returns-clause-schedule c = schedule_agrees

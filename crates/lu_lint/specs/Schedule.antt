@@ -1,0 +1,42 @@
+-- The faults of a schedule's text.
+use Rattle.std.specs.Prelude.{◌≡◌, ℕ, List, [], ◌∷◌, ◌++◌, length, map, take, Option, Some, None, Result, Ok, Err, nat_lt, if◌then◌else◌}
+use Rattle.std.specs.List.{flat_map}
+use Rattle.lu_test.specs.declared.schedule_fault.ScheduleFault.{ScheduleFault}
+use Rattle.lu_test.specs.declared.schedule_fault.ScheduleFault.TheVariants.{Form, Limit}
+use Rattle.lu_test.specs.ScheduleText.{move_of}
+use Rattle.lu_test.specs.ScheduleGoing.{schedule_words}
+use Rattle.lu_lint.specs.Lint.{Told, told_here}
+
+abbrev pub fault_of : {A : Type 0} → Result A ScheduleFault → List ScheduleFault
+fault_of (Ok x) = []
+fault_of (Err kind) = kind ∷ []
+
+abbrev pub word_faults : List ℕ → List ScheduleFault
+word_faults word = fault_of (move_of word)
+
+-- more than 4,112 moves
+abbrev pub length_faults : List (List ℕ) → List ScheduleFault
+length_faults words = if nat_lt 4112 (length words) then Limit ∷ [] else []
+
+-- of each word up to the first that is too many, and that there are too many
+abbrev pub words_faults : List (List ℕ) → List ScheduleFault
+words_faults words = flat_map word_faults (take 4113 words) ++ length_faults words
+
+abbrev pub form_faults : Option (List (List ℕ)) → List ScheduleFault
+form_faults None = Form ∷ []
+form_faults (Some words) = words_faults words
+
+-- the faults of a text; where it has not the form of a schedule, that alone
+abbrev pub schedule_faults : List ℕ → List ScheduleFault
+schedule_faults text = form_faults (schedule_words text)
+
+-- all are told on its first line
+abbrev pub schedule_told : List ScheduleFault → List (Told ScheduleFault)
+schedule_told faults = map (told_here 1) faults
+
+-- a text is read where it has no fault, and else its first fault is the reader's
+abbrev pub AgreeOn : {A : Type 0} → Result A ScheduleFault → List ScheduleFault → Type 0
+AgreeOn (Ok x) [] = Unit {0}
+AgreeOn (Ok x) (first ∷ others) = ⊥
+AgreeOn (Err e) [] = ⊥
+AgreeOn (Err e) (first ∷ others) = e ≡ first

@@ -1,0 +1,130 @@
+//! The faults of a schedule's text.
+
+ghost use Rattle.std.specs.Prelude.{◌≡◌, ◌++◌, IfOk, take};
+ghost use Rattle.std.specs.List.{flat_map};
+ghost use Rattle.lu_lint.specs.Lint as lint;
+ghost use Rattle.lu_lint.specs.Said.{said_faults, said_of, said_told};
+ghost use Rattle.lu_lint.specs.Schedule as spec;
+ghost use Rattle.lu_lint.specs.Schedule.{schedule_faults, schedule_told};
+ghost use Rattle.lu_lint.specs.declared.remark.FaultKind.TheVariants as part;
+ghost use Rattle.lu_text.specs.Lines.{texts};
+
+use crate::remark::{Cause, FaultKind, Remark, Said, line_below, with_remark};
+use crate::third_wording::{length_wording, move_wording, schedule_form_wording};
+use lu_test::{MOST_MOVES, ScheduleFault, move_in, schedule_words};
+use std::alloc::{AllocError, Global};
+
+/// What is said of a fault of a schedule, on its first line.
+fn said(above: usize, kind: ScheduleFault) -> Said
+    ensures { result ≡ said_told part.Schedule above (lint.told_here 1 kind) }
+{
+    Said {
+        place: line_below(above, 1),
+        cause: Cause::Fault(FaultKind::Schedule(kind), 1),
+    }
+}
+
+/// The remarks with that on a word, where it is no move.
+fn with_word(
+    alloc: Global,
+    all: Vec<Remark>,
+    above: usize,
+    word: &[u8],
+) -> Result<Vec<Remark>, AllocError>
+    ensures { IfOk result (λ next. said_of next.items ≡ said_of all.items
+        ++ said_faults part.Schedule above (schedule_told (spec.word_faults word.now))) }
+{
+    match move_in(word) {
+        Ok(_) => Ok(all),
+        Err(kind) => {
+            let words = move_wording(alloc, kind, word)?;
+            with_remark(all, said(above, kind), words)
+        }
+    }
+}
+
+/// The remarks with that on the number of the words, where there are too many.
+fn with_length(
+    alloc: Global,
+    all: Vec<Remark>,
+    above: usize,
+    words: &[&[u8]],
+) -> Result<Vec<Remark>, AllocError>
+    ensures { IfOk result (λ next. said_of next.items ≡ said_of all.items
+        ++ said_faults part.Schedule above
+        (schedule_told (spec.length_faults (texts words.now)))) }
+{
+    if words.len() <= MOST_MOVES {
+        return Ok(all);
+    }
+    let text = length_wording(alloc, words.len())?;
+    with_remark(all, said(above, ScheduleFault::Limit), text)
+}
+
+/// The remarks with those on these words.
+fn with_each(
+    alloc: Global,
+    mut all: Vec<Remark>,
+    above: usize,
+    words: &[&[u8]],
+) -> Result<Vec<Remark>, AllocError>
+    ensures { IfOk result (λ next. said_of next.items ≡ said_of all.items
+        ++ said_faults part.Schedule above
+        (schedule_told (flat_map spec.word_faults (texts words.now)))) }
+{
+    for word in words {
+        all = with_word(alloc, all, above, word)?;
+    }
+    Ok(all)
+}
+
+/// The first of these words, up to one that is too many.
+fn first_words<'a, 'b>(words: &'b [&'a [u8]]) -> &'b [&'a [u8]]
+    ensures { texts result.now ≡ take 4113 (texts words.now) }
+{
+    if words.len() <= MOST_MOVES {
+        return words;
+    }
+    words.split_at(MOST_MOVES + 1).0
+}
+
+/// The remarks with those on the words of a schedule.
+fn with_words(
+    alloc: Global,
+    all: Vec<Remark>,
+    above: usize,
+    words: &[&[u8]],
+) -> Result<Vec<Remark>, AllocError>
+    ensures { IfOk result (λ next. said_of next.items ≡ said_of all.items
+        ++ said_faults part.Schedule above
+        (schedule_told (spec.words_faults (texts words.now)))) }
+{
+    let all = with_each(alloc, all, above, first_words(words))?;
+    let all = with_length(alloc, all, above, words)?;
+    Ok(all)
+}
+
+/// The remarks with those on a schedule, before which `above` lines of the bundle stand: that the
+/// form of the whole text is wrong; or one on each word that is no move, and that there are too
+/// many.
+///
+/// # Errors
+///
+/// There is no memory for the remarks.
+pub(crate) fn with_schedule(
+    alloc: Global,
+    all: Vec<Remark>,
+    above: usize,
+    text: &[u8],
+) -> Result<Vec<Remark>, AllocError>
+    ensures { IfOk result (λ next. said_of next.items ≡ said_of all.items
+        ++ said_faults part.Schedule above (schedule_told (schedule_faults text.now))) }
+{
+    match schedule_words(alloc, text)? {
+        None => {
+            let words = schedule_form_wording(alloc, text)?;
+            with_remark(all, said(above, ScheduleFault::Form), words)
+        }
+        Some(words) => with_words(alloc, all, above, &words),
+    }
+}

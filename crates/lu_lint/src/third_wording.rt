@@ -1,0 +1,206 @@
+//! The words for a fault of a schedule, a report or a specification.
+
+use crate::wording::shown;
+use lu_spec::SpecFaultKind;
+use lu_test::{Matrix, ScheduleFault};
+use lu_text::{is_number, number_up_to, place_of};
+use std::alloc::{AllocError, Global};
+
+/// A word as text where that is short and can be printed, and else this.
+fn printed<'a>(word: &'a [u8], other: &'a str) -> &'a str {
+    if word.is_empty() || word.len() > 64 || !word.iter().all(|byte| matches!(*byte, 33..=126)) {
+        return other;
+    }
+    shown(word)
+}
+
+/// The words for a text that has not the form of a schedule.
+pub(crate) fn schedule_form_wording(alloc: Global, text: &[u8]) -> Result<String, AllocError> {
+    let here = if !text.starts_with(b"schedule") {
+        "the text begins otherwise"
+    } else if text.iter().any(|byte| *byte == b'\t') {
+        "a tab stands in it"
+    } else if text.iter().any(|byte| *byte == b'\r') {
+        "a CR stands in it"
+    } else if text.windows(2).any(|pair| pair == b"  ".as_slice()) {
+        "two spaces stand side by side"
+    } else if text.ends_with(b" \n") || text.ends_with(b" ") {
+        "a space stands behind the last move"
+    } else if !text.ends_with(b"\n") {
+        "the LF is missing"
+    } else if text.iter().filter(|byte| **byte == b'\n').count() > 1 {
+        "there is a second line"
+    } else {
+        "the first word is another"
+    };
+    format!(in alloc;
+        "a schedule is one line, `schedule` and its moves, with one space before each and LF behind the last; here {here}"
+    )
+}
+
+/// A number above 7 in the place of a thread or a pick.
+fn range_wording(alloc: Global, word: &[u8]) -> Result<String, AllocError> {
+    let (thread, pick) = match place_of(b':', word) {
+        None => word.split_at(word.len()),
+        Some(colon) => word.split_at(colon),
+    };
+    if number_up_to(thread, 7).is_none() {
+        let thread = printed(thread, "of this number");
+        return format!(in alloc; "there is no thread {thread}; threads are 0 to 7");
+    }
+    let pick = match pick {
+        [b':', pick @ ..] => printed(pick, "this one"),
+        _ => "this one",
+    };
+    format!(in alloc; "a pick is 1 to 7, and here is {pick}")
+}
+
+/// The words for a word of a schedule that is no move.
+pub(crate) fn move_wording(
+    alloc: Global,
+    kind: ScheduleFault,
+    word: &[u8],
+) -> Result<String, AllocError> {
+    if kind == ScheduleFault::Limit {
+        return range_wording(alloc, word);
+    }
+    let said = printed(word, "this word");
+    if let Some(thread) = word.strip_suffix(b":0") {
+        if is_number(thread) {
+            let thread = printed(thread, "the thread");
+            return format!(in alloc; "pick 0 is not written: {thread} in the place of {said}");
+        }
+    }
+    format!(in alloc;
+        "{said} is no move; one is a thread, as 1, or a thread and a pick above 0, as 1:2"
+    )
+}
+
+/// The words for a schedule of so many words.
+pub(crate) fn length_wording(alloc: Global, words: usize) -> Result<String, AllocError> {
+    format!(in alloc; "a schedule has at most 4,112 moves, and here are {words}")
+}
+
+/// A line of a text, from 1, with its LF.
+fn line_at(text: &[u8], number: usize) -> Option<&[u8]> {
+    let mut lines = text.split_inclusive(|byte| *byte == b'\n');
+    lines.nth(number.saturating_sub(1))
+}
+
+/// What stands on the line, in words.
+fn line_shown(line: &[u8]) -> &str {
+    match line.strip_suffix(b"\n") {
+        None => "a line without its LF",
+        Some(line) => {
+            if line.len() > 80 || !line.iter().all(|byte| matches!(*byte, 32..=126)) {
+                return "another line";
+            }
+            match line {
+                [] => "an empty line",
+                _ => shown(line),
+            }
+        }
+    }
+}
+
+/// The words for a fault on this line of a report.
+pub(crate) fn report_wording(
+    alloc: Global,
+    text: &[u8],
+    number: usize,
+) -> Result<String, AllocError> {
+    let here = match line_at(text, number) {
+        None => "nothing",
+        Some(line) => line_shown(line),
+    };
+    let third = text.starts_with(b"lineup report 3\n");
+    match number {
+        1 => format!(in alloc;
+            "the first line of a report is `lineup report 1`, or 2 or 3; here stands {here}"
+        ),
+        2 => format!(in alloc;
+            "line 2 of a report is `bound N`, N from 0 to 256; here stands {here}"
+        ),
+        3 if third => format!(in alloc;
+            "line 3 of this report is `local L`, L from 0 to 16; here stands {here}"
+        ),
+        3 => format!(in alloc;
+            "line 3 of this report is `serial S`, S from 1 to 256; here stands {here}"
+        ),
+        _ => format!(in alloc;
+            "here stands {here}, and no report has that behind the lines before it; docs/FORMATS.md has its forms"
+        ),
+    }
+}
+
+/// The words for a line that lists no history where it stands.
+fn history_wording(alloc: Global, line: &[u8]) -> Result<String, AllocError> {
+    let Some(line) = line.strip_suffix(b"\n") else {
+        return String::from_str(alloc, "the last line lacks its LF");
+    };
+    let Some(entries) = line.strip_prefix(b"history ") else {
+        return String::from_str(
+            alloc,
+            "a line of a specification is `history`, and its entries with one space before each",
+        );
+    };
+    let mut count: usize = 0;
+    for entry in entries.split(|byte| *byte == b' ') {
+        count = count.saturating_add(1);
+        let (thread, outcome) = match entry {
+            [b'0'..=b'7', b'=', outcome @ ..] => (true, outcome),
+            _ => (false, entry),
+        };
+        let ends = outcome == b"trap".as_slice() || outcome == b"stuck".as_slice();
+        if !thread || !ends && number_up_to(outcome, 4_294_967_295).is_none() {
+            let entry = printed(entry, "this");
+            return format!(in alloc;
+                "{entry} is no entry; one is t=n, t=trap or t=stuck, t a thread from 0 to 7, n at most 4294967295"
+            );
+        }
+    }
+    if count > 16 {
+        return format!(in alloc; "a history has at most 16 entries, and here are {count}");
+    }
+    if entries
+        .windows(7)
+        .any(|seven| seven == b"=stuck ".as_slice())
+    {
+        return String::from_str(alloc, "an entry stuck stands last alone");
+    }
+    String::from_str(
+        alloc,
+        "this history is not above that of the line before, or begins as that one does; histories rise",
+    )
+}
+
+/// The words for a fault of this kind on this line of a specification of this matrix.
+pub(crate) fn specification_wording(
+    alloc: Global,
+    matrix: &Matrix,
+    text: &[u8],
+    kind: SpecFaultKind,
+    number: usize,
+) -> Result<String, AllocError> {
+    match kind {
+        SpecFaultKind::Form => {
+            if number == 1 {
+                return String::from_str(alloc, "the first line is `lineup spec 1`");
+            }
+            match line_at(text, number) {
+                None => String::from_str(alloc, "a line is missing"),
+                Some(line) => history_wording(alloc, line),
+            }
+        }
+        SpecFaultKind::Foreign => {
+            let threads = matrix.threads();
+            format!(in alloc;
+                "an entry of a thread that has no such call; the matrix has {threads} threads, numbered from 0, and a thread has as many entries as calls at most"
+            )
+        }
+        SpecFaultKind::Nondeterministic => String::from_str(
+            alloc,
+            "as a line before up to some entry, and there the same thread ends otherwise",
+        ),
+    }
+}
