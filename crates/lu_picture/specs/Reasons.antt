@@ -50,8 +50,8 @@ abbrev pub outcome_of : Option End → SerialOutcome
 outcome_of None = Stuck
 outcome_of (Some end) = as_serial end.outcome
 
--- how call k of thread t ended, and why it can't come next behind the order, where it is the next of
--- its thread: as the text of an explanation has it behind `#`
+-- how call k of thread t ended, and why it can't come next behind the order, where it is the next
+-- of its thread: as the text of an explanation has it behind `#`
 abbrev pub reason_said : Declarations → Matrix → Explained → ℕ → ℕ → SerialOutcome → List ℕ
 reason_said c matrix e t k o =
     if k == length (entries t e.order)
