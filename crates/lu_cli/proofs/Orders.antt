@@ -15,9 +15,9 @@ use Rattle.clap.specs.declared.error.kind.ErrorKind.{ErrorKind}
 use Rattle.clap.specs.declared.error.kind.ErrorKind.TheVariants.{OutOfMemory}
 use Rattle.clap.proofs.OnLiterals.{clap_on_literals}
 use Rattle.clap.proofs.WalkLemmas.{both}
-use Rattle.lu_cli.specs.declared.order.Order.{Order}
+use Rattle.lu_cli.specs.declared.order.Request.{Request}
 use Rattle.lu_cli.specs.declared.order.ArgsFault.TheVariants.{Refused}
-use Rattle.lu_cli.specs.Args.{flag_said, lineup, number_by, number_said, order_by, order_without, order_in, order_of}
+use Rattle.lu_cli.specs.Args.{flag_said, lineup, number_by, number_said, request_by, request_without, request_in, request_of}
 
 pub lineup_is_simple : is_simple lineup ≡ true
 unfolding clap_on_literals
@@ -82,40 +82,40 @@ flag_got gives (Some text) None parses none some =
 
 -- ---- orders
 
-pub order_found : (order total : Option Order) → total ≡ order → IfOk (ok_or order Refused) (λ o. total ≡ Some o)
-order_found None total e = tt
-order_found (Some o) total e = e
+pub request_found : (request total : Option Request) → total ≡ request → IfOk (ok_or request Refused) (λ o. total ≡ Some o)
+request_found None total e = tt
+request_found (Some o) total e = e
 
-pub order_refused : (order total : Option Order) → total ≡ order → IsErrOf (ok_or order Refused) Refused → total ≡ None
-order_refused None total e h = e
-order_refused (Some o) total e h = absurd cc
+pub request_refused : (request total : Option Request) → total ≡ request → IsErrOf (ok_or request Refused) Refused → total ≡ None
+request_refused None total e h = e
+request_refused (Some o) total e h = absurd cc
 
-pub no_order : (kind : ErrorKind) (kinds : Kinds) (order : Option Order) → IsAmong kind kinds → order_without kinds order ≡ None
-no_order kind [] order h = absurd h
-no_order kind (k ∷ kinds) order h = refl
+pub no_request : (kind : ErrorKind) (kinds : Kinds) (request : Option Request) → IsAmong kind kinds → request_without kinds request ≡ None
+no_request kind [] request h = absurd h
+no_request kind (k ∷ kinds) request h = refl
 
--- what a parse of a simple command says of the order
-pub order_is : (app : App) (words : List Text) (entered : Option (Text × List Row)) (order : Option Order) → app ≡ lineup
+-- what a parse of a simple command says of the request
+pub request_is : (app : App) (words : List Text) (entered : Option (Text × List Row)) (request : Option Request) → app ≡ lineup
     → (is_simple_and_free app ≡ true → fault_of app words ≡ []) → (is_simple app ≡ true → entered ≡ subcommand_of app words)
-    → order ≡ order_in entered → order_of words ≡ order
-order_is app words entered order e faults matches o =
+    → request ≡ request_in entered → request_of words ≡ request
+request_is app words entered request e faults matches o =
     let f : fault_of lineup words ≡ [] = subst (λ (a : App). fault_of a words ≡ []) e (faults (rw e lineup_is_free)) in
     let m : entered ≡ subcommand_of lineup words = subst (λ (a : App). entered ≡ subcommand_of a words) e (matches (rw e lineup_is_simple)) in
     rw (f, ← m, ← o) refl
 
-pub faulty : (app : App) (words : List Text) (kind : ErrorKind) → app ≡ lineup → (is_simple_and_free app ≡ true → (kind ≡ OutOfMemory) ⊎ IsAmong kind (fault_of app words)) → (kind ≡ OutOfMemory → ⊥) → order_of words ≡ None
+pub faulty : (app : App) (words : List Text) (kind : ErrorKind) → app ≡ lineup → (is_simple_and_free app ≡ true → (kind ≡ OutOfMemory) ⊎ IsAmong kind (fault_of app words)) → (kind ≡ OutOfMemory → ⊥) → request_of words ≡ None
 faulty app words kind e faults other =
     let f : (kind ≡ OutOfMemory) ⊎ IsAmong kind (fault_of lineup words) = subst (λ (a : App). (kind ≡ OutOfMemory) ⊎ IsAmong kind (fault_of a words)) e (faults (rw e lineup_is_free)) in
     elim f [
       | inl memory ↦ absurd (other memory)
-      | inr among ↦ no_order kind (fault_of lineup words) _ among
+      | inr among ↦ no_request kind (fault_of lineup words) _ among
     ]
 
--- the order of a name and of rows that are those of the same entry
-pub order_entered : {S : Type 0} (name_of : S → Text) (rows_of : S → List Row) (entered : Option S) (name : Text) (rows : List Row) → Some name ≡ option_map name_of entered
-    → Some rows ≡ option_map {T = Text × List Row} (λ e. e.1) (option_map (λ s. (name_of s, rows_of s)) entered) → order_by name rows ≡ order_in (option_map (λ s. (name_of s, rows_of s)) entered)
-order_entered name_of rows_of None name rows named rowed = absurd cc
-order_entered name_of rows_of (Some s) name rows named rowed =
+-- the request of a name and of rows that are those of the same entry
+pub request_entered : {S : Type 0} (name_of : S → Text) (rows_of : S → List Row) (entered : Option S) (name : Text) (rows : List Row) → Some name ≡ option_map name_of entered
+    → Some rows ≡ option_map {T = Text × List Row} (λ e. e.1) (option_map (λ s. (name_of s, rows_of s)) entered) → request_by name rows ≡ request_in (option_map (λ s. (name_of s, rows_of s)) entered)
+request_entered name_of rows_of None name rows named rowed = absurd cc
+request_entered name_of rows_of (Some s) name rows named rowed =
     let same : name ≡ name_of s = cc in
     let also : rows ≡ rows_of s = cc in
     rw (same, also) refl

@@ -1,4 +1,5 @@
 -- Answers that go out.
+use Rattle.std.specs.Prelude.{if◌then◌else◌}
 use Rattle.std.proofs.Common.{◌≡◌, ◌≢◌, ℕ, suc, ◌<◌, Bool, true, false, List, [], ◌∷◌, ◌++◌, Option, Some, None, length, replicate, Result, Ok, Err, refl, inl, inr, ap, sym, ◌∙◌, arith, subst, get_or}
 use Rattle.std.specs.Prelude.{IfSome, MatchBool, codes, nat_lt}
 use Rattle.std.specs.Fmt.{decimal}
@@ -40,14 +41,22 @@ use Rattle.lu_cli.specs.declared.order.CampaignPart.{CampaignPart}
 use Rattle.lu_cli.specs.declared.order.CampaignPart.TheVariants.{Whole, Slice, Count}
 use Rattle.lu_cli.specs.declared.order.CampaignThreads.{CampaignThreads}
 use Rattle.lu_cli.specs.declared.order.CampaignThreads.TheVariants.{Alike, Own}
+use Rattle.lu_cli.specs.declared.order.Request.{Request}
+use Rattle.lu_cli.specs.declared.order.Request.TheVariants.{Lint, Ordered}
 use Rattle.lu_cli.specs.declared.order.Order.{Order}
-use Rattle.lu_cli.specs.declared.order.Order.TheVariants.{Replay, Trace, Draw, Explain, ExplainAgainst, Serial, Spec, Check, CheckAgainst, Certify, Refute, Shrink, Campaign as Campaigning}
+use Rattle.lu_cli.specs.declared.order.Order.TheVariants.{Replay, Trace, Draw, DrawExplained, Explain, ExplainAgainst, Serial, Spec, Check, CheckAgainst, Certify, Refute, Shrink, Campaign as Campaigning}
+use Rattle.lu_cli.specs.declared.explaining.Presentation.{Presentation}
+use Rattle.lu_cli.specs.declared.explaining.Presentation.TheVariants.{Words, Picture}
+use Rattle.lu_explain.specs.Explanations.{Explained}
+use Rattle.lu_lint.specs.Said.{is_fault}
+use Rattle.std.specs.List.{list_any}
+use Rattle.lu_cli.specs.Drawing.{IsDrawnWith}
 use Rattle.lu_cli.specs.declared.explaining.Target.{Target}
 use Rattle.lu_cli.specs.declared.explaining.Target.TheVariants as target
-use Rattle.lu_cli.specs.Explaining.{IsExplained, IsExplainedBy, IsExplainedSchedule, IsExplainedSerially, ToEnded, ToFinding, is_report, status_by, unexplained}
+use Rattle.lu_cli.specs.Explaining.{IsExplained, IsExplainedBy, IsExplainedSchedule, IsExplainedSerially, IsPicturedBy, IsPresentedBy, ToEnded, ToFinding, is_report, status_by, unexplained}
 use Rattle.lu_cli.specs.Bundle.{bundle_parts}
 use Rattle.lu_report.specs.Limits.{Limits}
-use Rattle.lu_cli.specs.Replies.{Answer, Answers, IsAnswerFrom, IsAnswerOf, IsAnswerTo, IsAnswerToAlike, IsAnswerToPart, IsByThreadAnswer, IsCampaignAlike, IsCampaignAnswer, IsCampaignBy, IsCampaignFrom, IsCertified, IsCheckAgainstFrom, IsCheckAgainstOf, IsChecked, IsCheckedAgainst, IsCollected, IsCountAnswer, IsDrawn, IsExplainAgainstOf, IsExplainOf, IsExplainedAgainst, IsExplainedText, IsRefuted, IsRefutedBy, IsRefuteOf, IsReplayed, IsRunSerially, IsShrinkAnswer, IsSliceAnswer, IsSpecOf, IsTraced, ShowsCertificate, Tells, ToMatrix, ToParts, ToReport, ToSchedule, ToSettled, ToShown, ToSpec, ToTarget, ToTexts, ToValue, found_answer, no_command, no_device, no_memory, or_schedule, refused, reported, status_of, with_matrix}
+use Rattle.lu_cli.specs.Replies.{Answer, Answers, IsAnswerFrom, IsAnswerIn, IsAnswerOf, IsAnswerTo, IsAnswerToAlike, IsAnswerToPart, IsByThreadAnswer, IsCampaignAlike, IsCampaignAnswer, IsCampaignBy, IsCampaignFrom, IsCertified, IsCheckAgainstFrom, IsCheckAgainstOf, IsChecked, IsCheckedAgainst, IsCollected, IsCountAnswer, IsDrawn, IsExplainAgainstOf, IsExplainOf, IsExplainedAgainst, IsExplainedText, IsLinted, IsRefuted, IsRefutedBy, IsRefuteOf, IsReplayed, IsRunSerially, IsShrinkAnswer, IsSliceAnswer, IsSpecOf, IsTraced, ShowsCertificate, Tells, ToMatrix, ToParts, ToReport, ToSchedule, ToSettled, ToShown, ToSpec, ToTarget, ToTexts, ToValue, found_answer, no_command, no_device, no_memory, or_schedule, refused, reported, status_of, with_matrix}
 
 -- an answer that was made and said
 pub said : (IsAnswer : Answer → Type 0) (answer : Answer) (text : List ℕ) (old new : Option (List ℕ)) (status : ℕ) → IsAnswer answer → text ≡ answer.text → Appends old new text × (status ≡ answer.status) → Answers IsAnswer old new status
@@ -56,26 +65,26 @@ said IsAnswer answer text old new status is t h = inl (answer, is, (subst (Appen
 -- ---- answers to what was read
 
 -- the input was read whole
-pub answer_whole : (order : Order) (known : Option (List ℕ)) (input : List ℕ) (answer : Answer) → IfSome known (λ all. input ≡ all) → IsAnswerOf order input answer → IsAnswerFrom order known answer
-answer_whole order known input answer all is = (input, all, is)
+pub answer_whole : (request : Request) (known : Option (List ℕ)) (input : List ℕ) (answer : Answer) → IfSome known (λ all. input ≡ all) → IsAnswerOf request input answer → IsAnswerFrom request known answer
+answer_whole request known input answer all is = (input, all, is)
 
 too_long : (input : List ℕ) → 1048576 < length input → nat_lt 1048576 (length input) ≡ true
 too_long input long = lt-ltb 1048576 (length input) long
 
-refused_as_long : (order : Order) (input : List ℕ) (answer : Answer) → 1048576 < length input → answer ≡ refused (codes "B2") → IsAnswerOf order input answer
-refused_as_long order input answer long is = rw (too_long input long) is
+refused_as_long : (request : Request) (input : List ℕ) (answer : Answer) → 1048576 < length input → answer ≡ refused (codes "B2") → IsAnswerOf request input answer
+refused_as_long request input answer long is = rw (too_long input long) is
 
 -- some text has more bytes
 longer : (n : ℕ) → (input : List ℕ) × (n < length input)
 longer n = (replicate (suc n) n, (let e = length-replicate (suc n) n in omega arith))
 
-some_long : (order : Order) (answer : Answer) → ((input : List ℕ) × (1048576 < length input)) → answer ≡ refused (codes "B2") → IsAnswerFrom order None answer
-some_long order answer some is = (some.0, tt, refused_as_long order some.0 answer some.1 is)
+some_long : (request : Request) (answer : Answer) → ((input : List ℕ) × (1048576 < length input)) → answer ≡ refused (codes "B2") → IsAnswerFrom request None answer
+some_long request answer some is = (some.0, tt, refused_as_long request some.0 answer some.1 is)
 
 -- more came than is read
-pub answer_long : (order : Order) (known : Option (List ℕ)) (answer : Answer) → IfSome known (λ all. 1048576 < length all) → answer ≡ refused (codes "B2") → IsAnswerFrom order known answer
-answer_long order (Some all) answer long is = (all, refl, refused_as_long order all answer long is)
-answer_long order None answer long is = some_long order answer (longer 1048576) is
+pub answer_long : (request : Request) (known : Option (List ℕ)) (answer : Answer) → IfSome known (λ all. 1048576 < length all) → answer ≡ refused (codes "B2") → IsAnswerFrom request known answer
+answer_long request (Some all) answer long is = (all, refl, refused_as_long request all answer long is)
+answer_long request None answer long is = some_long request answer (longer 1048576) is
 
 -- ---- no answer blames a device
 
@@ -113,9 +122,9 @@ traced_else : (c : Declarations) (m : Matrix) (u : List Move) (answer : Answer) 
 traced_else c m u answer (inl is) = status_else answer 0 (ap (λ (a : Answer). a.status) is.2) (λ e. omega arith)
 traced_else c m u answer (inr is) = status_else answer 1 (ap (λ (a : Answer). a.status) is.2) (λ e. omega arith)
 
-drawn_else : (c : Declarations) (m : Matrix) (u : List Move) (answer : Answer) → IsDrawn c m u answer → IsElse answer
-drawn_else c m u answer (inl is) = status_else answer 0 (ap (λ (a : Answer). a.status) is.2) (λ e. omega arith)
-drawn_else c m u answer (inr is) = status_else answer 1 (ap (λ (a : Answer). a.status) is.2) (λ e. omega arith)
+drawn_else : (why : Option Explained) (c : Declarations) (m : Matrix) (u : List Move) (answer : Answer) → IsDrawnWith why c m u answer → IsElse answer
+drawn_else why c m u answer (inl is) = status_else answer 0 (ap (λ (a : Answer). a.status) is.2) (λ e. omega arith)
+drawn_else why c m u answer (inr is) = status_else answer 1 (ap (λ (a : Answer). a.status) is.2) (λ e. omega arith)
 
 scheduled_else : (r : Result (List Move) ScheduleFault) (IsAnswer : List Move → Answer → Type 0) (answer : Answer) → ((u : List Move) → IsAnswer u answer → IsElse answer) → ToSchedule r IsAnswer answer → IsElse answer
 scheduled_else (Ok u) IsAnswer answer h is = h u is
@@ -229,9 +238,16 @@ ended_else Running IsAnswer answer h is = unexplained_else (codes "running") [] 
 ended_else Complete IsAnswer answer h is = h is
 ended_else Stuck IsAnswer answer h is = h is
 
-explained_else : (members : List (List SerialOp)) (c : Declarations) (m : Matrix) (u : List Move) (answer : Answer) → IsExplainedSchedule members c m u answer → IsElse answer
-explained_else members c m u answer (inl is) = ended_else is.1 (IsExplainedBy members c m u is.0) answer (by_else members c m u is.0 answer) is.3
-explained_else members c m u answer (inr is) = status_else answer 1 (ap (λ (a : Answer). a.status) is.2) (λ e. omega arith)
+pictured_else : (members : List (List SerialOp)) (c : Declarations) (m : Matrix) (u : List Move) (h : List Event) (answer : Answer) → IsPicturedBy members c m u h answer → IsElse answer
+pictured_else members c m u h answer (e, shown, is) = drawn_else (Some e) c m u answer is
+
+presented_else : (by : Presentation) (members : List (List SerialOp)) (c : Declarations) (m : Matrix) (u : List Move) (h : List Event) (answer : Answer) → IsPresentedBy by members c m u h answer → IsElse answer
+presented_else Words members c m u h answer is = by_else members c m u h answer is
+presented_else Picture members c m u h answer is = pictured_else members c m u h answer is
+
+explained_else : (by : Presentation) (members : List (List SerialOp)) (c : Declarations) (m : Matrix) (u : List Move) (answer : Answer) → IsExplainedSchedule by members c m u answer → IsElse answer
+explained_else by members c m u answer (inl is) = ended_else is.1 (IsPresentedBy by members c m u is.0) answer (presented_else by members c m u is.0 answer) is.3
+explained_else by members c m u answer (inr is) = status_else answer 1 (ap (λ (a : Answer). a.status) is.2) (λ e. omega arith)
 
 finding_else : (IsAnswer : List Move → Answer → Type 0) (f : Finding) (answer : Answer) → ((u : List Move) → IsAnswer u answer → IsElse answer) → ToFinding IsAnswer f answer → IsElse answer
 finding_else IsAnswer (SerialCut u) answer h is = unexplained_else (codes "serial-cut") (schedule_text u) answer is
@@ -239,13 +255,13 @@ finding_else IsAnswer (Nondeterministic u before earlier) answer h is = unexplai
 finding_else IsAnswer (Fail u why) answer h is = h u is
 finding_else IsAnswer (Pass counts) answer h is = unexplained_else (codes "pass") [] answer is
 
-explanation_else : (members : List (List SerialOp)) (c : Declarations) (m : Matrix) (t : Target) (answer : Answer) → IsExplained members c m t answer → IsElse answer
-explanation_else members c m (target.Schedule u) answer is = explained_else members c m u answer is
-explanation_else members c m (target.Report r) answer is = finding_else (IsExplainedSchedule members c m) r.finding answer (λ u more. explained_else members c m u answer more) is
+explanation_else : (by : Presentation) (members : List (List SerialOp)) (c : Declarations) (m : Matrix) (t : Target) (answer : Answer) → IsExplained by members c m t answer → IsElse answer
+explanation_else by members c m (target.Schedule u) answer is = explained_else by members c m u answer is
+explanation_else by members c m (target.Report r) answer is = finding_else (IsExplainedSchedule by members c m) r.finding answer (λ u more. explained_else by members c m u answer more) is
 
-serially_else : (serial : ℕ) (c : Declarations) (m : Matrix) (t : Target) (answer : Answer) → IsExplainedSerially serial c m t answer → IsElse answer
-serially_else serial c m t answer (inl is) = explanation_else is.1 c m t answer is.4
-serially_else serial c m t answer (inr is) = finding_else (λ v a. ⊥) is.0 answer (λ u never. absurd never) is.2
+serially_else : (by : Presentation) (serial : ℕ) (c : Declarations) (m : Matrix) (t : Target) (answer : Answer) → IsExplainedSerially by serial c m t answer → IsElse answer
+serially_else by serial c m t answer (inl is) = explanation_else by is.1 c m t answer is.4
+serially_else by serial c m t answer (inr is) = finding_else (λ v a. ⊥) is.0 answer (λ u never. absurd never) is.2
 
 target_else : (text : List ℕ) (IsAnswer : Target → Answer → Type 0) (answer : Answer) → ((t : Target) → IsAnswer t answer → IsElse answer) → ToTarget text IsAnswer answer → IsElse answer
 target_else text IsAnswer answer h is = go (is_report text) is
@@ -254,18 +270,18 @@ target_else text IsAnswer answer h is = go (is_report text) is
     go true is = report_else text (λ r. IsAnswer (target.Report r)) answer (λ r more. h (target.Report r) more) is
     go false is = scheduled_else (schedule_of text) (λ u. IsAnswer (target.Schedule u)) answer (λ u more. h (target.Schedule u) more) is
 
-explain_else : (limits : Limits) (parts : List (List ℕ)) (answer : Answer) → IsExplainOf limits parts answer → IsElse answer
-explain_else limits parts answer is =
-    parts_else (three parts) (λ p. ToTexts p.0 p.1 (λ c m. IsExplainedText limits c m p.2)) answer
-    (λ p more. texts_else p.0 p.1 (λ c m. IsExplainedText limits c m p.2) answer
-    (λ c m from. target_else p.2 (IsExplainedSerially limits.serial c m) answer (λ t last. serially_else limits.serial c m t answer last) from) more) is
+explain_else : (by : Presentation) (limits : Limits) (parts : List (List ℕ)) (answer : Answer) → IsExplainOf by limits parts answer → IsElse answer
+explain_else by limits parts answer is =
+    parts_else (three parts) (λ p. ToTexts p.0 p.1 (λ c m. IsExplainedText by limits c m p.2)) answer
+    (λ p more. texts_else p.0 p.1 (λ c m. IsExplainedText by limits c m p.2) answer
+    (λ c m from. target_else p.2 (IsExplainedSerially by limits.serial c m) answer (λ t last. serially_else by limits.serial c m t answer last) from) more) is
 
 explain_against_else : (parts : List (List ℕ)) (answer : Answer) → IsExplainAgainstOf parts answer → IsElse answer
 explain_against_else parts answer is =
     parts_else (four parts) (λ p. ToTexts p.0 p.1 (λ c m. IsExplainedAgainst c m p.2 p.3)) answer
     (λ p more. texts_else p.0 p.1 (λ c m. IsExplainedAgainst c m p.2 p.3) answer
-    (λ c m from. target_else p.2 (λ t. ToSpec m p.3 (λ members. IsExplained members c m t)) answer
-    (λ t read. spec_else m p.3 (λ members. IsExplained members c m t) answer (λ members last. explanation_else members c m t answer last) read) from) more) is
+    (λ c m from. target_else p.2 (λ t. ToSpec m p.3 (λ members. IsExplained Words members c m t)) answer
+    (λ t read. spec_else m p.3 (λ members. IsExplained Words members c m t) answer (λ members last. explanation_else Words members c m t answer last) read) from) more) is
 
 found_else : (c : Declarations) (found : Campaign) (answer : Answer) → answer ≡ found_answer c found → IsElse answer
 found_else c (AllPass count) answer is = status_else answer 0 (ap (λ (a : Answer). a.status) is) (λ e. omega arith)
@@ -318,8 +334,9 @@ collected_parts_else parts answer is =
 pub order_else : (order : Order) (parts : List (List ℕ)) (answer : Answer) → IsAnswerTo order parts answer → IsElse answer
 order_else Replay parts answer is = three_else parts IsReplayed answer (λ c m u more. replayed_else c m u answer more) is
 order_else Trace parts answer is = shown_parts_else parts IsTraced answer (λ c m u more. traced_else c m u answer more) is
-order_else Draw parts answer is = shown_parts_else parts IsDrawn answer (λ c m u more. drawn_else c m u answer more) is
-order_else (Explain limits) parts answer is = explain_else limits parts answer is
+order_else Draw parts answer is = shown_parts_else parts IsDrawn answer (λ c m u more. drawn_else None c m u answer more) is
+order_else (DrawExplained limits) parts answer is = explain_else Picture limits parts answer is
+order_else (Explain limits) parts answer is = explain_else Words limits parts answer is
 order_else ExplainAgainst parts answer is = explain_against_else parts answer is
 order_else (Serial limits) parts answer is = two_else parts (λ c m. IsRunSerially c m limits) answer (λ c m more. serial_else c m limits answer more) is
 order_else Spec parts answer is = collected_parts_else parts answer is
@@ -330,12 +347,23 @@ order_else Refute parts answer is = four_else parts answer is
 order_else (Shrink limits) parts answer is = two_else parts (λ c m. IsShrinkAnswer c m limits) answer (λ c m more. shrink_else c m limits answer more) is
 order_else (Campaigning options) parts answer is = two_else parts (λ c m. IsCampaignFrom c options m) answer (λ c m more. matrices_else options.threads c options m answer more) is
 
-either_else : (long : Bool) (order : Order) (parts : List (List ℕ)) (answer : Answer) → MatchBool long (answer ≡ refused (codes "B2")) (IsAnswerTo order parts answer) → IsElse answer
-either_else true order parts answer is = refused_else (codes "B2") answer is
-either_else false order parts answer is = order_else order parts answer is
+pub linted_else : (bundle : List ℕ) (answer : Answer) → IsLinted bundle answer → IsElse answer
+linted_else bundle answer (remarks, is, sorted, e) = go (list_any (λ r. is_fault r.said.cause) remarks) (ap (λ (a : Answer). a.status) e)
+  where
+    go : (b : Bool) → answer.status ≡ (if b then 2 else 0) → IsElse answer
+    go true e = status_else answer 2 e (λ f. omega arith)
+    go false e = status_else answer 0 e (λ f. omega arith)
 
-pub answer_else : (order : Order) (known : Option (List ℕ)) (answer : Answer) → IsAnswerFrom order known answer → answer ≢ no_device
-answer_else order known answer is = either_else (nat_lt 1048576 (length is.0)) order (bundle_parts is.0) answer is.2
+request_else : (request : Request) (input : List ℕ) (answer : Answer) → IsAnswerIn request input answer → IsElse answer
+request_else Lint input answer is = linted_else input answer is
+request_else (Ordered order) input answer is = order_else order (bundle_parts input) answer is
+
+either_else : (long : Bool) (request : Request) (input : List ℕ) (answer : Answer) → MatchBool long (answer ≡ refused (codes "B2")) (IsAnswerIn request input answer) → IsElse answer
+either_else true request input answer is = refused_else (codes "B2") answer is
+either_else false request input answer is = request_else request input answer is
+
+pub answer_else : (request : Request) (known : Option (List ℕ)) (answer : Answer) → IsAnswerFrom request known answer → answer ≢ no_device
+answer_else request known answer is = either_else (nat_lt 1048576 (length is.0)) request is.0 answer is.2
 
 pub command_else : (answer : Answer) → answer ≡ no_command → answer ≢ no_device
 command_else answer is = status_else answer 2 (ap (λ (a : Answer). a.status) is) (λ e. omega arith)
@@ -345,4 +373,4 @@ memory_else = text_else no_memory 109 refl (λ e. omega arith)
 
 -- what was said was something else
 pub said_else : (answer : Answer) (text : List ℕ) (old new : Option (List ℕ)) (status : ℕ) → answer ≢ no_device → text ≡ answer.text → Appends old new text × (status ≡ answer.status) → (a : Answer) × (a ≢ no_device) × Tells a old new status
-said_else answer text old new status else t h = (answer, else, (subst (Appends old new) t h.0, h.1))
+said_else answer text old new status other t h = (answer, other, (subst (Appends old new) t h.0, h.1))

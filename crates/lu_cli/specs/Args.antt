@@ -17,8 +17,10 @@ use Rattle.lu_cli.specs.declared.order.CampaignPart.{CampaignPart}
 use Rattle.lu_cli.specs.declared.order.CampaignPart.TheVariants.{Whole, Slice, Count}
 use Rattle.lu_cli.specs.declared.order.CampaignThreads.{CampaignThreads}
 use Rattle.lu_cli.specs.declared.order.CampaignThreads.TheVariants.{Alike, Own}
+use Rattle.lu_cli.specs.declared.order.Request.{Request}
+use Rattle.lu_cli.specs.declared.order.Request.TheVariants.{Lint, Ordered}
 use Rattle.lu_cli.specs.declared.order.Order.{Order}
-use Rattle.lu_cli.specs.declared.order.Order.TheVariants.{Replay, Trace, Draw, Explain, ExplainAgainst, Serial, Spec, Check, CheckAgainst, Certify, Refute, Shrink, Campaign}
+use Rattle.lu_cli.specs.declared.order.Order.TheVariants.{Replay, Trace, Draw, DrawExplained, Explain, ExplainAgainst, Serial, Spec, Check, CheckAgainst, Certify, Refute, Shrink, Campaign}
 use Rattle.lu_cli.specs.Orders.{choice_of}
 use Rattle.lu_report.specs.Limits.{Limits, limits_of, most_moves}
 use Rattle.lu_parallel.specs.Ranges.{Choice}
@@ -81,7 +83,13 @@ abbrev pub trace_command : App
 trace_command = new_app (codes "trace")
 
 abbrev pub draw_command : App
-draw_command = new_app (codes "draw")
+draw_command =
+    with_rule
+    (with_rule (new_app (codes "draw")) (flag (codes "explain")))
+    (number_option (codes "serial") 1 most_moves (codes "40"))
+
+abbrev pub lint_command : App
+lint_command = new_app (codes "lint")
 
 abbrev pub explain_command : App
 explain_command =
@@ -153,8 +161,10 @@ single_commands =
 abbrev pub lineup : App
 lineup =
     with_subcommand
+    (with_subcommand
     (with_subcommand (with_subcommand single_commands refute_command.top) shrink_command.top)
-    campaign_command.top
+    campaign_command.top)
+    lint_command.top
 
 -- ---- what words ask for
 
@@ -210,6 +220,15 @@ check_order against choice = if against then CheckAgainst choice else Check choi
 
 abbrev pub check_in : List Row → Option Order
 check_in rows = option_map (check_order (flag_in (codes "spec") rows)) (choice_in rows)
+
+-- a picture, or one with an explanation
+abbrev pub draw_order : Bool → Limits → Order
+draw_order explained limits = if explained then DrawExplained limits else Draw
+
+abbrev pub draw_in : List Row → Option Order
+draw_in rows =
+    option_map (draw_order (flag_in (codes "explain") rows))
+    (limits_with (Some 0) (number_in (codes "serial") rows))
 
 -- an explanation by the serial runs, or one by a specification
 abbrev pub explain_order : Bool → Limits → Order
@@ -269,7 +288,7 @@ abbrev pub order_by : Text → List Row → Option Order
 order_by name rows =
     if bytes_eq name (codes "replay") then Some Replay
     else (if bytes_eq name (codes "trace") then Some Trace
-    else (if bytes_eq name (codes "draw") then Some Draw
+    else (if bytes_eq name (codes "draw") then draw_in rows
     else (if bytes_eq name (codes "explain") then explain_in rows
     else (if bytes_eq name (codes "serial") then option_map Serial (limits_in rows)
     else (if bytes_eq name (codes "spec") then Some Spec
@@ -280,14 +299,20 @@ order_by name rows =
     else (if bytes_eq name (codes "campaign") then option_map Campaign (campaign_in rows)
     else None))))))))))
 
-abbrev pub order_in : Option (Text × List Row) → Option Order
-order_in entered = option_and_then (λ e. order_by e.0 e.1) entered
+-- what a command with these rows asks for
+abbrev pub request_by : Text → List Row → Option Request
+request_by name rows =
+    if bytes_eq name (codes "lint") then Some Lint else option_map Ordered (order_by name rows)
+
+abbrev pub request_in : Option (Text × List Row) → Option Request
+request_in entered = option_and_then (λ e. request_by e.0 e.1) entered
 
 -- nothing is asked for where a fault is found
-abbrev pub order_without : List ErrorKind → Option Order → Option Order
-order_without [] order = order
-order_without (k ∷ kinds) order = None
+abbrev pub request_without : List ErrorKind → Option Request → Option Request
+request_without [] request = request
+request_without (k ∷ kinds) request = None
 
 -- what the words behind the program's name ask for: nothing where they are refused
-abbrev pub order_of : List Text → Option Order
-order_of words = order_without (fault_of lineup words) (order_in (subcommand_of lineup words))
+abbrev pub request_of : List Text → Option Request
+request_of words =
+    request_without (fault_of lineup words) (request_in (subcommand_of lineup words))

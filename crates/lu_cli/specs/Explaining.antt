@@ -1,5 +1,5 @@
 -- What `explain` answers.
-use Rattle.std.specs.Prelude.{◌≡◌, ◌⊎◌, ℕ, List, [], ◌++◌, codes, Bool, nat_eq}
+use Rattle.std.specs.Prelude.{◌≡◌, ◌⊎◌, ℕ, List, [], ◌++◌, Some, codes, Bool, nat_eq}
 use Rattle.std.specs.List.{starts_with}
 use Rattle.lu_component.specs.Component.{Declarations}
 use Rattle.lu_test.specs.declared.schedule.Move.{Move}
@@ -22,6 +22,10 @@ use Rattle.lu_replay.specs.Replays.{IsInfeasibleAt, Shows}
 use Rattle.lu_replay.specs.Reports.{IsFinding}
 use Rattle.lu_explain.specs.Blocks.{IsTextFor, run_of}
 use Rattle.lu_explain.specs.EventMoves.{AreEventMoves}
+use Rattle.lu_explain.specs.Explanations.{Explained}
+use Rattle.lu_cli.specs.declared.explaining.Presentation.{Presentation}
+use Rattle.lu_cli.specs.declared.explaining.Presentation.TheVariants.{Words, Picture}
+use Rattle.lu_cli.specs.Drawing.{IsDrawnWith, IsShownExplanation}
 use Rattle.lu_cli.specs.declared.explaining.Target.{Target}
 use Rattle.lu_cli.specs.declared.explaining.Target.TheVariants as target
 use Rattle.lu_cli.specs.Outcomes.{Answer, infeasible}
@@ -45,6 +49,18 @@ IsExplainedBy members c m u h answer =
     × IsVerdict (IsMember members) h verdict
     × (answer ≡ record { text = text; status = status_by verdict })
 
+-- the same as a picture
+abbrev pub IsPicturedBy : List (List SerialOp) → Declarations → Matrix → List Move → List Event
+    → Answer → Type 0
+IsPicturedBy members c m u h answer =
+    (e : Explained) × IsShownExplanation members h e × IsDrawnWith (Some e) c m u answer
+
+-- in words, or as a picture
+abbrev pub IsPresentedBy : Presentation → List (List SerialOp) → Declarations → Matrix → List Move
+    → List Event → Answer → Type 0
+IsPresentedBy Words = IsExplainedBy
+IsPresentedBy Picture = IsPicturedBy
+
 -- a finding that is no failure explains nothing
 abbrev pub ToFinding : (List Move → Answer → Type 0) → Finding → Answer → Type 0
 ToFinding IsAnswer (SerialCut u) answer =
@@ -61,18 +77,19 @@ ToEnded Complete IsAnswer answer = IsAnswer answer
 ToEnded Stuck IsAnswer answer = IsAnswer answer
 
 -- a schedule, explained by these serial histories, or where it is infeasible
-abbrev pub IsExplainedSchedule : List (List SerialOp) → Declarations → Matrix → List Move → Answer
-    → Type 0
-IsExplainedSchedule members c m u answer =
+abbrev pub IsExplainedSchedule : Presentation → List (List SerialOp) → Declarations → Matrix
+    → List Move → Answer → Type 0
+IsExplainedSchedule by members c m u answer =
     ((h : List Event) × (status : Status) × Shows c m u h status
-    × ToEnded status (IsExplainedBy members c m u h) answer)
+    × ToEnded status (IsPresentedBy by members c m u h) answer)
     ⊎ ((i : ℕ) × IsInfeasibleAt c m u i × (answer ≡ infeasible i))
 
 -- a schedule, or that of a report
-abbrev pub IsExplained : List (List SerialOp) → Declarations → Matrix → Target → Answer → Type 0
-IsExplained members c m (target.Schedule u) = IsExplainedSchedule members c m u
-IsExplained members c m (target.Report r) =
-    ToFinding (IsExplainedSchedule members c m) r.finding
+abbrev pub IsExplained : Presentation → List (List SerialOp) → Declarations → Matrix → Target
+    → Answer → Type 0
+IsExplained by members c m (target.Schedule u) = IsExplainedSchedule by members c m u
+IsExplained by members c m (target.Report r) =
+    ToFinding (IsExplainedSchedule by members c m) r.finding
 
 -- what a check finds, with any bound of schedules, where a serial run offends
 abbrev pub IsOffenceOf : Declarations → Matrix → ℕ → Finding → Type 0
@@ -80,10 +97,11 @@ IsOffenceOf c m serial f =
     IsOfOffence f × ((bound : ℕ) → FromEachStart c m (λ s. IsFinding s bound serial f))
 
 -- by the serial histories, where no serial run offends; else that one does
-abbrev pub IsExplainedSerially : ℕ → Declarations → Matrix → Target → Answer → Type 0
-IsExplainedSerially serial c m explained answer =
+abbrev pub IsExplainedSerially : Presentation → ℕ → Declarations → Matrix → Target → Answer
+    → Type 0
+IsExplainedSerially by serial c m explained answer =
     ((s : State) × (members : List (List SerialOp)) × IsStart c m s × IsSetOf s serial members
-    × IsExplained members c m explained answer)
+    × IsExplained by members c m explained answer)
     ⊎ ((f : Finding) × IsOffenceOf c m serial f × ToFinding (λ v a. ⊥) f answer)
 
 -- the text begins as a report does

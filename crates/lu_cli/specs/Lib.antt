@@ -1,6 +1,7 @@
 pub mod Args
 pub mod Bundle
 pub mod Counted
+pub mod Drawing
 pub mod Explaining
 pub mod Inputs
 pub mod Orders

@@ -1,5 +1,5 @@
 -- What the program writes, and its status.
-use Rattle.std.specs.Prelude.{◌≡◌, ◌≢◌, ◌⊎◌, ◌↔◌, ℕ, List, [], ◌∷◌, ◌++◌, length, map, replicate, Option, Some, None, Result, Ok, Err, MatchBool, IfSome, codes, nat_lt}
+use Rattle.std.specs.Prelude.{◌≡◌, ◌≢◌, ◌⊎◌, ◌↔◌, ℕ, List, [], ◌∷◌, ◌++◌, length, map, replicate, Option, Some, None, Result, Ok, Err, MatchBool, IfSome, codes, nat_lt, if◌then◌else◌}
 use Rattle.std.specs.Fmt.{decimal}
 use Rattle.std.specs.Io.KnownBytes.{Appends}
 use Rattle.lu_text.specs.declared.fault.Fault.{Fault}
@@ -37,7 +37,15 @@ use Rattle.lu_replay.specs.Confirmed.{IsFailure}
 use Rattle.lu_replay.specs.Replays.{Shows, IsInfeasibleAt}
 use Rattle.lu_replay.specs.Text.{replay_text}
 use Rattle.lu_trace.specs.Traces.{IsTrace}
-use Rattle.lu_picture.specs.Pictures.{IsPicture}
+use Rattle.lu_lint.specs.declared.remark.Remark.{Remark}
+use Rattle.lu_lint.specs.Bundle.{IsSaidOf}
+use Rattle.lu_lint.specs.Messages.{remarks_text}
+use Rattle.lu_lint.specs.Said.{is_fault, said_of}
+use Rattle.std.specs.List.{list_any}
+use Rattle.std.specs.List.Sorted.{IsNonDecreasingBy}
+use Rattle.lu_cli.specs.Drawing.{IsDrawnWith}
+use Rattle.lu_cli.specs.declared.explaining.Presentation.{Presentation}
+use Rattle.lu_cli.specs.declared.explaining.Presentation.TheVariants.{Words, Picture}
 use Rattle.lu_parallel.specs.Ranges.{Choice}
 use Rattle.lu_refine.specs.declared.campaigns.Campaign.{Campaign}
 use Rattle.lu_refine.specs.declared.campaigns.Campaign.TheVariants.{AllPass, First}
@@ -65,15 +73,17 @@ use Rattle.lu_cli.specs.declared.order.CampaignPart.{CampaignPart}
 use Rattle.lu_cli.specs.declared.order.CampaignPart.TheVariants.{Whole, Slice, Count}
 use Rattle.lu_cli.specs.declared.order.CampaignThreads.{CampaignThreads}
 use Rattle.lu_cli.specs.declared.order.CampaignThreads.TheVariants.{Alike, Own}
+use Rattle.lu_cli.specs.declared.order.Request.{Request}
+use Rattle.lu_cli.specs.declared.order.Request.TheVariants.{Lint, Ordered}
 use Rattle.lu_cli.specs.declared.order.Order.{Order}
-use Rattle.lu_cli.specs.declared.order.Order.TheVariants.{Replay, Trace, Draw, Explain, ExplainAgainst, Serial, Spec, Check, CheckAgainst, Certify, Refute, Shrink, Campaign as Campaigning}
+use Rattle.lu_cli.specs.declared.order.Order.TheVariants.{Replay, Trace, Draw, DrawExplained, Explain, ExplainAgainst, Serial, Spec, Check, CheckAgainst, Certify, Refute, Shrink, Campaign as Campaigning}
 use Rattle.lu_cli.specs.declared.refusal.Refusal.{Refusal}
 use Rattle.lu_cli.specs.declared.refusal.Refusal.TheVariants as refusal
 use Rattle.lu_cli.specs.declared.explaining.Target.{Target}
 use Rattle.lu_cli.specs.declared.explaining.Target.TheVariants as target
 use Rattle.lu_cli.specs.Explaining.{IsExplained, IsExplainedSerially, is_report}
 use Rattle.lu_cli.specs.Bundle.{bundle_parts}
-use Rattle.lu_cli.specs.Args.{order_of}
+use Rattle.lu_cli.specs.Args.{request_of}
 use Rattle.lu_cli.specs.Inputs.{most_bytes}
 use Rattle.lu_report.specs.Limits.{Limits}
 pub use Rattle.lu_cli.specs.Outcomes.{Answer, refused, refused_on_line, infeasible, no_memory, no_command, no_device, no_worker, unsettled}
@@ -113,10 +123,7 @@ IsTraced c matrix u answer =
 
 -- the picture of the schedule, or where it is infeasible
 abbrev pub IsDrawn : Declarations → Matrix → List Move → Answer → Type 0
-IsDrawn c matrix u answer =
-    ((text : List ℕ) × IsPicture c matrix u text × (answer ≡ record { text = text; status = 0 }))
-    ⊎ ((i : ℕ) × IsInfeasibleAt c matrix u i
-    × (answer ≡ infeasible i))
+IsDrawn c matrix u answer = IsDrawnWith None c matrix u answer
 
 -- ---- reports
 
@@ -335,13 +342,14 @@ IsTargetRefusal text refused =
     ((fault : ScheduleFault) × IsScheduleUnlessMemory fault (schedule_of text)
     × (refused ≡ refusal.Schedule fault))
 
-abbrev pub IsExplainedText : Limits → Declarations → Matrix → List ℕ → Answer → Type 0
-IsExplainedText limits c m text = ToTarget text (IsExplainedSerially limits.serial c m)
+abbrev pub IsExplainedText : Presentation → Limits → Declarations → Matrix → List ℕ → Answer
+    → Type 0
+IsExplainedText by limits c m text = ToTarget text (IsExplainedSerially by limits.serial c m)
 
 -- the schedule or the report is read first, and then the specification
 abbrev pub IsExplainedAgainst : Declarations → Matrix → List ℕ → List ℕ → Answer → Type 0
 IsExplainedAgainst c m text spec =
-    ToTarget text (λ t. ToSpec m spec (λ members. IsExplained members c m t))
+    ToTarget text (λ t. ToSpec m spec (λ members. IsExplained Words members c m t))
 
 -- ---- `campaign`
 
@@ -493,9 +501,9 @@ abbrev pub IsDrawOf : List (List ℕ) → Answer → Type 0
 IsDrawOf parts =
     ToParts (three parts) (λ p. ToTexts p.0 p.1 (λ c m. IsDrawnText c m p.2))
 
-abbrev pub IsExplainOf : Limits → List (List ℕ) → Answer → Type 0
-IsExplainOf limits parts =
-    ToParts (three parts) (λ p. ToTexts p.0 p.1 (λ c m. IsExplainedText limits c m p.2))
+abbrev pub IsExplainOf : Presentation → Limits → List (List ℕ) → Answer → Type 0
+IsExplainOf by limits parts =
+    ToParts (three parts) (λ p. ToTexts p.0 p.1 (λ c m. IsExplainedText by limits c m p.2))
 
 abbrev pub IsExplainAgainstOf : List (List ℕ) → Answer → Type 0
 IsExplainAgainstOf parts =
@@ -536,7 +544,8 @@ abbrev pub IsAnswerTo : Order → List (List ℕ) → Answer → Type 0
 IsAnswerTo Replay parts = IsReplayOf parts
 IsAnswerTo Trace parts = IsTraceOf parts
 IsAnswerTo Draw parts = IsDrawOf parts
-IsAnswerTo (Explain limits) parts = IsExplainOf limits parts
+IsAnswerTo (DrawExplained limits) parts = IsExplainOf Picture limits parts
+IsAnswerTo (Explain limits) parts = IsExplainOf Words limits parts
 IsAnswerTo ExplainAgainst parts = IsExplainAgainstOf parts
 IsAnswerTo (Serial limits) parts = IsSerialOf limits parts
 IsAnswerTo Spec parts = IsSpecOf parts
@@ -547,21 +556,40 @@ IsAnswerTo Refute parts = IsRefuteOf parts
 IsAnswerTo (Shrink limits) parts = IsShrinkOf limits parts
 IsAnswerTo (Campaigning options) parts = IsCampaignOf options parts
 
--- the answer to an order and the whole input
-abbrev pub IsAnswerOf : Order → List ℕ → Answer → Type 0
-IsAnswerOf order input answer =
-    MatchBool (nat_lt most_bytes (length input)) (answer ≡ refused (codes "B2"))
-    (IsAnswerTo order (bundle_parts input) answer)
+-- what is said of the lines of a bundle, and whether one of it is a fault
+abbrev pub remarked : List Remark → Answer
+remarked remarks = record {
+  text = remarks_text remarks;
+  status = if list_any (λ r. is_fault r.said.cause) remarks then 2 else 0;
+}
 
--- the answer to an order and what was read: the whole input where it is known, and else some bytes
-abbrev pub IsAnswerFrom : Order → Option (List ℕ) → Answer → Type 0
-IsAnswerFrom order known answer =
-    (input : List ℕ) × IfSome known (λ all. input ≡ all) × IsAnswerOf order input answer
+-- what there is to say of a bundle, in the order of its lines
+abbrev pub IsLinted : List ℕ → Answer → Type 0
+IsLinted bundle answer =
+    (remarks : List Remark) × IsSaidOf bundle (said_of remarks)
+    × IsNonDecreasingBy (λ r. r.said.place) remarks × (answer ≡ remarked remarks)
+
+-- the answer to what is asked for and the input, where that is not too long
+abbrev pub IsAnswerIn : Request → List ℕ → Answer → Type 0
+IsAnswerIn Lint input answer = IsLinted input answer
+IsAnswerIn (Ordered order) input answer = IsAnswerTo order (bundle_parts input) answer
+
+-- the answer to what is asked for and the whole input
+abbrev pub IsAnswerOf : Request → List ℕ → Answer → Type 0
+IsAnswerOf request input answer =
+    MatchBool (nat_lt most_bytes (length input)) (answer ≡ refused (codes "B2"))
+    (IsAnswerIn request input answer)
+
+-- the answer to what is asked for and what was read: the whole input where it is known, and else
+-- some bytes
+abbrev pub IsAnswerFrom : Request → Option (List ℕ) → Answer → Type 0
+IsAnswerFrom request known answer =
+    (input : List ℕ) × IfSome known (λ all. input ≡ all) × IsAnswerOf request input answer
 
 -- the answer to what these words ask for, where they ask for something, and to what was read
 abbrev pub IsAnswerFor : List (List ℕ) → Option (List ℕ) → Answer → Type 0
 IsAnswerFor words known answer =
-    (order : Order) → order_of words ≡ Some order → IsAnswerFrom order known answer
+    (request : Request) → request_of words ≡ Some request → IsAnswerFrom request known answer
 
 -- the answer went out, and the status is the answer's
 abbrev pub Tells : Answer → Option (List ℕ) → Option (List ℕ) → ℕ → Type 0
@@ -596,15 +624,15 @@ Says contents IsAnswer old new status =
 abbrev pub SaysAnswer : {S R W : Type 0} → (S → List ℕ) → List S → (R → Option (List ℕ))
     → (W → Option (List ℕ)) → Counted R → Counted R → Counted W → Counted W → ℕ → Type 0
 SaysAnswer text words remaining contents read_old read_new old new status =
-    (order : Order) → order_of (map text words) ≡ Some order
+    (request : Request) → request_of (map text words) ≡ Some request
     → IsUnfailed read_old read_new → IsUnfailed old new
-    → Says contents (IsAnswerFrom order (remaining read_old.inner)) old new status
+    → Says contents (IsAnswerFrom request (remaining read_old.inner)) old new status
 
 -- where they ask for nothing and no write failed, that is said
 abbrev pub SaysNoCommand : {S W : Type 0} → (S → List ℕ) → List S → (W → Option (List ℕ))
     → Counted W → Counted W → ℕ → Type 0
 SaysNoCommand text words contents old new status =
-    order_of (map text words) ≡ None → IsUnfailed old new
+    request_of (map text words) ≡ None → IsUnfailed old new
     → Says contents (λ answer. answer ≡ no_command) old new status
 
 -- this went out

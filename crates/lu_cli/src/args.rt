@@ -4,9 +4,9 @@ ghost use Rattle.std.specs.Prelude.{◌≡◌, ◌≤◌, false, pos, IfOk, IsEr
 ghost use Rattle.clap.specs.Words.{App, Rule, found_of, new_app, rows_of, rule_of, subcommand_rows_of, with_rule, with_subcommand};
 ghost use Rattle.clap.specs.declared.builder.value_parser.ValueParser.TheVariants.{Signed};
 ghost use Rattle.lu_cli.specs.Args as spec;
-ghost use Rattle.lu_cli.specs.Args.{IsApp, lineup, order_of};
+ghost use Rattle.lu_cli.specs.Args.{IsApp, lineup, request_of};
 
-use crate::order::{ArgsFault, CampaignOptions, CampaignPart, CampaignThreads, Order};
+use crate::order::{ArgsFault, CampaignOptions, CampaignPart, CampaignThreads, Order, Request};
 use clap::builder::{ValueParser, ValueParserFactory};
 use clap::error::ErrorKind;
 use clap::{Arg, ArgAction, ArgMatches, Command};
@@ -141,6 +141,14 @@ fn explain_command<'a>(alloc: Global) -> Result<Command<'a>, AllocError>
     with_option(command, flag(alloc, "spec"))
 }
 
+fn draw_command<'a>(alloc: Global) -> Result<Command<'a>, AllocError>
+    ensures { IfOk result (IsApp spec.draw_command) }
+{
+    let command = bare_command(alloc, "draw");
+    let command = with_option(command, flag(alloc, "explain"));
+    with_option(command, number_option(alloc, "serial", 1, MOST_MOVES, "40"))
+}
+
 fn check_command<'a>(alloc: Global) -> Result<Command<'a>, AllocError>
     ensures { IfOk result (IsApp spec.check_command) }
 {
@@ -182,7 +190,7 @@ fn schedule_commands<'a>(alloc: Global) -> Result<Command<'a>, AllocError>
 {
     let program = with_command(bare_program(alloc), bare_command(alloc, "replay"));
     let program = with_command(program, bare_command(alloc, "trace"));
-    let program = with_command(program, bare_command(alloc, "draw"));
+    let program = with_command(program, draw_command(alloc));
     with_command(program, explain_command(alloc))
 }
 
@@ -201,7 +209,8 @@ fn lineup_command<'a>(alloc: Global) -> Result<Command<'a>, AllocError>
 {
     let program = with_command(single_commands(alloc), bare_command(alloc, "refute"));
     let program = with_command(program, with_bounds(alloc, "shrink", "40"));
-    with_command(program, campaign_command(alloc))
+    let program = with_command(program, campaign_command(alloc));
+    with_command(program, bare_command(alloc, "lint"))
 }
 
 fn number_in(given: &ArgMatches<'_>, name: &str) -> Option<u16>
@@ -336,6 +345,25 @@ fn check_in(given: &ArgMatches<'_>) -> Option<Order>
     Some(check_order(options, flag_in(given, "spec")))
 }
 
+/// A picture, or one with an explanation.
+fn draw_order(explained: bool, bounds: Bounds) -> Order
+    ensures { result ≡ spec.draw_order explained bounds }
+{
+    if explained {
+        Order::DrawExplained(bounds)
+    } else {
+        Order::Draw
+    }
+}
+
+fn draw_in(given: &ArgMatches<'_>) -> Option<Order>
+    ensures { result ≡ spec.draw_in (rows_of (found_of given.now)) }
+{
+    let serial = number_in(given, "serial")?;
+    let bounds = Bounds::new(0, serial)?;
+    Some(draw_order(flag_in(given, "explain"), bounds))
+}
+
 /// An explanation by the serial runs, or one by a specification.
 fn explain_order(bounds: Bounds, against: bool) -> Order
     ensures { result ≡ spec.explain_order against bounds }
@@ -362,7 +390,7 @@ fn order_by(name: &str, given: &ArgMatches<'_>) -> Option<Order>
     match name {
         "replay" => Some(Order::Replay),
         "trace" => Some(Order::Trace),
-        "draw" => Some(Order::Draw),
+        "draw" => draw_in(given),
         "explain" => explain_in(given),
         "serial" => bounds_in(given).map(Order::Serial),
         "spec" => Some(Order::Spec),
@@ -375,20 +403,32 @@ fn order_by(name: &str, given: &ArgMatches<'_>) -> Option<Order>
     }
 }
 
-/// The order of a parse.
-fn order_in(matches: &ArgMatches<'_>) -> Option<Order>
-    ensures { result ≡ spec.order_in (subcommand_rows_of matches.now) }
+/// What a command's name and what is given to the command ask for.
+fn request_by(name: &str, given: &ArgMatches<'_>) -> Option<Request>
+    ensures { result ≡ spec.request_by name.now (rows_of (found_of given.now)) }
+{
+    if name == "lint" {
+        Some(Request::Lint)
+    } else {
+        order_by(name, given).map(Request::Ordered)
+    }
+}
+
+/// What a parse asks for.
+fn request_in(matches: &ArgMatches<'_>) -> Option<Request>
+    ensures { result ≡ spec.request_in (subcommand_rows_of matches.now) }
 {
     let (name, given) = matches.subcommand()?;
-    order_by(name, given)
+    request_by(name, given)
 }
 
 /// What the words behind the program's name ask for. The definitions of the command line are those
 /// of `clap`.
-pub fn read_order<'a, S: AsStr>(alloc: Global, words: &'a [S]) -> Result<Order, ArgsFault>
-    ensures found { IfOk result (λ order. order_of (map S.text words.entry.now) ≡ Some order) }
+pub fn read_request<'a, S: AsStr>(alloc: Global, words: &'a [S]) -> Result<Request, ArgsFault>
+    ensures found { IfOk result (λ request.
+        request_of (map S.text words.entry.now) ≡ Some request) }
     ensures refused { IsErrOf result ArgsFault.Refused →
-        order_of (map S.text words.entry.now) ≡ None }
+        request_of (map S.text words.entry.now) ≡ None }
 {
     let Ok(command) = lineup_command(alloc) else {
         return Err(ArgsFault::Memory);
@@ -402,5 +442,5 @@ pub fn read_order<'a, S: AsStr>(alloc: Global, words: &'a [S]) -> Result<Order, 
             });
         }
     };
-    order_in(&matches).ok_or(ArgsFault::Refused)
+    request_in(&matches).ok_or(ArgsFault::Refused)
 }

@@ -14,7 +14,8 @@ use crate::answer::{
     show_spec,
 };
 use crate::campaigning::answer_campaign;
-use crate::explaining::{answer_explain, answer_explain_against};
+use crate::drawing::draw;
+use crate::explaining::{Presentation, answer_explain, answer_explain_against};
 use crate::order::Order;
 use crate::refusal::Refusal;
 use crate::shown::read_shown;
@@ -22,7 +23,6 @@ use crate::texts::{read_texts, report_against, report_of};
 use lu_certify::certify_by_workers;
 use lu_lang::Component;
 use lu_parallel::{OpenGate, Options};
-use lu_picture::write_picture;
 use lu_refine::{ShrinkFault, shrink};
 use lu_refute::refute;
 use lu_replay::{ReplayFault, replay, set_or_offence, write_replay};
@@ -106,23 +106,6 @@ fn answer_trace(alloc: Global, parts: &[&[u8]]) -> Result<Answer, Refusal>
     trace_text(alloc, &case.component, &case.matrix, shown)
 }
 
-/// The picture of the schedule, or where it is infeasible.
-fn draw(
-    alloc: Global,
-    component: &Component,
-    matrix: &Matrix,
-    schedule: &Schedule,
-) -> Result<Answer, AllocError>
-    requires { CanRun component.now matrix.now }
-    ensures { IfOk result (spec.IsDrawn component.now matrix.now schedule.now) }
-{
-    match write_picture(alloc, component, matrix, schedule) {
-        Ok(text) => Ok(Answer { text, status: 0 }),
-        Err(TraceFault::Infeasible(index)) => infeasible(alloc, index),
-        Err(TraceFault::Memory) => Err(AllocError),
-    }
-}
-
 /// The picture of the schedule that a text says or a report shows.
 fn draw_text(
     alloc: Global,
@@ -134,7 +117,7 @@ fn draw_text(
     ensures { Answered (spec.IsDrawnText component.now matrix.now text.now) result }
 {
     let schedule = read_shown(alloc, text)?;
-    Ok(draw(alloc, component, matrix, &schedule)?)
+    Ok(draw(alloc, component, matrix, &schedule, None)?)
 }
 
 /// `lineup draw`: component, matrix, and a schedule or a report.
@@ -360,7 +343,10 @@ fn carry_out<X: AllocGlobal + Threads + Wait>(
         Order::Replay => answer_replay(rt.alloc(), parts),
         Order::Trace => answer_trace(rt.alloc(), parts),
         Order::Draw => answer_draw(rt.alloc(), parts),
-        Order::Explain(bounds) => answer_explain(rt.alloc(), bounds, parts),
+        Order::DrawExplained(bounds) => {
+            answer_explain(rt.alloc(), bounds, parts, Presentation::Picture)
+        }
+        Order::Explain(bounds) => answer_explain(rt.alloc(), bounds, parts, Presentation::Words),
         Order::ExplainAgainst => answer_explain_against(rt.alloc(), parts),
         Order::Serial(bounds) => answer_serial(rt.alloc(), bounds, parts),
         Order::Spec => answer_spec(rt.alloc(), parts),

@@ -1,18 +1,21 @@
 //! Why the history of a schedule has no serial witness.
 
-ghost use Rattle.std.specs.Prelude.{◌≡◌, IfErr, IfOk};
+ghost use Rattle.std.specs.Prelude.{◌≡◌, ◌<◌, IfErr, IfOk};
 ghost use Rattle.lu_text.specs.Lines.{texts};
 ghost use Rattle.lu_machine.specs.Starts.{CanRun};
 ghost use Rattle.lu_replay.specs.Replays.{Shows};
 ghost use Rattle.lu_cli.specs.Refusals.{Answered};
+ghost use Rattle.lu_cli.specs.Drawing.{IsLeastPending, IsShownExplanation, IsShownThread};
 ghost use Rattle.lu_cli.specs.Explaining as spec;
 ghost use Rattle.lu_cli.specs.Replies.{IsExplainAgainstOf, IsExplainOf, IsExplainedAgainst, IsExplainedText, IsTarget, IsTargetRefusal};
 
 use crate::answer::{Answer, infeasible};
+use crate::drawing::draw;
 use crate::refusal::Refusal;
 use crate::texts::read_texts;
 use lu_component::Component;
-use lu_explain::{event_moves, write_explanations};
+use lu_explain::{Explanation, event_moves, explain as explain_history, write_explanations};
+use lu_history::{History, HistoryFault};
 use lu_machine::Status;
 use lu_replay::{Replay, ReplayFault, replay, set_or_offence};
 use lu_report::{Bounds, Finding, Report, read_report};
@@ -32,6 +35,16 @@ pub(crate) enum Target {
 
     /// That of the schedule of a report.
     Report(Report),
+}
+
+/// How a history is explained.
+#[derive(Clone, Copy, Debug, PartialEq, Eq)]
+pub(crate) enum Presentation {
+    /// In words.
+    Words,
+
+    /// By marks in the picture of its schedule.
+    Picture,
 }
 
 /// Why nothing is explained.
@@ -86,6 +99,81 @@ fn explain_by<T: SerialTree>(
     })
 }
 
+/// The least thread with a pending call, or 0 where there is none.
+fn least_pending(history: &History) -> u8
+    ensures least { IsLeastPending history.now result }
+    ensures few { result < 8 }
+{
+    for t in 0..8 {
+        if history.pending(t) {
+            return t;
+        }
+    }
+    0
+}
+
+/// The thread whose pending call a picture explains.
+fn thread_shown(verdict: Verdict, history: &History) -> u8
+    ensures { IsShownThread verdict history.now result }
+{
+    match verdict {
+        Verdict::NoWitnessFor(t) => t,
+        Verdict::Good | Verdict::NoWitness => least_pending(history),
+    }
+}
+
+/// The explanation that a picture of the history shows.
+fn explanation_shown<T: SerialTree>(tree: &T, history: &History) -> Result<Explanation, AllocError>
+    ensures { IfOk result (λ e. IsShownExplanation (T.members tree.now) history.now e) }
+{
+    let thread = thread_shown(verdict(tree, history), history);
+    match history.keep_pending(thread) {
+        Ok(part) => Ok(explain_history(tree, &part)),
+        Err(HistoryFault::Memory) => Err(AllocError),
+    }
+}
+
+/// The history of an ended schedule, explained in the picture of the schedule.
+fn picture_by<T: SerialTree>(
+    alloc: Global,
+    component: &Component,
+    matrix: &Matrix,
+    tree: &T,
+    schedule: &Schedule,
+    history: &History,
+) -> Result<Answer, AllocError>
+    requires { CanRun component.now matrix.now }
+    ensures { IfOk result (spec.IsPicturedBy (T.members tree.now) component.now matrix.now
+        schedule.now history.now) }
+{
+    let explanation = explanation_shown(tree, history)?;
+    draw(alloc, component, matrix, schedule, Some(&explanation))
+}
+
+/// The history of an ended schedule, explained in words or in a picture.
+fn present_by<T: SerialTree>(
+    alloc: Global,
+    component: &Component,
+    matrix: &Matrix,
+    tree: &T,
+    schedule: &Schedule,
+    shown: &Replay,
+    by: Presentation,
+) -> Result<Answer, AllocError>
+    requires run { CanRun component.now matrix.now }
+    requires shows { Shows component.now matrix.now schedule.now shown.now.history
+        shown.now.status }
+    ensures { IfOk result (spec.IsPresentedBy by (T.members tree.now) component.now matrix.now
+        schedule.now shown.now.history) }
+{
+    match by {
+        Presentation::Words => explain_by(alloc, component, matrix, tree, schedule, shown),
+        Presentation::Picture => {
+            picture_by(alloc, component, matrix, tree, schedule, &shown.history)
+        }
+    }
+}
+
 /// What a report finds that is no failure.
 fn tell_offence(alloc: Global, finding: &Finding) -> Result<Answer, AllocError>
     requires { spec.IsOfOffence finding.now }
@@ -106,16 +194,17 @@ fn explain_schedule<T: SerialTree>(
     matrix: &Matrix,
     tree: &T,
     schedule: &Schedule,
+    by: Presentation,
 ) -> Result<Answer, AllocError>
     requires { CanRun component.now matrix.now }
-    ensures { IfOk result (spec.IsExplainedSchedule (T.members tree.now) component.now matrix.now
+    ensures { IfOk result (spec.IsExplainedSchedule by (T.members tree.now) component.now matrix.now
         schedule.now) }
 {
     match replay(alloc, component, matrix, schedule) {
         Ok(shown) => match shown.status {
             Status::Running => say(alloc, "running", ""),
             Status::Complete | Status::Stuck => {
-                explain_by(alloc, component, matrix, tree, schedule, &shown)
+                present_by(alloc, component, matrix, tree, schedule, &shown, by)
             }
         },
         Err(ReplayFault::Infeasible(index)) => infeasible(alloc, index),
@@ -130,16 +219,17 @@ fn explain_finding<T: SerialTree>(
     matrix: &Matrix,
     tree: &T,
     finding: &Finding,
+    by: Presentation,
 ) -> Result<Answer, AllocError>
     requires { CanRun component.now matrix.now }
     ensures { IfOk result (spec.ToFinding
-        (spec.IsExplainedSchedule (T.members tree.now) component.now matrix.now) finding.now) }
+        (spec.IsExplainedSchedule by (T.members tree.now) component.now matrix.now) finding.now) }
 {
     match finding {
         Finding::SerialCut(schedule) => say_with(alloc, "serial-cut", schedule),
         Finding::Nondeterministic { schedule, .. } => say_with(alloc, "nondeterministic", schedule),
         Finding::Fail { schedule, .. } => {
-            explain_schedule(alloc, component, matrix, tree, schedule)
+            explain_schedule(alloc, component, matrix, tree, schedule, by)
         }
         Finding::Pass(_) => say(alloc, "pass", ""),
     }
@@ -152,15 +242,18 @@ fn explain<T: SerialTree>(
     matrix: &Matrix,
     tree: &T,
     target: &Target,
+    by: Presentation,
 ) -> Result<Answer, AllocError>
     requires { CanRun component.now matrix.now }
-    ensures { IfOk result (spec.IsExplained (T.members tree.now) component.now matrix.now
+    ensures { IfOk result (spec.IsExplained by (T.members tree.now) component.now matrix.now
         target.now) }
 {
     match target {
-        Target::Schedule(schedule) => explain_schedule(alloc, component, matrix, tree, schedule),
+        Target::Schedule(schedule) => {
+            explain_schedule(alloc, component, matrix, tree, schedule, by)
+        }
         Target::Report(report) => {
-            explain_finding(alloc, component, matrix, tree, report.finding())
+            explain_finding(alloc, component, matrix, tree, report.finding(), by)
         }
     }
 }
@@ -172,13 +265,14 @@ fn explain_serially(
     matrix: &Matrix,
     bounds: Bounds,
     target: &Target,
+    by: Presentation,
 ) -> Result<Answer, AllocError>
     requires { CanRun component.now matrix.now }
     ensures { IfOk result
-        (spec.IsExplainedSerially bounds.serial component.now matrix.now target.now) }
+        (spec.IsExplainedSerially by bounds.serial component.now matrix.now target.now) }
 {
     match set_or_offence(learn(alloc, alloc, component, matrix, bounds.serial())?) {
-        Ok(set) => explain(alloc, component, matrix, &&set, target),
+        Ok(set) => explain(alloc, component, matrix, &&set, target, by),
         Err(offence) => tell_offence(alloc, &offence),
     }
 }
@@ -202,17 +296,18 @@ fn read_target(alloc: Global, text: &[u8]) -> Result<Target, Refusal>
     }
 }
 
-/// `lineup explain`: component, matrix, and a schedule or a report.
+/// `lineup explain` and `lineup draw --explain`: component, matrix, and a schedule or a report.
 pub(crate) fn answer_explain(
     alloc: Global,
     bounds: Bounds,
     parts: &[&[u8]],
+    by: Presentation,
 ) -> Result<Answer, Refusal>
-    ensures { Answered (IsExplainOf bounds (texts parts.now)) result }
+    ensures { Answered (IsExplainOf by bounds (texts parts.now)) result }
 {
     let (component, matrix, target) = three(parts).ok_or(Refusal::Parts)?;
     let case = read_texts(alloc, component, matrix)?;
-    explain_text(alloc, &case.component, &case.matrix, bounds, target)
+    explain_text(alloc, &case.component, &case.matrix, bounds, target, by)
 }
 
 /// The text of a schedule or of a report, explained by the serial runs.
@@ -222,12 +317,13 @@ fn explain_text(
     matrix: &Matrix,
     bounds: Bounds,
     target: &[u8],
+    by: Presentation,
 ) -> Result<Answer, Refusal>
     requires { CanRun component.now matrix.now }
-    ensures { Answered (IsExplainedText bounds component.now matrix.now target.now) result }
+    ensures { Answered (IsExplainedText by bounds component.now matrix.now target.now) result }
 {
     let target = read_target(alloc, target)?;
-    Ok(explain_serially(alloc, component, matrix, bounds, &target)?)
+    Ok(explain_serially(alloc, component, matrix, bounds, &target, by)?)
 }
 
 /// The text of a schedule or of a report, explained by a specification.
@@ -244,7 +340,8 @@ fn explain_against(
 {
     let target = read_target(alloc, target)?;
     let specification = read_spec(alloc, matrix, specification)?;
-    Ok(explain(alloc, component, matrix, &specification.tree(), &target)?)
+    let tree = &specification.tree();
+    Ok(explain(alloc, component, matrix, tree, &target, Presentation::Words)?)
 }
 
 /// `lineup explain --spec`: component, matrix, a schedule or a report, and specification.

@@ -8,6 +8,7 @@ mod bundle;
 mod campaigning;
 mod commands;
 mod counted;
+mod drawing;
 mod explaining;
 mod input;
 mod order;

@@ -39,7 +39,17 @@ pub struct CampaignOptions {
     pub part: CampaignPart,
 }
 
-/// A command with its options.
+/// What the words of a command line ask for.
+#[derive(Clone, Copy, Debug, PartialEq, Eq)]
+pub enum Request {
+    /// `lineup lint`: say every fault of a bundle in words.
+    Lint,
+
+    /// A command over the parts of a bundle.
+    Ordered(Order),
+}
+
+/// A command over the parts of a bundle, with its options.
 #[derive(Clone, Copy, Debug, PartialEq, Eq)]
 pub enum Order {
     /// `lineup replay`: play a schedule of a component and a matrix.
@@ -50,6 +60,10 @@ pub enum Order {
 
     /// `lineup draw`: show a schedule as a picture.
     Draw,
+
+    /// `lineup draw --explain`: the same, with what explains its history. The bound of schedules is
+    /// not used.
+    DrawExplained(Bounds),
 
     /// `lineup explain`: show why the history of a schedule has no serial witness, or its witness.
     /// The bound of schedules is not used.
@@ -84,7 +98,7 @@ pub enum Order {
     Campaign(CampaignOptions),
 }
 
-/// Why a command line gives no order.
+/// Why a command line asks for nothing.
 #[derive(Clone, Copy, Debug, PartialEq, Eq)]
 pub enum ArgsFault {
     /// The words are refused.

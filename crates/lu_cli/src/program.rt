@@ -2,17 +2,18 @@
 
 ghost use Rattle.std.specs.Prelude.{◌≡◌, ◌≢◌, ◌<◌, ◌≤◌, ◌-◌, ◌^◌, ◌⊎◌, Some, None, map, IfOk, IsErrOf};
 ghost use Rattle.lu_cli.specs.declared.program.Failure.TheVariants.{Memory};
-ghost use Rattle.lu_cli.specs.Args.{order_of};
-ghost use Rattle.lu_cli.specs.Replies.{IsAnswerFor, IsAnswerFrom, SaysAnswer, SaysNoCommand, Sends, TellsElse, TellsUnread, no_command, no_device};
+ghost use Rattle.lu_cli.specs.Args.{request_of};
+ghost use Rattle.lu_cli.specs.Replies.{IsAnswerFor, IsAnswerFrom, IsAnswerIn, IsLinted, SaysAnswer, SaysNoCommand, Sends, TellsElse, TellsUnread, no_command, no_device};
 
 use crate::answer::{Answer, refused};
-use crate::args::read_order;
+use crate::args::read_request;
 use crate::bundle::parts_in;
 use crate::commands::answer_to;
 use crate::counted::Counted;
 use crate::input::{InputFault, read_input};
-use crate::order::{ArgsFault, Order};
+use crate::order::{ArgsFault, Request};
 use crate::output::write_text;
+use lu_lint::lint;
 use std::alloc::{AllocError, Global};
 use std::convert::AsStr;
 use std::io::{Read, Write};
@@ -37,23 +38,46 @@ impl From<AllocError> for Failure {
     }
 }
 
+/// What there is to say of a bundle.
+fn answer_lint(alloc: Global, bundle: &[u8]) -> Result<Answer, AllocError>
+    ensures { IfOk result (IsLinted bundle.now) }
+{
+    let linted = lint(alloc, bundle)?;
+    Ok(Answer {
+        text: linted.text,
+        status: if linted.faults { 2 } else { 0 },
+    })
+}
+
+/// The answer to the bytes of a bundle.
+fn answer_bytes<X: AllocGlobal + Threads + Wait>(
+    rt: &X,
+    request: Request,
+    bytes: &[u8],
+) -> Result<Answer, AllocError>
+    ensures answer { IfOk result (IsAnswerIn request bytes.now) }
+    ensures blames_none { IfOk result (λ r. r ≢ no_device) }
+{
+    match request {
+        Request::Lint => answer_lint(rt.alloc(), bytes),
+        Request::Ordered(order) => answer_to(rt, order, &parts_in(rt.alloc(), bytes)?),
+    }
+}
+
 /// The answer to what is read.
 fn answer_in<X: AllocGlobal + Threads + Wait, R: Read>(
     rt: &X,
-    order: Order,
+    request: Request,
     input: &mut Counted<R>,
 ) -> Result<Answer, Failure>
     requires { input.old.failures < 2 ^ 64 - 1 }
-    ensures answer { IfOk result (IsAnswerFrom order (R.remaining input.old.inner)) }
+    ensures answer { IfOk result (IsAnswerFrom request (R.remaining input.old.inner)) }
     ensures blames_none { IfOk result (λ r. r ≢ no_device) }
     ensures device { IsErrOf result Failure.Device → input.old.failures < input.new.failures }
     ensures unfailed { IsErrOf result Failure.Device ⊎ (input.new.failures ≡ input.old.failures) }
 {
     match read_input(rt.alloc(), input) {
-        Ok(bytes) => {
-            let parts = parts_in(rt.alloc(), &bytes)?;
-            Ok(answer_to(rt, order, &parts)?)
-        }
+        Ok(bytes) => Ok(answer_bytes(rt, request, &bytes)?),
         Err(InputFault::TooLong) => Ok(refused(rt.alloc(), "B2")?),
         Err(InputFault::Device) => Err(Failure::Device),
         Err(InputFault::Memory) => Err(Failure::Memory),
@@ -69,14 +93,14 @@ fn answer_for<X: AllocGlobal + Threads + Wait, S: AsStr, R: Read>(
     requires { input.old.failures < 2 ^ 64 - 1 }
     ensures answer { IfOk result
         (IsAnswerFor (map S.text words.now) (R.remaining input.old.inner)) }
-    ensures refused { IfOk result (λ r. order_of (map S.text words.now) ≡ None → r ≡ no_command) }
+    ensures refused { IfOk result (λ r. request_of (map S.text words.now) ≡ None → r ≡ no_command) }
     ensures blames_none { IfOk result (λ r. r ≢ no_device) }
-    ensures early { order_of (map S.text words.now) ≡ None → input.new ≡ input.old }
+    ensures early { request_of (map S.text words.now) ≡ None → input.new ≡ input.old }
     ensures device { IsErrOf result Failure.Device → input.old.failures < input.new.failures }
     ensures unfailed { IsErrOf result Failure.Device ⊎ (input.new.failures ≡ input.old.failures) }
 {
-    match read_order(rt.alloc(), words) {
-        Ok(order) => answer_in(rt, order, input),
+    match read_request(rt.alloc(), words) {
+        Ok(request) => answer_in(rt, request, input),
         Err(ArgsFault::Refused) => Ok(refuse_command(rt.alloc())?),
         Err(ArgsFault::Memory) => Err(Failure::Memory),
     }
@@ -110,7 +134,7 @@ pub fn run<X: AllocGlobal + Threads + Wait, S: AsStr, R: Read, W: Write>(
     // Where it was refused, that is said, and nothing is read.
     ensures refused { SaysNoCommand S.text words.now W.contents output.old output.new result }
     // The command line is judged before anything is read.
-    ensures early { order_of (map S.text words.now) ≡ None → input.new ≡ input.old }
+    ensures early { request_of (map S.text words.now) ≡ None → input.new ≡ input.old }
     // A write that failed shows in the status.
     ensures unwritten { output.old.failures < output.new.failures → result ≡ 4 }
     // A read that failed is told.

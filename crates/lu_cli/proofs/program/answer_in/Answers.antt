@@ -1,11 +1,8 @@
 use Rattle.std.proofs.Common.{Err, ap, ◌∙◌}
-use Rattle.lu_cli.proofs.Sayings.{answer_long, order_else}
+use Rattle.lu_cli.proofs.Sayings.{answer_long}
 use Rattle.lu_cli.proofs.program.answer_in.Goals as goal
 
 pub returns-in_ok-refused-in-Err-TooLong-clause-answer : goal.returns-in_ok-refused-in-Err-TooLong-clause-answer
 returns-in_ok-refused-in-Err-TooLong-clause-answer g c =
     let long = c.read_input.ensures.long (c.in-Err-TooLong.is ∙ ap Err c.in-Err-TooLong.field-0-is) in
-    answer_long c.args.order (g.R.Read.remaining c.args.input.now.inner) c.in_ok-refused-in-Err-TooLong.field-0 long c.in_ok-refused-in-Err-TooLong.ensures
-
-pub returns-in_ok-answer_to-in-Ok-clause-blames_none : goal.returns-in_ok-answer_to-in-Ok-clause-blames_none
-returns-in_ok-answer_to-in-Ok-clause-blames_none g c = order_else c.args.order _ c.in_ok-answer_to-in-Ok.field-0 c.in_ok-answer_to-in-Ok.ensures
+    answer_long c.args.request (g.R.Read.remaining c.args.input.now.inner) c.in_ok-refused-in-Err-TooLong.field-0 long c.in_ok-refused-in-Err-TooLong.ensures

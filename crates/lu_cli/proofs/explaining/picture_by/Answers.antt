@@ -1,0 +1,14 @@
+use Rattle.std.proofs.Common.{Some}
+use Rattle.std.proofs.lemmas.Result.{IfOk-weaker}
+use Rattle.lu_cli.specs.Drawing.{IsDrawnWith}
+use Rattle.lu_cli.specs.Explaining.{IsPicturedBy}
+use Rattle.lu_cli.proofs.explaining.picture_by.Goals as goal
+
+pub returns : goal.returns
+returns g c =
+    let component = c.args.component.now in
+    let matrix = c.args.matrix.now in
+    let schedule = c.args.schedule.now in
+    let e = c.in_ok-explanation.explanation in
+    IfOk-weaker c.draw.result (IsDrawnWith (Some e) component matrix schedule) (IsPicturedBy (g.T.SerialTree.members c.args.tree.now) component matrix schedule c.args.history.now)
+    (λ answer is. (e, c.in_ok-explanation.ensures, is)) c.draw.ensures
