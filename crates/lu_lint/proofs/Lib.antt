@@ -3,3 +3,4 @@ pub mod MatrixSteps
 pub mod Cuts
 pub mod Moves
 pub mod Whole
+pub mod Warned

@@ -17,6 +17,7 @@ use Rattle.lu_lint.specs.Third.{Adds, ThirdSaid, third_of}
 use Rattle.lu_lint.specs.Component.{component_lint}
 use Rattle.lu_lint.specs.Matrix.{matrix_lint}
 use Rattle.lu_lint.specs.Said.{line_below, said_faults}
+use Rattle.lu_lint.specs.Warnings.{warnings_in}
 
 -- ---- the lines between the parts
 
@@ -70,7 +71,18 @@ abbrev pub matrix_said : Option Declarations → ℕ → List ℕ → List Said
 matrix_said None above text = []
 matrix_said (Some c) above text = said_faults part.Matrix above (faults_in (matrix_lint c) text)
 
--- what is said of a component and of the parts behind it, without the third part
+-- the warnings of a component that is read
+abbrev pub warnings_said : Option Declarations → List ℕ → List Said
+warnings_said None text = []
+warnings_said (Some c) text = warnings_in c text
+
+-- what is said of a component
+abbrev pub component_said : List ℕ → List Said
+component_said text =
+    said_faults part.Component 0 (faults_in component_lint text)
+    ++ warnings_said (component_read text) text
+
+-- what is said of the parts behind a component, without the third part
 abbrev pub behind_component : List ℕ → List (List ℕ) → List Said
 behind_component component [] = []
 behind_component component (matrix ∷ parts) =
@@ -78,9 +90,7 @@ behind_component component (matrix ∷ parts) =
 
 abbrev pub parts_said : List (List ℕ) → List Said
 parts_said [] = []
-parts_said (component ∷ parts) =
-    said_faults part.Component 0 (faults_in component_lint component)
-    ++ behind_component component parts
+parts_said (component ∷ parts) = component_said component ++ behind_component component parts
 
 -- what is said of the lines of a bundle, without its third part
 abbrev pub lines_said : List (List ℕ) → List Said

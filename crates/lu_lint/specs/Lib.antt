@@ -5,5 +5,6 @@ pub mod Said
 pub mod Messages
 pub mod Schedule
 pub mod Third
+pub mod Warnings
 pub mod Bundle
 pub mod Laws

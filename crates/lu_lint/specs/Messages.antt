@@ -10,7 +10,7 @@ use Rattle.lu_lint.specs.declared.remark.Remark.{Remark}
 use Rattle.lu_lint.specs.declared.remark.FaultKind.{FaultKind}
 use Rattle.lu_lint.specs.declared.remark.FaultKind.TheVariants as part
 use Rattle.lu_lint.specs.declared.remark.Cause.{Cause}
-use Rattle.lu_lint.specs.declared.remark.Cause.TheVariants.{Fault, Separator}
+use Rattle.lu_lint.specs.declared.remark.Cause.TheVariants.{Fault, Separator, Warning}
 
 -- the code of the refusal
 abbrev pub fault_code : FaultKind → List ℕ
@@ -28,9 +28,16 @@ fault_part (part.Schedule kind) = codes "schedule"
 fault_part (part.Report kind) = codes "report"
 fault_part (part.Specification kind) = codes "specification"
 
+-- a warning says that it is one
+abbrev pub remark_word : Cause → List ℕ
+remark_word (Fault kind n) = codes ""
+remark_word Separator = codes ""
+remark_word (Warning hint) = codes "warning: "
+
 -- the line of the bundle, and the words
-abbrev pub remark_head : ℕ → List ℕ → List ℕ
-remark_head place words = codes "line " ++ decimal place ++ codes ": " ++ words
+abbrev pub remark_head : ℕ → List ℕ → List ℕ → List ℕ
+remark_head place word words =
+    codes "line " ++ decimal place ++ codes ": " ++ word ++ words
 
 -- the code of a fault and its line in the part, as the other commands name them
 abbrev pub fault_tail : FaultKind → ℕ → List ℕ
@@ -42,10 +49,13 @@ fault_tail kind n =
 abbrev pub remark_tail : Cause → List ℕ
 remark_tail (Fault kind n) = fault_tail kind n
 remark_tail Separator = codes "\n"
+remark_tail (Warning hint) = codes "\n"
 
 -- a line for one remark
 abbrev pub remark_text : Remark → List ℕ
-remark_text r = remark_head r.said.place (string_bytes r.words) ++ remark_tail r.said.cause
+remark_text r =
+    remark_head r.said.place (remark_word r.said.cause) (string_bytes r.words)
+    ++ remark_tail r.said.cause
 
 abbrev pub remarks_text : List Remark → List ℕ
 remarks_text remarks = flat_map remark_text remarks

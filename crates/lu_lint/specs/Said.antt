@@ -1,10 +1,10 @@
 -- What lint says of a bundle: on which line of it, and of what.
-use Rattle.std.specs.Prelude.{ℕ, ◌+◌, ◌-◌, ◌^◌, Bool, true, List, map, min}
+use Rattle.std.specs.Prelude.{ℕ, ◌+◌, ◌-◌, ◌^◌, Bool, true, false, List, map, min}
 use Rattle.lu_lint.specs.declared.remark.Said.{Said}
 use Rattle.lu_lint.specs.declared.remark.Remark.{Remark}
 use Rattle.lu_lint.specs.declared.remark.FaultKind.{FaultKind}
 use Rattle.lu_lint.specs.declared.remark.Cause.{Cause}
-use Rattle.lu_lint.specs.declared.remark.Cause.TheVariants.{Fault, Separator}
+use Rattle.lu_lint.specs.declared.remark.Cause.TheVariants.{Fault, Separator, Warning}
 use Rattle.lu_lint.specs.Lint.{Told}
 
 -- what is said, without its words
@@ -28,3 +28,4 @@ said_faults of above faults = map (said_told of above) faults
 abbrev pub is_fault : Cause → Bool
 is_fault (Fault kind n) = true
 is_fault Separator = true
+is_fault (Warning hint) = false

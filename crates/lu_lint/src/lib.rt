@@ -12,9 +12,11 @@ mod schedule;
 mod shape;
 mod third;
 mod third_wording;
+mod warning;
+mod warning_wording;
 mod wording;
 mod writing;
 
 pub use laws::agree;
 pub use linting::{Linted, lint};
-pub use remark::{Cause, FaultKind, Remark, Said};
+pub use remark::{Cause, FaultKind, Hint, Remark, Said};

@@ -15,6 +15,7 @@ use crate::component::with_component;
 use crate::matrix::with_matrix;
 use crate::remark::Remark;
 use crate::third::with_third;
+use crate::warning::with_warnings;
 use crate::writing::write_remarks;
 use lu_component::Component;
 use lu_lang::read_component;
@@ -125,6 +126,37 @@ fn behind(
     }
 }
 
+/// The remarks with the warnings of a component, where it is read.
+fn with_warnings_of(
+    alloc: Global,
+    all: Vec<Remark>,
+    component: &Option<Component>,
+    text: &[u8],
+) -> Result<Vec<Remark>, AllocError>
+    ensures { IfOk result (λ next. said_of next.items ≡
+        said_of all.items ++ spec.warnings_said component.now text.now) }
+{
+    match component {
+        None => Ok(all),
+        Some(component) => with_warnings(alloc, component, all, text),
+    }
+}
+
+/// The remarks with those on a component.
+fn with_component_part(
+    alloc: Global,
+    all: Vec<Remark>,
+    text: &[u8],
+) -> Result<Vec<Remark>, AllocError>
+    ensures { IfOk result (λ next. said_of next.items ≡
+        said_of all.items ++ spec.component_said text.now) }
+{
+    let all = with_component(alloc, all, 0, text)?;
+    let read = component_read(alloc, text)?;
+    let all = with_warnings_of(alloc, all, &read, text)?;
+    Ok(all)
+}
+
 /// The remarks with those on a component and on the parts behind it.
 fn with_first(
     alloc: Global,
@@ -135,7 +167,7 @@ fn with_first(
     ensures { IfOk result (λ next. said_of next.items ≡
         said_of all.items ++ parts_said (component.now ∷ texts parts.now)) }
 {
-    let all = with_component(alloc, all, 0, component)?;
+    let all = with_component_part(alloc, all, component)?;
     let all = behind(alloc, all, component, parts)?;
     Ok(all)
 }

@@ -60,6 +60,25 @@ impl FaultKind {
     }
 }
 
+/// What a warning is about.
+#[derive(Clone, Copy, Debug, Drop, PartialEq, Eq)]
+pub enum Hint {
+    /// An array that no instruction names, on its line.
+    UnnamedArray,
+
+    /// A lock that no instruction names, on its line.
+    UnnamedLock,
+
+    /// A label to which no jump of its operation leads, on its line.
+    UnusedLabel,
+
+    /// An operation in which no return stands, on its `op` line.
+    NoReturn,
+
+    /// A jump back over an instruction that reads a cell, and over none that waits, on its line.
+    Spin,
+}
+
 /// What a remark is about.
 #[derive(Clone, Copy, Debug, Drop, PartialEq, Eq)]
 pub enum Cause {
@@ -68,6 +87,9 @@ pub enum Cause {
 
     /// A line that is nearly `---`, and parts nothing.
     Separator,
+
+    /// A warning, which is no fault.
+    Warning(Hint),
 }
 
 impl Cause {
@@ -78,6 +100,7 @@ impl Cause {
         match self {
             Cause::Fault(_, _) => true,
             Cause::Separator => true,
+            Cause::Warning(_) => false,
         }
     }
 }

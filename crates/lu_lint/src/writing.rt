@@ -9,11 +9,22 @@ use crate::remark::{Cause, FaultKind, Remark};
 use std::alloc::{AllocError, Global};
 use std::fmt::Write;
 
-/// Adds the line of the bundle, and the words.
-fn write_head(text: &mut String, place: usize, words: &str) -> Result<(), AllocError>
-    ensures { Writes result text.old text.new (spec.remark_head place words.now) }
+/// What stands before the words.
+fn remark_word(cause: Cause) -> &'static str
+    ensures { result.now ≡ spec.remark_word cause }
 {
-    write!(text, "line {place}: {words}")
+    match cause {
+        Cause::Fault(_, _) => "",
+        Cause::Separator => "",
+        Cause::Warning(_) => "warning: ",
+    }
+}
+
+/// Adds the line of the bundle, and the words.
+fn write_head(text: &mut String, place: usize, word: &str, words: &str) -> Result<(), AllocError>
+    ensures { Writes result text.old text.new (spec.remark_head place word.now words.now) }
+{
+    write!(text, "line {place}: {word}{words}")
 }
 
 /// Adds the code of a fault and its line in the part.
@@ -30,6 +41,7 @@ fn write_tail(text: &mut String, cause: Cause) -> Result<(), AllocError>
     match cause {
         Cause::Fault(kind, line) => write_fault_tail(text, kind, line),
         Cause::Separator => text.push_str("\n"),
+        Cause::Warning(_) => text.push_str("\n"),
     }
 }
 
@@ -37,7 +49,8 @@ fn write_tail(text: &mut String, cause: Cause) -> Result<(), AllocError>
 fn write_remark(text: &mut String, remark: &Remark) -> Result<(), AllocError>
     ensures { Writes result text.old text.new (spec.remark_text remark.now) }
 {
-    write_head(text, remark.said.place, remark.words.as_str())?;
+    let word = remark_word(remark.said.cause);
+    write_head(text, remark.said.place, word, remark.words.as_str())?;
     write_tail(text, remark.said.cause)
 }
 

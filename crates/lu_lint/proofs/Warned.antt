@@ -1,0 +1,28 @@
+-- Warnings, line by line.
+use Rattle.std.proofs.Common.{◌≡◌, ℕ, ◌+◌, ◌≤◌, ◌<◌, List, [], ◌∷◌, ◌++◌, length, get_or, map, drop, refl, sym, ap, ◌∙◌}
+use Rattle.std.proofs.lemmas.List.{append_assoc, append-nil}
+use Rattle.lu_text.specs.Lines.{texts}
+use Rattle.lu_text.proofs.Reading.{text_more, texts_end}
+use Rattle.lu_component.specs.Component.{Declarations}
+use Rattle.lu_lang.specs.Draft.{Drafted}
+use Rattle.lu_lang.specs.Going.{going_on}
+use Rattle.lu_lang.specs.Grammar.{component_grammar}
+use Rattle.lu_lint.specs.declared.remark.Said.{Said}
+use Rattle.lu_lint.specs.declared.warning.Found.{Found}
+use Rattle.lu_lint.specs.Lint.{with_words}
+use Rattle.lu_lint.specs.Warnings.{line_hints, warned, warnings_after}
+use denote.Ref.{Bor}
+
+-- one line more
+pub goes_on : (c : Declarations) (lines : List (Bor (List ℕ))) (i : ℕ) (b : Bor (List ℕ)) (seen seen2 : List ℕ) (d d2 : Drafted) (hints : List Found) (before next total : List Said)
+    → i < length lines → next ≡ before ++ map (warned seen (i + 1)) hints → hints ≡ line_hints c d (get_or lines i b).now → d2 ≡ (going_on d (component_grammar.line d (get_or lines i b).now)).0 → seen2 ≡ with_words seen (i + 1) (get_or lines i b).now
+    → before ++ warnings_after c seen (i + 1) d (drop i (texts lines)) ≡ total → next ++ warnings_after c seen2 (i + 1 + 1) d2 (drop (i + 1) (texts lines)) ≡ total
+unfolding warnings_after
+goes_on c lines i b seen seen2 d d2 hints before next total within more found left words so_far =
+    let here : List Said = map (warned seen (i + 1)) (line_hints c d (get_or lines i b).now) in
+    rw (more, found, left, words) (append_assoc before here _ ∙ (rw (text_more lines i b within) at so_far))
+
+-- no line is left
+pub ends : (c : Declarations) (lines : List (Bor (List ℕ))) (i n : ℕ) (seen : List ℕ) (d : Drafted) (before total : List Said) → length lines ≤ i → before ++ warnings_after c seen n d (drop i (texts lines)) ≡ total → before ≡ total
+unfolding warnings_after
+ends c lines i n seen d before total within so_far = sym (append-nil before) ∙ (rw (texts_end lines i within) at so_far)

@@ -1,0 +1,157 @@
+-- Warnings of a component that is read: what can be left out or goes on for ever.
+use Rattle.std.specs.Prelude.{find, ℕ, ◌+◌, ◌-◌, Bool, true, false, List, [], ◌∷◌, ◌++◌, length, map, filter, take, drop, Option, Some, None, codes, ◌==◌, ◌&&◌, not, nat_le, if◌then◌else◌}
+use Rattle.std.specs.List.{enumerate_from, list_all, list_any}
+use Rattle.std.specs.Option.{option_map}
+use Rattle.std.specs.Str.{bytes_eq}
+use Rattle.lu_text.specs.Lines.{lines_of, words_of}
+use Rattle.lu_text.specs.Words.{Word}
+use Rattle.lu_component.specs.Component.{Declarations}
+use Rattle.lu_component.specs.declared.component.Op.{Op}
+use Rattle.lu_component.specs.declared.instr.Instr.{Instr}
+use Rattle.lu_component.specs.declared.instr.Instr.TheVariants.{Load, Store, Cas, Lock, Unlock, Await, AwaitNot, Return}
+use Rattle.lu_lang.specs.declared.draft.Label.{Label}
+use Rattle.lu_lang.specs.declared.draft.Statement.{Statement}
+use Rattle.lu_lang.specs.declared.draft.Statement.TheVariants.{Plain, Jump, JumpIfZero}
+use Rattle.lu_lang.specs.Draft.{Begun, Drafted, nothing}
+use Rattle.lu_lang.specs.Going.{going_on}
+use Rattle.lu_lang.specs.Grammar.{component_grammar, label_used}
+use Rattle.lu_lint.specs.declared.remark.Said.{Said}
+use Rattle.lu_lint.specs.declared.remark.Cause.TheVariants.{Warning}
+use Rattle.lu_lint.specs.declared.remark.Hint.{Hint}
+use Rattle.lu_lint.specs.declared.remark.Hint.TheVariants.{UnnamedArray, UnnamedLock, UnusedLabel, NoReturn, Spin}
+use Rattle.lu_lint.specs.declared.warning.Found.{Found}
+use Rattle.lu_lint.specs.Lint.{place_of, with_words}
+
+-- ---- an array or a lock that no instruction names
+
+abbrev pub names_array : ℕ → Instr → Bool
+names_array k (Load to array i) = array == k
+names_array k (Store array i v) = array == k
+names_array k (Cas to array i old new) = array == k
+names_array k (Await array i v) = array == k
+names_array k (AwaitNot array i v) = array == k
+names_array k _ = false
+
+abbrev pub names_lock : ℕ → Instr → Bool
+names_lock k (Lock lock) = lock == k
+names_lock k (Unlock lock) = lock == k
+names_lock k _ = false
+
+-- array k of the component
+abbrev pub is_array_named : Declarations → ℕ → Bool
+is_array_named c k = list_any (λ op. list_any (names_array k) op.code) c.operations
+
+abbrev pub is_lock_named : Declarations → ℕ → Bool
+is_lock_named c k = list_any (λ op. list_any (names_lock k) op.code) c.operations
+
+-- ---- an operation, at its `end`
+
+-- a hint, which stands so many lines with words before the line
+abbrev pub found : ℕ → Hint → Found
+found back hint = record { back = back; hint = hint }
+
+abbrev pub is_return : Statement → Bool
+is_return (Plain (Return v)) = true
+is_return _ = false
+
+-- no return stands in the operation; the hint stands on its `op` line
+abbrev pub return_hints : Begun → List Found
+return_hints b =
+    if list_any is_return b.statements then []
+    else found (length b.statements + 1) NoReturn ∷ []
+
+abbrev pub leads_to : Word → Option Word → Bool
+leads_to name None = false
+leads_to name (Some label) = bytes_eq label name
+
+-- no jump of the operation leads to the label
+abbrev pub is_unused : List Statement → Label → Bool
+is_unused statements label =
+    not (list_any (λ s. leads_to label.name (label_used s)) statements)
+
+abbrev pub label_hints : Begun → List Found
+label_hints b =
+    map (λ label. found (length b.statements - label.place) UnusedLabel)
+    (filter (is_unused b.statements) b.labels)
+
+-- the instruction reads a cell
+abbrev pub looks : Statement → Bool
+looks (Plain (Load to array i)) = true
+looks (Plain (Cas to array i old new)) = true
+looks _ = false
+
+-- the instruction may be blocked
+abbrev pub waits : Statement → Bool
+waits (Plain (Lock lock)) = true
+waits (Plain (Await array i v)) = true
+waits (Plain (AwaitNot array i v)) = true
+waits _ = false
+
+-- these are gone through again: one looks at a cell, and none waits
+abbrev pub are_spun : List Statement → Bool
+are_spun statements = list_any looks statements && not (list_any waits statements)
+
+-- the statement at place i jumps back to the place t, over such
+abbrev pub spins_to : List Statement → ℕ → ℕ → Bool
+spins_to statements i t = nat_le t i && are_spun (take (i - t) (drop t statements))
+
+abbrev pub place_named : List Label → Word → Option ℕ
+place_named labels name = option_map (λ l. l.place) (find (λ l. bytes_eq l.name name) labels)
+
+abbrev pub spins_where : List Statement → ℕ → Option ℕ → Bool
+spins_where statements i None = false
+spins_where statements i (Some t) = spins_to statements i t
+
+abbrev pub spins_at : Begun → ℕ → Option Word → Bool
+spins_at b i None = false
+spins_at b i (Some name) = spins_where b.statements i (place_named b.labels name)
+
+-- a jump back without waiting
+abbrev pub spin_hints : Begun → List Found
+spin_hints b =
+    map (λ s. found (length b.statements - s.0) Spin)
+    (filter (λ s. spins_at b s.0 (label_used s.1)) (enumerate_from 0 b.statements))
+
+abbrev pub end_hints : Begun → List Found
+end_hints b = return_hints b ++ (label_hints b ++ spin_hints b)
+
+-- ---- lines
+
+abbrev pub unless : Bool → Hint → List Found
+unless named hint = if named then [] else found 0 hint ∷ []
+
+-- by the first word of a line, where an operation is open or none
+abbrev pub state_hints : Declarations → Drafted → Option Begun → Word → List Found
+state_hints c d None word =
+    if bytes_eq word (codes "word") then unless (is_array_named c (length d.arrays)) UnnamedArray
+    else (if bytes_eq word (codes "lock")
+    then unless (is_lock_named c (length d.locks)) UnnamedLock
+    else [])
+state_hints c d (Some b) word = if bytes_eq word (codes "end") then end_hints b else []
+
+abbrev pub words_hints : Declarations → Drafted → List Word → List Found
+words_hints c d [] = []
+words_hints c d (word ∷ words) = state_hints c d d.begun word
+
+-- the hints at a line behind this draft
+abbrev pub line_hints : Declarations → Drafted → List ℕ → List Found
+line_hints c d line = words_hints c d (words_of line)
+
+-- what is said of a hint at line n
+abbrev pub warned : List ℕ → ℕ → Found → Said
+warned seen n f = record { place = place_of seen n f.back; cause = Warning f.hint }
+
+-- the warnings of these lines, of which the first is line n
+unfoldable pub warnings_after : Declarations → List ℕ → ℕ → Drafted → List (List ℕ) → List Said
+warnings_after c seen n d [] = []
+warnings_after c seen n d (line ∷ lines) =
+    map (warned seen n) (line_hints c d line)
+    ++ warnings_after c (with_words seen n line) (n + 1)
+    ((going_on d (component_grammar.line d line)).0) lines
+
+abbrev pub warnings_of_lines : Declarations → List (List ℕ) → List Said
+warnings_of_lines c lines = warnings_after c [] 1 nothing lines
+
+-- the warnings of the text of this component
+abbrev pub warnings_in : Declarations → List ℕ → List Said
+warnings_in c text = warnings_of_lines c (lines_of text)

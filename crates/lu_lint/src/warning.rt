@@ -1,0 +1,412 @@
+//! Warnings of a component that is read.
+
+ghost use Rattle.std.specs.Prelude.{◌≡◌, ◌++◌, IfOk, Some, None, map, take, drop};
+ghost use Rattle.std.specs.List.{list_any};
+ghost use Rattle.lu_lang.specs.Going.{going_on};
+ghost use Rattle.lu_lang.specs.Grammar.{component_grammar, label_used};
+ghost use Rattle.lu_lint.specs.Said.{said_of};
+ghost use Rattle.lu_lint.specs.Warnings as spec;
+ghost use Rattle.lu_lint.specs.Warnings.{warnings_in, warnings_of_lines};
+ghost use Rattle.lu_text.specs.Lines.{texts};
+
+use crate::remark::{Cause, Hint, Position, Remark, Said, place_of, with_remark, with_words};
+use crate::warning_wording::warning_wording;
+use lu_component::{Component, Instr};
+use lu_lang::{Draft, Label, OpenOp, Statement, line_or_fault};
+use lu_text::{lines_of, words_of};
+use std::alloc::{AllocError, Global};
+
+/// A hint, which stands so many lines with words before a line.
+#[derive(Clone, Copy, Debug, Drop)]
+pub(crate) struct Found {
+    pub back: usize,
+    pub hint: Hint,
+}
+
+fn names_array(array: usize, instr: &Instr) -> bool
+    ensures { result ≡ spec.names_array array instr.now }
+{
+    match *instr {
+        Instr::Load { array: named, .. } => usize::from(named) == array,
+        Instr::Store { array: named, .. } => usize::from(named) == array,
+        Instr::Cas { array: named, .. } => usize::from(named) == array,
+        Instr::Await { array: named, .. } => usize::from(named) == array,
+        Instr::AwaitNot { array: named, .. } => usize::from(named) == array,
+        _ => false,
+    }
+}
+
+fn names_lock(lock: usize, instr: &Instr) -> bool
+    ensures { result ≡ spec.names_lock lock instr.now }
+{
+    match *instr {
+        Instr::Lock(named) => usize::from(named) == lock,
+        Instr::Unlock(named) => usize::from(named) == lock,
+        _ => false,
+    }
+}
+
+fn have_array(array: usize, code: &[Instr]) -> bool
+    ensures { result ≡ list_any (spec.names_array array) code.now }
+{
+    code.iter().any(|instr| names_array(array, instr))
+}
+
+fn have_lock(lock: usize, code: &[Instr]) -> bool
+    ensures { result ≡ list_any (spec.names_lock lock) code.now }
+{
+    code.iter().any(|instr| names_lock(lock, instr))
+}
+
+/// Whether an instruction names this array of the component.
+fn is_array_named(component: &Component, array: usize) -> bool
+    ensures { result ≡ spec.is_array_named component.now array }
+{
+    component
+        .operations()
+        .iter()
+        .any(|op| have_array(array, op.code.instrs()))
+}
+
+/// Whether an instruction names this lock of the component.
+fn is_lock_named(component: &Component, lock: usize) -> bool
+    ensures { result ≡ spec.is_lock_named component.now lock }
+{
+    component
+        .operations()
+        .iter()
+        .any(|op| have_lock(lock, op.code.instrs()))
+}
+
+fn is_return(statement: &Statement) -> bool
+    ensures { result ≡ spec.is_return statement.now }
+{
+    matches!(statement, Statement::Plain(Instr::Return(_)))
+}
+
+fn have_return(statements: &[Statement]) -> bool
+    ensures { result ≡ list_any spec.is_return statements.now }
+{
+    statements.iter().any(|statement| is_return(statement))
+}
+
+/// That no return stands in the operation, on its `op` line.
+fn return_hints(alloc: Global, op: &OpenOp) -> Result<Vec<Found>, AllocError>
+    ensures { IfOk result (λ hints. hints.items ≡ spec.return_hints op.now) }
+{
+    let mut hints = Vec::new(alloc);
+    if !have_return(&op.statements) {
+        hints.push(Found {
+            back: op.statements.len() + 1,
+            hint: Hint::NoReturn,
+        })?;
+    }
+    Ok(hints)
+}
+
+fn leads_to(name: &[u8], statement: &Statement) -> bool
+    ensures { result ≡ spec.leads_to name.now (label_used statement.now) }
+{
+    match statement {
+        Statement::Plain(_) => false,
+        Statement::Jump(label) => label.is(name),
+        Statement::JumpIfZero(_, label) => label.is(name),
+    }
+}
+
+fn is_used(statements: &[Statement], name: &[u8]) -> bool
+    ensures { result ≡ list_any (λ s. spec.leads_to name.now (label_used s)) statements.now }
+{
+    statements.iter().any(|statement| leads_to(name, statement))
+}
+
+/// Whether no jump of the operation leads to the label.
+fn is_unused(statements: &[Statement], label: &Label) -> bool
+    ensures { result ≡ spec.is_unused statements.now label.now }
+{
+    !is_used(statements, label.name.as_bytes())
+}
+
+/// The labels to which no jump of the operation leads.
+fn label_hints(alloc: Global, op: &OpenOp) -> Result<Vec<Found>, AllocError>
+    ensures { IfOk result (λ hints. hints.items ≡ spec.label_hints op.now) }
+{
+    let all = op.statements.len();
+    op.labels
+        .iter()
+        .filter(|label| is_unused(&op.statements, label))
+        .map(|label| Found {
+            back: all.saturating_sub(usize::from(label.place)),
+            hint: Hint::UnusedLabel,
+        })
+        .collect(alloc)
+}
+
+/// Whether an instruction reads a cell.
+fn looks(statement: &Statement) -> bool
+    ensures { result ≡ spec.looks statement.now }
+{
+    matches!(
+        statement,
+        Statement::Plain(Instr::Load { .. } | Instr::Cas { .. })
+    )
+}
+
+/// Whether an instruction may be blocked.
+fn waits(statement: &Statement) -> bool
+    ensures { result ≡ spec.waits statement.now }
+{
+    matches!(
+        statement,
+        Statement::Plain(Instr::Lock(_) | Instr::Await { .. } | Instr::AwaitNot { .. })
+    )
+}
+
+fn have_look(statements: &[Statement]) -> bool
+    ensures { result ≡ list_any spec.looks statements.now }
+{
+    statements.iter().any(|statement| looks(statement))
+}
+
+fn have_wait(statements: &[Statement]) -> bool
+    ensures { result ≡ list_any spec.waits statements.now }
+{
+    statements.iter().any(|statement| waits(statement))
+}
+
+/// The instructions from a place on, so many of them.
+fn between(statements: &[Statement], from: usize, count: usize) -> &[Statement]
+    ensures { result.now ≡ take count (drop from statements.now) }
+{
+    let (_, behind) = statements.split_at(from.min(statements.len()));
+    let (front, _) = behind.split_at(count.min(behind.len()));
+    front
+}
+
+/// Whether the statement at place `place` jumps back to `target` over one that looks at a cell, and
+/// over none that waits.
+fn spins_to(statements: &[Statement], place: usize, target: usize) -> bool
+    ensures { result ≡ spec.spins_to statements.now place target }
+{
+    if target > place {
+        return false;
+    }
+    let again = between(statements, target, place - target);
+    have_look(again) && !have_wait(again)
+}
+
+/// The place of a label.
+fn place_named(labels: &[Label], name: &[u8]) -> Option<usize>
+    ensures { result ≡ spec.place_named labels.now name.now }
+{
+    match labels.iter().find(|label| label.name.is(name)) {
+        None => None,
+        Some(label) => Some(usize::from(label.place)),
+    }
+}
+
+fn spins_by(op: &OpenOp, place: usize, name: &[u8]) -> bool
+    ensures { result ≡ spec.spins_at op.now place (Some name.now) }
+{
+    match place_named(&op.labels, name) {
+        None => false,
+        Some(target) => spins_to(&op.statements, place, target),
+    }
+}
+
+/// Whether the statement at this place jumps back without waiting.
+fn spins_at(op: &OpenOp, place: usize, statement: &Statement) -> bool
+    ensures { result ≡ spec.spins_at op.now place (label_used statement.now) }
+{
+    match statement {
+        Statement::Plain(_) => false,
+        Statement::Jump(label) => spins_by(op, place, label.as_bytes()),
+        Statement::JumpIfZero(_, label) => spins_by(op, place, label.as_bytes()),
+    }
+}
+
+/// The jumps back without waiting.
+fn spin_hints(alloc: Global, op: &OpenOp) -> Result<Vec<Found>, AllocError>
+    ensures { IfOk result (λ hints. hints.items ≡ spec.spin_hints op.now) }
+{
+    let all = op.statements.len();
+    op.statements
+        .iter()
+        .enumerate()
+        .filter(|(place, statement)| spins_at(op, *place, statement))
+        .map(|(place, _)| Found {
+            back: all.saturating_sub(place),
+            hint: Hint::Spin,
+        })
+        .collect(alloc)
+}
+
+/// The hints at the `end` of an operation.
+fn end_hints(alloc: Global, op: &OpenOp) -> Result<Vec<Found>, AllocError>
+    ensures { IfOk result (λ hints. hints.items ≡ spec.end_hints op.now) }
+{
+    let mut labels = label_hints(alloc, op)?;
+    let spins = spin_hints(alloc, op)?;
+    labels.extend_from_slice(&spins)?;
+    let mut hints = return_hints(alloc, op)?;
+    hints.extend_from_slice(&labels)?;
+    Ok(hints)
+}
+
+/// The hint, unless what it is about is named.
+fn unless(alloc: Global, named: bool, hint: Hint) -> Result<Vec<Found>, AllocError>
+    ensures { IfOk result (λ hints. hints.items ≡ spec.unless named hint) }
+{
+    let mut hints = Vec::new(alloc);
+    if !named {
+        hints.push(Found { back: 0, hint })?;
+    }
+    Ok(hints)
+}
+
+/// The hints at a declaration.
+fn outside_hints(
+    alloc: Global,
+    component: &Component,
+    draft: &Draft,
+    word: &[u8],
+) -> Result<Vec<Found>, AllocError>
+    ensures { IfOk result (λ hints.
+        hints.items ≡ spec.state_hints component.now draft.now None word.now) }
+{
+    if word == b"word".as_slice() {
+        let named = is_array_named(component, draft.arrays.len());
+        unless(alloc, named, Hint::UnnamedArray)
+    } else if word == b"lock".as_slice() {
+        let named = is_lock_named(component, draft.locks.len());
+        unless(alloc, named, Hint::UnnamedLock)
+    } else {
+        Ok(Vec::new(alloc))
+    }
+}
+
+/// The hints at a line that begins with this word.
+fn state_hints(
+    alloc: Global,
+    component: &Component,
+    draft: &Draft,
+    word: &[u8],
+) -> Result<Vec<Found>, AllocError>
+    ensures { IfOk result (λ hints.
+        hints.items ≡ spec.state_hints component.now draft.now draft.now.begun word.now) }
+{
+    match &draft.begun {
+        None => outside_hints(alloc, component, draft, word),
+        Some(op) => {
+            if word == b"end".as_slice() {
+                end_hints(alloc, op)
+            } else {
+                Ok(Vec::new(alloc))
+            }
+        }
+    }
+}
+
+fn words_hints(
+    alloc: Global,
+    component: &Component,
+    draft: &Draft,
+    words: &[&[u8]],
+) -> Result<Vec<Found>, AllocError>
+    ensures { IfOk result (λ hints.
+        hints.items ≡ spec.words_hints component.now draft.now (texts words.now)) }
+{
+    match words.split_first() {
+        None => Ok(Vec::new(alloc)),
+        Some((word, _)) => state_hints(alloc, component, draft, word),
+    }
+}
+
+/// The hints at a line behind this draft.
+fn line_hints(
+    alloc: Global,
+    component: &Component,
+    draft: &Draft,
+    text: &[u8],
+) -> Result<Vec<Found>, AllocError>
+    ensures { IfOk result (λ hints.
+        hints.items ≡ spec.line_hints component.now draft.now text.now) }
+{
+    let words = words_of(alloc, text)?;
+    words_hints(alloc, component, draft, &words)
+}
+
+/// The remarks with these warnings, found at a line.
+fn with_found(
+    alloc: Global,
+    mut all: Vec<Remark>,
+    at: &Position,
+    draft: &Draft,
+    text: &[u8],
+    hints: &[Found],
+) -> Result<Vec<Remark>, AllocError>
+    ensures { IfOk result (λ next. said_of next.items ≡
+        said_of all.items ++ map (spec.warned at.now.seen.items at.now.line) hints.now) }
+{
+    for found in hints {
+        let words = warning_wording(alloc, draft, text, found.hint, found.back)?;
+        let said = Said {
+            place: place_of(&at.seen, at.line, found.back),
+            cause: Cause::Warning(found.hint),
+        };
+        all = with_remark(all, said, words)?;
+    }
+    Ok(all)
+}
+
+/// The draft behind a line, which has no fault.
+fn draft_behind(alloc: Global, draft: Draft, text: &[u8]) -> Result<Draft, AllocError>
+    ensures { IfOk result (λ next.
+        next ≡ (going_on draft (component_grammar.line draft text.now)).0) }
+{
+    let (next, _) = line_or_fault(alloc, draft, text)?;
+    Ok(next)
+}
+
+fn warnings_of_lines(
+    alloc: Global,
+    component: &Component,
+    mut all: Vec<Remark>,
+    lines: &[&[u8]],
+) -> Result<Vec<Remark>, AllocError>
+    ensures { IfOk result (λ next. said_of next.items ≡
+        said_of all.items ++ warnings_of_lines component.now (texts lines.now)) }
+{
+    let mut draft = Draft::new(alloc);
+    let mut seen = Vec::new(alloc);
+    for (before, text) in lines.iter().enumerate() {
+        let at = Position {
+            above: 0,
+            line: before + 1,
+            seen,
+        };
+        let hints = line_hints(alloc, component, &draft, text)?;
+        all = with_found(alloc, all, &at, &draft, text, &hints)?;
+        draft = draft_behind(alloc, draft, text)?;
+        seen = with_words(alloc, at.seen, before + 1, text)?;
+    }
+    Ok(all)
+}
+
+/// The remarks with the warnings of the text of this component, which begins the bundle.
+///
+/// # Errors
+///
+/// There is no memory for the remarks.
+pub(crate) fn with_warnings(
+    alloc: Global,
+    component: &Component,
+    all: Vec<Remark>,
+    text: &[u8],
+) -> Result<Vec<Remark>, AllocError>
+    ensures { IfOk result (λ next. said_of next.items ≡
+        said_of all.items ++ warnings_in component.now text.now) }
+{
+    let lines = lines_of(alloc, text)?;
+    warnings_of_lines(alloc, component, all, &lines)
+}

@@ -1,0 +1,63 @@
+//! The words of a warning.
+
+use crate::remark::Hint;
+use crate::wording::shown;
+use lu_lang::{Draft, OpenOp};
+use lu_text::words_of;
+use std::alloc::{AllocError, Global};
+
+/// The second word of a line.
+fn second_word(alloc: Global, text: &[u8]) -> Result<&[u8], AllocError> {
+    let words = words_of(alloc, text)?;
+    match words.as_slice() {
+        [_, word, ..] => Ok(*word),
+        _ => Ok(b"_"),
+    }
+}
+
+/// The label at the instruction that so many of the operation follow with it.
+fn label_at(op: &OpenOp, back: usize) -> &str {
+    let place = op.statements.len().saturating_sub(back);
+    match op
+        .labels
+        .iter()
+        .find(|label| usize::from(label.place) == place)
+    {
+        None => "of this line",
+        Some(label) => label.name.as_str(),
+    }
+}
+
+/// The words of a warning that is found at a line behind this draft, and stands so many lines with
+/// words before it.
+pub(crate) fn warning_wording(
+    alloc: Global,
+    draft: &Draft,
+    text: &[u8],
+    hint: Hint,
+    back: usize,
+) -> Result<String, AllocError> {
+    let name = match &draft.begun {
+        None => "an operation",
+        Some(op) => op.name.as_str(),
+    };
+    match hint {
+        Hint::UnnamedArray => {
+            let array = shown(second_word(alloc, text)?);
+            format!(in alloc; "no instruction names the array {array}")
+        }
+        Hint::UnnamedLock => {
+            let lock = shown(second_word(alloc, text)?);
+            format!(in alloc; "no instruction names the lock {lock}")
+        }
+        Hint::UnusedLabel => {
+            let label = match &draft.begun {
+                None => "of this line",
+                Some(op) => label_at(op, back),
+            };
+            format!(in alloc; "no jump of {name} leads to the label {label}")
+        }
+        Hint::NoReturn => format!(in alloc; "{name} has no return, so no call of it returns"),
+        Hint::Spin => format!(in alloc; "{name} jumps back without waiting; await waits"),
+    }
+}
