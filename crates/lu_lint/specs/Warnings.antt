@@ -1,5 +1,5 @@
 -- Warnings of a component that is read: what can be left out or goes on for ever.
-use Rattle.std.specs.Prelude.{find, ℕ, ◌+◌, ◌-◌, Bool, true, false, List, [], ◌∷◌, ◌++◌, length, map, filter, take, drop, Option, Some, None, codes, ◌==◌, ◌&&◌, not, nat_le, if◌then◌else◌}
+use Rattle.std.specs.Prelude.{find, ℕ, ◌+◌, ◌-◌, Bool, true, false, List, [], ◌∷◌, ◌++◌, length, map, filter, take, drop, Option, Some, None, codes, ◌==◌, ◌&&◌, ◌||◌, not, nat_le, if◌then◌else◌}
 use Rattle.std.specs.List.{enumerate_from, list_all, list_any}
 use Rattle.std.specs.Option.{option_map}
 use Rattle.std.specs.Str.{bytes_eq}
@@ -8,7 +8,8 @@ use Rattle.lu_text.specs.Words.{Word}
 use Rattle.lu_component.specs.Component.{Declarations}
 use Rattle.lu_component.specs.declared.component.Op.{Op}
 use Rattle.lu_component.specs.declared.instr.Instr.{Instr}
-use Rattle.lu_component.specs.declared.instr.Instr.TheVariants.{Load, Store, Cas, Lock, Unlock, Await, AwaitNot, Return}
+use Rattle.lu_component.specs.declared.instr.Instr.TheVariants.{Set, Compute, Load, Store, Cas, Lock, Unlock, Await, AwaitNot, Return}
+use Rattle.lu_component.specs.declared.instr.Arithmetic.TheVariants.{Eq, Lt}
 use Rattle.lu_lang.specs.declared.draft.Label.{Label}
 use Rattle.lu_lang.specs.declared.draft.Statement.{Statement}
 use Rattle.lu_lang.specs.declared.draft.Statement.TheVariants.{Plain, Jump, JumpIfZero}
@@ -77,19 +78,40 @@ label_hints b =
 -- the instruction reads a cell
 abbrev pub looks : Statement → Bool
 looks (Plain (Load to array i)) = true
-looks (Plain (Cas to array i old new)) = true
 looks _ = false
 
--- the instruction may be blocked
-abbrev pub waits : Statement → Bool
-waits (Plain (Lock lock)) = true
-waits (Plain (Await array i v)) = true
-waits (Plain (AwaitNot array i v)) = true
-waits _ = false
+-- the instruction tries to change a cell
+abbrev pub tries : Statement → Bool
+tries (Plain (Cas to array i old new)) = true
+tries _ = false
 
--- these are gone through again: one looks at a cell, and none waits
+-- the instruction compares, sets a register, or says where to go on
+abbrev pub passes : Statement → Bool
+passes (Plain (Compute Eq to a b)) = true
+passes (Plain (Compute Lt to a b)) = true
+passes (Plain (Set to v)) = true
+passes (Plain (Return v)) = true
+passes (Plain _) = false
+passes (Jump label) = true
+passes (JumpIfZero v label) = true
+
+abbrev pub looks_or_passes : Statement → Bool
+looks_or_passes s = looks s || passes s
+
+abbrev pub tries_or_passes : Statement → Bool
+tries_or_passes s = tries s || passes s
+
+-- these read cells, and do nothing else that another thread may see or that counts
+abbrev pub only_look : List Statement → Bool
+only_look statements = list_any looks statements && list_all looks_or_passes statements
+
+-- these try to change cells, and do nothing else of the kind
+abbrev pub only_try : List Statement → Bool
+only_try statements = list_any tries statements && list_all tries_or_passes statements
+
+-- these are gone through again until another thread has changed a cell, and none waits
 abbrev pub are_spun : List Statement → Bool
-are_spun statements = list_any looks statements && not (list_any waits statements)
+are_spun statements = only_look statements || only_try statements
 
 -- the statement at place i jumps back to the place t, over such
 abbrev pub spins_to : List Statement → ℕ → ℕ → Bool

@@ -75,7 +75,8 @@ pub enum Hint {
     /// An operation in which no return stands, on its `op` line.
     NoReturn,
 
-    /// A jump back over an instruction that reads a cell, and over none that waits, on its line.
+    /// A jump back without waiting, on its line: over instructions that read cells, or over some that
+    /// try to change one by `cas`, and else only compare, set registers, jump or return.
     Spin,
 }
 

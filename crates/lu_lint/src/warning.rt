@@ -1,7 +1,8 @@
 //! Warnings of a component that is read.
 
 ghost use Rattle.std.specs.Prelude.{◌≡◌, ◌++◌, IfOk, Some, None, map, take, drop};
-ghost use Rattle.std.specs.List.{list_any};
+ghost use Rattle.std.specs.List.{list_all, list_any};
+ghost use Rattle.lu_lang.specs.declared.draft.Statement.TheVariants.{Plain};
 ghost use Rattle.lu_lang.specs.Going.{going_on};
 ghost use Rattle.lu_lang.specs.Grammar.{component_grammar, label_used};
 ghost use Rattle.lu_lint.specs.Said.{said_of};
@@ -11,7 +12,7 @@ ghost use Rattle.lu_text.specs.Lines.{texts};
 
 use crate::remark::{Cause, Hint, Position, Remark, Said, place_of, with_remark, with_words};
 use crate::warning_wording::warning_wording;
-use lu_component::{Component, Instr};
+use lu_component::{Arithmetic, Component, Instr};
 use lu_lang::{Draft, Label, OpenOp, Statement, line_or_fault};
 use lu_text::{lines_of, words_of};
 use std::alloc::{AllocError, Global};
@@ -146,20 +147,41 @@ fn label_hints(alloc: Global, op: &OpenOp) -> Result<Vec<Found>, AllocError>
 fn looks(statement: &Statement) -> bool
     ensures { result ≡ spec.looks statement.now }
 {
-    matches!(
-        statement,
-        Statement::Plain(Instr::Load { .. } | Instr::Cas { .. })
-    )
+    matches!(statement, Statement::Plain(Instr::Load { .. }))
 }
 
-/// Whether an instruction may be blocked.
-fn waits(statement: &Statement) -> bool
-    ensures { result ≡ spec.waits statement.now }
+/// Whether an instruction tries to change a cell.
+fn tries(statement: &Statement) -> bool
+    ensures { result ≡ spec.tries statement.now }
 {
-    matches!(
-        statement,
-        Statement::Plain(Instr::Lock(_) | Instr::Await { .. } | Instr::AwaitNot { .. })
-    )
+    matches!(statement, Statement::Plain(Instr::Cas { .. }))
+}
+
+/// Whether an instruction compares, sets a register, or ends the operation.
+fn passes_by(instr: Instr) -> bool
+    ensures { result ≡ spec.passes (Plain instr) }
+{
+    match instr {
+        Instr::Compute { arithmetic, .. } => match arithmetic {
+            Arithmetic::Eq => true,
+            Arithmetic::Lt => true,
+            _ => false,
+        },
+        Instr::Set { .. } => true,
+        Instr::Return(_) => true,
+        _ => false,
+    }
+}
+
+/// Whether an instruction compares, sets a register, or says where to go on.
+fn passes(statement: &Statement) -> bool
+    ensures { result ≡ spec.passes statement.now }
+{
+    match statement {
+        Statement::Plain(instr) => passes_by(*instr),
+        Statement::Jump(_) => true,
+        Statement::JumpIfZero(_, _) => true,
+    }
 }
 
 fn have_look(statements: &[Statement]) -> bool
@@ -168,10 +190,40 @@ fn have_look(statements: &[Statement]) -> bool
     statements.iter().any(|statement| looks(statement))
 }
 
-fn have_wait(statements: &[Statement]) -> bool
-    ensures { result ≡ list_any spec.waits statements.now }
+fn have_try(statements: &[Statement]) -> bool
+    ensures { result ≡ list_any spec.tries statements.now }
 {
-    statements.iter().any(|statement| waits(statement))
+    statements.iter().any(|statement| tries(statement))
+}
+
+fn all_look(statements: &[Statement]) -> bool
+    ensures { result ≡ list_all spec.looks_or_passes statements.now }
+{
+    statements
+        .iter()
+        .all(|statement| looks(statement) || passes(statement))
+}
+
+fn all_try(statements: &[Statement]) -> bool
+    ensures { result ≡ list_all spec.tries_or_passes statements.now }
+{
+    statements
+        .iter()
+        .all(|statement| tries(statement) || passes(statement))
+}
+
+/// Whether these read cells, and do nothing else that another thread may see or that counts.
+fn only_look(statements: &[Statement]) -> bool
+    ensures { result ≡ spec.only_look statements.now }
+{
+    have_look(statements) && all_look(statements)
+}
+
+/// Whether these try to change cells, and do nothing else of the kind.
+fn only_try(statements: &[Statement]) -> bool
+    ensures { result ≡ spec.only_try statements.now }
+{
+    have_try(statements) && all_try(statements)
 }
 
 /// The instructions from a place on, so many of them.
@@ -183,8 +235,8 @@ fn between(statements: &[Statement], from: usize, count: usize) -> &[Statement]
     front
 }
 
-/// Whether the statement at place `place` jumps back to `target` over one that looks at a cell, and
-/// over none that waits.
+/// Whether the statement at place `place` jumps back to `target` over instructions that only look at
+/// cells, or only try to change them.
 fn spins_to(statements: &[Statement], place: usize, target: usize) -> bool
     ensures { result ≡ spec.spins_to statements.now place target }
 {
@@ -192,7 +244,7 @@ fn spins_to(statements: &[Statement], place: usize, target: usize) -> bool
         return false;
     }
     let again = between(statements, target, place - target);
-    have_look(again) && !have_wait(again)
+    only_look(again) || only_try(again)
 }
 
 /// The place of a label.
