@@ -1,5 +1,5 @@
 -- Warnings, line by line.
-use Rattle.std.proofs.Common.{◌≡◌, ℕ, ◌+◌, ◌≤◌, ◌<◌, List, [], ◌∷◌, ◌++◌, length, get_or, map, drop, refl, sym, ap, ◌∙◌}
+use Rattle.std.proofs.Common.{◌≡◌, ℕ, ◌+◌, ◌≤◌, ◌<◌, Bool, false, add-one, List, [], ◌∷◌, ◌++◌, length, get_or, map, drop, refl, sym, ap, ◌∙◌}
 use Rattle.std.proofs.lemmas.List.{append_assoc, append-nil}
 use Rattle.lu_text.specs.Lines.{texts}
 use Rattle.lu_text.proofs.Reading.{text_more, texts_end}
@@ -10,7 +10,8 @@ use Rattle.lu_lang.specs.Grammar.{component_grammar}
 use Rattle.lu_lint.specs.declared.remark.Said.{Said}
 use Rattle.lu_lint.specs.declared.warning.Found.{Found}
 use Rattle.lu_lint.specs.Lint.{with_words}
-use Rattle.lu_lint.specs.Warnings.{line_hints, warned, warnings_after}
+use Rattle.lu_lang.specs.Draft.{Begun}
+use Rattle.lu_lint.specs.Warnings.{line_hints, next_row, returns_within, warned, warnings_after}
 use denote.Ref.{Bor}
 
 -- one line more
@@ -26,3 +27,13 @@ goes_on c lines i b seen seen2 d d2 hints before next total within more found le
 pub ends : (c : Declarations) (lines : List (Bor (List ℕ))) (i n : ℕ) (seen : List ℕ) (d : Drafted) (before total : List Said) → length lines ≤ i → before ++ warnings_after c seen n d (drop i (texts lines)) ≡ total → before ≡ total
 unfolding warnings_after
 ends c lines i n seen d before total within so_far = sym (append-nil before) ∙ (rw (texts_end lines i within) at so_far)
+
+-- no round is made
+pub no_round : (b : Begun) (row : List Bool) → row ≡ map (λ s. false) b.statements → row ≡ returns_within b 0
+unfolding returns_within
+no_round b row e = e
+
+-- one round more
+pub round_more : (b : Begun) (n : ℕ) (row next : List Bool) → row ≡ returns_within b n → next ≡ next_row b row → next ≡ returns_within b (n + 1)
+unfolding returns_within
+round_more b n row next is more = rw (add-one n) (more ∙ ap (next_row b) is)

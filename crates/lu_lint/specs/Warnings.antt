@@ -1,7 +1,7 @@
 -- Warnings of a component that is read: what can be left out or goes on for ever.
-use Rattle.std.specs.Prelude.{find, ℕ, ◌+◌, ◌-◌, Bool, true, false, List, [], ◌∷◌, ◌++◌, length, map, filter, take, drop, Option, Some, None, codes, ◌==◌, ◌&&◌, ◌||◌, not, nat_le, if◌then◌else◌}
+use Rattle.std.specs.Prelude.{find, ℕ, zero, suc, ◌+◌, ◌-◌, Bool, true, false, List, [], ◌∷◌, ◌++◌, length, map, filter, take, drop, Option, Some, None, slice_get, codes, ◌==◌, ◌&&◌, ◌||◌, not, nat_le, if◌then◌else◌}
 use Rattle.std.specs.List.{enumerate_from, list_all, list_any}
-use Rattle.std.specs.Option.{option_map}
+use Rattle.std.specs.Option.{option_map, unwrap_or}
 use Rattle.std.specs.Str.{bytes_eq}
 use Rattle.lu_text.specs.Lines.{lines_of, words_of}
 use Rattle.lu_text.specs.Words.{Word}
@@ -51,15 +51,48 @@ is_lock_named c k = list_any (λ op. list_any (names_lock k) op.code) c.operatio
 abbrev pub found : ℕ → Hint → Found
 found back hint = record { back = back; hint = hint }
 
-abbrev pub is_return : Statement → Bool
-is_return (Plain (Return v)) = true
-is_return _ = false
+-- the place of a label
+abbrev pub place_named : List Label → Word → Option ℕ
+place_named labels name = option_map (λ l. l.place) (find (λ l. bytes_eq l.name name) labels)
 
--- no return stands in the operation; the hint stands on its `op` line
+-- whether it is so at this place, or that of this label
+abbrev pub holds_at : List Bool → ℕ → Bool
+holds_at row place = unwrap_or (slice_get row place) false
+
+abbrev pub holds_where : List Bool → Option ℕ → Bool
+holds_where row None = false
+holds_where row (Some place) = holds_at row place
+
+-- at the place behind this one
+abbrev pub holds_behind : List Bool → ℕ → Bool
+holds_behind row place = holds_at (drop 1 row) place
+
+abbrev pub plain_returns : Instr → Bool → Bool
+plain_returns (Return v) next = true
+plain_returns _ next = next
+
+-- a return is reached from the statement at this place, where this row says from which others
+abbrev pub returns_by : Begun → List Bool → ℕ → Statement → Bool
+returns_by b row place (Plain instr) = plain_returns instr (holds_behind row place)
+returns_by b row place (Jump label) = holds_where row (place_named b.labels label)
+returns_by b row place (JumpIfZero v label) =
+    holds_where row (place_named b.labels label) || holds_behind row place
+
+abbrev pub next_row : Begun → List Bool → List Bool
+next_row b row = map (λ s. returns_by b row s.0 s.1) (enumerate_from 0 b.statements)
+
+-- from which places a return is reached by at most so many instructions
+unfoldable pub returns_within : Begun → ℕ → List Bool
+returns_within b zero = map (λ s. false) b.statements
+returns_within b (suc n) = next_row b (returns_within b n)
+
+-- a return is reached from the first instruction, by one way or another
+abbrev pub can_return : Begun → Bool
+can_return b = holds_at (returns_within b (length b.statements)) 0
+
+-- no return is reached; the hint stands on the `op` line
 abbrev pub return_hints : Begun → List Found
-return_hints b =
-    if list_any is_return b.statements then []
-    else found (length b.statements + 1) NoReturn ∷ []
+return_hints b = if can_return b then [] else found (length b.statements + 1) NoReturn ∷ []
 
 abbrev pub leads_to : Word → Option Word → Bool
 leads_to name None = false
@@ -116,9 +149,6 @@ are_spun statements = only_look statements || only_try statements
 -- the statement at place i jumps back to the place t, over such
 abbrev pub spins_to : List Statement → ℕ → ℕ → Bool
 spins_to statements i t = nat_le t i && are_spun (take (i - t) (drop t statements))
-
-abbrev pub place_named : List Label → Word → Option ℕ
-place_named labels name = option_map (λ l. l.place) (find (λ l. bytes_eq l.name name) labels)
 
 abbrev pub spins_where : List Statement → ℕ → Option ℕ → Bool
 spins_where statements i None = false

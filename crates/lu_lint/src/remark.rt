@@ -72,7 +72,7 @@ pub enum Hint {
     /// A label to which no jump of its operation leads, on its line.
     UnusedLabel,
 
-    /// An operation in which no return stands, on its `op` line.
+    /// An operation that reaches no return, whichever way its jumps go, on its `op` line.
     NoReturn,
 
     /// A jump back without waiting, on its line: over instructions that read cells, or over some that

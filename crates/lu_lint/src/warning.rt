@@ -1,6 +1,6 @@
 //! Warnings of a component that is read.
 
-ghost use Rattle.std.specs.Prelude.{◌≡◌, ◌++◌, IfOk, Some, None, map, take, drop};
+ghost use Rattle.std.specs.Prelude.{◌≡◌, ◌++◌, false, IfOk, Some, None, length, map, take, drop};
 ghost use Rattle.std.specs.List.{list_all, list_any};
 ghost use Rattle.lu_lang.specs.declared.draft.Statement.TheVariants.{Plain};
 ghost use Rattle.lu_lang.specs.Going.{going_on};
@@ -79,24 +79,111 @@ fn is_lock_named(component: &Component, lock: usize) -> bool
         .any(|op| have_lock(lock, op.code.instrs()))
 }
 
-fn is_return(statement: &Statement) -> bool
-    ensures { result ≡ spec.is_return statement.now }
+/// The place of a label.
+fn place_named(labels: &[Label], name: &[u8]) -> Option<usize>
+    ensures { result ≡ spec.place_named labels.now name.now }
 {
-    matches!(statement, Statement::Plain(Instr::Return(_)))
+    match labels.iter().find(|label| label.name.is(name)) {
+        None => None,
+        Some(label) => Some(usize::from(label.place)),
+    }
 }
 
-fn have_return(statements: &[Statement]) -> bool
-    ensures { result ≡ list_any spec.is_return statements.now }
+/// Whether it is so at this place.
+fn holds_at(row: &[bool], place: usize) -> bool
+    ensures { result ≡ spec.holds_at row.now place }
 {
-    statements.iter().any(|statement| is_return(statement))
+    match row.get(place) {
+        None => false,
+        Some(holds) => *holds,
+    }
 }
 
-/// That no return stands in the operation, on its `op` line.
+/// Whether it is so at the place of this label.
+fn holds_named(row: &[bool], op: &OpenOp, name: &[u8]) -> bool
+    ensures { result ≡ spec.holds_where row.now (spec.place_named op.now.labels name.now) }
+{
+    match place_named(&op.labels, name) {
+        None => false,
+        Some(place) => holds_at(row, place),
+    }
+}
+
+/// What a row says from its second place on.
+fn behind(row: &[bool]) -> &[bool]
+    ensures { result.now ≡ drop 1 row.now }
+{
+    match row {
+        [] => row,
+        [_, rest @ ..] => rest,
+    }
+}
+
+/// Whether it is so at the place behind this one.
+fn holds_behind(row: &[bool], place: usize) -> bool
+    ensures { result ≡ spec.holds_behind row.now place }
+{
+    holds_at(behind(row), place)
+}
+
+fn plain_returns(instr: Instr, next: bool) -> bool
+    ensures { result ≡ spec.plain_returns instr next }
+{
+    match instr {
+        Instr::Return(_) => true,
+        _ => next,
+    }
+}
+
+/// Whether a return is reached from the statement at this place, where this row says from which
+/// others.
+fn returns_by(op: &OpenOp, row: &[bool], place: usize, statement: &Statement) -> bool
+    ensures { result ≡ spec.returns_by op.now row.now place statement.now }
+{
+    match statement {
+        Statement::Plain(instr) => plain_returns(*instr, holds_behind(row, place)),
+        Statement::Jump(label) => holds_named(row, op, label.as_bytes()),
+        Statement::JumpIfZero(_, label) => {
+            holds_named(row, op, label.as_bytes()) || holds_behind(row, place)
+        }
+    }
+}
+
+fn next_row(alloc: Global, op: &OpenOp, row: &[bool]) -> Result<Vec<bool>, AllocError>
+    ensures { IfOk result (λ next. next.items ≡ spec.next_row op.now row.now) }
+{
+    op.statements
+        .iter()
+        .enumerate()
+        .map(|(place, statement)| returns_by(op, row, place, statement))
+        .collect(alloc)
+}
+
+fn no_row(alloc: Global, op: &OpenOp) -> Result<Vec<bool>, AllocError>
+    ensures { IfOk result (λ row. row.items ≡ map (λ s. false) op.now.statements) }
+{
+    op.statements.iter().map(|_| false).collect(alloc)
+}
+
+/// From which places a return is reached.
+fn returns_from(alloc: Global, op: &OpenOp) -> Result<Vec<bool>, AllocError>
+    ensures { IfOk result (λ row.
+        row.items ≡ spec.returns_within op.now (length op.now.statements)) }
+{
+    let mut row = no_row(alloc, op)?;
+    for _round in 0..op.statements.len() {
+        row = next_row(alloc, op, &row)?;
+    }
+    Ok(row)
+}
+
+/// That no return is reached, on the operation's `op` line.
 fn return_hints(alloc: Global, op: &OpenOp) -> Result<Vec<Found>, AllocError>
     ensures { IfOk result (λ hints. hints.items ≡ spec.return_hints op.now) }
 {
+    let row = returns_from(alloc, op)?;
     let mut hints = Vec::new(alloc);
-    if !have_return(&op.statements) {
+    if !holds_at(&row, 0) {
         hints.push(Found {
             back: op.statements.len() + 1,
             hint: Hint::NoReturn,
@@ -245,16 +332,6 @@ fn spins_to(statements: &[Statement], place: usize, target: usize) -> bool
     }
     let again = between(statements, target, place - target);
     only_look(again) || only_try(again)
-}
-
-/// The place of a label.
-fn place_named(labels: &[Label], name: &[u8]) -> Option<usize>
-    ensures { result ≡ spec.place_named labels.now name.now }
-{
-    match labels.iter().find(|label| label.name.is(name)) {
-        None => None,
-        Some(label) => Some(usize::from(label.place)),
-    }
 }
 
 fn spins_by(op: &OpenOp, place: usize, name: &[u8]) -> bool

@@ -57,7 +57,7 @@ pub(crate) fn warning_wording(
             };
             format!(in alloc; "no jump of {name} leads to the label {label}")
         }
-        Hint::NoReturn => format!(in alloc; "{name} has no return, so no call of it returns"),
+        Hint::NoReturn => format!(in alloc; "{name} reaches no return, so no call of it returns"),
         Hint::Spin => format!(in alloc; "{name} jumps back without waiting; await waits"),
     }
 }
