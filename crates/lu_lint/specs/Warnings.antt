@@ -6,7 +6,6 @@ use Rattle.std.specs.Str.{bytes_eq}
 use Rattle.lu_text.specs.Lines.{lines_of, words_of}
 use Rattle.lu_text.specs.Words.{Word}
 use Rattle.lu_component.specs.Component.{Declarations}
-use Rattle.lu_component.specs.declared.component.Op.{Op}
 use Rattle.lu_component.specs.declared.instr.Instr.{Instr}
 use Rattle.lu_component.specs.declared.instr.Instr.TheVariants.{Set, Compute, Load, Store, Cas, Lock, Unlock, Await, AwaitNot, Return}
 use Rattle.lu_component.specs.declared.instr.Arithmetic.TheVariants.{Eq, Lt}
