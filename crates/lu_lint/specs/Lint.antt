@@ -12,9 +12,9 @@ pub record Told (Kind : Type 0) : Type 0 where
   pub line : ℕ
   pub place : ℕ
 
--- How a text is read behind its first fault. A line that has a fault leaves `mend` of the draft before
--- it, of the line, and of the lines behind it. Each message stands one of `backs` lines with words
--- before the line; one stands on the line itself where that is empty.
+-- How a text is read behind its first fault. A line that has a fault leaves `mend` of the draft
+-- before it, of the line, and of the lines behind it. Each message stands one of `backs` lines with
+-- words before the line; one stands on the line itself where that is empty.
 pub record Lint (Kind Draft Value : Type 0) : Type 0 where
   pub grammar : Grammar Kind Draft Value
   pub mend : Draft → List ℕ → List (List ℕ) → Draft

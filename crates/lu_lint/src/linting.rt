@@ -285,7 +285,8 @@ fn have_fault(remarks: &[Remark]) -> bool
 /// of a schedule, the first of a report, and the first of a specification, where the matrix is
 /// read.
 ///
-/// A line that is nearly `---` parts too, so that what stands behind it is not told for it.
+/// A line that is nearly `---` parts too, so that what stands behind it is not told for it. Where
+/// the component is read, its warnings are said too, which are no faults.
 ///
 /// # Errors
 ///

@@ -75,8 +75,8 @@ pub enum Hint {
     /// An operation that reaches no return, whichever way its jumps go, on its `op` line.
     NoReturn,
 
-    /// A jump back without waiting, on its line: over instructions that read cells, or over some that
-    /// try to change one by `cas`, and else only compare, set registers, jump or return.
+    /// A jump back without waiting, on its line: over instructions that read cells, or over some
+    /// that try to change one by `cas`, and else only compare, set registers, jump or return.
     Spin,
 }
 

@@ -322,8 +322,8 @@ fn between(statements: &[Statement], from: usize, count: usize) -> &[Statement]
     front
 }
 
-/// Whether the statement at place `place` jumps back to `target` over instructions that only look at
-/// cells, or only try to change them.
+/// Whether the statement at place `place` jumps back to `target` over instructions that only look
+/// at cells, or only try to change them.
 fn spins_to(statements: &[Statement], place: usize, target: usize) -> bool
     ensures { result ≡ spec.spins_to statements.now place target }
 {
