@@ -282,13 +282,13 @@ local_alike sees t s r same =
     ∙ standing_alike s r same.component (slice_get s.threads t)
 
 -- and so is how many may follow
-more_alike : (sees : Bool) (t : ℕ) (s r : State) → IsSame sees t s r → more_local r t ≡ more_local s t
+pub more_alike : (sees : Bool) (t : ℕ) (s r : State) → IsSame sees t s r → more_local r t ≡ more_local s t
 more_alike sees t s r same =
     ap (λ (x : Declarations). x.local - (if is_at_local r t then 1 else 0)) same.component
     ∙ ap (λ (b : Bool). s.component.local - (if b then 1 else 0)) (local_alike sees t s r same)
 
 -- what running on gives in a state that is the same for the thread
-record FramedRun (sees : Bool) (t n : ℕ) (r end : State) : Type 0 where
+pub record FramedRun (sees : Bool) (t n : ℕ) (r end : State) : Type 0 where
   pub there : State
   pub runs : RunsOn n r t there
   pub quiet : IsShared r there
@@ -316,7 +316,7 @@ runs_once sees t s next r is step same =
     once_unseen sees true t k f s next None stands h (local_is_unseen h.0 local) r same
 
 -- by what local instructions a thread runs on, it does so in each state that is the same for it
-frame_runs : (sees : Bool) (t n : ℕ) (s end r : State) → RunsOn n s t end → IsSame sees t s r → FramedRun sees t n r end
+pub frame_runs : (sees : Bool) (t n : ℕ) (s end r : State) → RunsOn n s t end → IsSame sees t s r → FramedRun sees t n r end
 frame_runs sees t zero s end r runs same = record {
   there = r;
   runs = refl;

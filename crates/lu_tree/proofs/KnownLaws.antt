@@ -19,36 +19,10 @@ use Rattle.lu_witness.specs.Witnesses.{IsMember}
 use Rattle.lu_tree.specs.declared.commuting.Both.{Both}
 use Rattle.lu_tree.specs.declared.known.Known.{Known}
 use Rattle.lu_tree.specs.declared.known.Hints.{Hints}
-use Rattle.lu_tree.specs.Known.{AreBeside, AreFrom, AreKnownBehind, Commute, HaveSameEvents, IsAmongOr, IsHint, IsHintOr, IsKid, IsKnown, IsKnownBy, KidsTellNoMore, MadeBoth, MoveNotBoth, Moves, MovesBoth, TellsNoMore, counts_of, kids_of}
+use Rattle.lu_tree.specs.Known.{AreFrom, AreKnownBehind, Commute, HaveSameEvents, IsAmongOr, IsHint, IsHintOr, IsKid, IsKnown, IsKnownBy, KidsTellNoMore, MadeBoth, MoveNotBoth, Moves, MovesBoth, TellsNoMore, counts_of, kids_of}
 use Rattle.lu_tree.specs.Reordered.{AreReordered, AreUnordered}
 use Rattle.lu_tree.specs.Walks.{AreBelow}
 use Rattle.lu_tree.proofs.Reordering.{either_order, reordered_both, reordered_then}
-
--- a move keeps the component and the matrix
-pub beside_step : (s r next : State) (m : Move) (event : Option Event) → AreBeside s r → Step r m next event → AreBeside s next
-beside_step s r next m event beside step =
-    let moved = step_moved r m next event step in
-    (beside.0 ∙ sym moved.component, beside.1 ∙ sym moved.matrix)
-
--- the same on the other side
-pub beside_moved : (s r next : State) (m : Move) (event : Option Event) → AreBeside s r → Step s m next event → AreBeside next r
-beside_moved s r next m event beside step =
-    let moved = step_moved s m next event step in
-    (moved.component ∙ beside.0, moved.matrix ∙ beside.1)
-
--- and before the move
-pub beside_back : (s r next : State) (m : Move) (event : Option Event) → Step s m next event → AreBeside next r → AreBeside s r
-beside_back s r next m event step beside =
-    let moved = step_moved s m next event step in
-    (sym moved.component ∙ beside.0, sym moved.matrix ∙ beside.1)
-
--- all states to which a schedule leads run one component and one matrix
-pub leads_beside : (s : State) (u : List Move) (end : State) (h : List Event) → Leads s u end h → AreBeside s end
-leads_beside s [] end h leads = (ap (λ (x : State). x.component) (sym leads.0), ap (λ (x : State). x.matrix) (sym leads.0))
-leads_beside s (m ∷ u) end h leads =
-    let first = step_moved s m leads.0 leads.1 leads.3 in
-    let rest = leads_beside leads.0 u end leads.2 leads.4 in
-    (sym first.component ∙ rest.0, sym first.matrix ∙ rest.1)
 
 -- the hint of a thread, if there is one
 pub hint_there : (hints : Hints) (t i : ℕ) (slot : Option (Bor Known)) → i ≡ t → slice_get hints.by_thread i ≡ Some slot → IfSome slot (λ b. IsHint hints t b.now)

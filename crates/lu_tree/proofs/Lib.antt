@@ -15,4 +15,5 @@ mod NeverStopped
 mod Reordering
 mod KnownLaws
 mod Leaving
-mod Apart
+mod Accessing
+mod SameLeft

@@ -1,16 +1,13 @@
 -- What is known of the schedules that go on from a beginning, and of moves that commute.
-use Rattle.std.specs.Prelude.{◌≡◌, ◌≢◌, true, ℕ, zero, suc, ◌⊎◌, ◌++◌, List, [], Option, Some, slice_get}
+use Rattle.std.specs.Prelude.{◌≡◌, ℕ, zero, suc, ◌⊎◌, ◌++◌, List, [], Option, Some, slice_get}
 use Rattle.std.specs.Borrow.{Bor}
 use Rattle.std.specs.List.{Contains}
 use Rattle.lu_machine.specs.declared.counts.Counts.{Counts}
 use Rattle.lu_machine.specs.declared.event.Event.{Event}
-use Rattle.lu_machine.specs.declared.thread.Frame.{Frame}
-use Rattle.lu_machine.specs.Changes.{at_work}
 use Rattle.lu_machine.specs.Runs.{with_event}
 use Rattle.lu_machine.specs.States.{State}
 use Rattle.lu_machine.specs.Steps.{Step, picks_of}
 use Rattle.lu_machine.specs.Undoes.{CanTake, restored}
-use Rattle.lu_horizon.specs.Stands.{is_unseen_at, only_reads_at}
 use Rattle.lu_tail.specs.Solo.{move_of}
 use Rattle.lu_history.specs.declared.serial.SerialOp.{SerialOp}
 use Rattle.lu_witness.specs.Witnesses.{IsMember}
@@ -20,10 +17,6 @@ use Rattle.lu_tree.specs.declared.known.Hints.{Hints}
 use Rattle.lu_tree.specs.declared.node.Node.{Node}
 use Rattle.lu_tree.specs.Reordered.{AreUnordered}
 use Rattle.lu_tree.specs.Walks.{AreBelow}
-
--- both run one component and one matrix
-abbrev pub AreBeside : State → State → Type 0
-AreBeside s r = (s.component ≡ r.component) × (s.matrix ≡ r.matrix)
 
 -- thread t has one pick in s, and its move leads to r
 abbrev pub Moves : ℕ → State → State → Option Event → Type 0
@@ -44,20 +37,10 @@ Commute t u s =
     (end : State) × (e : Option Event) × (f : Option Event) × MovesBoth t u s end e f
     × MovesBoth u t s end f e × AreUnordered e f
 
--- the next move of thread t neither reads nor changes cells and locks; or it changes none
-abbrev pub IsUnseenNext : State → ℕ → Type 0
-IsUnseenNext s t =
-    (k : ℕ) (f : Frame) → slice_get s.threads t ≡ Some (at_work k f) → is_unseen_at s t ≡ true
-
-abbrev pub OnlyReadsNext : State → ℕ → Type 0
-OnlyReadsNext s t =
-    (k : ℕ) (f : Frame) → slice_get s.threads t ≡ Some (at_work k f) → only_reads_at s t ≡ true
-
--- neither of the next moves of two threads changes what the other one reads
-abbrev pub AreApart : ℕ → ℕ → State → Type 0
-AreApart t u s =
-    (t ≢ u)
-    × (IsUnseenNext s t ⊎ (IsUnseenNext s u ⊎ (OnlyReadsNext s t × OnlyReadsNext s u)))
+-- the events of the only moves of t and of u have no more precedence in the other order
+abbrev pub AreFree : ℕ → ℕ → State → Type 0
+AreFree t u s =
+    (r c : State) (e f : Option Event) → Moves t s r e → Moves u s c f → AreUnordered e f
 
 -- both moves were made, and can be taken back
 abbrev pub taken_back : Both → State → State

@@ -1,7 +1,7 @@
 -- What a walk below a node leaves behind.
 use Rattle.std.specs.Prelude.{◌≡◌, ◌≤◌, Bool, false, ℕ, List, [], length, vec_capacity}
 use Rattle.lu_test.specs.declared.schedule.Move.{Move}
-use Rattle.lu_machine.specs.States.{State, progress}
+use Rattle.lu_machine.specs.States.{progress}
 use Rattle.lu_history.specs.Standing.{Agree}
 use Rattle.lu_history.specs.declared.serial.SerialOp.{SerialOp}
 use Rattle.lu_tree.specs.declared.found.Found.{Found}
@@ -9,7 +9,7 @@ use Rattle.lu_tree.specs.declared.found.Found.TheVariants.{Clean, Bad, Abandoned
 use Rattle.lu_tree.specs.declared.known.Known.{Known}
 use Rattle.lu_tree.specs.declared.node.Node.{Node}
 use Rattle.lu_tree.specs.declared.tally.Tally.{Tally}
-use Rattle.lu_tree.specs.Known.{AreBeside, IsKnownNode, counts_of, kids_of}
+use Rattle.lu_tree.specs.Known.{IsKnownNode, counts_of, kids_of}
 use Rattle.lu_tree.specs.Walks.{IsBadEnd, IsCounted, IsReady}
 
 -- The walk ends at a node over the same tree, whose history is that of its machine. The path by
@@ -23,13 +23,11 @@ pub record StaysBelow {T Place : Type 0} (node : Node T Place) (left : ℕ) (tal
 
 -- The walk passed: it is back at the node, can go on, and this is known below the node.
 pub record Passed {T Place : Type 0} (members : T → List (List SerialOp)) (node : Node T Place)
-    (left : ℕ) (stopped : Bool) (tally : Tally) (other : State) (end : Node T Place)
-    (below : Known) : Type 0 where
+    (left : ℕ) (stopped : Bool) (tally : Tally) (end : Node T Place) (below : Known) : Type 0 where
   pub machine : end.machine ≡ node.machine
   pub history : end.trail.history ≡ node.trail.history
   pub running : stopped ≡ false
   pub ready : IsReady tally
-  pub beside : AreBeside node.machine other
   pub known : IsKnownNode members node left below
 
 -- the numbers of a schedule that is cut at the node, or ends there, and nothing of states that

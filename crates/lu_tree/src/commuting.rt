@@ -3,22 +3,22 @@
 //! Where the only moves of two threads lead to one state, whichever comes first (Mazurkiewicz,
 //! 1977), and the other order has no more precedence, the schedules below are the same in both
 //! orders, and good in the other where they are in the one. They are walked behind the one order,
-//! and counted behind both. That two orders lead to one state is seen by making the moves on two
-//! machines.
+//! and counted behind both. Moves that access nothing of what the other changes are independent, so
+//! they lead to one state; of others it is seen by making them in both orders.
 
-ghost use Rattle.std.specs.Prelude.{◌≡◌, ◌<◌, ◌↔◌, false, true, IfNone, IfOk, IfSome, IsTrue};
-ghost use Rattle.lu_machine.specs.Starts.{CanRun, IsStart};
+ghost use Rattle.std.specs.Prelude.{◌≡◌, ◌≢◌, ◌<◌, ◌↔◌, ℕ, false, true, IfNone, IfSome, Some, slice_get};
+ghost use Rattle.lu_machine.specs.Changes.{idle};
+ghost use Rattle.lu_machine.specs.States.{State as AState};
 ghost use Rattle.lu_machine.specs.Steps.{picks_of};
 ghost use Rattle.lu_machine.specs.Undoes.{CanTake, restored};
-ghost use Rattle.lu_tree.specs.Known.{AreApart, AreBeside, AreFrom, Commute, HaveSameEvents, IsKnownBy, IsUnseenNext, MadeBoth, MoveNotBoth, Moves, taken_back};
+ghost use Rattle.lu_tree.specs.Accesses.{HasLocation, conflict, next_access};
+ghost use Rattle.lu_tree.specs.Known.{AreFree, AreFrom, Commute, HaveSameEvents, IsKnownBy, MadeBoth, MoveNotBoth, Moves, taken_back};
 ghost use Rattle.lu_tree.specs.Reordered.{AreUnordered};
 
+use crate::access::{Location, conflict, left_at, next_access};
 use crate::known::{Hints, Known};
-use lu_component::Component;
-use lu_horizon::{is_unseen_at, only_reads_at, stand_at};
-use lu_machine::{Event, Machine, Undo};
-use lu_test::{Matrix, Move};
-use std::alloc::{AllocError, Global};
+use lu_machine::{Activity, Event, Machine, Undo};
+use lu_test::Move;
 
 /// How two moves that were made one after the other are taken back.
 #[derive(Clone, Copy, Debug)]
@@ -33,7 +33,6 @@ fn make_move<const LONG: bool>(thread: u8, machine: &mut Machine<'_>) -> Undo
     requires one { LONG ≡ false → machine.old.component.local ≡ 0 }
     requires only { picks_of machine.old thread ≡ 1 }
     ensures moves { Moves thread machine.old machine.new result.event }
-    ensures beside { AreBeside machine.old machine.new }
     ensures back { restored result machine.new ≡ machine.old }
     ensures fits { CanTake machine.new result }
 {
@@ -47,7 +46,6 @@ fn make_both<const LONG: bool>(first: u8, second: u8, machine: &mut Machine<'_>)
     requires one { LONG ≡ false → machine.old.component.local ≡ 0 }
     requires only { picks_of machine.old first ≡ 1 }
     ensures made { IfSome result (MadeBoth first second machine.old machine.new) }
-    ensures beside { AreBeside machine.old machine.new }
     ensures none { IfNone result (MoveNotBoth first second machine.old) }
     ensures back { IfNone result (machine.new ≡ machine.old) }
 {
@@ -98,29 +96,97 @@ fn have_same_events(there: Both, here: Both) -> bool
         && there.second.event() == here.first.event()
 }
 
-/// Whether the next move of thread `t` neither reads nor changes cells and locks.
+/// Whether no operation of the thread is open.
 #[inline(always)]
-fn is_unseen_next(machine: &Machine<'_>, t: u8) -> bool
-    ensures { IsTrue result → IsUnseenNext machine.now t }
+fn is_idle(machine: &Machine<'_>, thread: u8) -> bool
+    ensures { (k : ℕ) → slice_get machine.now.threads thread ≡ Some (idle k) → result ≡ true }
 {
-    match stand_at(machine, t) {
+    match machine.standing(thread) {
         None => false,
-        Some(stand) => match stand.place {
-            None => true,
-            Some(_place) => is_unseen_at(machine, t),
-        },
+        Some(standing) => matches!(standing.activity, Activity::Idle),
     }
 }
 
-/// Whether neither of the next moves of two threads changes what the other one reads.
+/// The event of the only move of the thread.
 #[inline(always)]
-fn are_apart(first: u8, second: u8, machine: &Machine<'_>) -> bool
-    ensures { IsTrue result → AreApart first second machine.now }
+fn event_of<const LONG: bool>(thread: u8, machine: &mut Machine<'_>) -> Option<Event>
+    requires one { LONG ≡ false → machine.old.component.local ≡ 0 }
+    requires only { picks_of machine.old thread ≡ 1 }
+    ensures machine { machine.new ≡ machine.old }
+    ensures event { (next : AState) × Moves thread machine.old next result }
 {
-    first != second
-        && (is_unseen_next(machine, first)
-            || is_unseen_next(machine, second)
-            || (only_reads_at(machine, first) && only_reads_at(machine, second)))
+    let undo = make_move::<LONG>(thread, machine);
+    let event = undo.event();
+    machine.undo(undo);
+    event
+}
+
+/// Whether the events of the only moves of two threads, which are independent, have no more
+/// precedence in the other order. Only the opening of a call can have more.
+#[inline(always)]
+fn are_free<const LONG: bool>(first: u8, second: u8, machine: &mut Machine<'_>) -> bool
+    requires one { LONG ≡ false → machine.old.component.local ≡ 0 }
+    requires first { picks_of machine.old first ≡ 1 }
+    requires second { picks_of machine.old second ≡ 1 }
+    requires differ { first ≢ second }
+    ensures machine { machine.new ≡ machine.old }
+    ensures free { result ≡ true ↔ AreFree first second machine.old }
+{
+    if !is_idle(machine, first) {
+        return true;
+    }
+    let one = event_of::<LONG>(first, machine);
+    let other = event_of::<LONG>(second, machine);
+    are_unordered(one, other)
+}
+
+/// Whether the only moves of two threads, which both access this location, commute. They are made
+/// in both orders: whatever else there is stays as it was in either.
+fn commute_at<const LONG: bool>(
+    first: u8,
+    second: u8,
+    location: Location,
+    machine: &mut Machine<'_>,
+) -> bool
+    requires one { LONG ≡ false → machine.old.component.local ≡ 0 }
+    requires first { picks_of machine.old first ≡ 1 }
+    requires second { picks_of machine.old second ≡ 1 }
+    requires differ { first ≢ second }
+    requires at { conflict (next_access machine.old first) (next_access machine.old second)
+        ≡ Some location }
+    requires there { HasLocation machine.old location }
+    ensures machine { machine.new ≡ machine.old }
+    ensures commute { result ≡ true ↔ Commute first second machine.old }
+{
+    let Some(there) = make_both::<LONG>(first, second, machine) else {
+        return false;
+    };
+    let left = left_at(machine, first, second, location);
+    take_back(there, machine);
+    let Some(here) = make_both::<LONG>(second, first, machine) else {
+        return false;
+    };
+    let same = left_at(machine, first, second, location) == left;
+    take_back(here, machine);
+    same && have_same_events(there, here)
+}
+
+/// Whether the moves of two threads are their only ones and commute: in the other order they lead
+/// to the same state, and with no more precedence. Where they are independent neither is made,
+/// unless one opens a call.
+fn commute<const LONG: bool>(first: u8, second: u8, machine: &mut Machine<'_>) -> bool
+    requires one { LONG ≡ false → machine.old.component.local ≡ 0 }
+    requires differ { first ≢ second }
+    ensures machine { machine.new ≡ machine.old }
+    ensures commute { result ≡ true ↔ Commute first second machine.old }
+{
+    if machine.picks(first) != 1 || machine.picks(second) != 1 {
+        return false;
+    }
+    match conflict(next_access(machine, first), next_access(machine, second)) {
+        None => are_free::<LONG>(first, second, machine),
+        Some(location) => commute_at::<LONG>(first, second, location, machine),
+    }
 }
 
 /// What is known behind the only move of the thread, by a hint or since it was walked.
@@ -134,102 +200,33 @@ fn behind<'h: 'k, 'k>(hints: &Hints<'h>, known: &'k Known, thread: u8) -> Option
     }
 }
 
-/// What a walk needs to see that moves commute.
-#[derive(Drop)]
-pub(crate) struct Commuting<'a> {
-    pub(crate) alloc: Global,
-
-    /// The machine on which moves are made in the other order.
-    pub(crate) other: Machine<'a>,
-}
-
-impl<'a> Commuting<'a> {
-    /// For walks over a component and a matrix.
-    ///
-    /// # Errors
-    ///
-    /// `AllocError` where memory was refused.
-    pub(crate) fn new(
-        alloc: Global,
-        component: &'a Component,
-        matrix: &'a Matrix,
-    ) -> Result<Commuting<'a>, AllocError>
-        requires { CanRun component.now matrix.now }
-        ensures { IfOk result (λ commuting. IsStart component.now matrix.now commuting.other) }
-    {
-        Ok(Commuting {
-            alloc,
-            other: Machine::start(alloc, component, matrix)?,
-        })
-    }
-
-    /// Whether the moves of two threads are their only ones and commute: in the other order they
-    /// lead to the same state, and with no more precedence.
-    pub(crate) fn commute<const LONG: bool>(
-        &mut self,
-        first: u8,
-        second: u8,
-        machine: &mut Machine<'a>,
-    ) -> bool
-        requires one { LONG ≡ false → machine.old.component.local ≡ 0 }
-        requires beside { AreBeside machine.old self.old.other }
-        ensures machine { machine.new ≡ machine.old }
-        ensures beside { AreBeside machine.old self.new.other }
-        ensures commute { result ≡ true ↔ Commute first second machine.old }
-    {
-        if machine.picks(first) != 1 || machine.picks(second) != 1 {
-            return false;
+/// What is known behind the moves of other threads that commute with that of the thread, where this
+/// one is made first.
+pub(crate) fn hints_behind<'h: 'k, 'k, const LONG: bool>(
+    thread: u8,
+    hints: &Hints<'h>,
+    known: &'k Known,
+    machine: &mut Machine<'_>,
+) -> Hints<'k>
+    requires few { thread < 8 }
+    requires one { LONG ≡ false → machine.old.component.local ≡ 0 }
+    ensures machine { machine.new ≡ machine.old }
+    ensures from { AreFrom machine.old hints.now known.now thread result }
+{
+    let mut found = Hints::NONE;
+    for other in 0..machine.threads() {
+        if other == thread {
+            continue;
         }
-        let apart = are_apart(first, second, machine);
-        let Some(there) = make_both::<LONG>(first, second, machine) else {
-            return false;
+        let Some(first) = behind(hints, known, other) else {
+            continue;
         };
-        if !are_unordered(there.first.event(), there.second.event()) {
-            take_back(there, machine);
-            return false;
-        }
-        if apart {
-            take_back(there, machine);
-            return true;
-        }
-        self.other.set_to(machine);
-        take_back(there, machine);
-        let Some(here) = make_both::<LONG>(second, first, machine) else {
-            return false;
+        let Some(below) = first.behind(thread) else {
+            continue;
         };
-        let same = machine.is_same(&self.other) && have_same_events(there, here);
-        take_back(here, machine);
-        same
-    }
-
-    /// What is known behind the moves of other threads that commute with that of the thread, where
-    /// this one is made first.
-    pub(crate) fn hints<'h: 'k, 'k, const LONG: bool>(
-        &mut self,
-        thread: u8,
-        hints: &Hints<'h>,
-        known: &'k Known,
-        machine: &mut Machine<'a>,
-    ) -> Hints<'k>
-        requires few { thread < 8 }
-        requires one { LONG ≡ false → machine.old.component.local ≡ 0 }
-        requires beside { AreBeside machine.old self.old.other }
-        ensures machine { machine.new ≡ machine.old }
-        ensures beside { AreBeside machine.old self.new.other }
-        ensures from { AreFrom machine.old hints.now known.now thread result }
-    {
-        let mut found = Hints::NONE;
-        for other in 0..machine.threads() {
-            let Some(first) = behind(hints, known, other) else {
-                continue;
-            };
-            let Some(below) = first.behind(thread) else {
-                continue;
-            };
-            if self.commute::<LONG>(other, thread, machine) {
-                found.add(other, below);
-            }
+        if commute::<LONG>(other, thread, machine) {
+            found.add(other, below);
         }
-        found
     }
+    found
 }

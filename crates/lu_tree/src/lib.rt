@@ -18,6 +18,7 @@
 //! ```
 #![tactic(auto)]
 
+mod access;
 mod ahead;
 mod commuting;
 mod every_order;

@@ -18,7 +18,6 @@ ghost use Rattle.lu_tree.specs.Walked.{IsBadFound};
 ghost use Rattle.lu_tree.specs.Walks.{LeadsToNode};
 
 use crate::ahead::Ahead;
-use crate::commuting::Commuting;
 use crate::found::Found;
 use crate::node::Node;
 use crate::tables::Tables;
@@ -125,8 +124,7 @@ fn search_below<'a, 't, T: SerialTree, W: Watch>(
         most: left,
     };
     let mut tally = Tally::new(alloc)?;
-    let mut commuting = Commuting::new(alloc, component, matrix)?;
-    let walked = walk(cache, watch, &ahead, &mut commuting, left, node, &mut tally);
+    let walked = walk(cache, watch, &ahead, left, node, &mut tally);
     if let Some(known) = walked {
         return Ok(Found::Clean(known.counts));
     }

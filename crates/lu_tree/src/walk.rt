@@ -7,12 +7,12 @@ ghost use Rattle.lu_horizon.specs.Tables.{Serves};
 ghost use Rattle.lu_history.specs.Standing.{Agree};
 ghost use Rattle.lu_witness.specs.Caches.{SameButEntries};
 ghost use Rattle.lu_witness.specs.Witnesses.{IsMember};
-ghost use Rattle.lu_tree.specs.Known.{AreBeside, AreHints, counts_of, kids_of};
+ghost use Rattle.lu_tree.specs.Known.{AreHints, counts_of, kids_of};
 ghost use Rattle.lu_tree.specs.Walked.{IsCountedAlone, Passed, StaysBelow};
 ghost use Rattle.lu_tree.specs.Walks.{IsReady, Stopped};
 
 use crate::ahead::Ahead;
-use crate::commuting::Commuting;
+use crate::commuting::hints_behind;
 use crate::known::{Hints, Known};
 use crate::node::Node;
 use crate::tail::counted_below;
@@ -105,7 +105,6 @@ pub(crate) fn walk<'a, 't, T: SerialTree, W: Watch>(
     cache: &mut Cache<'t, T>,
     watch: &mut W,
     ahead: &Ahead<'_>,
-    commuting: &mut Commuting<'a>,
     left: u16,
     node: &mut Node<'a, 't, T>,
     tally: &mut Tally,
@@ -116,12 +115,11 @@ pub(crate) fn walk<'a, 't, T: SerialTree, W: Watch>(
     requires tree { cache.old.tree ≡ node.old.trail.tree }
     requires running { W.is_stopped watch.old ≡ false }
     requires ready { IsReady tally.old }
-    requires beside { AreBeside node.old.machine commuting.old.other }
     ensures cache { SameButEntries cache.old cache.new }
     ensures base { W.base watch.new ≡ W.base watch.old }
     ensures stays { StaysBelow node.old left tally.new node.new }
     ensures passed { IfSome result (Passed T.members node.old left (W.is_stopped watch.new)
-        tally.new commuting.new.other node.new) }
+        tally.new node.new) }
     ensures stops { Stopped T.members node.old left (is_some result) (W.is_stopped watch.new)
         tally.new node.new }
 {
@@ -130,7 +128,6 @@ pub(crate) fn walk<'a, 't, T: SerialTree, W: Watch>(
             cache,
             watch,
             ahead,
-            commuting,
             left,
             &Hints::NONE,
             MOST_BEGINNINGS,
@@ -143,7 +140,6 @@ pub(crate) fn walk<'a, 't, T: SerialTree, W: Watch>(
             cache,
             watch,
             ahead,
-            commuting,
             left,
             &Hints::NONE,
             MOST_BEGINNINGS,
@@ -161,7 +157,6 @@ fn walk_as<'a, 't, 'h, const LONG: bool, T: SerialTree, W: Watch>(
     cache: &mut Cache<'t, T>,
     watch: &mut W,
     ahead: &Ahead<'_>,
-    commuting: &mut Commuting<'a>,
     left: u16,
     hints: &Hints<'h>,
     room: u32,
@@ -176,24 +171,23 @@ fn walk_as<'a, 't, 'h, const LONG: bool, T: SerialTree, W: Watch>(
     requires tree { cache.old.tree ≡ node.old.trail.tree }
     requires running { W.is_stopped watch.old ≡ false }
     requires ready { IsReady tally.old }
-    requires beside { AreBeside node.old.machine commuting.old.other }
     requires hints { AreHints T.members node.old (left - 1) hints.now }
     ensures cache { SameButEntries cache.old cache.new }
     ensures base { W.base watch.new ≡ W.base watch.old }
     ensures stays { StaysBelow node.old left tally.new node.new }
     ensures passed { IfSome result (Passed T.members node.old left (W.is_stopped watch.new)
-        tally.new commuting.new.other node.new) }
+        tally.new node.new) }
     ensures stops { Stopped T.members node.old left (is_some result) (W.is_stopped watch.new)
         tally.new node.new }
 {
     if left == 0 {
-        return end(commuting.alloc, cache, watch, node, tally);
+        return end(ahead.alloc, cache, watch, node, tally);
     }
     if let Some(counts) = counted_below::<LONG, T>(cache, ahead, left, node) {
-        return pass(commuting.alloc, counts, watch, tally);
+        return pass(ahead.alloc, counts, watch, tally);
     }
     let mut is_ended = true;
-    let mut known = Known::alone(commuting.alloc, Counts::NONE);
+    let mut known = Known::alone(ahead.alloc, Counts::NONE);
     for thread in 0..node.machine.threads() {
         let picks = node.machine.picks(thread);
         for pick in 0..picks {
@@ -205,14 +199,13 @@ fn walk_as<'a, 't, 'h, const LONG: bool, T: SerialTree, W: Watch>(
                 known.add(hinted.counts);
                 continue;
             }
-            let further = commuting.hints::<LONG>(thread, hints, &known, &mut node.machine);
+            let further = hints_behind::<LONG>(thread, hints, &known, &mut node.machine);
             let next = Move { thread, pick };
             let undo = node.enter::<LONG>(next);
             let walked = walk_as::<LONG, T, W>(
                 cache,
                 watch,
                 ahead,
-                commuting,
                 left - 1,
                 &further,
                 room.saturating_sub(known.size),
@@ -230,7 +223,7 @@ fn walk_as<'a, 't, 'h, const LONG: bool, T: SerialTree, W: Watch>(
         }
     }
     if is_ended {
-        return end(commuting.alloc, cache, watch, node, tally);
+        return end(ahead.alloc, cache, watch, node, tally);
     }
-    Some(known.told(commuting.alloc, room, moved))
+    Some(known.told(ahead.alloc, room, moved))
 }

@@ -10,7 +10,7 @@ use Rattle.lu_tree.specs.Walks.{IsFirstAt}
 use Rattle.lu_horizon.proofs.OwnLaws.{serves_end}
 use Rattle.lu_tree.proofs.Added.{walk_passed, walk_stopped}
 use Rattle.lu_tree.proofs.Leaving.{bad_found, bad_not_abandoned}
-use Rattle.lu_tree.proofs.KnownLaws.{known_below, leads_beside}
+use Rattle.lu_tree.proofs.KnownLaws.{known_below}
 use Rattle.lu_tree.proofs.Limits.{schedule_moves}
 use Rattle.lu_machine.proofs.Starting.{start_there}
 use Rattle.lu_tree.proofs.searching.search_below.Goals as goal
@@ -38,17 +38,6 @@ walk-walked-requires-clause-serves g c =
     let leads = subst (λ u. Leads start u node.machine node.trail.history) (sym c.moves.ensures.moves) (c.requires.leads start there.1) in
     let serves = c.requires.tables start there.1 in
     serves_end c.args.tables.now.horizon start moves node.machine node.trail.history leads serves
-
-pub walk-walked-requires-clause-beside : goal.walk-walked-requires-clause-beside
-walk-walked-requires-clause-beside g c =
-    let there = start_there c.args.component.now c.args.matrix.now c.requires.of.settles in
-    let moves = c.moves.result.now in
-    let node = c.args.node.now in
-    let led = leads_beside there.0 moves node.machine node.trail.history (subst (λ u. Leads there.0 u node.machine node.trail.history) (sym c.moves.ensures.moves) (c.requires.leads there.0 there.1)) in
-    let other = c.in_ok-commuting.ensures in
-    let component : there.0.component ≡ c.in_ok-commuting.commuting.other.component = ap (λ (x : State). x.component) there.1.is ∙ sym (ap (λ (x : State). x.component) other.is) in
-    let matrix : there.0.matrix ≡ c.in_ok-commuting.commuting.other.matrix = ap (λ (x : State). x.matrix) there.1.is ∙ sym (ap (λ (x : State). x.matrix) other.is) in
-    (sym led.0 ∙ component, sym led.1 ∙ matrix)
 
 pub found_bad-requires-clause-ended : goal.found_bad-requires-clause-ended
 found_bad-requires-clause-ended g c =

@@ -7,11 +7,11 @@ use Rattle.lu_machine.specs.Steps.{IsFeasible, Step, picks_of}
 use Rattle.lu_machine.specs.Undoes.{restored}
 use Rattle.lu_machine.proofs.StepLaws.{feasible_step}
 use Rattle.lu_witness.specs.Witnesses.{IsMember}
-use Rattle.lu_tree.specs.Known.{AreBeside, AreFrom, AreKnownBehind, IsHint, IsKnown, Moves, counts_of}
+use Rattle.lu_tree.specs.Known.{AreFrom, AreKnownBehind, IsHint, IsKnown, Moves, counts_of}
 use Rattle.lu_tree.specs.Walks.{AreBelow, Counted, StopsAt}
 use Rattle.lu_tree.proofs.Added.{AreAdded, added_all, added_more, added_none, added_turn, end_below, end_stops, stops_more, stops_there}
 use Rattle.lu_horizon.proofs.OwnLaws.{serves_next}
-use Rattle.lu_tree.proofs.KnownLaws.{behind_here, behind_more, behind_same, beside_back, beside_moved, hints_on, known_alone, known_behind, known_below, known_with, none_behind}
+use Rattle.lu_tree.proofs.KnownLaws.{behind_here, behind_more, behind_same, hints_on, known_alone, known_behind, known_below, known_with, none_behind}
 use Rattle.lu_tree.proofs.Leaving.{ready_still, some_both, stays_home, where_none}
 use Rattle.lu_tree.proofs.Walking.{ended_all, ended_first, ended_picked, ended_turn}
 use Rattle.lu_tree.proofs.walk.+walk_as.Goals as goal
@@ -29,7 +29,6 @@ loop-thread-init g t c =
       base = refl;
       running = c.requires.running;
       ready = c.requires.ready;
-      beside = c.requires.beside;
       ended = ended_first s;
       counted = subst (AreAdded Set s h c.args.left (record { thread = 0; pick = 0 })) (sym c.alone-known.ensures.counts) (added_none Set s h c.args.left);
       kids = none_behind Set s h (c.args.left - 1) c.alone-known.result c.alone-known.ensures.kids;
@@ -63,7 +62,6 @@ loop-pick-preserved-in-Some-behind_one_of g t c =
       base = c.pass_many.ensures.base ∙ i.base;
       running = c.pass_many.ensures.running (search rules);
       ready = record { room = subst (λ p. 256 ≤ vec_capacity p) (sym c.pass_many.ensures.path) i.ready.room; empty = ap (λ p. p.items) c.pass_many.ensures.path ∙ i.ready.empty };
-      beside = i.beside;
       ended = ended_picked s next able;
       counted = subst (AreAdded Set s h c.args.left (record { thread = thread; pick = pick + 1 })) (sym c.add.ensures.counts) more;
       kids = behind_same Set s h (c.args.left - 1) c.loop-pick.known c.add.new.self c.add.ensures.kids i.kids;
@@ -81,17 +79,16 @@ walk_as-walked-requires g t c =
     let r = c.enter-undo.new.self.machine in
     let k = c.enter-undo.new.self.trail.history in
     let event = c.enter-undo.result.event in
-    let home : c.hints-further.new.machine ≡ s = c.hints-further.ensures.machine ∙ i.machine in
+    let home : c.hints_behind-further.new.machine ≡ s = c.hints_behind-further.ensures.machine ∙ i.machine in
     let step : Step s next r event = subst (λ x. Step x next r event) home c.enter-undo.ensures.step in
     let grown : k ≡ h ++ with_event event [] = c.enter-undo.ensures.history ∙ ap (λ x. x ++ with_event event []) i.history in
     let serves = serves_next c.args.ahead.now.tables.now.horizon s next r event c.requires.serves step in
-    let beside : AreBeside r c.hints-further.new.self.other = beside_moved s c.hints-further.new.self.other r next event (subst (λ x. AreBeside x c.hints-further.new.self.other) i.machine c.hints-further.ensures.beside) step in
-    let from = subst (λ x. AreFrom x c.args.hints.now c.loop-pick.known thread c.hints-further.result) i.machine c.hints-further.ensures.from in
-    let hints = hints_on Set s h (c.args.left - 1) c.args.hints.now c.loop-pick.known thread pick c.hints-further.result c.requires.hints i.kids from r event step in
+    let from = subst (λ x. AreFrom x c.args.hints.now c.loop-pick.known thread c.hints_behind-further.result) i.machine c.hints_behind-further.ensures.from in
+    let hints = hints_on Set s h (c.args.left - 1) c.args.hints.now c.loop-pick.known thread pick c.hints_behind-further.result c.requires.hints i.kids from r event step in
     let tree = ap (λ x. g.T.SerialTree.members x) (c.enter-undo.ensures.tree ∙ i.tree) in
-    let there = subst (λ x. AreKnownBehind Set r x (c.args.left - 1 - 1) (IsHint c.hints-further.result)) (sym grown) hints in
-    let told = subst (λ x. AreKnownBehind (IsMember x) r k (c.args.left - 1 - 1) (IsHint c.hints-further.result)) (sym tree) there in
-    search (rules, serves, beside, told)
+    let there = subst (λ x. AreKnownBehind Set r x (c.args.left - 1 - 1) (IsHint c.hints_behind-further.result)) (sym grown) hints in
+    let told = subst (λ x. AreKnownBehind (IsMember x) r k (c.args.left - 1 - 1) (IsHint c.hints_behind-further.result)) (sym tree) there in
+    search (rules, serves, told)
 
 pub returns-in_default-walked-clause-stops : goal.returns-in_default-walked-clause-stops
 returns-in_default-walked-clause-stops g t c = λ _ running.
@@ -105,7 +102,7 @@ returns-in_default-walked-clause-stops g t c = λ _ running.
     let r = c.enter-undo.new.self.machine in
     let k = c.enter-undo.new.self.trail.history in
     let event = c.enter-undo.result.event in
-    let home : c.hints-further.new.machine ≡ s = c.hints-further.ensures.machine ∙ i.machine in
+    let home : c.hints_behind-further.new.machine ≡ s = c.hints_behind-further.ensures.machine ∙ i.machine in
     let here : pick < picks_of c.loop-thread.node.machine thread = rw (← c.picks-picks.ensures) (c.loop-pick-test.true) in
     let able : IsFeasible s next = subst (λ x. pick < picks_of x thread) c.loop-thread.invariant.machine here in
     let step : Step s next r event = subst (λ x. Step x next r event) home c.enter-undo.ensures.step in
@@ -129,7 +126,7 @@ loop-pick-preserved g t c =
     let r = c.enter-undo.new.self.machine in
     let k = c.enter-undo.new.self.trail.history in
     let event = c.enter-undo.result.event in
-    let home : c.hints-further.new.machine ≡ s = c.hints-further.ensures.machine ∙ i.machine in
+    let home : c.hints_behind-further.new.machine ≡ s = c.hints_behind-further.ensures.machine ∙ i.machine in
     let here : pick < picks_of c.loop-thread.node.machine thread = rw (← c.picks-picks.ensures) (c.loop-pick-test.true) in
     let able : IsFeasible s next = subst (λ x. pick < picks_of x thread) c.loop-thread.invariant.machine here in
     let step : Step s next r event = subst (λ x. Step x next r event) home c.enter-undo.ensures.step in
@@ -150,7 +147,6 @@ loop-pick-preserved g t c =
       base = c.walk_as-walked.ensures.base ∙ i.base;
       running = w.running;
       ready = w.ready;
-      beside = beside_back s c.walk_as-walked.new.commuting.other r next event step w.beside;
       ended = ended_picked s next able;
       counted = subst (AreAdded Set s h c.args.left (record { thread = thread; pick = pick + 1 })) (sym counts) more;
       kids = behind_more Set s h (c.args.left - 1) thread c.add-in-loop-pick.new.self c.keep.new.self below c.keep.ensures.kids kids behind;
@@ -169,7 +165,6 @@ loop-thread-preserved g t c =
       base = i.base;
       running = i.running;
       ready = i.ready;
-      beside = i.beside;
       ended = ended_turn c.args.node.now.machine c.loop-thread.thread c.loop-pick.pick all c.loop-pick.is_ended i.ended;
       counted = added_turn (IsMember (g.T.SerialTree.members c.args.node.now.trail.tree)) c.args.node.now.machine c.args.node.now.trail.history c.args.left c.loop-thread.thread c.loop-pick.pick all (counts_of c.loop-pick.known) i.counted;
       kids = i.kids;
@@ -192,7 +187,6 @@ returns-then-left-eq0-clause-passed g t c =
       history = ap (λ n. n.trail.history) node;
       running = running;
       ready = ready_still c.args.tally.now c.end.new.tally c.end.ensures.path c.requires.ready;
-      beside = c.requires.beside;
       known = known_alone Set s h c.args.left known (counts_of known) refl alone.1 (end_below Set s h c.args.left (inr (search rules)) (counts_of known) alone.0);
     })
     c.end.ensures.running c.end.ensures.counted
@@ -225,7 +219,6 @@ returns-in-Some-clause-passed g t c =
       history = (ap (λ n. n.trail.history) there.same);
       running = running;
       ready = ready_still c.args.tally.now c.pass.new.tally c.pass.ensures.path c.requires.ready;
-      beside = c.requires.beside;
       known = known_alone Set s h c.args.left known c.in-Some.counts alone.0 alone.1 c.in-Some.ensures.below;
     })
     c.pass.ensures.running c.pass.ensures.alone
@@ -252,7 +245,6 @@ returns-then-is_ended-clause-passed g t c =
       history = ap (λ n. n.trail.history) node ∙ i.history;
       running = running;
       ready = ready_still c.loop-thread.tally c.end-then-is_ended.new.tally c.end-then-is_ended.ensures.path i.ready;
-      beside = i.beside;
       known =
           (let counted : Counted Set s h (counts_of known) = rw (← i.tree, ← i.machine, ← i.history) alone.0 in
           known_alone Set s h c.args.left known (counts_of known) refl alone.1 (end_below Set s h c.args.left (inl none) (counts_of known) counted));
@@ -294,7 +286,6 @@ returns-clause-passed g t c =
       history = i.history;
       running = i.running;
       ready = i.ready;
-      beside = i.beside;
       known = c.told.ensures (g.T.SerialTree.members c.args.node.now.trail.tree) s h c.args.left known;
     }
 
@@ -309,7 +300,6 @@ loop-pick-init g t c =
       base = i.base;
       running = i.running;
       ready = i.ready;
-      beside = i.beside;
       ended = i.ended;
       counted = i.counted;
       kids = i.kids;

@@ -1,7 +1,7 @@
 use Rattle.std.proofs.Common.{◌≡◌, ◌-◌, false}
 use Rattle.lu_witness.specs.Caches.{SameButEntries}
 use Rattle.lu_witness.specs.Witnesses.{IsMember}
-use Rattle.lu_tree.specs.Known.{AreBeside, AreKnownBehind, IsKid, counts_of}
+use Rattle.lu_tree.specs.Known.{AreKnownBehind, IsKid, counts_of}
 use Rattle.lu_tree.specs.Walks.{IsReady}
 use Rattle.lu_tree.proofs.Walking.{HasEnded}
 use Rattle.lu_tree.proofs.Added.{AreAdded}
@@ -19,7 +19,6 @@ invariant-loop-thread g l = record {
   base : g.W.Watch.base l.watch ≡ g.W.Watch.base l.fn.watch;
   running : g.W.Watch.is_stopped l.watch ≡ false;
   ready : IsReady l.tally;
-  beside : AreBeside l.fn.node.machine l.commuting.other;
   ended : HasEnded l.fn.node.machine (record { thread = l.thread; pick = 0 }) l.is_ended;
   counted : AreAdded (IsMember (g.T.SerialTree.members l.fn.node.trail.tree)) l.fn.node.machine l.fn.node.trail.history l.left (record { thread = l.thread; pick = 0 }) (counts_of l.known);
   kids : AreKnownBehind (IsMember (g.T.SerialTree.members l.fn.node.trail.tree)) l.fn.node.machine l.fn.node.trail.history (l.left - 1) (IsKid l.known);
@@ -34,7 +33,6 @@ invariant-loop-pick g l = record {
   base : g.W.Watch.base l.watch ≡ g.W.Watch.base l.fn.watch;
   running : g.W.Watch.is_stopped l.watch ≡ false;
   ready : IsReady l.tally;
-  beside : AreBeside l.fn.node.machine l.commuting.other;
   ended : HasEnded l.fn.node.machine (record { thread = l.thread; pick = l.pick }) l.is_ended;
   counted : AreAdded (IsMember (g.T.SerialTree.members l.fn.node.trail.tree)) l.fn.node.machine l.fn.node.trail.history l.left (record { thread = l.thread; pick = l.pick }) (counts_of l.known);
   kids : AreKnownBehind (IsMember (g.T.SerialTree.members l.fn.node.trail.tree)) l.fn.node.machine l.fn.node.trail.history (l.left - 1) (IsKid l.known);

@@ -1,8 +1,8 @@
 use Rattle.std.proofs.Common.{sym, ◌∙◌, subst}
-use Rattle.lu_tree.specs.Known.{AreBeside, AreFrom, Commute}
+use Rattle.lu_tree.specs.Known.{AreFrom, Commute}
 use Rattle.lu_tree.proofs.KnownLaws.{from_more}
-use Rattle.lu_tree.proofs.commuting.Commuting.hints.Goals.{then-commute, else-commute}
-use Rattle.lu_tree.proofs.commuting.Commuting.hints.Goals as goal
+use Rattle.lu_tree.proofs.commuting.hints_behind.Goals.{then-commute, else-commute}
+use Rattle.lu_tree.proofs.commuting.hints_behind.Goals as goal
 
 pub loop-other-preserved : goal.loop-other-preserved
 loop-other-preserved g c =
@@ -12,7 +12,6 @@ loop-other-preserved g c =
     let i = c.loop-other.invariant in
     record {
       machine = c.commute.ensures.machine ∙ i.machine;
-      beside = subst (λ x. AreBeside x c.commute.new.self.other) i.machine c.commute.ensures.beside;
       from = elim c.if-commute.branch [
         | then-commute w ↦
             (let commute : Commute c.loop-other.other c.args.thread s = subst (Commute c.loop-other.other c.args.thread) i.machine (c.commute.ensures.commute.0 w.if-commute.true) in

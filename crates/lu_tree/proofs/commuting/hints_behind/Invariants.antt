@@ -1,10 +1,9 @@
 use Rattle.std.proofs.Common.{◌≡◌}
-use Rattle.lu_tree.specs.Known.{AreBeside, AreFrom}
-use Rattle.lu_tree.proofs.commuting.Commuting.hints.Given as goal
+use Rattle.lu_tree.specs.Known.{AreFrom}
+use Rattle.lu_tree.proofs.commuting.hints_behind.Given as goal
 
 abbrev pub invariant-loop-other : goal.invariant-loop-other
 invariant-loop-other g l = record {
   machine : l.machine ≡ l.fn.machine;
-  beside : AreBeside l.fn.machine l.self.other;
   from : AreFrom l.fn.machine l.fn.hints l.fn.known l.fn.thread l.found;
 }

@@ -1,0 +1,152 @@
+//! What a thread's next move accesses of what all threads share.
+
+ghost use Rattle.std.specs.Prelude.{◌≡◌, ◌<◌, IfSome, length};
+ghost use Rattle.std.specs.Option.{option_map};
+ghost use Rattle.lu_component.specs.Component.{IsOperand};
+ghost use Rattle.lu_machine.specs.Effects.{value_of};
+ghost use Rattle.lu_machine.specs.States.{cell_of};
+ghost use Rattle.lu_tree.specs.Accesses as spec;
+ghost use Rattle.lu_tree.specs.Accesses.{HasLocation, of_cell};
+
+use lu_component::{Instr, Operand};
+use lu_machine::{Activity, Frame, Machine, Thread};
+
+/// A cell or a lock.
+#[derive(Clone, Copy, Debug)]
+pub(crate) enum Location {
+    /// The cell at this place among all cells.
+    Cell(usize),
+
+    Lock(u8),
+}
+
+/// An access of a location.
+#[derive(Clone, Copy, Debug)]
+pub(crate) struct Access {
+    pub(crate) location: Location,
+
+    /// Whether it may change what the location holds.
+    pub(crate) writes: bool,
+}
+
+/// What a location holds.
+#[derive(Clone, Copy, Debug, PartialEq, Eq)]
+pub(crate) enum Held {
+    /// A cell, this value.
+    Value(u32),
+
+    /// A lock, this owner, or none.
+    Owner(Option<u8>),
+}
+
+/// Where two threads stand, and what a location holds.
+#[derive(Clone, Copy, Debug, PartialEq, Eq)]
+pub(crate) struct Left {
+    pub(crate) first: Option<Thread>,
+    pub(crate) second: Option<Thread>,
+    pub(crate) held: Held,
+}
+
+/// The access of a cell of the array, if it has one at this index.
+#[inline(always)]
+fn cell_access(
+    machine: &Machine<'_>,
+    frame: &Frame,
+    array: u8,
+    index: Operand,
+    writes: bool,
+) -> Option<Access>
+    requires array { array < length machine.now.component.arrays }
+    requires index { IsOperand index }
+    ensures access { result ≡ option_map (of_cell writes)
+        (cell_of machine.now.component array (value_of frame.now index)) }
+    ensures there { IfSome result (λ access. HasLocation machine.now access.location) }
+{
+    let place = machine.cell(array, frame.value(index))?;
+    Some(Access {
+        location: Location::Cell(place),
+        writes,
+    })
+}
+
+/// What the next move of the thread accesses, if anything.
+#[inline(always)]
+pub(crate) fn next_access(machine: &Machine<'_>, thread: u8) -> Option<Access>
+    ensures access { result ≡ spec.next_access machine.now thread }
+    ensures there { IfSome result (λ access. HasLocation machine.now access.location) }
+{
+    let standing = machine.standing(thread)?;
+    match &standing.activity {
+        Activity::Idle => None,
+        Activity::Open(frame) => match *machine.instr(frame)? {
+            Instr::Load { array, index, .. }
+            | Instr::Await { array, index, .. }
+            | Instr::AwaitNot { array, index, .. } => {
+                cell_access(machine, frame, array, index, false)
+            }
+            Instr::Store { array, index, .. } | Instr::Cas { array, index, .. } => {
+                cell_access(machine, frame, array, index, true)
+            }
+            Instr::Lock(lock) | Instr::Unlock(lock) => Some(Access {
+                location: Location::Lock(lock),
+                writes: true,
+            }),
+            Instr::Set { .. }
+            | Instr::Compute { .. }
+            | Instr::Pick { .. }
+            | Instr::Jump(_)
+            | Instr::JumpIfZero { .. }
+            | Instr::Return(_) => None,
+        },
+    }
+}
+
+/// Whether two locations are one.
+#[inline(always)]
+fn are_one(one: Location, other: Location) -> bool
+    ensures { result ≡ spec.are_one one other }
+{
+    match (one, other) {
+        (Location::Cell(place), Location::Cell(other)) => place == other,
+        (Location::Lock(lock), Location::Lock(other)) => lock == other,
+        (Location::Cell(_), Location::Lock(_)) | (Location::Lock(_), Location::Cell(_)) => false,
+    }
+}
+
+/// The location that both access, where one of them may change it.
+#[inline(always)]
+pub(crate) fn conflict(one: Option<Access>, other: Option<Access>) -> Option<Location>
+    ensures { result ≡ spec.conflict one other }
+{
+    let (Some(one), Some(other)) = (one, other) else {
+        return None;
+    };
+    if are_one(one.location, other.location) && (one.writes || other.writes) {
+        Some(one.location)
+    } else {
+        None
+    }
+}
+
+/// What the location holds.
+fn held_at(machine: &Machine<'_>, location: Location) -> Held
+    requires { HasLocation machine.now location }
+    ensures { result ≡ spec.held_at machine.now location }
+{
+    match location {
+        Location::Cell(place) => Held::Value(machine.value_at(place)),
+        Location::Lock(lock) => Held::Owner(machine.owner(lock)),
+    }
+}
+
+/// Where two threads stand, and what the location holds.
+pub(crate) fn left_at(machine: &Machine<'_>, first: u8, second: u8, location: Location) -> Left
+    requires { HasLocation machine.now location }
+    ensures { result ≡ spec.left_at machine.now first second location }
+{
+    Left {
+        first: machine.standing(first).copied(),
+        second: machine.standing(second).copied(),
+        held: held_at(machine, location),
+    }
+}
