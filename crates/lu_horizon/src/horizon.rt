@@ -8,8 +8,8 @@ ghost use Rattle.lu_horizon.specs.Tables.{AreOutlooks, IsThread, Serves, ServesR
 
 use crate::certain::{before_call, certain, outlook_of};
 use crate::outlook::Outlook;
-use crate::sharers::{Known, Quiet, Sharers};
-use crate::stand::{is_unseen_at, jumps_to, stand_at};
+use crate::sharers::{Known, Quiet, Reach, Sharers, reach_at, reaches};
+use crate::stand::{jumps_to, stand_at};
 use arrayvec::ArrayVec;
 use lu_component::{Component, Instr};
 use lu_machine::Machine;
@@ -25,6 +25,9 @@ struct Places {
 
     /// Those at the places of its operation.
     outlooks: Vec<Outlook>,
+
+    /// What may be touched of what is shared from each of these places on.
+    reaches: Vec<Reach>,
 }
 
 impl Model for Places {
@@ -48,6 +51,12 @@ impl Places {
         ensures { result ≡ outlook_of self.now.places place }
     {
         outlook_of(&self.outlooks, usize::from(place))
+    }
+
+    /// What may be touched of what is shared from this place on. No clause says so: it only saves
+    /// time.
+    fn reach(&self, place: u8) -> Reach {
+        reach_at(&self.reaches, usize::from(place))
     }
 
     /// The greatest number of moves of those outlooks at whose end the thread is over, or else of
@@ -178,7 +187,11 @@ fn of_code(
         }
     }
     let before = before_call(component, code, &outlooks);
-    Ok(Places { before, outlooks })
+    Ok(Places {
+        before,
+        outlooks,
+        reaches: reaches(alloc, code)?,
+    })
 }
 
 /// The code of an operation: none where there is no such operation.
@@ -286,8 +299,9 @@ impl Horizon {
                     }
                     let places = thread.calls.get(usize::from(stand.done))?;
                     room = room.checked_sub(usize::from(places.at(place).moves))?;
-                    let reads = thread.quiet.reads_from <= stand.done;
-                    known = known.and(t, !is_unseen_at(machine, t), reads);
+                    let next = jumps_to(machine, t).unwrap_or(place);
+                    let reach = places.reach(next);
+                    known = known.and(t, reach.shares, !reach.changes);
                 }
             }
         }

@@ -6,6 +6,7 @@ use crate::horizon::code_of;
 use crate::stand::{is_unseen, only_reads};
 use lu_component::{Component, Instr};
 use lu_test::Matrix;
+use std::alloc::{AllocError, Global};
 
 /// Which threads may touch what is shared.
 #[derive(Clone, Copy, Debug)]
@@ -25,6 +26,78 @@ pub(crate) struct Quiet {
 
     /// From this call on it changes its own registers alone.
     pub(crate) reads_from: u8,
+}
+
+/// What the rest of an operation may touch of what is shared, from one of its places on.
+#[derive(Clone, Copy, Debug, Drop, PartialEq, Eq)]
+pub(crate) struct Reach {
+    /// Whether it may touch anything.
+    pub(crate) shares: bool,
+
+    /// Whether it may do more than read cells.
+    pub(crate) changes: bool,
+}
+
+impl Reach {
+    /// Nothing is touched.
+    const NONE: Reach = Reach {
+        shares: false,
+        changes: false,
+    };
+
+    /// What this instruction touches.
+    fn of(instr: &Instr) -> Reach {
+        Reach {
+            shares: !is_unseen(instr),
+            changes: !only_reads(instr),
+        }
+    }
+
+    /// What either touches.
+    fn and(self, other: Reach) -> Reach {
+        Reach {
+            shares: self.shares || other.shares,
+            changes: self.changes || other.changes,
+        }
+    }
+}
+
+/// What is known of a place: nothing is touched behind the code's end.
+pub(crate) fn reach_at(known: &[Reach], place: usize) -> Reach {
+    known.get(place).copied().unwrap_or(Reach::NONE)
+}
+
+/// What may be touched from this place on, from what is known of those that may come next.
+fn reach_from(instr: &Instr, place: usize, known: &[Reach]) -> Reach {
+    let own = Reach::of(instr);
+    let next = reach_at(known, place.saturating_add(1));
+    match *instr {
+        Instr::Return(_) => own,
+        Instr::Jump(target) => own.and(reach_at(known, usize::from(target))),
+        Instr::JumpIfZero { target, .. } => {
+            own.and(next).and(reach_at(known, usize::from(target)))
+        }
+        _ => own.and(next),
+    }
+}
+
+/// What may be touched from each place on, whichever way the jumps go.
+pub(crate) fn reaches(alloc: Global, code: &[Instr]) -> Result<Vec<Reach>, AllocError> {
+    let mut known = vec![in alloc; Reach::NONE; code.len()]?;
+    for _round in 0..code.len() {
+        let mut more = false;
+        for (place, instr) in code.iter().enumerate().rev() {
+            let reach = reach_from(instr, place, &known);
+            if let Some(old) = known.get_mut(place) {
+                more |= *old != reach;
+                *old = reach;
+            }
+        }
+        if !more {
+            break;
+        }
+    }
+    Ok(known)
 }
 
 /// Whether all instructions touch their own operation's registers alone.

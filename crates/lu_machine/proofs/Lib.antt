@@ -14,4 +14,3 @@ pub mod StepLaws
 pub mod Undoing
 pub mod Unseen
 mod RowLists
-mod SameStates

@@ -595,28 +595,6 @@ impl<'a> Machine<'a> {
         self.put_back(undo.thread, undo.event, undo.was);
     }
 
-    /// Takes on the state of the other machine, which is asked to be one of the same component and
-    /// matrix.
-    pub fn set_to(&mut self, other: &Machine<'a>)
-        requires component { self.old.component ≡ other.now.component }
-        requires matrix { self.old.matrix ≡ other.now.matrix }
-        ensures { self.new ≡ other.now }
-    {
-        self.cells.copy_from_slice(&other.cells);
-        self.locks.copy_from_slice(&other.locks);
-        self.threads.copy_from_slice(&other.threads);
-    }
-
-    /// Whether the machine is in the state of the other one, which is asked to be one of the same
-    /// component and matrix.
-    pub fn is_same(&self, other: &Machine<'a>) -> bool
-        requires component { self.now.component ≡ other.now.component }
-        requires matrix { self.now.matrix ≡ other.now.matrix }
-        ensures { result ≡ true ↔ self.now ≡ other.now }
-    {
-        self.cells == other.cells && self.locks == other.locks && self.threads == other.threads
-    }
-
     /// The component that is run.
     pub fn component(&self) -> &Component
         ensures { result.now ≡ self.now.component }

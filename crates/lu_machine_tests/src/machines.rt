@@ -1,7 +1,4 @@
-//! Machines of small components: what is taken back, set and chosen.
-
-ghost use Rattle.std.specs.Prelude.{◌≡◌};
-ghost use Rattle.lu_machine.specs.Starts.{CanRun};
+//! Machines of small components: what is taken back and chosen.
 
 use lu_cases::{Case, case_of};
 use lu_component::Instr;
@@ -72,73 +69,6 @@ fn a_move_is_taken_back(rt: HostRuntime) -> Result<(), Fail> {
     Ok(())
 }
 
-/// Makes the moves of these threads, each with pick 0.
-fn make(rt: &impl Abort, machine: &mut Machine<'_>, threads: &[u8])
-    ensures component { machine.new.component ≡ machine.old.component }
-    ensures matrix { machine.new.matrix ≡ machine.old.matrix }
-{
-    for thread in threads {
-        let next = Move {
-            thread: *thread,
-            pick: 0,
-        };
-        assert!(rt; machine.feasible(next));
-        machine.step(next);
-    }
-}
-
-/// The machine is in the state of the other one, which was set to it, until that goes on.
-fn assert_sets<'a>(
-    rt: &impl Abort,
-    machine: &mut Machine<'a>,
-    other: &mut Machine<'a>,
-    threads: &[u8],
-)
-    requires component { machine.old.component ≡ other.old.component }
-    requires matrix { machine.old.matrix ≡ other.old.matrix }
-{
-    assert!(rt; machine.is_same(other));
-    make(rt, machine, threads);
-    assert!(rt; !machine.is_same(other));
-    other.set_to(machine);
-    assert!(rt; machine.is_same(other));
-    make(rt, other, &[0]);
-    assert!(rt; !machine.is_same(other));
-}
-
-/// The same for two machines at the start of the case.
-fn assert_sets_at_start(
-    rt: &(impl AllocGlobal + Abort),
-    case: &Case,
-    threads: &[u8],
-) -> Result<(), Fail>
-    requires { CanRun case.now.component case.now.matrix }
-{
-    let mut machine = Machine::start(rt.alloc(), &case.component, &case.matrix)?;
-    let mut other = Machine::start(rt.alloc(), &case.component, &case.matrix)?;
-    assert_sets(rt, &mut machine, &mut other, threads);
-    Ok(())
-}
-
-/// The same for a run of the matrix.
-fn assert_set(
-    rt: &(impl AllocGlobal + Abort),
-    component: &[u8],
-    matrix: &[u8],
-    threads: &[u8],
-) -> Result<(), Fail> {
-    let case = case_of(rt, component, matrix)?;
-    assert_sets_at_start(rt, &case, threads)
-}
-
-/// Where threads stand, what cells hold and who owns the lock.
-#[test]
-fn a_machine_is_set_to_another(rt: HostRuntime) -> Result<(), Fail> {
-    assert_set(&rt, SLOT, b"thread f 1;f 1\nthread f 1\n", &[1])?;
-    assert_set(&rt, SLOT, b"thread f 1\nthread f 1\n", &[0, 0, 0])?;
-    assert_set(&rt, SLOT, b"thread f 1;f 1\n", &[0, 0, 0, 0, 0, 0])
-}
-
 /// Two registers are set with the call, and one with the load.
 const TWO_REGISTERS: &[u8] = b"component c
 local 3
@@ -170,7 +100,9 @@ end
 /// The machine's only thread has a call to make, and then three choices.
 fn assert_picks(rt: &impl Abort, machine: &mut Machine<'_>) {
     assert_eq!(rt; (machine.picks(0), machine.picks(1)), (1, 0));
-    make(rt, machine, &[0]);
+    let call = Move { thread: 0, pick: 0 };
+    assert!(rt; machine.feasible(call));
+    machine.step(call);
     assert_eq!(rt; machine.picks(0), 3);
 }
 
