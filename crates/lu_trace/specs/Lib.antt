@@ -1,4 +1,5 @@
 pub mod Deeds
 pub mod Lines
 pub mod Traces
+pub mod Setups
 pub mod Laws

@@ -2,6 +2,7 @@
 //!
 //! [`write_trace`] plays a schedule of a component and a matrix, and writes a line for each step.
 //! Each thread has a column of its own, so that it is seen how their steps interleave.
+//! [`write_trace_from_setup`] begins before, with what the calls of the matrix's setup do and leave.
 //!
 //! ```text
 //! trace complete
@@ -16,11 +17,13 @@ mod deeds;
 mod fault;
 mod laws;
 mod lines;
+mod setup;
 mod tracing;
 mod waiting;
 
 pub use fault::TraceFault;
 pub use laws::trace_laws;
 pub use lines::{write_call_text, write_step};
+pub use setup::write_trace_from_setup;
 pub use tracing::write_trace;
 pub use waiting::write_awaited;
