@@ -90,6 +90,50 @@ fn found_bad<'t, T: SerialTree>(
     })
 }
 
+/// Searches below a node, to which the schedule leads.
+fn search_below<'a, 't, T: SerialTree, W: Watch>(
+    alloc: Global,
+    component: &'a Component,
+    matrix: &'a Matrix,
+    tables: &Tables,
+    cache: &mut Cache<'t, T>,
+    node: &mut Node<'a, 't, T>,
+    from: &Schedule,
+    bound: u16,
+    watch: &mut W,
+) -> Result<Found, AllocError>
+    requires of { CanRun component.now matrix.now }
+    requires limits { IsComponent component.now × IsMatrix matrix.now }
+    requires tables { AreTables component.now matrix.now tables.now }
+    requires few { bound ≤ 256 }
+    requires short { length from.now ≤ bound }
+    requires leads { LeadsToNode component.now matrix.now from.now node.old }
+    requires agree { Agree (progress node.old.machine) node.old.trail.history }
+    requires tree { cache.old.tree ≡ node.old.trail.tree }
+    requires running { W.is_stopped watch.old ≡ false }
+    ensures found { MayFind component.now matrix.now (T.members cache.old.tree)
+        from.now bound result }
+    ensures base { W.base watch.new ≡ W.base watch.old }
+    ensures cache { SameButEntries cache.old cache.new }
+    ensures stopped { W.is_stopped watch.new ≡ is_abandoned result }
+{
+    let left = bound - from.moves().len() as u16;
+    let ahead = Ahead {
+        alloc,
+        tables,
+        most: left,
+    };
+    let mut tally = Tally::new(alloc)?;
+    let walked = walk(cache, watch, &ahead, left, node, &mut tally);
+    if let Some(known) = walked {
+        return Ok(Found::Clean(known.counts));
+    }
+    if watch.stopped() {
+        return Ok(Found::Abandoned);
+    }
+    found_bad(cache, from.moves(), tally.path, node)
+}
+
 /// Searches as [`search_watched`] does, with tables that were made before. Whoever searches below
 /// many schedules makes them once.
 ///
@@ -120,21 +164,9 @@ pub fn search_with<'a, 't, T: SerialTree, W: Watch>(
     ensures limits { IsComponent component.now × IsMatrix matrix.now }
 {
     let mut node = node_after(alloc, component, matrix, cache.tree(), from.moves())?;
-    let left = bound - from.moves().len() as u16;
-    let ahead = Ahead {
-        alloc,
-        tables,
-        most: left,
-    };
-    let mut tally = Tally::new(alloc)?;
-    let walked = walk(cache, watch, &ahead, left, &mut node, &mut tally);
-    if let Some(known) = walked {
-        return Ok(Found::Clean(known.counts));
-    }
-    if watch.stopped() {
-        return Ok(Found::Abandoned);
-    }
-    found_bad(cache, from.moves(), tally.path, &mut node)
+    search_below(
+        alloc, component, matrix, tables, cache, &mut node, from, bound, watch,
+    )
 }
 
 /// Searches as [`search`] does, over the tree of the cache, until the watch stops it. The watch is
@@ -164,8 +196,11 @@ pub fn search_watched<'a, 't, T: SerialTree, W: Watch>(
     ensures stopped { W.is_stopped watch.new ≡ is_abandoned result }
     ensures limits { IsComponent component.now × IsMatrix matrix.now }
 {
+    let mut node = node_after(alloc, component, matrix, cache.tree(), from.moves())?;
     let tables = Tables::new(alloc, component, matrix, bound)?;
-    search_with(alloc, component, matrix, &tables, cache, from, bound, watch)
+    search_below(
+        alloc, component, matrix, &tables, cache, &mut node, from, bound, watch,
+    )
 }
 
 /// Searches the schedules that begin with `from`: answers the least one that is ended within the

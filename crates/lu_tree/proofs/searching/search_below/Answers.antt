@@ -1,0 +1,96 @@
+use Rattle.std.proofs.Common.{arith, ◌≡◌, ◌≤◌, ◌+◌, ◌-◌, ◌++◌, length, reverse, refl, sym, ◌∙◌, ap, subst}
+use Rattle.lu_test.specs.Schedule.{AreMoves}
+use Rattle.lu_machine.specs.States.{State}
+use Rattle.lu_machine.specs.Runs.{Leads}
+use Rattle.lu_witness.specs.Goodness.{AreAllGood}
+use Rattle.lu_witness.specs.Witnesses.{IsMember}
+use Rattle.lu_tree.specs.Known.{counts_of}
+use Rattle.lu_tree.specs.Trees.{Below}
+use Rattle.lu_tree.specs.Walks.{IsFirstAt}
+use Rattle.lu_horizon.proofs.OwnLaws.{serves_end}
+use Rattle.lu_tree.proofs.Added.{walk_passed, walk_stopped}
+use Rattle.lu_tree.proofs.Leaving.{bad_found, bad_not_abandoned}
+use Rattle.lu_tree.proofs.KnownLaws.{known_below}
+use Rattle.lu_tree.proofs.Limits.{schedule_moves}
+use Rattle.lu_machine.proofs.Starting.{start_there}
+use Rattle.lu_tree.proofs.searching.search_below.Goals as goal
+
+pub returns-in-Some-clause-found : goal.returns-in-Some-clause-found
+returns-in-Some-clause-found g c = λ s is.
+    (let moves = c.moves.result.now in
+    let node = c.args.node.now in
+    let tree : node.trail.tree ≡ c.args.cache.now.tree = sym c.requires.tree in
+    let set = ap (λ x. g.T.SerialTree.members x) tree in
+    let left = c.args.bound - length moves in
+    let all : length moves + left ≡ c.args.bound = omega (arith, ap length c.moves.ensures.moves) in
+    let Set = IsMember (g.T.SerialTree.members node.trail.tree) in
+    let known = c.in-Some.known in
+    let below = known_below Set node.machine node.trail.history left known c.in-Some.ensures.passed.known in
+    let good = walk_passed Set s c.args.bound left c.args.from.now moves node.machine node.trail.history c.moves.ensures.moves all (subst (λ u. Leads s u node.machine node.trail.history) (sym c.moves.ensures.moves) (c.requires.leads s is)) (counts_of known) below in
+    subst (λ x. AreAllGood (IsMember x) s c.args.bound (Below c.args.from.now) (counts_of known)) set good)
+
+pub walk-walked-requires-clause-serves : goal.walk-walked-requires-clause-serves
+walk-walked-requires-clause-serves g c =
+    let there = start_there c.args.component.now c.args.matrix.now c.requires.of.settles in
+    let start : State = there.0 in
+    let moves = c.moves.result.now in
+    let node = c.args.node.now in
+    let leads = subst (λ u. Leads start u node.machine node.trail.history) (sym c.moves.ensures.moves) (c.requires.leads start there.1) in
+    let serves = c.requires.tables start there.1 in
+    serves_end c.args.tables.now.horizon start moves node.machine node.trail.history leads serves
+
+pub found_bad-requires-clause-ended : goal.found_bad-requires-clause-ended
+found_bad-requires-clause-ended g c =
+    let there = start_there c.args.component.now c.args.matrix.now c.requires.of.settles in
+    let start : State = there.0 in
+    let moves = c.moves.result.now in
+    let node = c.args.node.now in
+    let left = c.args.bound - length moves in
+    let all : length moves + left ≡ c.args.bound = omega (arith, ap length c.moves.ensures.moves) in
+    let Set = IsMember (g.T.SerialTree.members node.trail.tree) in
+    let path = c.walk-walked.new.tally.path.items in
+    let end = c.walk-walked.new.node.machine in
+    let last = c.walk-walked.new.node.trail.history in
+    let running = sym c.stopped.ensures ∙ c.if-stopped.false in
+    let first : IsFirstAt Set start c.args.bound (Below c.args.from.now) (c.args.from.now ++ reverse path) end last = walk_stopped Set start c.args.bound left c.args.from.now moves node.machine node.trail.history c.moves.ensures.moves all (subst (λ u. Leads start u node.machine node.trail.history) (sym c.moves.ensures.moves) (c.requires.leads start there.1)) path end last (c.in_default.ensures.stops refl running) in
+    first.ended
+
+pub found_bad-requires-clause-moves : goal.found_bad-requires-clause-moves
+found_bad-requires-clause-moves g c =
+    let there = start_there c.args.component.now c.args.matrix.now c.requires.of.settles in
+    let start : State = there.0 in
+    let moves = c.moves.result.now in
+    let node = c.args.node.now in
+    let left = c.args.bound - length moves in
+    let all : length moves + left ≡ c.args.bound = omega (arith, ap length c.moves.ensures.moves) in
+    let Set = IsMember (g.T.SerialTree.members node.trail.tree) in
+    let path = c.walk-walked.new.tally.path.items in
+    let end = c.walk-walked.new.node.machine in
+    let last = c.walk-walked.new.node.trail.history in
+    let running = sym c.stopped.ensures ∙ c.if-stopped.false in
+    let first : IsFirstAt Set start c.args.bound (Below c.args.from.now) (c.args.from.now ++ reverse path) end last = walk_stopped Set start c.args.bound left c.args.from.now moves node.machine node.trail.history c.moves.ensures.moves all (subst (λ u. Leads start u node.machine node.trail.history) (sym c.moves.ensures.moves) (c.requires.leads start there.1)) path end last (c.in_default.ensures.stops refl running) in
+    let few = c.requires.few in
+    let short : length (c.args.from.now ++ reverse path) ≤ c.args.bound = first.short in
+    let are : AreMoves (c.args.from.now ++ reverse path) = schedule_moves c.args.component.now c.args.matrix.now start c.requires.limits.0 c.requires.limits.1 there.1 (c.args.from.now ++ reverse path) end last first.leads (omega arith) in
+    subst (λ u. AreMoves (u ++ reverse path)) (sym c.moves-2.ensures.moves) are
+
+pub returns-clause-found : goal.returns-clause-found
+returns-clause-found g c = λ s is.
+    (let moves = c.moves.result.now in
+    let node = c.args.node.now in
+    let left = c.args.bound - length moves in
+    let all : length moves + left ≡ c.args.bound = omega (arith, ap length c.moves.ensures.moves) in
+    let Set = IsMember (g.T.SerialTree.members node.trail.tree) in
+    let path = c.walk-walked.new.tally.path.items in
+    let end = c.walk-walked.new.node.machine in
+    let last = c.walk-walked.new.node.trail.history in
+    let running = sym c.stopped.ensures ∙ c.if-stopped.false in
+    let first : IsFirstAt Set s c.args.bound (Below c.args.from.now) (c.args.from.now ++ reverse path) end last = walk_stopped Set s c.args.bound left c.args.from.now moves node.machine node.trail.history c.moves.ensures.moves all (subst (λ u. Leads s u node.machine node.trail.history) (sym c.moves.ensures.moves) (c.requires.leads s is)) path end last (c.in_default.ensures.stops refl running) in
+    let walked = ap (λ x. g.T.SerialTree.members x) c.walk-walked.ensures.stays.tree in
+    let set = ap (λ x. g.T.SerialTree.members x) (sym c.requires.tree) in
+    bad_found g.T.SerialTree.members c.args.cache.now.tree c.walk-walked.new.node s c.args.bound c.args.from.now (c.args.from.now ++ reverse path) (c.moves-2.result.now ++ reverse path) (ap (λ u. u ++ reverse path) c.moves-2.ensures.moves) (walked ∙ set) (subst (λ x. IsFirstAt (IsMember x) s c.args.bound (Below c.args.from.now) (c.args.from.now ++ reverse path) end last) set first) c.found_bad.result c.found_bad.ensures.bad)
+
+pub returns-clause-stopped : goal.returns-clause-stopped
+returns-clause-stopped g c =
+    let running = sym c.stopped.ensures ∙ c.if-stopped.false in
+    running ∙ sym (bad_not_abandoned g.T.SerialTree.members c.walk-walked.new.node _ c.found_bad.result c.found_bad.ensures.bad)
