@@ -383,9 +383,9 @@ independent_commute t u s r c e f one two (differ, none) unordered =
     let behind : Moves u r (written r b.wrote u b.now) f = subst (λ x. Moves u x (written x b.wrote u b.now) f) (sym a.is) (b.there (written s a.wrote t a.now) (like_after s r t u e a differ none)) in
     let other : Moves t c (written c a.wrote t a.now) e = subst (λ x. Moves t x (written x a.wrote t a.now) e) (sym b.is) (a.there (written s b.wrote u b.now) (like_after s c u t f b (λ x. differ (sym x)) back)) in
     let same : written c a.wrote t a.now ≡ written r b.wrote u b.now =
-        ap (λ (x : State). written x a.wrote t a.now) b.is
-        ∙ (sym (written_both s a.wrote b.wrote t u a.now b.now (next_access s t) (next_access s u) differ a.within b.within none)
-        ∙ ap (λ (x : State). written x b.wrote u b.now) (sym a.is)) in
+    ap (λ (x : State). written x a.wrote t a.now) b.is
+    ∙ (sym (written_both s a.wrote b.wrote t u a.now b.now (next_access s t) (next_access s u) differ a.within b.within none)
+    ∙ ap (λ (x : State). written x b.wrote u b.now) (sym a.is)) in
     (written r b.wrote u b.now, e, f, (r, one, behind), (c, two, subst (λ x. Moves t c x e) same other), unordered)
 
 -- an only move has one event

@@ -43,8 +43,7 @@ returns-then-same-clause-commute g c =
     let back : c.take_back.new.machine ≡ s = c.take_back.ensures ∙ there.back in
     let here : MadeBoth c.args.second c.args.first s c.make_both-2.new.machine c.in-Some-make_both.here = subst (λ x. MadeBoth c.args.second c.args.first x c.make_both-2.new.machine c.in-Some-make_both.here) back c.in-Some-make_both.ensures.made in
     let left : left_at c.make_both-2.new.machine c.args.first c.args.second c.args.location ≡ left_at c.make_both.new.machine c.args.first c.args.second c.args.location = sym c.left_at.ensures ∙ (equal_left c.left_at.result c.left_at-left.result (sym c.eq-same.ensures ∙ c.if-same.true) ∙ c.left_at-left.ensures) in
-    let same : c.make_both-2.new.machine ≡ c.make_both.new.machine = same_left c.args.first c.args.second s c.make_both.new.machine c.make_both-2.new.machine c.in-Some.there c.in-Some-make_both.here c.args.location there here c.requires.differ c.requires.at left in
-    (
+    let same : c.make_both-2.new.machine ≡ c.make_both.new.machine = same_left c.args.first c.args.second s c.make_both.new.machine c.make_both-2.new.machine c.in-Some.there c.in-Some-make_both.here c.args.location there here c.requires.differ c.requires.at left in (
       λ is. commute_seen c.args.first c.args.second s c.make_both.new.machine c.make_both-2.new.machine c.in-Some.there c.in-Some-make_both.here there here same (c.have_same_events.ensures.0 is),
       λ commute. c.have_same_events.ensures.1 (commute_made c.args.first c.args.second s c.make_both.new.machine c.make_both-2.new.machine c.in-Some.there c.in-Some-make_both.here there here commute).1,
     )
