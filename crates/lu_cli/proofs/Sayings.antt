@@ -347,15 +347,15 @@ order_else Refute parts answer is = four_else parts answer is
 order_else (Shrink limits) parts answer is = two_else parts (λ c m. IsShrinkAnswer c m limits) answer (λ c m more. shrink_else c m limits answer more) is
 order_else (Campaigning options) parts answer is = two_else parts (λ c m. IsCampaignFrom c options m) answer (λ c m more. matrices_else options.threads c options m answer more) is
 
-pub linted_else : (bundle : List ℕ) (answer : Answer) → IsLinted bundle answer → IsElse answer
-linted_else bundle answer (remarks, is, sorted, e) = go (list_any (λ r. is_fault r.said.cause) remarks) (ap (λ (a : Answer). a.status) e)
+pub linted_else : (limits : Limits) (bundle : List ℕ) (answer : Answer) → IsLinted limits bundle answer → IsElse answer
+linted_else limits bundle answer (remarks, is, sorted, e) = go (list_any (λ r. is_fault r.said.cause) remarks) (ap (λ (a : Answer). a.status) e)
   where
     go : (b : Bool) → answer.status ≡ (if b then 2 else 0) → IsElse answer
     go true e = status_else answer 2 e (λ f. omega arith)
     go false e = status_else answer 0 e (λ f. omega arith)
 
 request_else : (request : Request) (input : List ℕ) (answer : Answer) → IsAnswerIn request input answer → IsElse answer
-request_else Lint input answer is = linted_else input answer is
+request_else (Lint limits) input answer is = linted_else limits input answer is
 request_else (Ordered order) input answer is = order_else order (bundle_parts input) answer is
 
 either_else : (long : Bool) (request : Request) (input : List ℕ) (answer : Answer) → MatchBool long (answer ≡ refused (codes "B2")) (IsAnswerIn request input answer) → IsElse answer

@@ -89,7 +89,8 @@ draw_command =
     (number_option (codes "serial") 1 most_moves (codes "40"))
 
 abbrev pub lint_command : App
-lint_command = new_app (codes "lint")
+lint_command =
+    with_rule (new_app (codes "lint")) (number_option (codes "serial") 1 most_moves (codes "40"))
 
 abbrev pub explain_command : App
 explain_command =
@@ -299,10 +300,14 @@ order_by name rows =
     else (if bytes_eq name (codes "campaign") then option_map Campaign (campaign_in rows)
     else None))))))))))
 
+-- no schedule is bounded
+abbrev pub lint_in : List Row → Option Request
+lint_in rows = option_map Lint (limits_with (Some 0) (number_in (codes "serial") rows))
+
 -- what a command with these rows asks for
 abbrev pub request_by : Text → List Row → Option Request
 request_by name rows =
-    if bytes_eq name (codes "lint") then Some Lint else option_map Ordered (order_by name rows)
+    if bytes_eq name (codes "lint") then lint_in rows else option_map Ordered (order_by name rows)
 
 abbrev pub request_in : Option (Text × List Row) → Option Request
 request_in entered = option_and_then (λ e. request_by e.0 e.1) entered

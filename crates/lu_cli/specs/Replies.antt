@@ -564,14 +564,14 @@ remarked remarks = record {
 }
 
 -- what there is to say of a bundle, in the order of its lines
-abbrev pub IsLinted : List ℕ → Answer → Type 0
-IsLinted bundle answer =
-    (remarks : List Remark) × IsSaidOf bundle (said_of remarks)
+abbrev pub IsLinted : Limits → List ℕ → Answer → Type 0
+IsLinted limits bundle answer =
+    (remarks : List Remark) × IsSaidOf limits.serial bundle (said_of remarks)
     × IsNonDecreasingBy (λ r. r.said.place) remarks × (answer ≡ remarked remarks)
 
 -- the answer to what is asked for and the input, where that is not too long
 abbrev pub IsAnswerIn : Request → List ℕ → Answer → Type 0
-IsAnswerIn Lint input answer = IsLinted input answer
+IsAnswerIn (Lint limits) input answer = IsLinted limits input answer
 IsAnswerIn (Ordered order) input answer = IsAnswerTo order (bundle_parts input) answer
 
 -- the answer to what is asked for and the whole input

@@ -204,13 +204,20 @@ fn single_commands<'a>(alloc: Global) -> Result<Command<'a>, AllocError>
     with_command(program, with_workers(alloc, "certify", "256"))
 }
 
+fn lint_command<'a>(alloc: Global) -> Result<Command<'a>, AllocError>
+    ensures { IfOk result (IsApp spec.lint_command) }
+{
+    let command = bare_command(alloc, "lint");
+    with_option(command, number_option(alloc, "serial", 1, MOST_MOVES, "40"))
+}
+
 fn lineup_command<'a>(alloc: Global) -> Result<Command<'a>, AllocError>
     ensures { IfOk result (IsApp lineup) }
 {
     let program = with_command(single_commands(alloc), bare_command(alloc, "refute"));
     let program = with_command(program, with_bounds(alloc, "shrink", "40"));
     let program = with_command(program, campaign_command(alloc));
-    with_command(program, bare_command(alloc, "lint"))
+    with_command(program, lint_command(alloc))
 }
 
 fn number_in(given: &ArgMatches<'_>, name: &str) -> Option<u16>
@@ -403,12 +410,20 @@ fn order_by(name: &str, given: &ArgMatches<'_>) -> Option<Order>
     }
 }
 
+/// The bounds of what lint runs: no schedule is bounded.
+fn lint_in(given: &ArgMatches<'_>) -> Option<Request>
+    ensures { result ≡ spec.lint_in (rows_of (found_of given.now)) }
+{
+    let serial = number_in(given, "serial")?;
+    Bounds::new(0, serial).map(Request::Lint)
+}
+
 /// What a command's name and what is given to the command ask for.
 fn request_by(name: &str, given: &ArgMatches<'_>) -> Option<Request>
     ensures { result ≡ spec.request_by name.now (rows_of (found_of given.now)) }
 {
     if name == "lint" {
-        Some(Request::Lint)
+        lint_in(given)
     } else {
         order_by(name, given).map(Request::Ordered)
     }

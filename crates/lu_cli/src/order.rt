@@ -42,8 +42,8 @@ pub struct CampaignOptions {
 /// What the words of a command line ask for.
 #[derive(Clone, Copy, Debug, PartialEq, Eq)]
 pub enum Request {
-    /// `lineup lint`: say every fault of a bundle in words.
-    Lint,
+    /// `lineup lint`: say every fault of a bundle in words. The bound of schedules is not used.
+    Lint(Bounds),
 
     /// A command over the parts of a bundle.
     Ordered(Order),

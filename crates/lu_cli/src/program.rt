@@ -14,6 +14,7 @@ use crate::input::{InputFault, read_input};
 use crate::order::{ArgsFault, Request};
 use crate::output::write_text;
 use lu_lint::lint;
+use lu_report::Bounds;
 use std::alloc::{AllocError, Global};
 use std::convert::AsStr;
 use std::io::{Read, Write};
@@ -39,10 +40,10 @@ impl From<AllocError> for Failure {
 }
 
 /// What there is to say of a bundle.
-fn answer_lint(alloc: Global, bundle: &[u8]) -> Result<Answer, AllocError>
-    ensures { IfOk result (IsLinted bundle.now) }
+fn answer_lint(alloc: Global, bounds: Bounds, bundle: &[u8]) -> Result<Answer, AllocError>
+    ensures { IfOk result (IsLinted bounds bundle.now) }
 {
-    let linted = lint(alloc, bundle)?;
+    let linted = lint(alloc, bundle, bounds.serial())?;
     Ok(Answer {
         text: linted.text,
         status: if linted.faults { 2 } else { 0 },
@@ -59,7 +60,7 @@ fn answer_bytes<X: AllocGlobal + Threads + Wait>(
     ensures blames_none { IfOk result (λ r. r ≢ no_device) }
 {
     match request {
-        Request::Lint => answer_lint(rt.alloc(), bytes),
+        Request::Lint(bounds) => answer_lint(rt.alloc(), bounds, bytes),
         Request::Ordered(order) => answer_to(rt, order, &parts_in(rt.alloc(), bytes)?),
     }
 }

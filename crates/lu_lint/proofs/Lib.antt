@@ -4,3 +4,8 @@ pub mod Cuts
 pub mod Moves
 pub mod Whole
 pub mod Warned
+pub mod Shown
+pub mod SettingUp
+pub mod Played
+pub mod LineNumbers
+pub mod LearntHints

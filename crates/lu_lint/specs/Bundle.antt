@@ -18,6 +18,7 @@ use Rattle.lu_lint.specs.Component.{component_lint}
 use Rattle.lu_lint.specs.Matrix.{matrix_lint}
 use Rattle.lu_lint.specs.Said.{line_below, said_faults}
 use Rattle.lu_lint.specs.Warnings.{warnings_in}
+use Rattle.lu_lint.specs.Runs.{RunsSaid}
 
 -- ---- the lines between the parts
 
@@ -109,11 +110,29 @@ ThirdOf (component ∷ []) said = said ≡ []
 ThirdOf (component ∷ matrix ∷ []) said = said ≡ []
 ThirdOf (component ∷ matrix ∷ third ∷ parts) said = ThirdOfParts component matrix third said
 
--- what is said of a bundle
-abbrev pub BundleSaid : List ℕ → List Said → Type 0
-BundleSaid bundle said =
-    Adds (ThirdOf (parts_by (kept_lines bundle))) (lines_said (kept_lines bundle)) said
+-- what runs show of these texts of a component and a matrix
+abbrev pub RunsOfTexts : ℕ → List ℕ → List ℕ → List Said → Type 0
+RunsOfTexts bound component matrix said =
+    RunsSaid bound (component_read component) (matrix_read (component_read component) matrix)
+    (above_next 0 component) matrix said
+
+-- the same, where there is a matrix
+abbrev pub RunsOfParts : ℕ → List (List ℕ) → List Said → Type 0
+RunsOfParts bound [] said = said ≡ []
+RunsOfParts bound (component ∷ []) said = said ≡ []
+RunsOfParts bound (component ∷ matrix ∷ parts) said = RunsOfTexts bound component matrix said
+
+-- what is said of these parts, behind what was said first
+abbrev pub PartsSaid : ℕ → List (List ℕ) → List Said → List Said → Type 0
+PartsSaid bound parts first said =
+    (texts : List Said) × Adds (ThirdOf parts) first texts × Adds (RunsOfParts bound parts) texts said
+
+-- what is said of a bundle, with this bound of serial runs
+abbrev pub BundleSaid : ℕ → List ℕ → List Said → Type 0
+BundleSaid bound bundle said =
+    PartsSaid bound (parts_by (kept_lines bundle)) (lines_said (kept_lines bundle)) said
 
 -- this is said of a bundle, in any order
-abbrev pub IsSaidOf : List ℕ → List Said → Type 0
-IsSaidOf bundle said = (found : List Said) × BundleSaid bundle found × IsPermutation found said
+abbrev pub IsSaidOf : ℕ → List ℕ → List Said → Type 0
+IsSaidOf bound bundle said =
+    (found : List Said) × BundleSaid bound bundle found × IsPermutation found said

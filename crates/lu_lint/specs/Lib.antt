@@ -6,5 +6,6 @@ pub mod Messages
 pub mod Schedule
 pub mod Third
 pub mod Warnings
+pub mod Runs
 pub mod Bundle
 pub mod Laws

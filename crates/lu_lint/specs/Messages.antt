@@ -10,7 +10,7 @@ use Rattle.lu_lint.specs.declared.remark.Remark.{Remark}
 use Rattle.lu_lint.specs.declared.remark.FaultKind.{FaultKind}
 use Rattle.lu_lint.specs.declared.remark.FaultKind.TheVariants as part
 use Rattle.lu_lint.specs.declared.remark.Cause.{Cause}
-use Rattle.lu_lint.specs.declared.remark.Cause.TheVariants.{Fault, Separator, Warning}
+use Rattle.lu_lint.specs.declared.remark.Cause.TheVariants.{Fault, Separator, Warning, Run}
 
 -- the code of the refusal
 abbrev pub fault_code : FaultKind → List ℕ
@@ -33,6 +33,7 @@ abbrev pub remark_word : Cause → List ℕ
 remark_word (Fault kind n) = codes ""
 remark_word Separator = codes ""
 remark_word (Warning hint) = codes "warning: "
+remark_word (Run hint) = codes "warning: "
 
 -- the line of the bundle, and the words
 abbrev pub remark_head : ℕ → List ℕ → List ℕ → List ℕ
@@ -50,6 +51,7 @@ abbrev pub remark_tail : Cause → List ℕ
 remark_tail (Fault kind n) = fault_tail kind n
 remark_tail Separator = codes "\n"
 remark_tail (Warning hint) = codes "\n"
+remark_tail (Run hint) = codes "\n"
 
 -- a line for one remark
 abbrev pub remark_text : Remark → List ℕ

@@ -4,7 +4,7 @@ use Rattle.lu_lint.specs.declared.remark.Said.{Said}
 use Rattle.lu_lint.specs.declared.remark.Remark.{Remark}
 use Rattle.lu_lint.specs.declared.remark.FaultKind.{FaultKind}
 use Rattle.lu_lint.specs.declared.remark.Cause.{Cause}
-use Rattle.lu_lint.specs.declared.remark.Cause.TheVariants.{Fault, Separator, Warning}
+use Rattle.lu_lint.specs.declared.remark.Cause.TheVariants.{Fault, Separator, Warning, Run}
 use Rattle.lu_lint.specs.Lint.{Told}
 
 -- what is said, without its words
@@ -29,3 +29,4 @@ abbrev pub is_fault : Cause → Bool
 is_fault (Fault kind n) = true
 is_fault Separator = true
 is_fault (Warning hint) = false
+is_fault (Run hint) = false

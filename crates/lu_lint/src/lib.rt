@@ -8,6 +8,8 @@ mod linting;
 mod matrix;
 mod matrix_wording;
 mod remark;
+mod run_wording;
+mod runs;
 mod schedule;
 mod shape;
 mod third;
@@ -19,4 +21,4 @@ mod writing;
 
 pub use laws::agree;
 pub use linting::{Linted, lint};
-pub use remark::{Cause, FaultKind, Hint, Remark, Said};
+pub use remark::{Cause, Ending, FaultKind, Hint, Operations, Remark, RunHint, Said, SerialHint};

@@ -1,12 +1,13 @@
 //! What lint says of a bundle.
 
-ghost use Rattle.std.specs.Prelude.{◌≡◌, ◌++◌, ◌∷◌, IfOk, Some, string_bytes};
+ghost use Rattle.std.specs.Prelude.{◌≡◌, ◌≤◌, ◌++◌, ◌∷◌, IfOk, Some, string_bytes};
 ghost use Rattle.std.specs.List.{list_any};
 ghost use Rattle.std.specs.List.Sorted.{IsNonDecreasingBy};
 ghost use Rattle.lu_text.specs.Lines.{texts};
 ghost use Rattle.lu_lint.specs.Bundle as spec;
-ghost use Rattle.lu_lint.specs.Bundle.{BundleSaid, IsSaidOf, ThirdOf, ThirdOfParts, parts_by, parts_said};
+ghost use Rattle.lu_lint.specs.Bundle.{BundleSaid, IsSaidOf, RunsOfParts, RunsOfTexts, ThirdOf, ThirdOfParts, parts_by, parts_said};
 ghost use Rattle.lu_lint.specs.Third.{Adds};
+ghost use Rattle.lu_lint.specs.Runs.{RunsSaid};
 ghost use Rattle.lu_lint.specs.Messages.{remarks_text};
 ghost use Rattle.lu_lint.specs.Said.{is_fault, said_of};
 
@@ -14,6 +15,7 @@ use crate::bundle::{above_next, kept_in, parts_in, with_separators};
 use crate::component::with_component;
 use crate::matrix::with_matrix;
 use crate::remark::Remark;
+use crate::runs::with_runs_of;
 use crate::third::with_third;
 use crate::warning::with_warnings;
 use crate::writing::write_remarks;
@@ -247,6 +249,110 @@ fn with_last(alloc: Global, all: Vec<Remark>, parts: &[&[u8]]) -> Result<Vec<Rem
     }
 }
 
+/// The remarks with those that runs show, where the matrix is read.
+fn with_matrix_runs(
+    alloc: Global,
+    all: Vec<Remark>,
+    component: &Component,
+    bound: u16,
+    above: usize,
+    text: &[u8],
+) -> Result<Vec<Remark>, AllocError>
+    requires some { 1 ≤ bound }
+    requires few { bound ≤ 256 }
+    ensures { IfOk result (λ next.
+        Adds (RunsSaid bound (Some component.now)
+        (spec.matrix_read (Some component.now) text.now) above text.now)
+        (said_of all.items) (said_of next.items)) }
+{
+    match read_matrix(alloc, component, text) {
+        Ok(matrix) => with_runs_of(alloc, all, component, &matrix, bound, above, text),
+        Err(Fault::At(_, _)) => Ok(all),
+        Err(Fault::Memory) => Err(AllocError),
+    }
+}
+
+/// The remarks with those that runs show, where the component and the matrix are read.
+fn with_runs_where(
+    alloc: Global,
+    all: Vec<Remark>,
+    component: &Option<Component>,
+    bound: u16,
+    above: usize,
+    text: &[u8],
+) -> Result<Vec<Remark>, AllocError>
+    requires some { 1 ≤ bound }
+    requires few { bound ≤ 256 }
+    ensures { IfOk result (λ next.
+        Adds (RunsSaid bound component.now
+        (spec.matrix_read component.now text.now) above text.now)
+        (said_of all.items) (said_of next.items)) }
+{
+    match component {
+        None => Ok(all),
+        Some(component) => with_matrix_runs(alloc, all, component, bound, above, text),
+    }
+}
+
+/// The remarks with those that runs of these texts of a component and a matrix show.
+fn with_runs_of_texts(
+    alloc: Global,
+    all: Vec<Remark>,
+    bound: u16,
+    component: &[u8],
+    matrix: &[u8],
+) -> Result<Vec<Remark>, AllocError>
+    requires some { 1 ≤ bound }
+    requires few { bound ≤ 256 }
+    ensures { IfOk result (λ next.
+        Adds (RunsOfTexts bound component.now matrix.now)
+        (said_of all.items) (said_of next.items)) }
+{
+    let read = component_read(alloc, component)?;
+    let above = above_next(alloc, 0, component)?;
+    let all = with_runs_where(alloc, all, &read, bound, above, matrix)?;
+    Ok(all)
+}
+
+/// The remarks with those that runs show, where there is a matrix behind a component.
+fn runs_behind(
+    alloc: Global,
+    all: Vec<Remark>,
+    bound: u16,
+    component: &[u8],
+    parts: &[&[u8]],
+) -> Result<Vec<Remark>, AllocError>
+    requires some { 1 ≤ bound }
+    requires few { bound ≤ 256 }
+    ensures { IfOk result (λ next.
+        Adds (RunsOfParts bound (component.now ∷ texts parts.now))
+        (said_of all.items) (said_of next.items)) }
+{
+    match parts.split_first() {
+        None => Ok(all),
+        Some((matrix, _)) => with_runs_of_texts(alloc, all, bound, component, matrix),
+    }
+}
+
+/// The remarks with those that runs show, where there are a component and a matrix.
+fn with_runs(
+    alloc: Global,
+    all: Vec<Remark>,
+    bound: u16,
+    parts: &[&[u8]],
+) -> Result<Vec<Remark>, AllocError>
+    requires some { 1 ≤ bound }
+    requires few { bound ≤ 256 }
+    ensures { IfOk result (λ next.
+        Adds (RunsOfParts bound (texts parts.now))
+        (said_of all.items) (said_of next.items)) }
+{
+    match parts.split_first() {
+        None => Ok(all),
+        Some((component, others)) => runs_behind(alloc, all, bound, component, others),
+    }
+}
+
 /// What is said of the parts of a bundle and of the lines between them, without the third part.
 fn remarks_on_lines(
     alloc: Global,
@@ -262,13 +368,16 @@ fn remarks_on_lines(
 }
 
 /// What is said of a bundle, in the order in which it is found.
-fn remarks_on(alloc: Global, bundle: &[u8]) -> Result<Vec<Remark>, AllocError>
-    ensures { IfOk result (λ all. BundleSaid bundle.now (said_of all.items)) }
+fn remarks_on(alloc: Global, bundle: &[u8], bound: u16) -> Result<Vec<Remark>, AllocError>
+    requires some { 1 ≤ bound }
+    requires few { bound ≤ 256 }
+    ensures { IfOk result (λ all. BundleSaid bound bundle.now (said_of all.items)) }
 {
     let lines = kept_in(alloc, bundle)?;
     let parts = parts_in(alloc, bundle)?;
     let all = remarks_on_lines(alloc, &lines, &parts)?;
     let all = with_last(alloc, all, &parts)?;
+    let all = with_runs(alloc, all, bound, &parts)?;
     Ok(all)
 }
 
@@ -288,12 +397,21 @@ fn have_fault(remarks: &[Remark]) -> bool
 /// A line that is nearly `---` parts too, so that what stands behind it is not told for it. Where
 /// the component is read, its warnings are said too, which are no faults.
 ///
+/// Where the matrix is read too, runs are made, and more warnings said: each call of the setup that
+/// traps, or the first that does not end; and each call of a thread that traps or is stuck in a
+/// serial run, by the least serial history in which it does (Burckhardt, Dern, Musuvathi and Tan,
+/// 2010). `serial`, 1 to 256, is the most moves that an operation may take after its call in a
+/// serial run: one that takes more is said alone, and where two serial histories conflict none of
+/// the threads' calls is.
+///
 /// # Errors
 ///
 /// There is no memory for what is said.
-pub fn lint(alloc: Global, bundle: &[u8]) -> Result<Linted, AllocError>
+pub fn lint(alloc: Global, bundle: &[u8], serial: u16) -> Result<Linted, AllocError>
+    requires some { 1 ≤ serial }
+    requires few { serial ≤ 256 }
     // What is said, and of which lines.
-    ensures said { IfOk result (λ l. IsSaidOf bundle.now (said_of l.remarks.items)) }
+    ensures said { IfOk result (λ l. IsSaidOf serial bundle.now (said_of l.remarks.items)) }
     // It is in the order of the lines.
     ensures ordered { IfOk result (λ l. IsNonDecreasingBy (λ r. r.said.place) l.remarks.items) }
     // The text says it, in the words of the remarks.
@@ -301,7 +419,7 @@ pub fn lint(alloc: Global, bundle: &[u8]) -> Result<Linted, AllocError>
     ensures faults { IfOk result (λ l.
         l.faults ≡ list_any (λ r. is_fault r.said.cause) l.remarks.items) }
 {
-    let mut remarks = remarks_on(alloc, bundle)?;
+    let mut remarks = remarks_on(alloc, bundle, serial)?;
     remarks.sort_by_key(|remark| remark.said.place)?;
     let text = write_remarks(alloc, &remarks)?;
     let faults = have_fault(&remarks);

@@ -6,12 +6,14 @@ ghost use Rattle.lu_lint.specs.Messages.{fault_code, fault_part};
 ghost use Rattle.lu_lint.specs.Said as said;
 ghost use Rattle.lu_lint.specs.Said.{said_of};
 
+use lu_history::SerialOp;
 use lu_lang::LangFaultKind;
 use lu_report::ReportFaultKind;
 use lu_spec::SpecFaultKind;
 use lu_test::{MatrixFaultKind, ScheduleFault};
 use lu_text::words_of;
 use std::alloc::{AllocError, Global};
+use std::marker::Model;
 
 /// What is wrong with a line of a part.
 #[derive(Clone, Copy, Debug, Drop, PartialEq, Eq)]
@@ -80,8 +82,80 @@ pub enum Hint {
     Spin,
 }
 
-/// What a remark is about.
+/// How an operation of a serial run ends, where that is worth a warning.
 #[derive(Clone, Copy, Debug, Drop, PartialEq, Eq)]
+pub enum Ending {
+    /// It traps.
+    Trap,
+
+    /// It can't go on.
+    Stuck,
+
+    /// It takes as many moves after its call as the bound of serial runs allows, and goes on.
+    Cut,
+}
+
+/// Operations of a serial history, in order.
+#[derive(Debug, Drop)]
+pub struct Operations {
+    ops: Vec<SerialOp>,
+}
+
+impl Model for Operations {
+    ghost use Rattle.std.specs.Prelude.{List};
+    ghost use Rattle.lu_history.specs.declared.serial.SerialOp.{SerialOp};
+
+    ghost Value = { List SerialOp };
+
+    ghost view = { λ o. o.ops.items };
+}
+
+impl Operations {
+    /// These operations.
+    pub fn new(ops: Vec<SerialOp>) -> Operations
+        ensures { result ≡ ops.items }
+    {
+        Operations { ops }
+    }
+
+    /// The operations, in order.
+    pub fn as_slice(&self) -> &[SerialOp]
+        ensures { result.now ≡ self.now }
+    {
+        &self.ops
+    }
+}
+
+/// How a call of a thread ends in a serial run.
+#[derive(Debug, Drop)]
+pub struct SerialHint {
+    /// The thread, from 0.
+    pub thread: u8,
+
+    /// The number of the thread's call, from 0.
+    pub call: usize,
+
+    pub ending: Ending,
+
+    /// The operations of the run before it.
+    pub behind: Operations,
+}
+
+/// What a warning by runs is about.
+#[derive(Debug, Drop)]
+pub enum RunHint {
+    /// The setup's call of this number, from 0, does not end, on the setup's line.
+    SetupGoesOn(u8),
+
+    /// The setup's call of this number, from 0, traps, on the setup's line.
+    SetupTraps(u8),
+
+    /// A call traps, is stuck or is cut in a serial run, on its thread's line.
+    Serial(SerialHint),
+}
+
+/// What a remark is about.
+#[derive(Debug, Drop)]
 pub enum Cause {
     /// A fault, and the line of the part that it is a fault of, from 1.
     Fault(FaultKind, usize),
@@ -89,25 +163,29 @@ pub enum Cause {
     /// A line that is nearly `---`, and parts nothing.
     Separator,
 
-    /// A warning, which is no fault.
+    /// A warning by the text, which is no fault.
     Warning(Hint),
+
+    /// A warning by runs, which is no fault.
+    Run(RunHint),
 }
 
 impl Cause {
     /// Whether this is a fault: everything but a warning.
-    pub fn is_fault(self) -> bool
-        ensures { result ≡ said.is_fault self }
+    pub fn is_fault(&self) -> bool
+        ensures { result ≡ said.is_fault self.now }
     {
         match self {
             Cause::Fault(_, _) => true,
             Cause::Separator => true,
             Cause::Warning(_) => false,
+            Cause::Run(_) => false,
         }
     }
 }
 
 /// A line of the bundle, from 1, and what is said of it.
-#[derive(Clone, Copy, Debug, Drop, PartialEq, Eq)]
+#[derive(Debug, Drop)]
 pub struct Said {
     pub place: usize,
     pub cause: Cause,

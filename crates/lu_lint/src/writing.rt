@@ -10,13 +10,14 @@ use std::alloc::{AllocError, Global};
 use std::fmt::Write;
 
 /// What stands before the words.
-fn remark_word(cause: Cause) -> &'static str
-    ensures { result.now ≡ spec.remark_word cause }
+fn remark_word(cause: &Cause) -> &'static str
+    ensures { result.now ≡ spec.remark_word cause.now }
 {
     match cause {
         Cause::Fault(_, _) => "",
         Cause::Separator => "",
         Cause::Warning(_) => "warning: ",
+        Cause::Run(_) => "warning: ",
     }
 }
 
@@ -35,13 +36,14 @@ fn write_fault_tail(text: &mut String, kind: FaultKind, line: usize) -> Result<(
     write!(text, " ({code}, line {line} of the {part})\n")
 }
 
-fn write_tail(text: &mut String, cause: Cause) -> Result<(), AllocError>
-    ensures { Writes result text.old text.new (spec.remark_tail cause) }
+fn write_tail(text: &mut String, cause: &Cause) -> Result<(), AllocError>
+    ensures { Writes result text.old text.new (spec.remark_tail cause.now) }
 {
     match cause {
-        Cause::Fault(kind, line) => write_fault_tail(text, kind, line),
+        Cause::Fault(kind, line) => write_fault_tail(text, *kind, *line),
         Cause::Separator => text.push_str("\n"),
         Cause::Warning(_) => text.push_str("\n"),
+        Cause::Run(_) => text.push_str("\n"),
     }
 }
 
@@ -49,9 +51,9 @@ fn write_tail(text: &mut String, cause: Cause) -> Result<(), AllocError>
 fn write_remark(text: &mut String, remark: &Remark) -> Result<(), AllocError>
     ensures { Writes result text.old text.new (spec.remark_text remark.now) }
 {
-    let word = remark_word(remark.said.cause);
+    let word = remark_word(&remark.said.cause);
     write_head(text, remark.said.place, word, remark.words.as_str())?;
-    write_tail(text, remark.said.cause)
+    write_tail(text, &remark.said.cause)
 }
 
 /// A line for each remark.

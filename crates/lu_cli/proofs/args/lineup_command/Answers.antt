@@ -5,4 +5,4 @@ returns c =
     let one = c.with_command-program.ensures _ _ c.single_commands.ensures c.bare_command.ensures in
     let two = c.with_command-program-2.ensures _ _ one c.with_bounds.ensures in
     let three = c.with_command-program-3.ensures _ _ two c.campaign_command.ensures in
-    c.with_command.ensures _ _ three c.bare_command-2.ensures
+    c.with_command.ensures _ _ three c.lint_command.ensures

@@ -1,0 +1,107 @@
+//! The words of a warning by runs.
+
+use crate::remark::{Ending, RunHint, SerialHint};
+use crate::runs::{Test, count_of};
+use lu_history::SerialOp;
+use lu_test::Call;
+use std::alloc::{AllocError, Global};
+use std::fmt::Write;
+
+/// Adds call `place` of these: the operation and the arguments, as a matrix says them.
+fn write_call(
+    text: &mut String,
+    test: Test<'_>,
+    calls: &[Call],
+    place: usize,
+) -> Result<(), AllocError> {
+    let Some(call) = calls.get(place) else {
+        return text.push_str("a call");
+    };
+    match test.component.operation(call.op) {
+        None => text.push_str("an operation")?,
+        Some(op) => text.push_str(op.name.as_str())?,
+    }
+    for argument in call.args.as_slice() {
+        write!(text, " {argument}")?;
+    }
+    Ok(())
+}
+
+/// Adds call `place` of the thread.
+fn write_call_of(
+    text: &mut String,
+    test: Test<'_>,
+    thread: u8,
+    place: usize,
+) -> Result<(), AllocError> {
+    match test.matrix.as_slice().get(usize::from(thread)) {
+        None => text.push_str("a call"),
+        Some(calls) => write_call(text, test, calls.as_slice(), place),
+    }
+}
+
+/// Adds the operations behind which a call is made.
+fn write_behind(text: &mut String, test: Test<'_>, ops: &[SerialOp]) -> Result<(), AllocError> {
+    if ops.is_empty() {
+        return text.push_str(" when it comes first");
+    }
+    text.push_str(" behind ")?;
+    for (place, op) in ops.iter().enumerate() {
+        let (before, _) = ops.split_at(place);
+        if place > 0 {
+            text.push_str(", ")?;
+        }
+        write_call_of(text, test, op.thread, count_of(op.thread, before))?;
+    }
+    Ok(())
+}
+
+fn write_ending(text: &mut String, test: Test<'_>, ending: Ending) -> Result<(), AllocError> {
+    let bound = test.bound;
+    match ending {
+        Ending::Trap => text.push_str("traps"),
+        Ending::Stuck => text.push_str("is stuck"),
+        Ending::Cut => write!(text, "takes more than {bound} moves"),
+    }
+}
+
+fn serial_wording(alloc: Global, test: Test<'_>, hint: &SerialHint) -> Result<String, AllocError> {
+    let (thread, call) = (hint.thread, hint.call);
+    let mut text = format!(in alloc; "thread {thread}'s call {call}, ")?;
+    write_call_of(&mut text, test, thread, call)?;
+    text.push_str(", ")?;
+    write_ending(&mut text, test, hint.ending)?;
+    write_behind(&mut text, test, hint.behind.as_slice())?;
+    if matches!(hint.ending, Ending::Cut) {
+        text.push_str("; --serial bounds them")?;
+    }
+    Ok(text)
+}
+
+fn setup_wording(
+    alloc: Global,
+    test: Test<'_>,
+    call: u8,
+    ends: &str,
+) -> Result<String, AllocError> {
+    let mut text = format!(in alloc; "the setup's call {call}, ")?;
+    let calls = test.matrix.setup().as_slice();
+    write_call(&mut text, test, calls, usize::from(call))?;
+    text.push_str(ends)?;
+    Ok(text)
+}
+
+/// The words of a warning that runs of the component and the matrix show.
+pub(crate) fn run_wording(
+    alloc: Global,
+    test: Test<'_>,
+    hint: &RunHint,
+) -> Result<String, AllocError> {
+    match hint {
+        RunHint::SetupGoesOn(call) => {
+            setup_wording(alloc, test, *call, ", does not end within 256 moves")
+        }
+        RunHint::SetupTraps(call) => setup_wording(alloc, test, *call, ", traps"),
+        RunHint::Serial(hint) => serial_wording(alloc, test, hint),
+    }
+}

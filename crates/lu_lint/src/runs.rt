@@ -1,0 +1,535 @@
+//! Warnings by runs of the setup and by the serial runs.
+
+ghost use Rattle.std.specs.Prelude.{◌≡◌, ◌≤◌, ◌++◌, ◌∷◌, [], IfOk, map};
+ghost use Rattle.std.specs.List.{flat_map, list_any};
+ghost use Rattle.std.specs.List.Sorted.{IsStrictlySortedBy};
+ghost use Rattle.lu_test.specs.Matrix.{IsOf};
+ghost use Rattle.lu_machine.specs.Runs as runs;
+ghost use Rattle.lu_machine.specs.Starts.{CanRun, FromEachStart};
+ghost use Rattle.lu_trie.specs.Members.{empty_if, history_cmp};
+ghost use Rattle.lu_serial.specs.Serial as serial;
+ghost use Rattle.lu_lint.specs.Runs as spec;
+ghost use Rattle.lu_lint.specs.Runs.{AreShown, CanPlay, HintsOfCut, Plays, RunsOf, Show, ShownBySetup, ShownSerially, history_hints, set_hints, with_firsts};
+ghost use Rattle.lu_lint.specs.declared.remark.RunHint.TheVariants.{Serial, SetupGoesOn};
+ghost use Rattle.lu_lint.specs.Said.{said_of};
+ghost use Rattle.lu_lint.specs.Third.{Adds};
+ghost use Rattle.lu_text.specs.Lines.{texts};
+
+use crate::remark::{
+    Cause, Ending, Operations, Remark, RunHint, Said, SerialHint, line_below, with_remark,
+};
+use crate::run_wording::run_wording;
+use lu_component::Component;
+use lu_history::{SerialOp, SerialOutcome};
+use lu_machine::{Event, Machine, Outcome, settles};
+use lu_serial::{Learnt, learn};
+use lu_test::{Matrix, Move, Schedule, setup_alone};
+use lu_text::{lines_of, words_of};
+use lu_trie::{SerialTree, Trie};
+use std::alloc::{AllocError, Global};
+
+/// The most moves of a setup that settles: of each of its 8 calls the call and 256 more.
+const MOST_MOVES_OF_SETUP: u16 = 2056;
+
+/// The move of thread 0 with pick 0.
+const FIRST_MOVE: Move = Move { thread: 0, pick: 0 };
+
+/// The hints with that of an event of the setup's run, where a call traps.
+fn with_event_hint(
+    mut hints: Vec<RunHint>,
+    event: Option<Event>,
+) -> Result<Vec<RunHint>, AllocError>
+    ensures { IfOk result (λ next.
+        next.items ≡ hints.items ++ flat_map spec.event_hints (runs.with_event event [])) }
+{
+    if let Some(
+        Event::Return {
+            k,
+            outcome: Outcome::Trap,
+            ..
+        },
+    ) = event
+    {
+        hints.push(RunHint::SetupTraps(k))?;
+    }
+    Ok(hints)
+}
+
+/// The calls of the setup that trap.
+fn setup_hints(
+    alloc: Global,
+    component: &Component,
+    matrix: &Matrix,
+) -> Result<Vec<RunHint>, AllocError>
+    requires { CanRun component.now matrix.now }
+    ensures { IfOk result (λ hints. ShownBySetup component.now matrix.now hints.items) }
+{
+    let alone = setup_alone(alloc, matrix)?;
+    let mut machine = Machine::start(alloc, component, &alone)?;
+    let mut hints = Vec::new(alloc);
+    for _moved in 0..MOST_MOVES_OF_SETUP {
+        if !machine.feasible(FIRST_MOVE) {
+            return Ok(hints);
+        }
+        let event = machine.step(FIRST_MOVE);
+        hints = with_event_hint(hints, event)?;
+    }
+    Ok(hints)
+}
+
+/// The number of operations of this thread.
+pub(crate) fn count_of(thread: u8, ops: &[SerialOp]) -> usize
+    ensures { result ≡ spec.count_of thread ops.now }
+{
+    ops.iter().filter(|op| op.thread == thread).count()
+}
+
+/// How an operation ends, where that is told.
+fn ending_of(outcome: SerialOutcome) -> Option<Ending>
+    ensures { result ≡ spec.ending_of outcome }
+{
+    match outcome {
+        SerialOutcome::Ret(_) => None,
+        SerialOutcome::Trap => Some(Ending::Trap),
+        SerialOutcome::Stuck => Some(Ending::Stuck),
+    }
+}
+
+fn same_ending(a: Ending, b: Ending) -> bool
+    ensures { result ≡ spec.same_ending a b }
+{
+    match (a, b) {
+        (Ending::Trap, Ending::Trap) => true,
+        (Ending::Stuck, Ending::Stuck) => true,
+        (Ending::Cut, Ending::Cut) => true,
+        _ => false,
+    }
+}
+
+/// Whether two hints are of the same call, with the same ending.
+fn are_alike(a: &SerialHint, b: &SerialHint) -> bool
+    ensures { result ≡ spec.are_alike a.now b.now }
+{
+    a.thread == b.thread && a.call == b.call && same_ending(a.ending, b.ending)
+}
+
+fn have_like(told: &[SerialHint], hint: &SerialHint) -> bool
+    ensures { result ≡ list_any (spec.are_alike hint.now) told.now }
+{
+    told.iter().any(|other| are_alike(hint, other))
+}
+
+/// That the next operation of the thread behind these ends so.
+fn hint_of(
+    alloc: Global,
+    before: &[SerialOp],
+    thread: u8,
+    ending: Ending,
+) -> Result<SerialHint, AllocError>
+    ensures { IfOk result (λ hint. hint ≡ spec.hint_of before.now thread ending) }
+{
+    Ok(SerialHint {
+        thread,
+        call: count_of(thread, before),
+        ending,
+        behind: Operations::new(Vec::from_slice(alloc, before)?),
+    })
+}
+
+/// The hints with this one, unless there is one of its call and its ending.
+fn with_hint(mut told: Vec<SerialHint>, hint: SerialHint) -> Result<Vec<SerialHint>, AllocError>
+    ensures { IfOk result (λ next. next.items ≡ spec.with_hint told.items hint) }
+{
+    if have_like(&told, &hint) {
+        return Ok(told);
+    }
+    told.push(hint)?;
+    Ok(told)
+}
+
+/// The hints with that of an operation behind these, where it is told.
+fn with_op(
+    alloc: Global,
+    told: Vec<SerialHint>,
+    before: &[SerialOp],
+    op: SerialOp,
+) -> Result<Vec<SerialHint>, AllocError>
+    ensures { IfOk result (λ next.
+        next.items ≡ with_firsts told.items (spec.op_hints before.now op)) }
+{
+    match ending_of(op.outcome) {
+        None => Ok(told),
+        Some(ending) => with_hint(told, hint_of(alloc, before, op.thread, ending)?),
+    }
+}
+
+/// The hints with those of the operations of a history.
+fn with_history(
+    alloc: Global,
+    mut told: Vec<SerialHint>,
+    history: &[SerialOp],
+) -> Result<Vec<SerialHint>, AllocError>
+    ensures { IfOk result (λ next.
+        next.items ≡ with_firsts told.items (history_hints history.now)) }
+{
+    for (place, op) in history.iter().enumerate() {
+        let (before, _) = history.split_at(place);
+        told = with_op(alloc, told, before, *op)?;
+    }
+    Ok(told)
+}
+
+/// The hints with those of the path, where it is a history.
+fn with_end(
+    alloc: Global,
+    told: Vec<SerialHint>,
+    ends: bool,
+    path: &[SerialOp],
+) -> Result<Vec<SerialHint>, AllocError>
+    ensures { IfOk result (λ next.
+        next.items ≡ spec.with_behind told.items path.now (empty_if ends)) }
+{
+    if ends {
+        with_history(alloc, told, path)
+    } else {
+        Ok(told)
+    }
+}
+
+/// The hints with those of all histories that begin with the path, which leads to this place.
+fn with_below<T: SerialTree>(
+    alloc: Global,
+    mut told: Vec<SerialHint>,
+    tree: &T,
+    place: T::Place,
+    path: &mut Vec<SerialOp>,
+) -> Result<Vec<SerialHint>, AllocError>
+    requires { T.is_place tree.now place }
+    ensures hints { IfOk result (λ next.
+        next.items ≡ spec.with_behind told.items path.old.items (T.below tree.now place)) }
+    ensures path { IfOk result (λ next. path.new.items ≡ path.old.items) }
+{
+    told = with_end(alloc, told, tree.ends(place), path)?;
+    for i in 0..tree.kid_count(place) {
+        let (op, below) = tree.kid(place, i);
+        path.push(op)?;
+        told = with_below(alloc, told, tree, below, path)?;
+        path.pop();
+    }
+    Ok(told)
+}
+
+/// What the histories of a set show.
+fn set_hints(alloc: Global, set: &Trie<Global>) -> Result<Vec<SerialHint>, AllocError>
+    ensures sorted { IsStrictlySortedBy history_cmp set.now }
+    ensures hints { IfOk result (λ hints. hints.items ≡ set_hints set.now) }
+{
+    // That the members stand in order is known where they are counted.
+    let _members = set.len();
+    let tree = &set;
+    let root = tree.root();
+    let hints = with_below(alloc, Vec::new(alloc), tree, root, &mut Vec::new(alloc))?;
+    Ok(hints)
+}
+
+/// The history with this event, or none.
+fn with_event(mut history: Vec<Event>, event: Option<Event>) -> Result<Vec<Event>, AllocError>
+    ensures { IfOk result (λ next. next.items ≡ history.items ++ runs.with_event event []) }
+{
+    if let Some(event) = event {
+        history.push(event)?;
+    }
+    Ok(history)
+}
+
+/// The history of a schedule, whose moves are asked to be feasible.
+fn played(
+    alloc: Global,
+    component: &Component,
+    matrix: &Matrix,
+    schedule: &Schedule,
+) -> Result<Vec<Event>, AllocError>
+    requires run { CanRun component.now matrix.now }
+    requires feasible { FromEachStart component.now matrix.now (CanPlay schedule.now) }
+    ensures { IfOk result (λ history.
+        FromEachStart component.now matrix.now (Plays schedule.now history.items)) }
+{
+    let mut machine = Machine::start(alloc, component, matrix)?;
+    let mut history = Vec::new(alloc);
+    for next in schedule.moves() {
+        let event = machine.step(*next);
+        history = with_event(history, event)?;
+    }
+    Ok(history)
+}
+
+/// The serial operations with that which an event ends, if it is a return.
+fn with_entry(mut entries: Vec<SerialOp>, event: Event) -> Result<Vec<SerialOp>, AllocError>
+    ensures { IfOk result (λ next. next.items ≡ entries.items ++ serial.entry_of event) }
+{
+    if let Event::Return { t, outcome, k: _ } = event {
+        entries.push(SerialOp {
+            thread: t,
+            outcome: SerialOutcome::from(outcome),
+        })?;
+    }
+    Ok(entries)
+}
+
+/// The serial operations of a history.
+fn entries_of(alloc: Global, history: &[Event]) -> Result<Vec<SerialOp>, AllocError>
+    ensures { IfOk result (λ entries. entries.items ≡ serial.entries_of history.now) }
+{
+    let mut entries = Vec::new(alloc);
+    for event in history {
+        entries = with_entry(entries, *event)?;
+    }
+    Ok(entries)
+}
+
+/// That the last event of a history is a call that is cut, behind these operations.
+fn last_hints(
+    alloc: Global,
+    before: &[SerialOp],
+    last: Option<Event>,
+) -> Result<Vec<SerialHint>, AllocError>
+    ensures { IfOk result (λ hints. hints.items ≡ spec.last_hints before.now last) }
+{
+    let mut hints = Vec::new(alloc);
+    if let Some(Event::Call { t, .. }) = last {
+        hints.push(hint_of(alloc, before, t, Ending::Cut)?)?;
+    }
+    Ok(hints)
+}
+
+/// What a schedule that is cut shows, by its history.
+fn cut_hints(alloc: Global, history: &[Event]) -> Result<Vec<SerialHint>, AllocError>
+    ensures { IfOk result (λ hints. hints.items ≡ spec.cut_hints history.now) }
+{
+    let before = entries_of(alloc, history)?;
+    last_hints(alloc, &before, history.last().copied())
+}
+
+/// What the serial runs show where one is cut.
+fn hints_of_cut(
+    alloc: Global,
+    component: &Component,
+    matrix: &Matrix,
+    schedule: &Schedule,
+) -> Result<Vec<SerialHint>, AllocError>
+    requires run { CanRun component.now matrix.now }
+    requires feasible { FromEachStart component.now matrix.now (CanPlay schedule.now) }
+    ensures { IfOk result (λ hints.
+        FromEachStart component.now matrix.now (HintsOfCut schedule.now hints.items)) }
+{
+    let history = played(alloc, component, matrix, schedule)?;
+    let hints = cut_hints(alloc, &history)?;
+    Ok(hints)
+}
+
+/// What the serial runs show.
+fn serial_hints(
+    alloc: Global,
+    component: &Component,
+    matrix: &Matrix,
+    bound: u16,
+) -> Result<Vec<SerialHint>, AllocError>
+    requires of { CanRun component.now matrix.now }
+    requires some { 1 ≤ bound }
+    requires few { bound ≤ 256 }
+    ensures { IfOk result (λ hints.
+        FromEachStart component.now matrix.now (ShownSerially bound hints.items)) }
+{
+    let learnt = learn(alloc, alloc, component, matrix, bound)?;
+    match learnt {
+        Learnt::Set(set) => set_hints(alloc, &set),
+        Learnt::Cut(schedule) => hints_of_cut(alloc, component, matrix, &schedule),
+        Learnt::Conflict { .. } => Ok(Vec::new(alloc)),
+    }
+}
+
+/// The hints of the setup, and then those of the serial runs.
+fn all_hints(mut setup: Vec<RunHint>, serial: Vec<SerialHint>) -> Result<Vec<RunHint>, AllocError>
+    ensures { IfOk result (λ hints. hints.items ≡ setup.items ++ map Serial serial.items) }
+{
+    for hint in serial {
+        setup.push(RunHint::Serial(hint))?;
+    }
+    Ok(setup)
+}
+
+/// What runs of a component and a matrix show, where the setup settles.
+fn settled_hints(
+    alloc: Global,
+    component: &Component,
+    matrix: &Matrix,
+    bound: u16,
+) -> Result<Vec<RunHint>, AllocError>
+    requires of { CanRun component.now matrix.now }
+    requires some { 1 ≤ bound }
+    requires few { bound ≤ 256 }
+    ensures { IfOk result (λ hints. AreShown component.now matrix.now bound hints.items) }
+{
+    let setup = setup_hints(alloc, component, matrix)?;
+    let serial = serial_hints(alloc, component, matrix, bound)?;
+    let hints = all_hints(setup, serial)?;
+    Ok(hints)
+}
+
+/// That this call of the setup does not end.
+fn unsettled_hints(alloc: Global, call: u8) -> Result<Vec<RunHint>, AllocError>
+    ensures { IfOk result (λ hints. hints.items ≡ SetupGoesOn call ∷ []) }
+{
+    let mut hints = Vec::new(alloc);
+    hints.push(RunHint::SetupGoesOn(call))?;
+    Ok(hints)
+}
+
+/// What runs of a component and a matrix show.
+fn hints_of(
+    alloc: Global,
+    component: &Component,
+    matrix: &Matrix,
+    bound: u16,
+) -> Result<Vec<RunHint>, AllocError>
+    requires of { IsOf matrix.now component.now }
+    requires some { 1 ≤ bound }
+    requires few { bound ≤ 256 }
+    ensures { IfOk result (λ hints. Show component.now matrix.now bound hints.items) }
+{
+    match settles(alloc, component, matrix)? {
+        Some(call) => unsettled_hints(alloc, call),
+        None => settled_hints(alloc, component, matrix, bound),
+    }
+}
+
+/// Whether the words begin with this one.
+fn begin_with(word: &[u8], words: &[&[u8]]) -> bool
+    ensures { result ≡ spec.begin_with word.now (texts words.now) }
+{
+    match words.split_first() {
+        None => false,
+        Some((first, _)) => *first == word,
+    }
+}
+
+/// The numbers with that of this line, where it begins with the word.
+fn with_line(
+    alloc: Global,
+    mut found: Vec<usize>,
+    word: &[u8],
+    number: usize,
+    line: &[u8],
+) -> Result<Vec<usize>, AllocError>
+    ensures { IfOk result (λ next.
+        next.items ≡ found.items ++ spec.line_if word.now number line.now) }
+{
+    let words = words_of(alloc, line)?;
+    if begin_with(word, &words) {
+        found.push(number)?;
+    }
+    Ok(found)
+}
+
+fn lines_from(alloc: Global, word: &[u8], lines: &[&[u8]]) -> Result<Vec<usize>, AllocError>
+    ensures { IfOk result (λ found. found.items ≡ spec.lines_from word.now 1 (texts lines.now)) }
+{
+    let mut found = Vec::new(alloc);
+    for (before, line) in lines.iter().enumerate() {
+        found = with_line(alloc, found, word, before + 1, line)?;
+    }
+    Ok(found)
+}
+
+/// The numbers of the lines of a text that begin with this word.
+fn lines_with(alloc: Global, word: &[u8], text: &[u8]) -> Result<Vec<usize>, AllocError>
+    ensures { IfOk result (λ found. found.items ≡ spec.lines_with word.now text.now) }
+{
+    let lines = lines_of(alloc, text)?;
+    lines_from(alloc, word, &lines)
+}
+
+fn number_at(numbers: &[usize], place: usize) -> usize
+    ensures { result ≡ spec.number_at numbers.now place }
+{
+    match numbers.get(place) {
+        None => 0,
+        Some(number) => *number,
+    }
+}
+
+/// The line of a hint, where these are the lines of the setup and of the threads.
+fn hint_line(setup: &[usize], threads: &[usize], hint: &RunHint) -> usize
+    ensures { result ≡ spec.hint_line setup.now threads.now hint.now }
+{
+    match hint {
+        RunHint::SetupGoesOn(_) => number_at(setup, 0),
+        RunHint::SetupTraps(_) => number_at(setup, 0),
+        RunHint::Serial(hint) => number_at(threads, usize::from(hint.thread)),
+    }
+}
+
+/// What is said of a hint.
+fn shown(above: usize, setup: &[usize], threads: &[usize], hint: RunHint) -> Said
+    ensures { result ≡ spec.shown above setup.now threads.now hint }
+{
+    Said {
+        place: line_below(above, hint_line(setup, threads, &hint)),
+        cause: Cause::Run(hint),
+    }
+}
+
+/// The component and the matrix that are run.
+#[derive(Clone, Copy)]
+pub(crate) struct Test<'a> {
+    pub component: &'a Component,
+    pub matrix: &'a Matrix,
+    pub bound: u16,
+}
+
+/// The remarks with those of these hints.
+fn with_hints(
+    alloc: Global,
+    mut all: Vec<Remark>,
+    test: Test<'_>,
+    above: usize,
+    text: &[u8],
+    hints: Vec<RunHint>,
+) -> Result<Vec<Remark>, AllocError>
+    ensures { IfOk result (λ next. said_of next.items ≡
+        said_of all.items ++ spec.all_shown above text.now hints.items) }
+{
+    let setup = lines_with(alloc, b"setup", text)?;
+    let threads = lines_with(alloc, b"thread", text)?;
+    for hint in hints {
+        let words = run_wording(alloc, test, &hint)?;
+        all = with_remark(all, shown(above, &setup, &threads, hint), words)?;
+    }
+    Ok(all)
+}
+
+/// The remarks with those that runs of the component and the matrix of this text show.
+pub(crate) fn with_runs_of(
+    alloc: Global,
+    all: Vec<Remark>,
+    component: &Component,
+    matrix: &Matrix,
+    bound: u16,
+    above: usize,
+    text: &[u8],
+) -> Result<Vec<Remark>, AllocError>
+    requires of { IsOf matrix.now component.now }
+    requires some { 1 ≤ bound }
+    requires few { bound ≤ 256 }
+    ensures { IfOk result (λ next.
+        Adds (RunsOf bound component.now matrix.now above text.now)
+        (said_of all.items) (said_of next.items)) }
+{
+    let hints = hints_of(alloc, component, matrix, bound)?;
+    let test = Test {
+        component,
+        matrix,
+        bound,
+    };
+    with_hints(alloc, all, test, above, text, hints)
+}
