@@ -20,7 +20,7 @@ use Rattle.lu_cli.specs.declared.order.CampaignThreads.TheVariants.{Alike, Own}
 use Rattle.lu_cli.specs.declared.order.Request.{Request}
 use Rattle.lu_cli.specs.declared.order.Request.TheVariants.{Lint, Ordered}
 use Rattle.lu_cli.specs.declared.order.Order.{Order}
-use Rattle.lu_cli.specs.declared.order.Order.TheVariants.{Replay, Trace, Draw, DrawExplained, Explain, ExplainAgainst, Serial, Spec, Check, CheckAgainst, Certify, Refute, Shrink, Campaign}
+use Rattle.lu_cli.specs.declared.order.Order.TheVariants.{Replay, Trace, TraceFromSetup, Draw, DrawExplained, Explain, ExplainAgainst, Serial, Spec, Check, CheckAgainst, Certify, Refute, Shrink, Campaign}
 use Rattle.lu_cli.specs.Orders.{choice_of}
 use Rattle.lu_report.specs.Limits.{Limits, limits_of, most_moves}
 use Rattle.lu_parallel.specs.Ranges.{Choice}
@@ -80,7 +80,7 @@ abbrev pub replay_command : App
 replay_command = new_app (codes "replay")
 
 abbrev pub trace_command : App
-trace_command = new_app (codes "trace")
+trace_command = with_rule (new_app (codes "trace")) (flag (codes "setup"))
 
 abbrev pub draw_command : App
 draw_command =
@@ -222,6 +222,13 @@ check_order against choice = if against then CheckAgainst choice else Check choi
 abbrev pub check_in : List Row → Option Order
 check_in rows = option_map (check_order (flag_in (codes "spec") rows)) (choice_in rows)
 
+-- a trace, or one from the setup on
+abbrev pub trace_order : Bool → Order
+trace_order with_setup = if with_setup then TraceFromSetup else Trace
+
+abbrev pub trace_in : List Row → Order
+trace_in rows = trace_order (flag_in (codes "setup") rows)
+
 -- a picture, or one with an explanation
 abbrev pub draw_order : Bool → Limits → Order
 draw_order explained limits = if explained then DrawExplained limits else Draw
@@ -288,7 +295,7 @@ campaign_in rows =
 abbrev pub order_by : Text → List Row → Option Order
 order_by name rows =
     if bytes_eq name (codes "replay") then Some Replay
-    else (if bytes_eq name (codes "trace") then Some Trace
+    else (if bytes_eq name (codes "trace") then Some (trace_in rows)
     else (if bytes_eq name (codes "draw") then draw_in rows
     else (if bytes_eq name (codes "explain") then explain_in rows
     else (if bytes_eq name (codes "serial") then option_map Serial (limits_in rows)

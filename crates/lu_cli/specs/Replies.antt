@@ -37,6 +37,7 @@ use Rattle.lu_replay.specs.Confirmed.{IsFailure}
 use Rattle.lu_replay.specs.Replays.{Shows, IsInfeasibleAt}
 use Rattle.lu_replay.specs.Text.{replay_text}
 use Rattle.lu_trace.specs.Traces.{IsTrace}
+use Rattle.lu_trace.specs.Setups.{IsTraceFromSetup}
 use Rattle.lu_lint.specs.declared.remark.Remark.{Remark}
 use Rattle.lu_lint.specs.Bundle.{IsSaidOf}
 use Rattle.lu_lint.specs.Messages.{remarks_text}
@@ -76,7 +77,7 @@ use Rattle.lu_cli.specs.declared.order.CampaignThreads.TheVariants.{Alike, Own}
 use Rattle.lu_cli.specs.declared.order.Request.{Request}
 use Rattle.lu_cli.specs.declared.order.Request.TheVariants.{Lint, Ordered}
 use Rattle.lu_cli.specs.declared.order.Order.{Order}
-use Rattle.lu_cli.specs.declared.order.Order.TheVariants.{Replay, Trace, Draw, DrawExplained, Explain, ExplainAgainst, Serial, Spec, Check, CheckAgainst, Certify, Refute, Shrink, Campaign as Campaigning}
+use Rattle.lu_cli.specs.declared.order.Order.TheVariants.{Replay, Trace, TraceFromSetup, Draw, DrawExplained, Explain, ExplainAgainst, Serial, Spec, Check, CheckAgainst, Certify, Refute, Shrink, Campaign as Campaigning}
 use Rattle.lu_cli.specs.declared.refusal.Refusal.{Refusal}
 use Rattle.lu_cli.specs.declared.refusal.Refusal.TheVariants as refusal
 use Rattle.lu_cli.specs.declared.explaining.Target.{Target}
@@ -116,6 +117,14 @@ IsReplayed c matrix u answer =
 abbrev pub IsTraced : Declarations → Matrix → List Move → Answer → Type 0
 IsTraced c matrix u answer =
     ((text : List ℕ) × IsTrace c matrix u text × (answer ≡ record { text = text; status = 0 }))
+    ⊎ ((i : ℕ) × IsInfeasibleAt c matrix u i
+    × (answer ≡ infeasible i))
+
+-- the trace from the setup on, or where the schedule is infeasible
+abbrev pub IsTracedFromSetup : Declarations → Matrix → List Move → Answer → Type 0
+IsTracedFromSetup c matrix u answer =
+    ((text : List ℕ) × IsTraceFromSetup c matrix u text
+    × (answer ≡ record { text = text; status = 0 }))
     ⊎ ((i : ℕ) × IsInfeasibleAt c matrix u i
     × (answer ≡ infeasible i))
 
@@ -317,6 +326,9 @@ IsShownRefusal text refused =
 abbrev pub IsTracedText : Declarations → Matrix → List ℕ → Answer → Type 0
 IsTracedText c m text = ToShown text (IsTraced c m)
 
+abbrev pub IsTracedFromSetupText : Declarations → Matrix → List ℕ → Answer → Type 0
+IsTracedFromSetupText c m text = ToShown text (IsTracedFromSetup c m)
+
 abbrev pub IsDrawnText : Declarations → Matrix → List ℕ → Answer → Type 0
 IsDrawnText c m text = ToShown text (IsDrawn c m)
 
@@ -497,6 +509,10 @@ abbrev pub IsTraceOf : List (List ℕ) → Answer → Type 0
 IsTraceOf parts =
     ToParts (three parts) (λ p. ToTexts p.0 p.1 (λ c m. IsTracedText c m p.2))
 
+abbrev pub IsTraceFromSetupOf : List (List ℕ) → Answer → Type 0
+IsTraceFromSetupOf parts =
+    ToParts (three parts) (λ p. ToTexts p.0 p.1 (λ c m. IsTracedFromSetupText c m p.2))
+
 abbrev pub IsDrawOf : List (List ℕ) → Answer → Type 0
 IsDrawOf parts =
     ToParts (three parts) (λ p. ToTexts p.0 p.1 (λ c m. IsDrawnText c m p.2))
@@ -543,6 +559,7 @@ IsCampaignOf options parts =
 abbrev pub IsAnswerTo : Order → List (List ℕ) → Answer → Type 0
 IsAnswerTo Replay parts = IsReplayOf parts
 IsAnswerTo Trace parts = IsTraceOf parts
+IsAnswerTo TraceFromSetup parts = IsTraceFromSetupOf parts
 IsAnswerTo Draw parts = IsDrawOf parts
 IsAnswerTo (DrawExplained limits) parts = IsExplainOf Picture limits parts
 IsAnswerTo (Explain limits) parts = IsExplainOf Words limits parts

@@ -141,6 +141,12 @@ fn explain_command<'a>(alloc: Global) -> Result<Command<'a>, AllocError>
     with_option(command, flag(alloc, "spec"))
 }
 
+fn trace_command<'a>(alloc: Global) -> Result<Command<'a>, AllocError>
+    ensures { IfOk result (IsApp spec.trace_command) }
+{
+    with_option(bare_command(alloc, "trace"), flag(alloc, "setup"))
+}
+
 fn draw_command<'a>(alloc: Global) -> Result<Command<'a>, AllocError>
     ensures { IfOk result (IsApp spec.draw_command) }
 {
@@ -189,7 +195,7 @@ fn schedule_commands<'a>(alloc: Global) -> Result<Command<'a>, AllocError>
     ensures { IfOk result (IsApp spec.schedule_commands) }
 {
     let program = with_command(bare_program(alloc), bare_command(alloc, "replay"));
-    let program = with_command(program, bare_command(alloc, "trace"));
+    let program = with_command(program, trace_command(alloc));
     let program = with_command(program, draw_command(alloc));
     with_command(program, explain_command(alloc))
 }
@@ -352,6 +358,23 @@ fn check_in(given: &ArgMatches<'_>) -> Option<Order>
     Some(check_order(options, flag_in(given, "spec")))
 }
 
+/// A trace, or one from the setup on.
+fn trace_order(with_setup: bool) -> Order
+    ensures { result ≡ spec.trace_order with_setup }
+{
+    if with_setup {
+        Order::TraceFromSetup
+    } else {
+        Order::Trace
+    }
+}
+
+fn trace_in(given: &ArgMatches<'_>) -> Order
+    ensures { result ≡ spec.trace_in (rows_of (found_of given.now)) }
+{
+    trace_order(flag_in(given, "setup"))
+}
+
 /// A picture, or one with an explanation.
 fn draw_order(explained: bool, bounds: Bounds) -> Order
     ensures { result ≡ spec.draw_order explained bounds }
@@ -396,7 +419,7 @@ fn order_by(name: &str, given: &ArgMatches<'_>) -> Option<Order>
 {
     match name {
         "replay" => Some(Order::Replay),
-        "trace" => Some(Order::Trace),
+        "trace" => Some(trace_in(given)),
         "draw" => draw_in(given),
         "explain" => explain_in(given),
         "serial" => bounds_in(given).map(Order::Serial),

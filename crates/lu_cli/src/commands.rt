@@ -31,7 +31,7 @@ use lu_serial::learn;
 use lu_spec::{Spec, collect_spec, read_spec};
 use lu_test::{Matrix, Schedule, read_schedule};
 use lu_text::{four, three, two};
-use lu_trace::{TraceFault, write_trace};
+use lu_trace::{TraceFault, write_trace, write_trace_from_setup};
 use std::alloc::{AllocError, Global};
 use std::sync::Wait;
 use std::thread::Threads;
@@ -104,6 +104,46 @@ fn answer_trace(alloc: Global, parts: &[&[u8]]) -> Result<Answer, Refusal>
     let (component, matrix, shown) = three(parts).ok_or(Refusal::Parts)?;
     let case = read_texts(alloc, component, matrix)?;
     trace_text(alloc, &case.component, &case.matrix, shown)
+}
+
+/// The trace of the schedule from the setup on, or where it is infeasible.
+fn trace_from_setup(
+    alloc: Global,
+    component: &Component,
+    matrix: &Matrix,
+    schedule: &Schedule,
+) -> Result<Answer, AllocError>
+    requires { CanRun component.now matrix.now }
+    ensures { IfOk result (spec.IsTracedFromSetup component.now matrix.now schedule.now) }
+{
+    match write_trace_from_setup(alloc, component, matrix, schedule) {
+        Ok(text) => Ok(Answer { text, status: 0 }),
+        Err(TraceFault::Infeasible(index)) => infeasible(alloc, index),
+        Err(TraceFault::Memory) => Err(AllocError),
+    }
+}
+
+/// The trace from the setup on of the schedule that a text says or a report shows.
+fn trace_text_from_setup(
+    alloc: Global,
+    component: &Component,
+    matrix: &Matrix,
+    text: &[u8],
+) -> Result<Answer, Refusal>
+    requires { CanRun component.now matrix.now }
+    ensures { Answered (spec.IsTracedFromSetupText component.now matrix.now text.now) result }
+{
+    let schedule = read_shown(alloc, text)?;
+    Ok(trace_from_setup(alloc, component, matrix, &schedule)?)
+}
+
+/// `lineup trace --setup`: component, matrix, and a schedule or a report.
+fn answer_trace_from_setup(alloc: Global, parts: &[&[u8]]) -> Result<Answer, Refusal>
+    ensures { Answered (spec.IsTraceFromSetupOf (texts parts.now)) result }
+{
+    let (component, matrix, shown) = three(parts).ok_or(Refusal::Parts)?;
+    let case = read_texts(alloc, component, matrix)?;
+    trace_text_from_setup(alloc, &case.component, &case.matrix, shown)
 }
 
 /// The picture of the schedule that a text says or a report shows.
@@ -342,6 +382,7 @@ fn carry_out<X: AllocGlobal + Threads + Wait>(
     match order {
         Order::Replay => answer_replay(rt.alloc(), parts),
         Order::Trace => answer_trace(rt.alloc(), parts),
+        Order::TraceFromSetup => answer_trace_from_setup(rt.alloc(), parts),
         Order::Draw => answer_draw(rt.alloc(), parts),
         Order::DrawExplained(bounds) => {
             answer_explain(rt.alloc(), bounds, parts, Presentation::Picture)

@@ -58,6 +58,9 @@ pub enum Order {
     /// `lineup trace`: show what each move of a schedule does.
     Trace,
 
+    /// `lineup trace --setup`: the same, and before it what the matrix's setup does and leaves.
+    TraceFromSetup,
+
     /// `lineup draw`: show a schedule as a picture.
     Draw,
 
