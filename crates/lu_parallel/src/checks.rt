@@ -21,31 +21,40 @@ use lu_report::{Finding, Report};
 use lu_serial::learn;
 use lu_test::Matrix;
 use lu_tree::frontier;
-use lu_trie::{PackedTrie, SerialTree, Trie};
+use lu_trie::{PackedTrie, SerialTree};
 use std::alloc::Global;
 use std::sync::Wait;
 use std::thread::Threads;
 
+/// A check of a matrix of a component, and with what it is made.
+#[derive_where(Clone, Copy)]
+#[derive(Drop)]
+struct Checking<'a, R, G> {
+    rt: &'a R,
+    alloc: Global,
+    gate: &'a G,
+    component: &'a Component,
+    matrix: &'a Matrix,
+    options: Options,
+}
+
 /// What the workers find against the set of a tree.
 fn search_by_workers<R: Threads + Wait, G: Gate, T: SerialTree + Sync>(
-    rt: &R,
-    alloc: Global,
-    gate: &G,
-    component: &Component,
-    matrix: &Matrix,
+    check: &Checking<'_, R, G>,
     tree: &T,
-    options: Options,
 ) -> Result<Finding, CheckFault>
 where
     T::Place: Send + Sync,
-    requires of { CanRun component.now matrix.now }
-    ensures found { FindsAgainst component.now matrix.now (T.members tree.now)
-        options.bound result }
-    ensures limits { OnOk result (IsMatrix matrix.now) }
+    requires of { CanRun check.now.component.now check.now.matrix.now }
+    ensures found { FindsAgainst check.now.component.now check.now.matrix.now (T.members tree.now)
+        check.now.options.bound result }
+    ensures limits { OnOk result (IsMatrix check.now.matrix.now) }
 {
-    let bound = options.bound();
-    let pieces = frontier(alloc, component, matrix, bound, options.depth())?;
-    let (board, seats) = Board::new(alloc, pieces.len() as u64, u64::from(options.workers()))?;
+    let (alloc, component, matrix) = (check.alloc, check.component, check.matrix);
+    let bound = check.options.bound();
+    let pieces = frontier(alloc, component, matrix, bound, check.options.depth())?;
+    let workers = u64::from(check.options.workers());
+    let (board, seats) = Board::new(alloc, pieces.len() as u64, workers)?;
     let job = Job {
         alloc,
         component,
@@ -54,7 +63,7 @@ where
         bound,
         board: &board,
     };
-    let works = run_workers(rt, job, tree, seats, gate)?;
+    let works = run_workers(check.rt, job, tree, seats, check.gate)?;
     match conclude(alloc, board, works)? {
         Some(found) => Ok(finding_of(found)),
         None => Err(CheckFault::Memory),
@@ -64,64 +73,47 @@ where
 /// What is found against the set of a tree. One worker searches all schedules on the calling
 /// thread.
 fn search_tree<R: Threads + Wait, G: Gate, T: SerialTree + Sync>(
-    rt: &R,
-    alloc: Global,
-    gate: &G,
-    component: &Component,
-    matrix: &Matrix,
+    check: &Checking<'_, R, G>,
     tree: &T,
-    options: Options,
 ) -> Result<Finding, CheckFault>
 where
     T::Place: Send + Sync,
-    requires of { CanRun component.now matrix.now }
-    ensures found { FindsAgainst component.now matrix.now (T.members tree.now)
-        options.bound result }
-    ensures limits { OnOk result (IsMatrix matrix.now) }
-    ensures alone { IfErr result (λ fault. options.workers ≡ 1 → fault ≡ Memory) }
+    requires of { CanRun check.now.component.now check.now.matrix.now }
+    ensures found { FindsAgainst check.now.component.now check.now.matrix.now (T.members tree.now)
+        check.now.options.bound result }
+    ensures limits { OnOk result (IsMatrix check.now.matrix.now) }
+    ensures alone { IfErr result (λ fault. check.now.options.workers ≡ 1 → fault ≡ Memory) }
 {
-    if options.workers() == 1 {
-        let finding = search_all(alloc, component, matrix, tree, options.bound())?;
+    if check.options.workers() == 1 {
+        let bound = check.options.bound();
+        let finding = search_all(check.alloc, check.component, check.matrix, tree, bound)?;
         return Ok(finding);
     }
-    search_by_workers(rt, alloc, gate, component, matrix, tree, options)
+    search_by_workers(check, tree)
 }
 
-/// What is found against a set of serial histories, which is packed once for all workers.
-fn search_packed<R: Threads + Wait, G: Gate>(
-    rt: &R,
-    alloc: Global,
-    gate: &G,
-    component: &Component,
-    matrix: &Matrix,
-    set: Trie<Global>,
-    options: Options,
-) -> Result<Finding, CheckFault>
-    requires of { CanRun component.now matrix.now }
-    ensures found { FindsAgainst component.now matrix.now set options.bound result }
-    ensures alone { IfErr result (λ fault. options.workers ≡ 1 → fault ≡ Memory) }
+/// The least serial offence, or what is found among all schedules. The set of serial histories is
+/// packed once for all workers.
+fn find<R: Threads + Wait, G: Gate>(check: &Checking<'_, R, G>) -> Result<Finding, CheckFault>
+    requires of { CanRun check.now.component.now check.now.matrix.now }
+    ensures found { Finds check.now.component.now check.now.matrix.now check.now.options.bound
+        check.now.options.serial result }
+    ensures limits { OnOk result (IsMatrix check.now.matrix.now) }
+    ensures alone { IfErr result (λ fault. check.now.options.workers ≡ 1 → fault ≡ Memory) }
 {
-    let packed = PackedTrie::pack(alloc, &set)?;
-    drop(set);
-    search_tree(rt, alloc, gate, component, matrix, &&packed, options)
-}
-
-/// The least serial offence, or what is found among all schedules.
-fn find<R: Threads + Wait, G: Gate>(
-    rt: &R,
-    alloc: Global,
-    gate: &G,
-    component: &Component,
-    matrix: &Matrix,
-    options: Options,
-) -> Result<Finding, CheckFault>
-    requires of { CanRun component.now matrix.now }
-    ensures found { Finds component.now matrix.now options.bound options.serial result }
-    ensures limits { OnOk result (IsMatrix matrix.now) }
-    ensures alone { IfErr result (λ fault. options.workers ≡ 1 → fault ≡ Memory) }
-{
-    match set_or_offence(learn(alloc, alloc, component, matrix, options.serial())?) {
-        Ok(set) => search_packed(rt, alloc, gate, component, matrix, set, options),
+    let serial = check.options.serial();
+    match set_or_offence(learn(
+        check.alloc,
+        check.alloc,
+        check.component,
+        check.matrix,
+        serial,
+    )?) {
+        Ok(set) => {
+            let packed = PackedTrie::pack(check.alloc, &set)?;
+            drop(set);
+            search_tree(check, &&packed)
+        }
         Err(offence) => Ok(offence),
     }
 }
@@ -148,7 +140,14 @@ pub fn check<R: Threads + Wait, G: Gate>(
     ensures report { IfOk result (IsReport component.now matrix.now options.bound options.serial) }
     ensures alone { IfErr result (λ fault. options.workers ≡ 1 → fault ≡ Memory) }
 {
-    let finding = find(rt, alloc, gate, component, matrix, options)?;
+    let finding = find(&Checking {
+        rt,
+        alloc,
+        gate,
+        component,
+        matrix,
+        options,
+    })?;
     Ok(Report::new(
         options.bound(),
         options.serial(),
@@ -181,6 +180,14 @@ where
         options.bound result }
     ensures alone { IfErr result (λ fault. options.workers ≡ 1 → fault ≡ Memory) }
 {
-    let finding = search_tree(rt, alloc, gate, component, matrix, tree, options)?;
+    let check = Checking {
+        rt,
+        alloc,
+        gate,
+        component,
+        matrix,
+        options,
+    };
+    let finding = search_tree(&check, tree)?;
     Ok(Report::against(options.bound(), component.local(), finding))
 }

@@ -16,7 +16,7 @@ use Rattle.lu_parallel.proofs.checks.search_by_workers.Goals as goal
 
 pub new-requires-clause-pieces : goal.new-requires-clause-pieces
 new-requires-clause-pieces g c =
-    let start = start_there c.args.component.now c.args.matrix.now c.requires.of.settles in
+    let start = start_there c.args.check.now.component.now c.args.check.now.matrix.now c.requires.of.settles in
     let few = (c.in_ok-pieces.ensures.frontier start.0 start.1).few in
     let long = c.in_ok-pieces.pieces.ok.0 in
     let is = c.len.ensures in
@@ -49,8 +49,8 @@ returns-in-Some-clause-found g c = λ s is.
     let shares = subst (λ n. SharesOut n (seats_of works)) long c.in_ok-found.ensures.pieces in
     let conclusion : IsConclusion works (Some found) = rw c.in-Some.is at c.in_ok-found.ensures.conclusion in
     let over : AreWorksOver members s bound works = record {
-      component = c.args.component.now;
-      matrix = c.args.matrix.now;
+      component = c.args.check.now.component.now;
+      matrix = c.args.check.now.matrix.now;
       start = is;
       pieces = pieces;
       cover = cover;
