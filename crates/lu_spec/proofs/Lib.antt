@@ -13,3 +13,4 @@ pub mod Ends
 pub mod Spelling
 pub mod Faultless
 pub mod Rereading
+pub mod FaultLines

@@ -49,7 +49,7 @@ all_read matrix text listed set last rest number none so_far =
 
 -- ---- the whole text
 
-concat_lines : (listed : List (List SerialOp)) → concat (map history_line listed) ≡ flat_map history_line listed
+pub concat_lines : (listed : List (List SerialOp)) → concat (map history_line listed) ≡ flat_map history_line listed
 concat_lines [] = refl
 concat_lines (q ∷ listed) = ap (λ (x : List ℕ). history_line q ++ x) (concat_lines listed) ∙ sym (flat_map-cons history_line q listed)
 

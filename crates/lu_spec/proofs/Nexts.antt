@@ -9,10 +9,18 @@ use Rattle.lu_trie.proofs.Determinism.{conflict_back, no_self_conflict}
 use Rattle.lu_spec.specs.Beginnings.{Has, Begins, IsClosureOf, AddsBeginnings}
 use Rattle.lu_spec.specs.Specs.{IsSpec, FitsMatrix, FitsIn}
 use Rattle.lu_spec.specs.SpecText.{AreListed, ComesAfter, GoesOn, HasConflictIn, IsLineOf, IsListable, history_line}
-use Rattle.lu_spec.specs.Reading.{IsListedDraft, IsNextOf, IsNextDraft}
+use Rattle.lu_spec.specs.Reading.{IsGatheredDraft, IsListedDraft, IsNextOf, IsNextDraft}
 use Rattle.lu_spec.proofs.Sets.{begins_self, has_either, has_right, has_left, has_first, has_cons}
 use Rattle.lu_spec.proofs.Closures.{conflict_on, none_right, is_spec}
 use Rattle.lu_spec.proofs.HistoryLines.{line_same}
+
+-- listed histories are gathered in order
+pub gathering : (matrix : Matrix) (listed set : List (List SerialOp)) (last : List SerialOp) → IsListedDraft matrix listed set last → IsGatheredDraft matrix listed set last
+gathering matrix listed set last draft = record {
+  are = record { each = draft.are.each; deterministic = draft.are.deterministic };
+  closure = draft.closure;
+  ends = draft.ends;
+}
 
 -- ---- the last history
 
@@ -26,7 +34,7 @@ last_same [] (b ∷ ys) x y e = absurd (no_push ys y (let f : [] ≡ ys ++ y ∷
 last_same (a ∷ xs) [] x y e = absurd (no_push xs x (let f : [] ≡ xs ++ x ∷ [] = cc in f))
 last_same (a ∷ xs) (b ∷ ys) x y e = last_same xs ys x y (let f : xs ++ x ∷ [] ≡ ys ++ y ∷ [] = cc in f)
 
-pub follows : (matrix : Matrix) (listed set : List (List SerialOp)) (last q : List SerialOp) → IsListedDraft matrix listed set last → (last ≢ [] → ComesAfter last q) → GoesOn listed q
+pub follows : (matrix : Matrix) (listed set : List (List SerialOp)) (last q : List SerialOp) → IsGatheredDraft matrix listed set last → (last ≢ [] → ComesAfter last q) → GoesOn listed q
 follows matrix listed set last q draft after before p is = by_end draft.ends
   where
     by_end : ((listed ≡ []) × (last ≡ [])) ⊎ ((front : List (List SerialOp)) × (listed ≡ front ++ last ∷ [])) → ComesAfter p q
@@ -37,7 +45,7 @@ follows matrix listed set last q draft after before p is = by_end draft.ends
         let some = (draft.are.each last member).0.some in
         subst (λ (x : List SerialOp). ComesAfter x q) same (after (λ empty. absurd (omega (arith, some, ap length empty))))
 
-pub must_follow : (matrix : Matrix) (listed set : List (List SerialOp)) (last q : List SerialOp) → IsListedDraft matrix listed set last → GoesOn listed q → last ≢ [] → ComesAfter last q
+pub must_follow : (matrix : Matrix) (listed set : List (List SerialOp)) (last q : List SerialOp) → IsGatheredDraft matrix listed set last → GoesOn listed q → last ≢ [] → ComesAfter last q
 must_follow matrix listed set last q draft goes some = by_end draft.ends
   where
     by_end : ((listed ≡ []) × (last ≡ [])) ⊎ ((front : List (List SerialOp)) × (listed ≡ front ++ last ∷ [])) → ComesAfter last q
@@ -45,7 +53,7 @@ must_follow matrix listed set last q draft goes some = by_end draft.ends
     by_end (inr (front, e)) = goes front last e
 
 -- a line whose history does not follow is that of none that does
-pub none_follows : (matrix : Matrix) (listed set : List (List SerialOp)) (last q : List SerialOp) (line : List ℕ) → IsListedDraft matrix listed set last → IsListable q → line ≡ history_line q → ((last ≢ [] → ComesAfter last q) → ⊥) → (p : List SerialOp) → IsLineOf listed line p → ⊥
+pub none_follows : (matrix : Matrix) (listed set : List (List SerialOp)) (last q : List SerialOp) (line : List ℕ) → IsGatheredDraft matrix listed set last → IsListable q → line ≡ history_line q → ((last ≢ [] → ComesAfter last q) → ⊥) → (p : List SerialOp) → IsLineOf listed line p → ⊥
 none_follows matrix listed set last q line draft listable is fails p other =
     let same : p ≡ q = line_same p q other.1 listable (sym other.0 ∙ is) in
     fails (λ some. must_follow matrix listed set last q draft (subst (GoesOn listed) same other.2) some)
@@ -60,7 +68,7 @@ fits_to matrix left q are fits t = omega (arith, are t, fits t)
 
 -- ---- conflicts
 
-pub draft_spec : (matrix : Matrix) (listed set : List (List SerialOp)) (last : List SerialOp) → IsListedDraft matrix listed set last → IsSpec set
+pub draft_spec : (matrix : Matrix) (listed set : List (List SerialOp)) (last : List SerialOp) → IsGatheredDraft matrix listed set last → IsSpec set
 draft_spec matrix listed set last draft =
     is_spec listed set draft.closure draft.are.deterministic (λ q has. (draft.are.each q has).0.serial) (λ q has k d within. ((draft.are.each q has).0.entries k d within).1)
 
@@ -126,25 +134,42 @@ module _ (listed : List (List SerialOp)) (q : List SerialOp) where
         | inr is ↦ inr (subst (Begins x) is begins)
       ]
 
-module _ (matrix : Matrix) (listed set : List (List SerialOp)) (last : List SerialOp) (draft : IsListedDraft matrix listed set last) (line : List ℕ) (q : List SerialOp) (next : IsNextOf matrix listed line q) where
+module _ (matrix : Matrix) (listed : List (List SerialOp)) (are : AreListed matrix listed) (line : List ℕ) (q : List SerialOp) (next : IsNextOf matrix listed line q) where
   order : (before : List (List SerialOp)) (x : List SerialOp) (after : List (List SerialOp)) → listed ++ q ∷ [] ≡ before ++ x ∷ after → GoesOn before x
   order before x after is = elim (split_push listed before after q x is) [
     | inl (all, here) ↦ subst (λ (z : List SerialOp). GoesOn before z) (sym here) (subst (λ (z : List (List SerialOp)). GoesOn z q) (sym all) next.is.2)
-    | inr (rest, was) ↦ draft.are.order before x rest was
+    | inr (rest, was) ↦ are.order before x rest was
   ]
 
-  listed_more : AreListed matrix (listed ++ q ∷ [])
+  pub listed_more : AreListed matrix (listed ++ q ∷ [])
   listed_more = record {
     each = λ x has. elim (either listed q x has) [
-      | inl was ↦ draft.are.each x was
+      | inl was ↦ are.each x was
       | inr is ↦ subst (λ (z : List SerialOp). IsListable z × FitsMatrix matrix z) (sym is) (next.is.1, next.fits)
     ];
     order = order;
-    deterministic = deterministic_more listed q draft.are.deterministic next.apart;
+    deterministic = deterministic_more listed q are.deterministic next.apart;
   }
 
-  pub next_draft : (new : List (List SerialOp)) → AddsBeginnings set new q → IsNextDraft matrix listed line new q
-  next_draft new adds = (next.is.0, record { are = listed_more; closure = closure_more listed q set new draft.closure adds; ends = inr (listed, refl) })
+pub next_draft : (matrix : Matrix) (listed set : List (List SerialOp)) (last : List SerialOp) → IsListedDraft matrix listed set last → (line : List ℕ) (q : List SerialOp) → IsNextOf matrix listed line q
+    → (new : List (List SerialOp)) → AddsBeginnings set new q → IsNextDraft matrix listed line new q
+next_draft matrix listed set last draft line q next new adds =
+    (next.is.0, record { are = listed_more matrix listed draft.are line q next; closure = closure_more listed q set new draft.closure adds; ends = inr (listed, refl) })
+
+-- with one more, in order or not
+pub gathered_more : (matrix : Matrix) (gathered set : List (List SerialOp)) (last : List SerialOp) → IsGatheredDraft matrix gathered set last → (q : List SerialOp) → IsListable q → FitsMatrix matrix q → (HasConflictIn gathered q → ⊥)
+    → (new : List (List SerialOp)) → AddsBeginnings set new q → IsGatheredDraft matrix (gathered ++ q ∷ []) new q
+gathered_more matrix gathered set last draft q listable fits apart new adds = record {
+  are = record {
+    each = λ x has. elim (either gathered q x has) [
+      | inl was ↦ draft.are.each x was
+      | inr is ↦ subst (λ (z : List SerialOp). IsListable z × FitsMatrix matrix z) (sym is) (listable, fits)
+    ];
+    deterministic = deterministic_more gathered q draft.are.deterministic apart;
+  };
+  closure = closure_more gathered q set new draft.closure adds;
+  ends = inr (gathered, refl);
+}
 
 -- ---- the answer of a conflict
 
@@ -177,17 +202,21 @@ of_nothing old set h none empty adds q = (λ has. forth ((added q).0 has), λ pa
     back (inl is) = inr (subst (λ (x : List SerialOp). Begins x []) (sym is) ([], refl))
     back (inr (g, begins, has)) = absurd cc
 
-pub none_listed : (matrix : Matrix) (old set : List (List SerialOp)) (h last : List SerialOp) → old ≡ [] → h ≡ [] → last ≡ [] → AddsBeginnings old set h → IsListedDraft matrix [] set last
-none_listed matrix old set h last none empty at_start adds = record {
-  are = record {
-    each = λ q has. absurd cc;
-    order = λ before q after is. absurd (no_middle before q after is);
-    deterministic = λ a b i o has also conflict. let none_there = has in absurd cc;
-  };
-  closure = of_nothing old set h none empty adds;
-  ends = inl (refl, at_start);
+-- none are listed
+pub no_histories : (matrix : Matrix) → AreListed matrix []
+no_histories matrix = record {
+  each = λ q has. absurd cc;
+  order = λ before q after is. absurd (no_middle before q after is);
+  deterministic = λ a b i o has also conflict. let none_there = has in absurd cc;
 }
   where
     no_middle : (before : List (List SerialOp)) (q : List SerialOp) (after : List (List SerialOp)) → [] ≡ before ++ q ∷ after → ⊥
     no_middle [] q after e = cc
     no_middle (x ∷ before) q after e = cc
+
+pub none_listed : (matrix : Matrix) (old set : List (List SerialOp)) (h last : List SerialOp) → old ≡ [] → h ≡ [] → last ≡ [] → AddsBeginnings old set h → IsListedDraft matrix [] set last
+none_listed matrix old set h last none empty at_start adds = record {
+  are = no_histories matrix;
+  closure = of_nothing old set h none empty adds;
+  ends = inl (refl, at_start);
+}

@@ -1,12 +1,14 @@
 -- Laws of the texts of specifications.
-use Rattle.std.specs.Prelude.{◌≡◌, ℕ, List}
+use Rattle.std.specs.Prelude.{◌≡◌, ℕ, List, [], ◌∷◌}
 use Rattle.lu_text.specs.declared.fault.Fault.TheVariants.{At}
 use Rattle.lu_history.specs.declared.serial.SerialOp.{SerialOp}
 use Rattle.lu_test.specs.Matrix.{Matrix, IsMatrix}
 use Rattle.lu_spec.specs.declared.fault.SpecFaultKind.{SpecFaultKind}
+use Rattle.lu_spec.specs.declared.fault.SpecLineFault.{SpecLineFault}
+use Rattle.lu_spec.specs.EveryFault.{AreSpecFaults}
 use Rattle.lu_spec.specs.Listed.{IsListing}
 use Rattle.lu_spec.specs.Specs.{AreOf, IsSpec}
-use Rattle.lu_spec.specs.SpecText.{IsReadAs, IsSpecFault, spec_text}
+use Rattle.lu_spec.specs.SpecText.{AreListed, IsReadAs, IsSpecFault, spec_text}
 
 -- What is read is written as it was: a set has one spelling.
 abbrev pub OneSpelling : Type 0
@@ -27,3 +29,23 @@ ReadAgain =
     (matrix : Matrix) (members listed : List (List SerialOp)) →
     IsMatrix matrix → IsSpec members → AreOf matrix members → IsListing members listed →
     IsReadAs matrix (spec_text listed) members
+
+-- Where nothing is told of a text it lists histories of the matrix; else the first fault that is told
+-- is the reader's.
+abbrev pub IsToldAsRead : Matrix → List ℕ → List SpecLineFault → Type 0
+IsToldAsRead matrix text [] =
+    (listed : List (List SerialOp)) × AreListed matrix listed × (text ≡ spec_text listed)
+IsToldAsRead matrix text (first ∷ others) = IsSpecFault matrix text (At first.kind first.line)
+
+-- What is told of a text agrees with its reader.
+abbrev pub ToldAsRead : Type 0
+ToldAsRead =
+    (matrix : Matrix) (text : List ℕ) (faults : List SpecLineFault) →
+    AreSpecFaults matrix text faults → IsToldAsRead matrix text faults
+
+-- Nothing is told of a text that is read.
+abbrev pub NoneTold : Type 0
+NoneTold =
+    (matrix : Matrix) (text : List ℕ) (members : List (List SerialOp))
+    (faults : List SpecLineFault) →
+    IsReadAs matrix text members → AreSpecFaults matrix text faults → faults ≡ []

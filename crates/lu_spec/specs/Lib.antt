@@ -6,3 +6,4 @@ pub mod Reading
 pub mod Listed
 pub mod Laws
 pub mod Collecting
+pub mod EveryFault

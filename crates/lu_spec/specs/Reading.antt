@@ -4,17 +4,30 @@ use Rattle.lu_text.specs.declared.fault.Fault.{Fault}
 use Rattle.lu_text.specs.declared.fault.Fault.TheVariants.{At, Memory}
 use Rattle.lu_history.specs.declared.serial.SerialOp.{SerialOp}
 use Rattle.lu_test.specs.Matrix.{Matrix}
+use Rattle.lu_trie.specs.Conflicts.{IsDeterministic}
 use Rattle.lu_spec.specs.declared.fault.SpecFaultKind.{SpecFaultKind}
 use Rattle.lu_spec.specs.declared.reader.Draft.{Draft}
-use Rattle.lu_spec.specs.Beginnings.{IsClosureOf}
+use Rattle.lu_spec.specs.Beginnings.{Has, IsClosureOf}
 use Rattle.lu_spec.specs.Specs.{FitsMatrix}
-use Rattle.lu_spec.specs.SpecText.{AreListed, HasConflictIn, IsFaultAmong, IsFaultOfLine, IsLineOf, history_line}
+use Rattle.lu_spec.specs.SpecText.{AreListed, HasConflictIn, IsFaultAmong, IsFaultOfLine, IsLineOf, IsListable, history_line}
 
 -- the last of the listed histories; the empty one where none is listed
 abbrev pub IsLast : List (List SerialOp) → List SerialOp → Type 0
 IsLast listed last =
     ((listed ≡ []) × (last ≡ []))
     ⊎ ((before : List (List SerialOp)) × (listed ≡ before ++ last ∷ []))
+
+-- histories that may be listed, of the matrix and without conflict, in any order
+pub record AreGathered (matrix : Matrix) (gathered : List (List SerialOp)) : Type 0 where
+  pub each : (q : List SerialOp) → Has gathered q → IsListable q × FitsMatrix matrix q
+  pub deterministic : IsDeterministic gathered
+
+-- such histories, with their closure and the last of them
+pub record IsGatheredDraft (matrix : Matrix) (gathered set : List (List SerialOp))
+    (last : List SerialOp) : Type 0 where
+  pub are : AreGathered matrix gathered
+  pub closure : IsClosureOf gathered set
+  pub ends : IsLast gathered last
 
 -- the listed histories, with their closure and the last of them
 pub record IsListedDraft (matrix : Matrix) (listed set : List (List SerialOp))
@@ -30,6 +43,10 @@ ListsNothing draft = (matrix : Matrix) → IsListedDraft matrix [] draft.set dra
 -- there are such histories
 abbrev pub IsSomeDraft : Matrix → List (List SerialOp) → List SerialOp → Type 0
 IsSomeDraft matrix set last = (listed : List (List SerialOp)) × IsListedDraft matrix listed set last
+
+abbrev pub IsSomeGathering : Matrix → List (List SerialOp) → List SerialOp → Type 0
+IsSomeGathering matrix set last =
+    (gathered : List (List SerialOp)) × IsGatheredDraft matrix gathered set last
 
 -- these lines are theirs
 abbrev pub IsDraftOf : Matrix → List (List ℕ) → Draft → Type 0
@@ -68,8 +85,8 @@ IsRefusalAmong matrix lines Memory = Unit {0}
 abbrev pub FindsNext : {Z E : Type 0} → Matrix → List (List SerialOp) → List SerialOp → List ℕ
     → Result (Vec SerialOp Z) E → Type 0
 FindsNext matrix set last line returned =
-    (listed : List (List SerialOp)) → IsListedDraft matrix listed set last
-    → IfOk returned (λ q. IsNextOf matrix listed line q.items)
+    (gathered : List (List SerialOp)) → IsGatheredDraft matrix gathered set last
+    → IfOk returned (λ q. IsNextOf matrix gathered line q.items)
 
 -- the draft with it
 abbrev pub DraftsNext : {E : Type 0} → Matrix → List (List SerialOp) → List SerialOp → List ℕ
@@ -82,5 +99,5 @@ DraftsNext matrix set last line returned =
 abbrev pub Refuses : {A : Type 0} → Matrix → List (List SerialOp) → List SerialOp → List ℕ → ℕ
     → Result A (Fault SpecFaultKind) → Type 0
 Refuses matrix set last line n returned =
-    (listed : List (List SerialOp)) → IsListedDraft matrix listed set last
-    → IfErr returned (IsRefusal matrix listed line n)
+    (gathered : List (List SerialOp)) → IsGatheredDraft matrix gathered set last
+    → IfErr returned (IsRefusal matrix gathered line n)

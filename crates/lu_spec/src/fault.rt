@@ -39,3 +39,13 @@ impl SpecFaultKind {
 /// Why a text is no specification: the first fault by line, or want of memory, which is shown as
 /// `memory`.
 pub type SpecFault = Fault<SpecFaultKind>;
+
+/// A fault of a line of a specification's text.
+#[derive(Clone, Copy, Debug, Drop, PartialEq, Eq)]
+pub struct SpecLineFault {
+    /// What is wrong with the line.
+    pub kind: SpecFaultKind,
+
+    /// The number of the line, from 1.
+    pub line: usize,
+}

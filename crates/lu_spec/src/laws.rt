@@ -1,6 +1,6 @@
 //! Laws of specifications, for the crates above.
 
-ghost use Rattle.lu_spec.specs.Laws.{NoFault, OneSpelling, ReadAgain};
+ghost use Rattle.lu_spec.specs.Laws.{NoFault, NoneTold, OneSpelling, ReadAgain, ToldAsRead};
 
 /// What is read of a text is written as that text: a specification has one spelling. The function
 /// does nothing.
@@ -19,4 +19,12 @@ pub fn no_fault()
 /// nothing.
 pub fn read_again()
     ensures { ReadAgain }
+{}
+
+/// [`crate::spec_faults`] agrees with [`crate::read_spec`]: it tells no fault exactly of a text that
+/// lists histories of the matrix, and of any other the reader's fault first. The function does
+/// nothing.
+pub fn told_as_read()
+    ensures first { ToldAsRead }
+    ensures none { NoneTold }
 {}

@@ -1,11 +1,11 @@
 //! Reading of specifications.
 
-ghost use Rattle.std.specs.Prelude.{◌≢◌, ◌↔◌, [], OnOk, IfOk, IfErr, IsTrue};
+ghost use Rattle.std.specs.Prelude.{◌≡◌, ◌≢◌, ◌↔◌, [], OnOk, IfOk, IfErr, IsTrue};
 ghost use Rattle.lu_text.specs.Lines.{kept_lines};
 ghost use Rattle.lu_test.specs.Matrix.{Matrix as AMatrix};
 ghost use Rattle.lu_history.specs.Serial.{IsSerial};
 ghost use Rattle.lu_spec.specs.Beginnings.{AddsBeginnings};
-ghost use Rattle.lu_spec.specs.Reading.{DraftsNext, FindsNext, IsDraftOf, IsRefusalAmong, IsSomeDraft, ListsNothing, Refuses};
+ghost use Rattle.lu_spec.specs.Reading.{DraftsNext, FindsNext, IsDraftOf, IsRefusalAmong, IsSomeDraft, IsSomeGathering, ListsNothing, Refuses};
 ghost use Rattle.lu_spec.specs.Specs.{AreOf};
 ghost use Rattle.lu_spec.specs.SpecText.{ComesAfter, IsReadAs, IsSpecFault};
 
@@ -21,9 +21,9 @@ use std::alloc::{AllocError, Allocator, Global};
 
 /// The histories of the lines so far: all their beginnings, and the last of them.
 #[derive(Drop)]
-struct Draft {
-    set: Trie<Global>,
-    last: Vec<SerialOp>,
+pub(crate) struct Draft {
+    pub set: Trie<Global>,
+    pub last: Vec<SerialOp>,
 }
 
 /// Adds all beginnings of a history, and the history.
@@ -49,14 +49,14 @@ fn goes_on(last: &[SerialOp], history: &[SerialOp]) -> bool
 }
 
 /// The history of a line, which is line `number` of the text, or what is wrong with it.
-fn next_history(
+pub(crate) fn next_history(
     alloc: Global,
     matrix: &Matrix,
     draft: &Draft,
     line: &[u8],
     number: usize,
 ) -> Result<Vec<SerialOp>, SpecFault>
-    requires { IsSomeDraft matrix.now draft.now.set draft.now.last.items }
+    requires { IsSomeGathering matrix.now draft.now.set draft.now.last.items }
     ensures next { FindsNext matrix.now draft.now.set draft.now.last.items line.now result }
     ensures fault { Refuses matrix.now draft.now.set draft.now.last.items line.now number result }
 {
@@ -77,11 +77,22 @@ fn next_history(
     }
 }
 
+/// The draft with one more history.
+pub(crate) fn with_history(mut draft: Draft, history: Vec<SerialOp>) -> Result<Draft, AllocError>
+    requires { IsSerial history.items }
+    ensures set { IfOk result (λ next. AddsBeginnings draft.set next.set history.items) }
+    ensures last { IfOk result (λ next. next.last.items ≡ history.items) }
+{
+    add_beginnings(&mut draft.set, &history)?;
+    draft.last = history;
+    Ok(draft)
+}
+
 /// The draft with the history of one more line, which is line `number` of the text.
 fn read_line(
     alloc: Global,
     matrix: &Matrix,
-    mut draft: Draft,
+    draft: Draft,
     line: &[u8],
     number: usize,
 ) -> Result<Draft, SpecFault>
@@ -90,13 +101,12 @@ fn read_line(
     ensures fault { Refuses matrix.now draft.set draft.last.items line.now number result }
 {
     let history = next_history(alloc, matrix, &draft, line, number)?;
-    add_beginnings(&mut draft.set, &history)?;
-    draft.last = history;
-    Ok(draft)
+    let next = with_history(draft, history)?;
+    Ok(next)
 }
 
 /// The draft before the first history.
-fn nothing_listed(alloc: Global) -> Result<Draft, AllocError>
+pub(crate) fn nothing_listed(alloc: Global) -> Result<Draft, AllocError>
     ensures { IfOk result ListsNothing }
 {
     let mut set = Trie::new(alloc);

@@ -1,22 +1,23 @@
-use Rattle.std.proofs.Common.{List, sym, subst}
 use Rattle.std.proofs.lemmas.Result.{err_from_is_err_and}
-use Rattle.lu_history.specs.declared.serial.SerialOp.{SerialOp}
-use Rattle.lu_history.specs.Serial.{IsSerial}
-use Rattle.lu_spec.specs.Beginnings.{AddsBeginnings}
-use Rattle.lu_spec.proofs.Nexts.{next_draft}
+use Rattle.lu_spec.proofs.Nexts.{gathering, next_draft}
 use Rattle.lu_spec.proofs.reader.read_line.Goals as goal
 
-pub returns-in_err-history-clause-fault : goal.returns-in_err-history-clause-fault
-returns-in_err-history-clause-fault c = λ listed draft.
-    let p = err_from_is_err_and c.from_residual.result c.from_residual.ensures.1 in
-    rw (p.1, p.2) (c.in_err-history.ensures.fault listed draft)
+pub next_history-requires : goal.next_history-requires
+next_history-requires c = (c.requires.0, gathering c.args.matrix.now c.requires.0 c.args.draft.set c.args.draft.last.items c.requires.1)
 
-pub add_beginnings-requires : goal.add_beginnings-requires
-add_beginnings-requires c =
-    let next = c.in_ok-history.ensures.next c.requires.0 c.requires.1 in
-    subst IsSerial (sym c.deref.ensures.value) next.is.1.serial
+pub returns-in_err-history-clause-fault : goal.returns-in_err-history-clause-fault
+returns-in_err-history-clause-fault c = λ gathered draft.
+    let p = err_from_is_err_and c.from_residual.result c.from_residual.ensures.1 in
+    rw (p.1, p.2) (c.in_err-history.ensures.fault gathered draft)
+
+pub with_history-requires : goal.with_history-requires
+with_history-requires c =
+    let gathered = gathering c.args.matrix.now c.requires.0 c.args.draft.set c.args.draft.last.items c.requires.1 in
+    let next = c.in_ok-history.ensures.next c.requires.0 gathered in
+    next.is.1.serial
 
 pub returns-clause-next : goal.returns-clause-next
 returns-clause-next c = λ listed draft.
-    let added = subst (λ (h : List SerialOp). AddsBeginnings c.args.draft.set c.add_beginnings.new.set h) c.deref.ensures.value c.in_ok-add_beginnings.ensures in
-    next_draft c.args.matrix.now listed c.args.draft.set c.args.draft.last.items draft c.args.line.now c.in_ok-history.history.items (c.in_ok-history.ensures.next listed draft) c.add_beginnings.new.set added
+    let gathered = gathering c.args.matrix.now listed c.args.draft.set c.args.draft.last.items draft in
+    let next = next_draft c.args.matrix.now listed c.args.draft.set c.args.draft.last.items draft c.args.line.now c.in_ok-history.history.items (c.in_ok-history.ensures.next listed gathered) c.in_ok-next.next.set c.in_ok-next.ensures.set in
+    rw c.in_ok-next.ensures.last next

@@ -4,13 +4,14 @@ use Rattle.lu_spec.specs.Specs.{AreOf}
 use Rattle.lu_spec.specs.SpecText.{first_line}
 use Rattle.lu_spec.proofs.Closures.{closure_of}
 use Rattle.lu_spec.proofs.LinesRead.{is_spelled}
-use Rattle.lu_spec.proofs.Nexts.{draft_spec}
+use Rattle.lu_spec.proofs.Nexts.{draft_spec, gathering}
 use Rattle.lu_spec.proofs.reader.read_spec.Goals as goal
 
 pub of_closed-requires : goal.of_closed-requires
 of_closed-requires c =
     let read = c.in_ok-draft.ensures.read in
-    draft_spec c.args.matrix.now read.0 c.in_ok-draft.draft.set c.in_ok-draft.draft.last.items read.1
+    let gathered = gathering c.args.matrix.now read.0 c.in_ok-draft.draft.set c.in_ok-draft.draft.last.items read.1 in
+    draft_spec c.args.matrix.now read.0 c.in_ok-draft.draft.set c.in_ok-draft.draft.last.items gathered
 
 pub returns-clause-read : goal.returns-clause-read
 returns-clause-read c =
