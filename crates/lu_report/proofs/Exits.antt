@@ -114,11 +114,11 @@ counts_form counts t is e =
 conflict_form : (u : List Move) (before : ℕ) (earlier : SerialOutcome) (t : List (List ℕ)) → AreMoves u → before ≤ 15 → IsOutcome earlier → t ≡ schedule_text u ∷ number_line (codes "before ") before ∷ earlier_line earlier ∷ [] → AreConflict t
 conflict_form u before earlier t moves few is e = subst AreConflict (sym e) ((u, moves, refl), ((before, omega arith, few, refl), ((earlier, (is, refl)), refl)))
 
-run_found : (t : List (List ℕ)) → AreRun t → (u : List Move) × AreMoves u × (t ≡ schedule_text u ∷ [])
+pub run_found : (t : List (List ℕ)) → AreRun t → (u : List Move) × AreMoves u × (t ≡ schedule_text u ∷ [])
 run_found [] are = absurd are
 run_found (line ∷ t) are = (are.0.0, are.0.1, rw (are.0.2, are.1) refl)
 
-counts_found : (t : List (List ℕ)) → AreCountLines t → (counts : Counts) × AreCounts counts × (t ≡ number_line (codes "complete ") counts.complete ∷ number_line (codes "stuck ") counts.stuck ∷ number_line (codes "cut ") counts.cut ∷ [])
+pub counts_found : (t : List (List ℕ)) → AreCountLines t → (counts : Counts) × AreCounts counts × (t ≡ number_line (codes "complete ") counts.complete ∷ number_line (codes "stuck ") counts.stuck ∷ number_line (codes "cut ") counts.cut ∷ [])
 counts_found [] are = absurd are
 counts_found (x ∷ []) are = absurd are.1
 counts_found (x ∷ y ∷ []) are = absurd are.1.1
@@ -129,7 +129,7 @@ counts_found (x ∷ y ∷ z ∷ t) are =
     let counts : Counts = record { complete = are.0.0; stuck = are.1.0.0; cut = are.1.1.0.0 } in
     (counts, record { complete = omega arith; stuck = omega arith; cut = omega arith }, rw (are.0.3, are.1.0.3, are.1.1.0.3, are.1.1.1) refl)
 
-conflict_found : (t : List (List ℕ)) → AreConflict t → (u : List Move) × (before : ℕ) × (earlier : SerialOutcome)
+pub conflict_found : (t : List (List ℕ)) → AreConflict t → (u : List Move) × (before : ℕ) × (earlier : SerialOutcome)
     × AreMoves u × (before ≤ 15) × IsOutcome earlier × (t ≡ schedule_text u ∷ number_line (codes "before ") before ∷ earlier_line earlier ∷ [])
 conflict_found [] are = absurd are
 conflict_found (x ∷ []) are = absurd are.1
@@ -137,21 +137,21 @@ conflict_found (x ∷ y ∷ []) are = absurd are.1.1
 conflict_found (x ∷ y ∷ z ∷ t) are =
     (are.0.0, are.1.0.0, are.1.1.0.0, are.0.1, are.1.0.2, are.1.1.0.1.0, rw (are.0.2, are.1.0.3, are.1.1.0.1.1, are.1.1.1) refl)
 
-pass_only : (t : List (List ℕ)) (f : Finding) → IsSound f → codes "pass\n" ∷ t ≡ finding_lines f → AreCountLines t
+pub pass_only : (t : List (List ℕ)) (f : Finding) → IsSound f → codes "pass\n" ∷ t ≡ finding_lines f → AreCountLines t
 pass_only t (SerialCut u) is e = absurd (clash 112 115 refl (ap (byte_at 0) e))
 pass_only t (Nondeterministic u before earlier) is e = absurd (clash 112 110 refl (ap (byte_at 0) e))
 pass_only t (Fail u Complete) is e = absurd (clash 112 102 refl (ap (byte_at 0) e))
 pass_only t (Fail u (Stuck w)) is e = absurd (clash 112 102 refl (ap (byte_at 0) e))
 pass_only t (Pass counts) is e = counts_form counts t is.1 (cc)
 
-conflict_only : (t : List (List ℕ)) (f : Finding) → IsSound f → codes "nondeterministic\n" ∷ t ≡ finding_lines f → AreConflict t
+pub conflict_only : (t : List (List ℕ)) (f : Finding) → IsSound f → codes "nondeterministic\n" ∷ t ≡ finding_lines f → AreConflict t
 conflict_only t (SerialCut u) is e = absurd (clash 110 115 refl (ap (byte_at 0) e))
 conflict_only t (Nondeterministic u before earlier) is e = conflict_form u before earlier t is.1.0 is.0 is.1.1 (cc)
 conflict_only t (Fail u Complete) is e = absurd (clash 110 102 refl (ap (byte_at 0) e))
 conflict_only t (Fail u (Stuck w)) is e = absurd (clash 110 102 refl (ap (byte_at 0) e))
 conflict_only t (Pass counts) is e = absurd (clash 110 112 refl (ap (byte_at 0) e))
 
-cut_only : (t : List (List ℕ)) (f : Finding) → IsSound f → codes "serial-cut\n" ∷ t ≡ finding_lines f → AreRun t
+pub cut_only : (t : List (List ℕ)) (f : Finding) → IsSound f → codes "serial-cut\n" ∷ t ≡ finding_lines f → AreRun t
 cut_only t (SerialCut u) is e = run_form u t is.1 (cc)
 cut_only t (Nondeterministic u before earlier) is e = absurd (clash 115 110 refl (ap (byte_at 0) e))
 cut_only t (Fail u Complete) is e = absurd (clash 115 102 refl (ap (byte_at 0) e))
@@ -162,7 +162,7 @@ pub fail_byte : (why : Why) (t : List (List ℕ)) → byte_at 0 (fail_line why �
 fail_byte Complete t = refl
 fail_byte (Stuck w) t = refl
 
-fail_only : (why : Why) (t : List (List ℕ)) (f : Finding) → IsSound f → fail_line why ∷ t ≡ finding_lines f → AreRun t
+pub fail_only : (why : Why) (t : List (List ℕ)) (f : Finding) → IsSound f → fail_line why ∷ t ≡ finding_lines f → AreRun t
 fail_only why t (SerialCut u) is e = absurd (clash 102 115 refl (sym (fail_byte why t) ∙ ap (byte_at 0) e))
 fail_only why t (Nondeterministic u before earlier) is e = absurd (clash 102 110 refl (sym (fail_byte why t) ∙ ap (byte_at 0) e))
 fail_only why t (Fail u other) is e = run_form u t is.1 (cc)
@@ -326,7 +326,7 @@ bounded_into Three (b ∷ l ∷ t) are =
 pub a_local : (t : List (List ℕ)) × AreLocal t
 a_local = (number_line (codes "local ") 1 ∷ a_finding.0, ((1, omega arith, omega arith, refl), a_finding.1))
 
-some_behind : (version : Version) → (t : List (List ℕ)) × AreBehind version t
+pub some_behind : (version : Version) → (t : List (List ℕ)) × AreBehind version t
 some_behind One = (number_line (codes "serial ") 1 ∷ a_finding.0, ((1, omega arith, omega arith, refl), a_finding.1))
 some_behind Two = (number_line (codes "serial ") 1 ∷ a_local.0, ((1, omega arith, omega arith, refl), a_local.1))
 some_behind Three = (number_line (codes "local ") 0 ∷ a_judgement.0, ((0, omega arith, omega arith, refl), a_judgement.1))

@@ -38,7 +38,7 @@ module _ (text line rest : List ℕ) (cut : 0 < length text → kept_lines text 
 
 -- ---- the place where texts differ
 
-deeper : (Texts : List (List ℕ) → Type 0) (line : List ℕ) (lines : List (List ℕ)) (n : ℕ) → DiffersAt (λ t. Texts (line ∷ t)) lines n → DiffersAt Texts (line ∷ lines) (n + 1)
+pub deeper : (Texts : List (List ℕ) → Type 0) (line : List ℕ) (lines : List (List ℕ)) (n : ℕ) → DiffersAt (λ t. Texts (line ∷ t)) lines n → DiffersAt Texts (line ∷ lines) (n + 1)
 deeper Texts line lines n d = record {
   before = (line ∷ d.before.0, d.before.1, rw (add-one n) (ap (λ (x : List (List ℕ)). line ∷ x) d.before.2));
   there = λ other is e. later other is (rw (add-one (n + 1)) at e);

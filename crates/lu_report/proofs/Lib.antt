@@ -4,3 +4,5 @@ pub mod Outcomes
 pub mod Faulty
 pub mod Exits
 pub mod OneText
+pub mod FormLines
+pub mod LineTests

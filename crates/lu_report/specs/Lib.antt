@@ -3,3 +3,5 @@ pub mod Limits
 pub mod Parts
 pub mod Text
 pub mod Forms
+pub mod EveryLine
+pub mod Laws

@@ -1,6 +1,7 @@
 //! Reports of checks, and their text.
 //!
-//! A [`Report`] says what a check found, and has one text.
+//! A [`Report`] says what a check found, and has one text. [`report_faults`] tells every fault of a
+//! text.
 //!
 //! ```text
 //! let report = read_report(alloc, text)?;
@@ -10,6 +11,9 @@
 
 mod bounds;
 mod fault;
+mod faults;
+mod form;
+pub mod laws;
 mod line;
 mod reader;
 mod report;
@@ -18,6 +22,8 @@ mod writer;
 
 pub use bounds::{Bounds, MOST_MOVES};
 pub use fault::{ReportFault, ReportFaultKind};
+pub use faults::{ReportLineFault, report_faults};
+pub use form::LineForm;
 pub use reader::read_report;
 pub use report::{Finding, Report};
 pub use writer::write_report;
