@@ -4,3 +4,4 @@ pub mod Sure
 pub mod Own
 pub mod Code
 pub mod Tables
+pub mod Dead

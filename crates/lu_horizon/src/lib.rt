@@ -10,11 +10,13 @@
 #![tactic(auto)]
 
 mod certain;
+mod dead_registers;
 mod horizon;
 mod outlook;
 mod sharers;
 mod stand;
 
+pub use dead_registers::DeadRegisters;
 pub use horizon::Horizon;
 pub use sharers::Sharers;
 pub use stand::{Stand, is_unseen_at, only_reads_at, stand_at};

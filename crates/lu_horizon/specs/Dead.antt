@@ -1,0 +1,77 @@
+-- Registers that don't matter any more: whichever way an operation goes on, they are written before
+-- they are read again, or not read again.
+use Rattle.std.specs.Prelude.{◌≡◌, ℕ, ◌+◌, ◌==◌, ◌&&◌, ◌||◌, not, Bool, true, false, List, [], Some, slice_get, get_or}
+use Rattle.lu_component.specs.Component.{Declarations}
+use Rattle.lu_component.specs.declared.instr.Instr.{Instr}
+use Rattle.lu_component.specs.declared.instr.Instr.TheVariants.{Set, Compute, Load, Store, Cas, Await, AwaitNot, Pick, Jump, JumpIfZero, Return}
+use Rattle.lu_component.specs.declared.instr.Operand.{Operand}
+use Rattle.lu_component.specs.declared.instr.Operand.TheVariants.{Reg, Num}
+use Rattle.lu_machine.specs.States.{instr_at}
+
+-- the operand is register r
+abbrev pub is_register : ℕ → Operand → Bool
+is_register r (Reg q) = q == r
+is_register r (Num n) = false
+
+-- whether the instruction reads register r
+abbrev pub reads : Instr → ℕ → Bool
+reads (Set to v) r = is_register r v
+reads (Compute by to a b) r = is_register r a || is_register r b
+reads (Load to w i) r = is_register r i
+reads (Store w i v) r = is_register r i || is_register r v
+reads (Cas to w i expected desired) r =
+    is_register r i || (is_register r expected || is_register r desired)
+reads (Await w i v) r = is_register r i || is_register r v
+reads (AwaitNot w i v) r = is_register r i || is_register r v
+reads (JumpIfZero v target) r = is_register r v
+reads (Return v) r = is_register r v
+reads _ r = false
+
+-- whether it writes register r, where the operation goes on
+abbrev pub writes : Instr → ℕ → Bool
+writes (Set to v) r = to == r
+writes (Compute by to a b) r = to == r
+writes (Load to w i) r = to == r
+writes (Cas to w i expected desired) r = to == r
+writes (Pick to count) r = to == r
+writes _ r = false
+
+-- whether register r is dead wherever the operation may go from the instruction at this place, where
+-- `dead` tells so of each place
+abbrev pub dead_behind : (ℕ → ℕ → Bool) → ℕ → Instr → ℕ → Bool
+dead_behind dead place (Jump target) r = dead target r
+dead_behind dead place (JumpIfZero v target) r = dead target r && dead (place + 1) r
+dead_behind dead place (Return v) r = true
+dead_behind dead place _ r = dead (place + 1) r
+
+-- register r is not read there, and is written, or dead behind
+abbrev pub dead_before : (ℕ → ℕ → Bool) → ℕ → Instr → ℕ → Bool
+dead_before dead place instr r =
+    not (reads instr r) && (writes instr r || dead_behind dead place instr r)
+
+-- of each operation, each place of its code, and each register, whether it is dead there
+abbrev pub DeadTable : Type 0
+DeadTable = List (List (List Bool))
+
+-- of the places of one operation
+abbrev pub dead_at : List (List Bool) → ℕ → ℕ → Bool
+dead_at places place r = get_or (get_or places place []) r false
+
+-- what is said to be dead at this place of the code is not read before it is written
+abbrev pub AreDeadAt : List Instr → List (List Bool) → ℕ → Type 0
+AreDeadAt code places place =
+    (instr : Instr) (r : ℕ) → slice_get code place ≡ Some instr → dead_at places place r ≡ true
+    → dead_before (dead_at places) place instr r ≡ true
+
+-- nor at any place
+abbrev pub AreDead : List Instr → List (List Bool) → Type 0
+AreDead code places = (place : ℕ) → AreDeadAt code places place
+
+-- the same of each operation
+abbrev pub is_dead : DeadTable → ℕ → ℕ → ℕ → Bool
+is_dead table op = dead_at (get_or table op [])
+
+abbrev pub IsDeadTable : Declarations → DeadTable → Type 0
+IsDeadTable c table =
+    (op place : ℕ) (instr : Instr) (r : ℕ) → instr_at c op place ≡ Some instr
+    → is_dead table op place r ≡ true → dead_before (is_dead table op) place instr r ≡ true
