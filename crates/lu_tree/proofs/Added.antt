@@ -15,21 +15,22 @@ use Rattle.lu_witness.specs.declared.judgement.Why.{Why}
 use Rattle.lu_witness.specs.Goodness.{IsFirstBad, AreAllGood}
 use Rattle.lu_tree.specs.Reordered.{AreReordered}
 use Rattle.lu_tree.specs.Trees.{Below}
-use Rattle.lu_tree.specs.Walks.{AreBelow, Counted, IsBadAt, IsFirstAt, StopsAt, no_schedule}
+use Rattle.lu_tree.specs.Walks.{AreBelow, Counted, IsBadAt, IsFirstAt, IsGoodBehind, StopsAt, no_schedule}
+use Rattle.lu_tree.proofs.BelowLaws.{below_here, below_led}
 use Rattle.lu_tree.proofs.Reordering.{counted_reordered, reordered_same, reordered_then}
-use Rattle.lu_tree.proofs.Walking.{GoesOnBelow, counted_here, first_here, kids_all, kids_more, kids_none, kids_stop, kids_turn}
+use Rattle.lu_tree.proofs.Walking.{AllEndSo, GoesOnBelow, counted_here, first_here, kids_all, kids_more, kids_none, kids_stop, kids_turn}
 
 -- the schedules that go on by a move below the limit are good if they end, and these are their numbers
 abbrev pub AreAdded : (List SerialOp → Type 0) → State → List Event → ℕ → Move → Counts → Type 0
 AreAdded Set s h left limit below =
-    (start : State) (u : List Move) (g : List Event) → AreReordered h g → Leads start u s g → AreAllGood Set start (length u + left) (GoesOnBelow u limit) below
+    (start : State) (u : List Move) (e g : List Event) → AreReordered h (g ++ e) → Leads start u s e → AllEndSo (IsGoodBehind Set g) start (length u + left) (GoesOnBelow u limit) below
 
 module _ (Set : List SerialOp → Type 0) (s : State) (h : List Event) (left : ℕ) where
   pub added_none : AreAdded Set s h left (record { thread = 0; pick = 0 }) no_schedule
-  added_none = λ start u g re at. kids_none start u s g at Set (length u + left)
+  added_none = λ start u e g re at. kids_none start u s e at (IsGoodBehind Set g) (length u + left)
 
   pub added_turn : (t p : ℕ) → picks_of s t ≤ p → (below : Counts) → AreAdded Set s h left (record { thread = t; pick = p }) below → AreAdded Set s h left (record { thread = t + 1; pick = 0 }) below
-  added_turn t p all below added = λ start u g re at. kids_turn start u s g at Set (length u + left) t p all below (added start u g re at)
+  added_turn t p all below added = λ start u e g re at. kids_turn start u s e at (IsGoodBehind Set g) (length u + left) t p all below (added start u e g re at)
 
   -- one move more, which leads to r and k
   module _ (t p : ℕ) (r : State) (event : Option Event) (k : List Event) (step : Step s (record { thread = t; pick = p }) r event) (is : k ≡ h ++ with_event event []) (some : 1 ≤ left) where
@@ -42,14 +43,16 @@ module _ (Set : List SerialOp → Type 0) (s : State) (h : List Event) (left : �
     on : (start : State) (u : List Move) → Leads start u s h → Leads start (u ++ m ∷ []) r k
     on start u at = subst (Leads start (u ++ m ∷ []) r) (sym is) (child_leads start u s h at m r event step)
 
-    reordered_on : (g : List Event) → AreReordered h g → AreReordered k (g ++ with_event event [])
-    reordered_on g re = subst (λ x. AreReordered x (g ++ with_event event [])) (sym is) (reordered_then h g (with_event event []) re)
+    reordered_on : (e g : List Event) → AreReordered h (g ++ e) → AreReordered k (g ++ (e ++ with_event event []))
+    reordered_on e g re =
+        let then : AreReordered (h ++ with_event event []) ((g ++ e) ++ with_event event []) = reordered_then h (g ++ e) (with_event event []) re in
+        rw (is, ← append_assoc g e (with_event event [])) then
 
     pub added_more : (below more : Counts) → AreAdded Set s h left (record { thread = t; pick = p }) below → AreBelow Set r k (left - 1) more → AreAdded Set s h left (record { thread = t; pick = p + 1 }) (plus below more)
-    added_more below more added behind = λ start u g re at.
-        (let there = behind start (u ++ m ∷ []) (g ++ with_event event []) (reordered_on g re) (child_leads start u s g at m r event step) in
-        let good = subst (λ n. AreAllGood Set start n (Below (u ++ m ∷ [])) more) (one_less u) there in
-        kids_more start u s g at Set (length u + left) t p below more (added start u g re at) good)
+    added_more below more added behind = λ start u e g re at.
+        (let there = below_led start (u ++ m ∷ []) r (e ++ with_event event []) (child_leads start u s e at m r event step) Set k g (reordered_on e g re) (left - 1) more behind in
+        let good = subst (λ n. AllEndSo (IsGoodBehind Set g) start n (Below (u ++ m ∷ [])) more) (one_less u) there in
+        kids_more start u s e at (IsGoodBehind Set g) (length u + left) t p below more (added start u e g re at) good)
 
     longer : (u path : List Move) → (u ++ m ∷ []) ++ reverse path ≡ u ++ reverse (path ++ m ∷ [])
     longer u path = append_assoc u (m ∷ []) (reverse path) ∙ ap (λ x. u ++ x) (sym (reverse-append path (m ∷ [])))
@@ -58,12 +61,20 @@ module _ (Set : List SerialOp → Type 0) (s : State) (h : List Event) (left : �
     stops_more feasible below added path end last stops = λ start u at.
         (let b = stops start (u ++ m ∷ []) (on start u at) in
         let c = subst (λ n. IsFirstAt Set start n (Below (u ++ m ∷ [])) ((u ++ m ∷ []) ++ reverse path) end last) (one_less u) b in
-        let d = kids_stop start u s h at Set (length u + left) m feasible below ((u ++ m ∷ []) ++ reverse path) end last (added start u h (reordered_same h) at) c in
+        let d = kids_stop start u s h at Set (length u + left) m feasible below ((u ++ m ∷ []) ++ reverse path) end last (added start u h [] (reordered_same h) at) c in
         subst (λ v. IsFirstAt Set start (length u + left) (Below u) v end last) (longer u path) d)
+
+  none_more : 0 + left ≡ left
+  none_more = omega arith
 
   -- all moves
   pub added_all : (t : ℕ) → length s.threads ≤ t → HasMove s → 1 ≤ left → (below : Counts) → AreAdded Set s h left (record { thread = t; pick = 0 }) below → AreBelow Set s h left below
-  added_all t past some room below added = λ start u g re at. kids_all start u s g at Set (length u + left) t past some (omega arith) below (added start u g re at)
+  added_all t past some room below added =
+      below_here Set s h left below
+      (λ k re.
+      (let there = added s [] [] k (rw (append-nil k) re) (refl, refl) in
+      let all = kids_all s [] s [] (refl, refl) (IsGoodBehind Set k) (0 + left) t past some (omega arith) below there in
+      subst (λ n. AllEndSo (IsGoodBehind Set k) s n (Below []) below) none_more all))
 
   -- where no move is made
   over_at : HasNoMove s ⊎ (left ≡ 0) → (u : List Move) → HasNoMove s ⊎ (length u ≡ length u + left)
@@ -71,7 +82,12 @@ module _ (Set : List SerialOp → Type 0) (s : State) (h : List Event) (left : �
   over_at (inr zero) u = inr (omega arith)
 
   pub end_below : HasNoMove s ⊎ (left ≡ 0) → (counts : Counts) → Counted Set s h counts → AreBelow Set s h left counts
-  end_below over counts counted = λ start u g re at. counted_here start u s g at Set (length u + left) (over_at over u) (omega arith) counts (counted_reordered Set s h g counts re counted)
+  end_below over counts counted =
+      below_here Set s h left counts
+      (λ k re.
+      (let there : Counted Set s (k ++ []) counts = rw (append-nil k) (counted_reordered Set s h k counts re counted) in
+      let here = counted_here s [] s [] (refl, refl) (IsGoodBehind Set k) (0 + left) (over_at over []) (omega arith) counts there in
+      subst (λ n. AllEndSo (IsGoodBehind Set k) s n (Below []) counts) none_more here))
 
   pub end_stops : HasNoMove s ⊎ (left ≡ 0) → IsEnded s → (path : List Move) → path ≡ [] → StopsAt Set s h left path s h
   end_stops over ended path none = λ start u at.
@@ -95,8 +111,9 @@ first_bad Set start bound Part u end history why first bad = record {
 module _ (Set : List SerialOp → Type 0) (start : State) (bound left : ℕ) (from moves : List Move) (s : State) (h : List Event) (is : moves ≡ from) (all : length moves + left ≡ bound) (at : Leads start moves s h) where
   pub walk_passed : (below : Counts) → AreBelow Set s h left below → AreAllGood Set start bound (Below from) below
   walk_passed below passes =
-      let good = subst (λ n. AreAllGood Set start n (Below moves) below) all (passes start moves h (reordered_same h) at) in
-      subst (λ u. AreAllGood Set start bound (Below u) below) is good
+      let led = below_led start moves s h at Set h [] (reordered_same h) left below passes in
+      let good = subst (λ n. AllEndSo (IsGoodBehind Set []) start n (Below moves) below) all led in
+      subst (λ u. AreAllGood Set start bound (Below u) below) is (record { good = good.good; numbers = good.numbers })
 
   pub walk_stopped : (path : List Move) (end : State) (k : List Event) → StopsAt Set s h left path end k → IsFirstAt Set start bound (Below from) (from ++ reverse path) end k
   walk_stopped path end k stops =

@@ -27,7 +27,6 @@ use Rattle.lu_tail.proofs.Frames.{Touches, Works, frame, same_itself, solo_same}
 use Rattle.lu_tail.proofs.SoloRuns.{solo_run}
 use Rattle.lu_history.specs.declared.serial.SerialOp.{SerialOp}
 use Rattle.lu_history.specs.Standing.{Agree}
-use Rattle.lu_witness.specs.Goodness.{AreAllGood}
 use Rattle.lu_tree.specs.declared.look.Judging.TheVariants.{OneVerdict}
 use Rattle.lu_tree.specs.declared.look.Look.{Look}
 use Rattle.lu_horizon.specs.declared.sharers.Sharers.{Sharers}
@@ -35,10 +34,11 @@ use Rattle.lu_horizon.specs.declared.sharers.Sharers.TheVariants.{Only, Readers}
 use Rattle.lu_tree.specs.Tails.{HasNoCall, StartsBehind, IsGoodTail, IsJudged, IsRest, MayMove, sharing_of}
 use Rattle.lu_tree.specs.Reordered.{AreReordered}
 use Rattle.lu_tree.specs.Trees.{Below}
-use Rattle.lu_tree.specs.Walks.{completes}
+use Rattle.lu_tree.specs.Walks.{IsGoodBehind, completes}
 use Rattle.lu_tree.proofs.Reordering.{reordered_then, witness_reordered}
 use Rattle.lu_tree.proofs.TailBelow.{orders_all}
 use Rattle.lu_tree.proofs.TailVerdicts.{one_for_all}
+use Rattle.lu_tree.proofs.Walking.{AllEndSo}
 
 none_past : {A : Type 0} (xs : List A) (i : ℕ) → slice_get xs i ≡ None → length xs ≤ i
 none_past [] i e = omega arith
@@ -215,12 +215,12 @@ module _ (Set : List SerialOp → Type 0) (look : Look) (s : State) (h : List Ev
       solo_at j lt (inl lt') = (has j lt').1
       solo_at j lt (inr past) = absurd (omega arith)
 
--- below such a state
-pub tail_all : (start : State) (Set : List SerialOp → Type 0) (bound left n : ℕ) (u : List Move) (s : State) (h g : List Event) → Agree (progress s) h → AreReordered h g → Leads start u s g → length u + left ≡ bound → IsGoodTail Set s h left n → AreAllGood Set start bound (Below u) (completes n)
-tail_all start Set bound left n u s h g agree re at long t =
+-- below such a state, behind each reordered history
+pub tail_all : (Set : List SerialOp → Type 0) (left n : ℕ) (s : State) (h g : List Event) → Agree (progress s) h → AreReordered h g → IsGoodTail Set s h left n → AllEndSo (IsGoodBehind Set g) s left (Below []) (completes n)
+tail_all Set left n s h g agree re t =
     let short = t.short in
-    let all = orders_all start Set bound t.sharing t.events_of (all_moves t.moves) u s g at t.moves t.tail refl (omega arith)
+    let all = orders_all s (IsGoodBehind Set g) left t.sharing t.events_of (all_moves t.moves) [] s [] (refl, refl) t.moves t.tail refl (omega arith)
     (λ v end k leads complete.
     (let here = one_for_all Set s h agree t.moves t.sharing t.events_of t.tail v end k leads complete t.judging t.behind t.good in
     inl (complete, witness_reordered Set (h ++ k) (g ++ k) (reordered_then h g k re) here))) in
-    subst (λ (x : ℕ). AreAllGood Set start bound (Below u) (completes x)) (sym t.number) all
+    subst (λ (x : ℕ). AllEndSo (IsGoodBehind Set g) s left (Below []) (completes x)) (sym t.number) all

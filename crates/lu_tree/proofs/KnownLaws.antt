@@ -156,7 +156,7 @@ module _ (Set : List SerialOp → Type 0) where
 
   -- what is known behind a history is known behind a reordered one
   below_reordered : (s : State) (h k : List Event) (left : ℕ) (counts : Counts) → AreReordered h k → AreBelow Set s h left counts → AreBelow Set s k left counts
-  below_reordered s h k left counts re below = λ start u g on at. below start u g (reordered_both h k g re on) at
+  below_reordered s h k left counts re below = record { good = λ g u on. below.good g u (reordered_both h k g re on); numbers = below.numbers }
 
   known_reordered : (s : State) (h k : List Event) (left : ℕ) (known : Known) → AreReordered h k → IsKnown Set s h left known → IsKnown Set s k left known
   known_reordered s h k zero known re is = (below_reordered s h k zero (counts_of known) re is.0, is.1)

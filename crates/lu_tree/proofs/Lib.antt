@@ -4,6 +4,7 @@ mod Limits
 mod Making
 mod PieceLists
 mod Walking
+mod BelowLaws
 mod Added
 mod CutBelow
 mod TailBelow

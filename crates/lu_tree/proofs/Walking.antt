@@ -10,16 +10,31 @@ use Rattle.lu_machine.specs.Runs.{Leads}
 use Rattle.lu_machine.specs.Ends.{HasMove, HasNoMove, IsComplete, IsStuck, IsEnded}
 use Rattle.lu_machine.specs.Order.{IsMoveBelow, IsSmaller}
 use Rattle.lu_machine.specs.Sums.{capped, plus}
-use Rattle.lu_machine.specs.Schedules.{BeginsWith, Reaches, IsNumber, IsCompleteWithin, IsStuckWithin, IsCutAt, IsEndedWithin}
+use Rattle.lu_machine.specs.Schedules.{AreNumbers, BeginsWith, Reaches, IsNumber, IsCompleteWithin, IsStuckWithin, IsCutAt, IsEndedWithin}
 use Rattle.lu_machine.proofs.Ahead.{begins_itself, begins_shorter, begins_longer, no_move, ended_no_move, not_both, here, reaches_here}
 use Rattle.lu_machine.proofs.Ended.{complete_no_move}
 use Rattle.lu_machine.proofs.Numbers.{number_none, number_one, number_same, number_join}
 use Rattle.lu_machine.proofs.Moves.{feasible_within, next_same}
 use Rattle.lu_machine.proofs.Orders.{move_cases, same_move, smaller_asym, smaller_branch}
 use Rattle.lu_history.specs.declared.serial.SerialOp.{SerialOp}
-use Rattle.lu_witness.specs.Goodness.{IsGoodAt, AreGood, AreAllGood}
+use Rattle.lu_witness.specs.Goodness.{IsGoodAt}
 use Rattle.lu_tree.specs.Trees.{Below}
-use Rattle.lu_tree.specs.Walks.{Counted, IsFirstAt, no_schedule, one_complete, one_stuck, one_cut}
+use Rattle.lu_tree.specs.Walks.{IsFirstAt, IsGoodBehind, no_schedule, one_complete, one_stuck, one_cut}
+
+-- each schedule of the part that is ended within the bound ends so
+abbrev pub EndSo : (State → List Event → Type 0) → State → ℕ → (List Move → Type 0) → Type 0
+EndSo Good s bound Part = (u : List Move) → Part u → IsEndedWithin s bound u → Reaches s u Good
+
+-- and the counts are the numbers of the part
+pub record AllEndSo (Good : State → List Event → Type 0) (s : State) (bound : ℕ) (Part : List Move → Type 0) (counts : Counts) : Type 0 where
+  pub good : EndSo Good s bound Part
+  pub numbers : AreNumbers s bound Part counts
+
+-- the numbers of a schedule that is cut here, or ends here, and so
+abbrev pub CountedSo : (State → List Event → Type 0) → State → List Event → Counts → Type 0
+CountedSo Good s h counts =
+    (HasMove s × (counts ≡ one_cut))
+    ⊎ ((IsComplete s × Good s h × (counts ≡ one_complete)) ⊎ (IsStuck s × Good s h × (counts ≡ one_stuck)))
 
 -- v goes on from u by a move below the limit
 pub record GoesOnBelow (u : List Move) (limit : Move) (v : List Move) : Type 0 where
@@ -89,7 +104,7 @@ module _ (start : State) (u : List Move) (s : State) (h : List Event) (at : Lead
         | inr n ↦ subst (IsFeasible s) (next_same u n.0 m n.2.0 b.0 (sym n.2.1 ∙ b.1)) n.1
       ]
 
-  module _ (Set : List SerialOp → Type 0) (bound : ℕ) where
+  module _ (Good : State → List Event → Type 0) (bound : ℕ) where
     -- at the bound, or where no move is feasible
     module _ (over : HasNoMove s ⊎ (length u ≡ bound)) (short : length u ≤ bound) where
       alone : (v : List Move) (m : Move) → length v ≤ bound → IsFeasible s m → BeginsWith v (u ++ m ∷ []) → ⊥
@@ -111,12 +126,12 @@ module _ (start : State) (u : List Move) (s : State) (h : List Event) (at : Lead
             | inr m ↦ absurd (alone v m.0 e.0 m.1 m.2)
           ]
 
-      all_good : (IsEnded s → IsGoodAt Set s h) → AreGood Set start bound (Below u)
+      all_good : (IsEnded s → Good s h) → EndSo Good start bound (Below u)
       all_good good v b ended =
           let e = ended_here v b ended in
-          subst (λ x. Reaches start x (IsGoodAt Set)) (sym e.0) (reaches_here start u s h at (IsGoodAt Set) (good e.1))
+          subst (λ x. Reaches start x Good) (sym e.0) (reaches_here start u s h at Good (good e.1))
 
-      pub cut_counted : HasMove s → AreAllGood Set start bound (Below u) one_cut
+      pub cut_counted : HasMove s → AllEndSo Good start bound (Below u) one_cut
       cut_counted some = record {
         good = all_good (λ ended. absurd (not_both s some (ended_no_move s ended)));
         numbers = record {
@@ -126,7 +141,7 @@ module _ (start : State) (u : List Move) (s : State) (h : List Event) (at : Lead
         };
       }
 
-      pub complete_counted : IsComplete s → IsGoodAt Set s h → AreAllGood Set start bound (Below u) one_complete
+      pub complete_counted : IsComplete s → Good s h → AllEndSo Good start bound (Below u) one_complete
       complete_counted complete good = record {
         good = all_good (λ _. good);
         numbers = record {
@@ -136,7 +151,7 @@ module _ (start : State) (u : List Move) (s : State) (h : List Event) (at : Lead
         };
       }
 
-      stuck_counted : IsStuck s → IsGoodAt Set s h → AreAllGood Set start bound (Below u) one_stuck
+      stuck_counted : IsStuck s → Good s h → AllEndSo Good start bound (Below u) one_stuck
       stuck_counted stuck good = record {
         good = all_good (λ _. good);
         numbers = record {
@@ -147,26 +162,13 @@ module _ (start : State) (u : List Move) (s : State) (h : List Event) (at : Lead
       }
 
       -- where a schedule ends or is cut, it is counted
-      pub counted_here : (counts : Counts) → Counted Set s h counts → AreAllGood Set start bound (Below u) counts
-      counted_here counts (inl cut) = subst (AreAllGood Set start bound (Below u)) (sym cut.1) (cut_counted cut.0)
-      counted_here counts (inr (inl complete)) = subst (AreAllGood Set start bound (Below u)) (sym complete.2) (complete_counted complete.0 complete.1)
-      counted_here counts (inr (inr stuck)) = subst (AreAllGood Set start bound (Below u)) (sym stuck.2) (stuck_counted stuck.0 stuck.1)
-
-      -- or it is the first to end
-      pub first_here : IsEnded s → IsFirstAt Set start bound (Below u) u s h
-      first_here ended = record {
-        part = begins_itself u;
-        short = short;
-        leads = at;
-        ended = ended;
-        before = λ v k e.
-            (let same = ended_here v k.0 e in
-            let w : IsSmaller u u = subst (λ y. IsSmaller y u) same.0 k.1 in
-            absurd (smaller_asym u u w w));
-      }
+      pub counted_here : (counts : Counts) → CountedSo Good s h counts → AllEndSo Good start bound (Below u) counts
+      counted_here counts (inl cut) = subst (AllEndSo Good start bound (Below u)) (sym cut.1) (cut_counted cut.0)
+      counted_here counts (inr (inl complete)) = subst (AllEndSo Good start bound (Below u)) (sym complete.2) (complete_counted complete.0 complete.1)
+      counted_here counts (inr (inr stuck)) = subst (AllEndSo Good start bound (Below u)) (sym stuck.2) (stuck_counted stuck.0 stuck.1)
 
     -- before all moves
-    pub kids_none : AreAllGood Set start bound (GoesOnBelow u (record { thread = 0; pick = 0 })) no_schedule
+    pub kids_none : AllEndSo Good start bound (GoesOnBelow u (record { thread = 0; pick = 0 })) no_schedule
     kids_none =
         let first : Move = record { thread = 0; pick = 0 } in
         record {
@@ -196,7 +198,7 @@ module _ (start : State) (u : List Move) (s : State) (h : List Event) (at : Lead
         (λ v k. elim (kid_cases t p v k.0) as (λ _. (GoesOnBelow u m v × Kind v) ⊎ (Below (u ++ m ∷ []) v × Kind v)) [ inl f ↦ inl (f, k.1) | inr b ↦ inr (b, k.1) ])
 
     -- with the schedules of one more move
-    pub kids_more : (t p : ℕ) (a b : Counts) → AreAllGood Set start bound (GoesOnBelow u (record { thread = t; pick = p })) a → AreAllGood Set start bound (Below (u ++ record { thread = t; pick = p } ∷ [])) b → AreAllGood Set start bound (GoesOnBelow u (record { thread = t; pick = p + 1 })) (plus a b)
+    pub kids_more : (t p : ℕ) (a b : Counts) → AllEndSo Good start bound (GoesOnBelow u (record { thread = t; pick = p })) a → AllEndSo Good start bound (Below (u ++ record { thread = t; pick = p } ∷ [])) b → AllEndSo Good start bound (GoesOnBelow u (record { thread = t; pick = p + 1 })) (plus a b)
     kids_more t p a b x y = record {
       good = λ v f ended. elim (kid_cases t p v f) [ inl k ↦ x.good v k ended | inr k ↦ y.good v k ended ];
       numbers = record {
@@ -217,7 +219,7 @@ module _ (start : State) (u : List Move) (s : State) (h : List Event) (at : Lead
         (λ v k. (turn_back t p all P v k.1.1 k.0, k.1))
 
     -- from one thread to the next
-    pub kids_turn : (t p : ℕ) → picks_of s t ≤ p → (counts : Counts) → AreAllGood Set start bound (GoesOnBelow u (record { thread = t; pick = p })) counts → AreAllGood Set start bound (GoesOnBelow u (record { thread = t + 1; pick = 0 })) counts
+    pub kids_turn : (t p : ℕ) → picks_of s t ≤ p → (counts : Counts) → AllEndSo Good start bound (GoesOnBelow u (record { thread = t; pick = p })) counts → AllEndSo Good start bound (GoesOnBelow u (record { thread = t + 1; pick = 0 })) counts
     kids_turn t p all counts x = record {
       good = λ v f ended. x.good v (turn_back t p all (λ end _. IsEnded end) v (ended_within start bound v ended).1 f) ended;
       numbers = record {
@@ -241,7 +243,7 @@ module _ (start : State) (u : List Move) (s : State) (h : List Event) (at : Lead
             | inr m ↦ (goes_on v m.0 m.1 m.2, k.1)
           ])
 
-      pub kids_all : length u < bound → (counts : Counts) → AreAllGood Set start bound (GoesOnBelow u (record { thread = t; pick = 0 })) counts → AreAllGood Set start bound (Below u) counts
+      pub kids_all : length u < bound → (counts : Counts) → AllEndSo Good start bound (GoesOnBelow u (record { thread = t; pick = 0 })) counts → AllEndSo Good start bound (Below u) counts
       kids_all room counts x = record {
         good = λ v b ended. elim (here start u s h at (λ end _. IsEnded end) v b (ended_within start bound v ended).1) [
           | inl e ↦ absurd (not_both s some (ended_no_move s e.1))
@@ -254,8 +256,22 @@ module _ (start : State) (u : List Move) (s : State) (h : List Event) (at : Lead
         };
       }
 
+  module _ (Set : List SerialOp → Type 0) (bound : ℕ) where
+    -- where a schedule ends, it is the first to end
+    pub first_here : HasNoMove s ⊎ (length u ≡ bound) → length u ≤ bound → IsEnded s → IsFirstAt Set start bound (Below u) u s h
+    first_here over short ended = record {
+      part = begins_itself u;
+      short = short;
+      leads = at;
+      ended = ended;
+      before = λ v k e.
+          (let same = ended_here (IsGoodAt Set) bound over short v k.0 e in
+          let w : IsSmaller u u = subst (λ y. IsSmaller y u) same.0 k.1 in
+          absurd (smaller_asym u u w w));
+    }
+
     -- the first schedule of a move that is not passed is the first of all, where those of the moves below it are good
-    pub kids_stop : (m : Move) → IsFeasible s m → (a : Counts) (w : List Move) (end : State) (k : List Event) → AreAllGood Set start bound (GoesOnBelow u m) a → IsFirstAt Set start bound (Below (u ++ m ∷ [])) w end k → IsFirstAt Set start bound (Below u) w end k
+    pub kids_stop : (m : Move) → IsFeasible s m → (a : Counts) (w : List Move) (end : State) (k : List Event) → AllEndSo (IsGoodBehind Set []) start bound (GoesOnBelow u m) a → IsFirstAt Set start bound (Below (u ++ m ∷ [])) w end k → IsFirstAt Set start bound (Below u) w end k
     kids_stop m f a w end k x y = record {
       part = begins_shorter w u m y.part;
       short = y.short;

@@ -9,10 +9,11 @@ use Rattle.lu_machine.specs.States.{State}
 use Rattle.lu_machine.specs.Ends.{HasMove, IsComplete, IsStuck, IsEnded}
 use Rattle.lu_machine.specs.Order.{IsSmaller}
 use Rattle.lu_machine.specs.Runs.{Leads, with_event}
+use Rattle.lu_machine.specs.Schedules.{AreNumbers, IsEndedWithin, Reaches}
 use Rattle.lu_machine.specs.Starts.{IsStart}
 use Rattle.lu_history.specs.declared.serial.SerialOp.{SerialOp}
 use Rattle.lu_witness.specs.declared.judgement.Why.{Why}
-use Rattle.lu_witness.specs.Goodness.{IsGoodAt, IsWhyAt, AreGood, AreAllGood}
+use Rattle.lu_witness.specs.Goodness.{Any, IsGoodAt, IsWhyAt, AreGood}
 use Rattle.lu_witness.specs.Witnesses.{HasWitness, IsMember}
 use Rattle.lu_tree.specs.declared.node.Node.{Node}
 use Rattle.lu_tree.specs.declared.tally.Tally.{Tally}
@@ -52,12 +53,17 @@ Counted Set s h counts =
     ⊎ ((IsComplete s × IsGoodAt Set s h × (counts ≡ one_complete))
     ⊎ (IsStuck s × IsGoodAt Set s h × (counts ≡ one_stuck)))
 
--- The schedules that go on from a path to s, with no more than `left` moves behind it, are good if
--- they end, and these are their numbers; behind h, and so behind each reordered history.
-abbrev pub AreBelow : (List SerialOp → Type 0) → State → List Event → ℕ → Counts → Type 0
-AreBelow Set s h left below =
-    (start : State) (u : List Move) (k : List Event) → AreReordered h k → Leads start u s k
-    → AreAllGood Set start (length u + left) (Below u) below
+-- what ends so, with these events, is good behind h
+abbrev pub IsGoodBehind : (List SerialOp → Type 0) → List Event → State → List Event → Type 0
+IsGoodBehind Set h end events = IsGoodAt Set end (h ++ events)
+
+-- The schedules that go on from s, with no more than `left` moves, are good if they end, behind h
+-- and so behind each reordered history; and these are their numbers.
+pub record AreBelow (Set : List SerialOp → Type 0) (s : State) (h : List Event) (left : ℕ)
+    (below : Counts) : Type 0 where
+  pub good : (k : List Event) (u : List Move) → AreReordered h k → IsEndedWithin s left u
+      → Reaches s u (IsGoodBehind Set k)
+  pub numbers : AreNumbers s left Any below
 
 -- a schedule that ends here is not good, and why
 abbrev pub IsBadAt : (List SerialOp → Type 0) → State → List Event → Why → Type 0
