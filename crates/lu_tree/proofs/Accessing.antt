@@ -1,5 +1,5 @@
 -- What a move does depends on where its thread stands and on what it accesses, and it changes nothing else: so moves that are independent commute.
-use Rattle.std.proofs.Common.{◌≡◌, ℕ, zero, suc, ◌<◌, ◌==◌, ◌&&◌, ◌||◌, ◌⊎◌, not, nat_lt, if◌then◌else◌, Bool, true, false, List, [], ◌∷◌, Option, Some, None, MatchOption, MatchBool, is_some, length, slice_get, slice_set, slice_index, get_or, refl, sym, ◌∙◌, ap, subst, inl, inr, arith, rules}
+use Rattle.std.proofs.Common.{◌≡◌, ℕ, zero, suc, ◌==◌, ◌&&◌, ◌||◌, not, if◌then◌else◌, Bool, true, false, List, [], ◌∷◌, Option, Some, None, MatchOption, MatchBool, is_some, slice_get, slice_set, get_or, refl, sym, ◌∙◌, ap, subst, arith}
 use Rattle.std.specs.Option.{option_map, option_map_or}
 use Rattle.std.proofs.lemmas.Bool.Decides.{nat_tests}
 use Rattle.std.proofs.lemmas.List.{set-set, length-set, get_or-set_other, set-get_or}
@@ -7,7 +7,6 @@ use Rattle.std.proofs.lemmas.Option.{same_Some, slice_get_within}
 use Rattle.lu_component.specs.Component.{Declarations}
 use Rattle.lu_component.specs.declared.instr.Instr.{Instr}
 use Rattle.lu_component.specs.declared.instr.Instr.TheVariants.{Set, Compute, Load, Store, Cas, Lock, Unlock, Await, AwaitNot, Pick, Jump, JumpIfZero, Return}
-use Rattle.lu_component.specs.declared.instr.Operand.{Operand}
 use Rattle.lu_test.specs.Matrix.{Matrix}
 use Rattle.lu_test.specs.declared.schedule.Move.{Move}
 use Rattle.lu_machine.specs.declared.event.Event.{Event}
@@ -29,18 +28,18 @@ use Rattle.lu_machine.proofs.Keeping.{Turns, step_moved}
 use Rattle.lu_machine.proofs.Running.{ran}
 use Rattle.lu_machine.proofs.StepLaws.{feasible_step, step_same}
 use Rattle.lu_horizon.proofs.OwnLaws.{get_set_other, get_set_same, one_step_by}
+use Rattle.lu_horizon.specs.Dead.{DeadTable}
 use Rattle.lu_tail.specs.Solo.{IsSame, move_of}
 use Rattle.lu_tail.proofs.Frames.{frame_runs, more_alike}
 use Rattle.lu_tree.specs.declared.access.Access.{Access}
 use Rattle.lu_tree.specs.declared.access.Held.{Held}
 use Rattle.lu_tree.specs.declared.access.Held.TheVariants.{Value, Owner as OwnedBy}
-use Rattle.lu_tree.specs.declared.access.Left.{Left}
 use Rattle.lu_tree.specs.declared.access.Location.{Location}
 use Rattle.lu_tree.specs.declared.access.Location.TheVariants as location
-use Rattle.lu_tree.specs.declared.commuting.Both.{Both}
-use Rattle.lu_tree.specs.Accesses.{AreIndependent, HasLocation, activity_access, are_one, conflict, held_at, instr_access, left_at, next_access, of_cell, of_lock}
-use Rattle.lu_tree.specs.Known.{AreFree, Commute, MadeBoth, Moves, MovesBoth}
+use Rattle.lu_tree.specs.Accesses.{AreIndependent, HasLocation, are_one, conflict, held_at, instr_access, next_access, of_cell, of_lock}
+use Rattle.lu_tree.specs.Known.{AreFree, Commute, Moves, MovesBoth}
 use Rattle.lu_tree.specs.Reordered.{AreUnordered}
+use Rattle.lu_tree.proofs.Alike.{alike_itself}
 
 -- what is written is of what the access may change
 abbrev pub Within : Shared → Option Access → Type 0
@@ -59,7 +58,7 @@ AccessSame s r None = Unit {0}
 AccessSame s r (Some a) = HoldsSame s r a.location
 
 -- what an instruction writes, and that it does the same wherever it accesses the same
-record Acting (s : State) (m : Move) (f : Frame) (instr : Instr) (new : State) (e : Effect) : Type 0 where
+pub record Acting (s : State) (m : Move) (f : Frame) (instr : Instr) (new : State) (e : Effect) : Type 0 where
   pub wrote : Shared
   pub is : new ≡ with_shared s wrote
   pub within : Within wrote (instr_access s.component f instr)
@@ -102,7 +101,7 @@ unlock_acting s new f t l e false is h = (Nothing, h.0, tt, λ r same. rw (same,
 cell_alike : (s r : State) (w n : ℕ) → r.component ≡ s.component → cell_of r.component w n ≡ cell_of s.component w n
 cell_alike s r w n is = ap (λ (c : Declarations). cell_of c w n) is
 
-acting : (s : State) (m : Move) (f : Frame) (instr : Instr) (new : State) (e : Effect) → Carries s m f instr new e → Acting s m f instr new e
+pub acting : (s : State) (m : Move) (f : Frame) (instr : Instr) (new : State) (e : Effect) → Carries s m f instr new e → Acting s m f instr new e
 acting s m f (Set to v) new e h = record { wrote = Nothing; is = h.0; within = tt; there = λ r c same. ((refl, h.1), refl) }
 acting s m f (Compute by to x y) new e h = record { wrote = Nothing; is = h.0; within = tt; there = λ r c same. ((refl, h.1), refl) }
 acting s m f (Load to w i) new e h = record {
@@ -172,10 +171,10 @@ shared_threads s (Cell p n) = refl
 shared_threads s (Owner l owner) = refl
 
 -- a thread that was there stands so
-written_stands : (s : State) (w : Shared) (t : ℕ) (was now : Thread) → slice_get s.threads t ≡ Some was → slice_get (written s w t now).threads t ≡ Some now
+pub written_stands : (s : State) (w : Shared) (t : ℕ) (was now : Thread) → slice_get s.threads t ≡ Some was → slice_get (written s w t now).threads t ≡ Some now
 written_stands s w t was now stands = rw (shared_threads s w) (get_set_same s.threads t now (slice_get_within s.threads t was stands))
 
-written_other : (s : State) (w : Shared) (t u : ℕ) (now : Thread) → (t ≡ u → ⊥) → slice_get (written s w t now).threads u ≡ slice_get s.threads u
+pub written_other : (s : State) (w : Shared) (t u : ℕ) (now : Thread) → (t ≡ u → ⊥) → slice_get (written s w t now).threads u ≡ slice_get s.threads u
 written_other s w t u now differ = rw (shared_threads s w) (get_set_other s.threads t u now (λ e. differ (sym e)))
 
 written_again : (s : State) (w : Shared) (t : ℕ) (x y : Thread) → with_thread (written s w t x) t y ≡ written s w t y
@@ -375,8 +374,8 @@ written_both s w x t u now after a b differ one two none = by w x one two
     by (Owner p n) (Owner q m) one two = rw (threads, locks p q n m (not_eq p q (other_of (of_lock q) (of_lock p) refl (subst (λ y. conflict (Some (of_lock p)) y ≡ None) two (subst (λ y. conflict y b ≡ None) one none))))) refl
 
 -- the only moves of two threads that are independent commute, where their events have no more precedence in the other order
-pub independent_commute : (t u : ℕ) (s r c : State) (e f : Option Event) → Moves t s r e → Moves u s c f → AreIndependent t u s → AreUnordered e f → Commute t u s
-independent_commute t u s r c e f one two (differ, none) unordered =
+pub independent_commute : (table : DeadTable) (t u : ℕ) (s r c : State) (e f : Option Event) → Moves t s r e → Moves u s c f → AreIndependent t u s → AreUnordered e f → Commute table t u s
+independent_commute table t u s r c e f one two (differ, none) unordered =
     let a = does s r t e one in
     let b = does s c u f two in
     let back = conflict_back (next_access s t) (next_access s u) none in
@@ -386,24 +385,25 @@ independent_commute t u s r c e f one two (differ, none) unordered =
     ap (λ (x : State). written x a.wrote t a.now) b.is
     ∙ (sym (written_both s a.wrote b.wrote t u a.now b.now (next_access s t) (next_access s u) differ a.within b.within none)
     ∙ ap (λ (x : State). written x b.wrote u b.now) (sym a.is)) in
-    (written r b.wrote u b.now, e, f, (r, one, behind), (c, two, subst (λ x. Moves t c x e) same other), unordered)
+    let end = written r b.wrote u b.now in
+    (end, end, e, f, (r, one, behind), (c, two, subst (λ x. Moves t c x e) same other), alike_itself table end, unordered)
 
 -- an only move has one event
 pub moves_event : (t : ℕ) (s r c : State) (e f : Option Event) → Moves t s r e → Moves t s c f → e ≡ f
 moves_event t s r c e f one two = (step_same s (move_of t) r c e f one.1 two.1).1
 
 -- the only moves of two threads that are independent commute where they are free, and only there
-pub free_commute : (t u : ℕ) (s : State) → picks_of s t ≡ 1 → picks_of s u ≡ 1 → AreIndependent t u s → AreFree t u s → Commute t u s
-free_commute t u s first second independent free =
+pub free_commute : (table : DeadTable) (t u : ℕ) (s : State) → picks_of s t ≡ 1 → picks_of s u ≡ 1 → AreIndependent t u s → AreFree t u s → Commute table t u s
+free_commute table t u s first second independent free =
     let one = feasible_step s (move_of t) (omega (arith, first)) in
     let two = feasible_step s (move_of u) (omega (arith, second)) in
-    independent_commute t u s one.0 two.0 one.1 two.1 (first, one.2) (second, two.2) independent (free one.0 two.0 one.1 two.1 (first, one.2) (second, two.2))
+    independent_commute table t u s one.0 two.0 one.1 two.1 (first, one.2) (second, two.2) independent (free one.0 two.0 one.1 two.1 (first, one.2) (second, two.2))
 
-pub commute_is_free : (t u : ℕ) (s : State) → Commute t u s → AreFree t u s
-commute_is_free t u s commute = λ r c e f one two.
-    (let first = moves_event t s commute.3.0 r commute.1 e commute.3.1 one in
-    let second = moves_event u s commute.4.0 c commute.2 f commute.4.1 two in
-    rw (← first, ← second) commute.5)
+pub commute_is_free : (table : DeadTable) (t u : ℕ) (s : State) → Commute table t u s → AreFree t u s
+commute_is_free table t u s commute = λ r c e f one two.
+    (let first = moves_event t s commute.4.0 r commute.2 e commute.4.1 one in
+    let second = moves_event u s commute.5.0 c commute.3 f commute.5.1 two in
+    rw (← first, ← second) commute.7)
 
 -- the event of a move of thread t: none, or that a call of it is opened or returns
 abbrev pub IsEventOf : ℕ → Option Event → Type 0
@@ -470,7 +470,7 @@ at_location a l m true false same is = absurd (cc)
 at_location a l m false other same is = absurd (cc)
 
 -- both accesses are of the location of a conflict
-conflict_at : (a b : Option Access) (l : Location) → conflict a b ≡ Some l → (x : Access) × (y : Access) × (a ≡ Some x) × (b ≡ Some y) × (x.location ≡ l) × (y.location ≡ l)
+pub conflict_at : (a b : Option Access) (l : Location) → conflict a b ≡ Some l → (x : Access) × (y : Access) × (a ≡ Some x) × (b ≡ Some y) × (x.location ≡ l) × (y.location ≡ l)
 conflict_at None b l is = absurd (cc)
 conflict_at (Some a) None l is = absurd (cc)
 conflict_at (Some a) (Some b) l is =
@@ -498,7 +498,7 @@ alike_after l s Nothing t now at = alike_still l s t now
 alike_after l s (Cell p n) t now at = subst (λ x. AreAlikeBut x s (written s (Cell p n) t now)) at (λ v. set-set s.cells p n v, refl)
 alike_after l s (Owner m owner) t now at = subst (λ x. AreAlikeBut x s (written s (Owner m owner) t now)) at (refl, λ o. set-set s.locks m owner o)
 
-alike_trans : (l : Location) (s r x : State) → AreAlikeBut l s r → AreAlikeBut l r x → AreAlikeBut l s x
+pub alike_trans : (l : Location) (s r x : State) → AreAlikeBut l s r → AreAlikeBut l r x → AreAlikeBut l s x
 alike_trans (location.Cell p) s r x one two = (λ v. two.0 v ∙ one.0 v, two.1 ∙ one.1)
 alike_trans (location.Lock l) s r x one two = (two.0 ∙ one.0, λ o. two.1 o ∙ one.1 o)
 
@@ -514,11 +514,11 @@ list_same : {A : Type 0} (xs ys : List A) (i : ℕ) (d : A) → ((v : A) → sli
 list_same xs ys i d but at = sym (set-get_or xs i d) ∙ (ap (λ v. slice_set xs i v) at ∙ (sym (but (get_or ys i d)) ∙ set-get_or ys i d))
 
 -- what is alike but at the location, and there, is the same
-shared_same : (l : Location) (x y : State) → AreAlikeBut l x y → held_at x l ≡ held_at y l → (x.cells ≡ y.cells) × (x.locks ≡ y.locks)
+pub shared_same : (l : Location) (x y : State) → AreAlikeBut l x y → held_at x l ≡ held_at y l → (x.cells ≡ y.cells) × (x.locks ≡ y.locks)
 shared_same (location.Cell p) x y but held = (list_same x.cells y.cells p 0 but.0 (ap value_in held), sym but.1)
 shared_same (location.Lock l) x y but held = (sym but.0, list_same x.locks y.locks l None but.1 (ap owner_in held))
 
-alike_back : (l : Location) (s r : State) → AreAlikeBut l s r → AreAlikeBut l r s
+pub alike_back : (l : Location) (s r : State) → AreAlikeBut l s r → AreAlikeBut l r s
 alike_back (location.Cell p) s r but = (λ v. sym (but.0 v), sym but.1)
 alike_back (location.Lock l) s r but = (sym but.0, λ o. sym (but.1 o))
 
@@ -526,7 +526,7 @@ access_like : (s r : State) (t : ℕ) → r.component ≡ s.component → slice_
 access_like s r t component stands = rw (component, stands) refl
 
 -- where two moves of threads that differ lead, one after the other
-record Reaches (s end : State) (t u : ℕ) (l : Location) : Type 0 where
+pub record Reaches (s end : State) (t u : ℕ) (l : Location) : Type 0 where
   pub component : end.component ≡ s.component
   pub matrix_is : end.matrix ≡ s.matrix
   pub alike : AreAlikeBut l s end
@@ -536,7 +536,7 @@ record Reaches (s end : State) (t u : ℕ) (l : Location) : Type 0 where
   pub first_stands : slice_get end.threads t ≡ Some first
   pub second_stands : slice_get end.threads u ≡ Some second
 
-ends_at : (t u : ℕ) (s end : State) (e f : Option Event) (l : Location) (x y : Access) → MovesBoth t u s end e f → (t ≡ u → ⊥) → next_access s t ≡ Some x → next_access s u ≡ Some y → x.location ≡ l → y.location ≡ l → Reaches s end t u l
+pub ends_at : (t u : ℕ) (s end : State) (e f : Option Event) (l : Location) (x y : Access) → MovesBoth t u s end e f → (t ≡ u → ⊥) → next_access s t ≡ Some x → next_access s u ≡ Some y → x.location ≡ l → y.location ≡ l → Reaches s end t u l
 ends_at t u s end e f l x y both differ first second first_at second_at =
     let r = both.0 in
     let a = does s r t e both.1 in
@@ -562,25 +562,6 @@ ends_at t u s end e f l x y both differ first second first_at second_at =
           ∙ (ap (λ (z : State). slice_get z.threads t) a.is ∙ written_stands s a.wrote t a.was a.now a.stood));
       second_stands = ap (λ (z : State). slice_get z.threads u) b.is ∙ written_stands r b.wrote u b.was b.now b.stood;
     }
-
--- both orders lead to one state where they leave the same of the two threads and of the location
-pub same_left : (t u : ℕ) (s x y : State) (there here : Both) (l : Location) → MadeBoth t u s x there → MadeBoth u t s y here → (t ≡ u → ⊥) → conflict (next_access s t) (next_access s u) ≡ Some l → left_at y t u l ≡ left_at x t u l → y ≡ x
-same_left t u s x y there here l one two differ at left =
-    let both = conflict_at (next_access s t) (next_access s u) l at in
-    let a = ends_at t u s x there.first.event there.second.event l both.0 both.1 one.moves differ both.2 both.3 both.4 both.5 in
-    let b = ends_at u t s y here.first.event here.second.event l both.1 both.0 two.moves (λ z. differ (sym z)) both.3 both.2 both.5 both.4 in
-    let first : b.second ≡ a.first = same_Some b.second a.first (sym b.second_stands ∙ (ap (λ (z : Left). z.first) left ∙ a.first_stands)) in
-    let second : b.first ≡ a.second = same_Some b.first a.second (sym b.first_stands ∙ (ap (λ (z : Left). z.second) left ∙ a.second_stands)) in
-    let shared = shared_same l y x (alike_trans l y s x (alike_back l s y b.alike) a.alike) (ap (λ (z : Left). z.held) left) in
-    state_parts y.component x.component y.matrix x.matrix y.cells x.cells y.locks x.locks y.threads x.threads
-    (b.component ∙ sym a.component)
-    (b.matrix_is ∙ sym a.matrix_is)
-    shared.0
-    shared.1
-    (b.threads
-    ∙ (set_both s.threads u t b.first b.second (λ z. differ (sym z))
-    ∙ (ap (λ (z : Thread). slice_set (slice_set s.threads t z) u b.first) first
-    ∙ (ap (λ (z : Thread). slice_set (slice_set s.threads t a.first) u z) second ∙ sym a.threads))))
 
 -- a move takes no location away
 holds_location : (s : State) (w : Shared) (t : ℕ) (now : Thread) (l : Location) → HasLocation s l → HasLocation (written s w t now) l

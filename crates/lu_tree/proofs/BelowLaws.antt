@@ -1,6 +1,5 @@
 -- What goes on from a state, and the schedules that begin with one that leads there.
-use Rattle.std.proofs.Common.{◌≡◌, ℕ, suc, ◌+◌, ◌≤◌, List, [], ◌∷◌, ◌++◌, length, map, refl, sym, ◌∙◌, ap, subst, inl, inr, arith, append_assoc, length-append}
-use Rattle.std.proofs.lemmas.List.{append-nil}
+use Rattle.std.proofs.Common.{◌≡◌, ℕ, suc, ◌+◌, ◌≤◌, List, [], ◌∷◌, ◌++◌, length, map, refl, sym, ap, subst, inl, inr, arith, append_assoc, length-append}
 use Rattle.lu_test.specs.declared.schedule.Move.{Move}
 use Rattle.lu_machine.specs.declared.counts.Counts.{Counts}
 use Rattle.lu_machine.specs.declared.event.Event.{Event}
@@ -8,7 +7,7 @@ use Rattle.lu_machine.specs.States.{State}
 use Rattle.lu_machine.specs.Runs.{Leads}
 use Rattle.lu_machine.specs.Ends.{HasMove, IsComplete, IsStuck}
 use Rattle.lu_machine.specs.Order.{IsSmaller}
-use Rattle.lu_machine.specs.Schedules.{BeginsWith, IsEndedWithin, IsNumber, IsRising, Lists, Reaches}
+use Rattle.lu_machine.specs.Schedules.{IsEndedWithin, IsNumber, IsRising, Lists, Reaches}
 use Rattle.lu_machine.proofs.Numbers.{number_same}
 use Rattle.lu_machine.proofs.Paths.{leads_on, leads_same, leads_split}
 use Rattle.lu_history.specs.declared.serial.SerialOp.{SerialOp}

@@ -3,7 +3,6 @@ use Rattle.std.proofs.Common.{◌≡◌, ℕ, zero, suc, ◌+◌, ◌-◌, ◌<�
 use Rattle.std.proofs.lemmas.Bool.{cases_eq, cases_lt}
 use Rattle.std.proofs.lemmas.Bool.Decides.{nat_tests}
 use Rattle.std.proofs.lemmas.List.{append-nil, get_or-set_same, get_or-set_other, length-set}
-use Rattle.lu_test.specs.declared.schedule.Move.{Move}
 use Rattle.lu_machine.specs.declared.event.Event.{Event}
 use Rattle.lu_machine.specs.declared.thread.Activity.{Activity}
 use Rattle.lu_machine.specs.declared.thread.Activity.TheVariants.{Idle, Open}
@@ -13,7 +12,7 @@ use Rattle.lu_machine.specs.Changes.{at_work, idle}
 use Rattle.lu_machine.specs.Effects.{Effect}
 use Rattle.lu_machine.specs.Effects.Effect.{GoesOn, Ends}
 use Rattle.lu_machine.specs.Ends.{IsComplete, IsFinished}
-use Rattle.lu_machine.specs.Runs.{Leads, with_event}
+use Rattle.lu_machine.specs.Runs.{with_event}
 use Rattle.lu_machine.specs.States.{State, call_count, progress}
 use Rattle.lu_machine.specs.Steps.{ByActivity, Step, event_after}
 use Rattle.lu_machine.specs.Sums.{capped}

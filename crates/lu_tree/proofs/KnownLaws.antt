@@ -5,23 +5,25 @@ use Rattle.std.specs.Prelude.{All}
 use Rattle.std.proofs.lemmas.Bool.{cases_eq, cases_lt}
 use Rattle.std.proofs.lemmas.Option.{slice_get_within}
 use Rattle.lu_horizon.proofs.OwnLaws.{get_set_other, get_set_same}
-use Rattle.lu_test.specs.declared.schedule.Move.{Move}
 use Rattle.lu_machine.specs.declared.counts.Counts.{Counts}
 use Rattle.lu_machine.specs.declared.event.Event.{Event}
 use Rattle.lu_machine.specs.States.{State}
 use Rattle.lu_machine.specs.Steps.{Step, picks_of}
-use Rattle.lu_machine.specs.Runs.{Leads, with_event}
+use Rattle.lu_machine.specs.Runs.{with_event}
 use Rattle.lu_machine.proofs.Keeping.{step_moved}
 use Rattle.lu_machine.proofs.StepLaws.{step_feasible, step_same}
+use Rattle.lu_horizon.specs.Dead.{DeadTable, IsDeadTable}
 use Rattle.lu_tail.specs.Solo.{move_of}
 use Rattle.lu_history.specs.declared.serial.SerialOp.{SerialOp}
 use Rattle.lu_witness.specs.Witnesses.{IsMember}
 use Rattle.lu_tree.specs.declared.commuting.Both.{Both}
 use Rattle.lu_tree.specs.declared.known.Known.{Known}
 use Rattle.lu_tree.specs.declared.known.Hints.{Hints}
+use Rattle.lu_tree.specs.Alike.{AreAlike}
 use Rattle.lu_tree.specs.Known.{AreFrom, AreKnownBehind, Commute, HaveSameEvents, IsAmongOr, IsHint, IsHintOr, IsKid, IsKnown, IsKnownBy, KidsTellNoMore, MadeBoth, MoveNotBoth, Moves, MovesBoth, TellsNoMore, counts_of, kids_of}
 use Rattle.lu_tree.specs.Reordered.{AreReordered, AreUnordered}
 use Rattle.lu_tree.specs.Walks.{AreBelow}
+use Rattle.lu_tree.proofs.AlikeRuns.{known_alike}
 use Rattle.lu_tree.proofs.Reordering.{either_order, reordered_both, reordered_then}
 
 -- the hint of a thread, if there is one
@@ -53,10 +55,10 @@ pub hint_added : (old : Hints) (t i : ℕ) (b : Bor Known) → i ≡ t → IsHin
 hint_added old t i b is = λ u known hint. slot_set old.by_thread t i b is u known hint
 
 -- moves that were made in both orders
-pub commute_seen : (t u : ℕ) (s end other : State) (there here : Both) → MadeBoth t u s end there → MadeBoth u t s other here → other ≡ end → HaveSameEvents there here → Commute t u s
-commute_seen t u s end other there here one two same history =
-    let back : MovesBoth u t s end there.second.event there.first.event = rw (history.0, history.1, ← same) two.moves in
-    (end, there.first.event, there.second.event, one.moves, back, history.2)
+pub commute_seen : (table : DeadTable) (t u : ℕ) (s end other : State) (there here : Both) → MadeBoth t u s end there → MadeBoth u t s other here → AreAlike table end other → HaveSameEvents there here → Commute table t u s
+commute_seen table t u s end other there here one two alike history =
+    let back : MovesBoth u t s other there.second.event there.first.event = rw (history.0, history.1) two.moves in
+    (end, other, there.first.event, there.second.event, one.moves, back, alike, history.2)
 
 -- an only move leads to one state
 moves_same : (t : ℕ) (s a b : State) (e f : Option Event) → Moves t s a e → Moves t s b f → (a ≡ b) × (e ≡ f)
@@ -75,23 +77,23 @@ not_both t u s r event moves not end e f both =
     let same = moves_same t s both.0 r e event both.1 moves in
     not (subst (λ x. picks_of x u ≡ 1) same.0 both.2.0)
 
--- moves that commute, and were made in both orders, led to one state with one history
-pub commute_made : (t u : ℕ) (s end other : State) (there here : Both) → MadeBoth t u s end there → MadeBoth u t s other here → Commute t u s → (other ≡ end) × HaveSameEvents there here
-commute_made t u s end other there here one two (last, e, f, first, second, either) =
+-- moves that commute, and were made in both orders, led to states that are alike, with one history
+pub commute_made : (table : DeadTable) (t u : ℕ) (s end other : State) (there here : Both) → MadeBoth t u s end there → MadeBoth u t s other here → Commute table t u s → AreAlike table end other × HaveSameEvents there here
+commute_made table t u s end other there here one two (last, behind, e, f, first, second, alike, either) =
     let a = both_same t u s last end e f there.first.event there.second.event first one.moves in
-    let b = both_same u t s last other f e here.first.event here.second.event second two.moves in
+    let b = both_same u t s behind other f e here.first.event here.second.event second two.moves in
     let unordered : AreUnordered there.first.event there.second.event = rw (← a.1, ← a.2) either in
-    (sym b.0 ∙ a.0, (sym a.1 ∙ b.2, sym a.2 ∙ b.1, unordered))
+    (subst (λ x. AreAlike table end x) b.0 (subst (λ x. AreAlike table x behind) a.0 alike), (sym a.1 ∙ b.2, sym a.2 ∙ b.1, unordered))
 
 -- their events have no more precedence in the other order
-pub commute_unordered : (t u : ℕ) (s end : State) (there : Both) → MadeBoth t u s end there → Commute t u s → AreUnordered there.first.event there.second.event
-commute_unordered t u s end there one (last, e, f, first, second, either) =
+pub commute_unordered : (table : DeadTable) (t u : ℕ) (s end : State) (there : Both) → MadeBoth t u s end there → Commute table t u s → AreUnordered there.first.event there.second.event
+commute_unordered table t u s end there one (last, behind, e, f, first, second, alike, either) =
     let a = both_same t u s last end e f there.first.event there.second.event first one.moves in
     rw (← a.1, ← a.2) either
 
 -- one hint more
-pub from_more : (s : State) (hints : Hints) (known : Known) (t u : ℕ) (first below : Known) (old new : Hints) → AreFrom s hints known t old → IsHintOr u below old new → Commute u t s → IsKnownBy hints known u first → IsKid first t below → AreFrom s hints known t new
-from_more s hints known t u first below old new are more commute by kid = λ v other hint.
+pub from_more : (table : DeadTable) (s : State) (hints : Hints) (known : Known) (t u : ℕ) (first below : Known) (old new : Hints) → AreFrom table s hints known t old → IsHintOr u below old new → Commute table u t s → IsKnownBy hints known u first → IsKid first t below → AreFrom table s hints known t new
+from_more table s hints known t u first below old new are more commute by kid = λ v other hint.
     elim (more v other hint) [
       | inl before ↦ are v other before
       | inr is ↦ rw (is.0, is.1) (commute, first, by, kid)
@@ -164,25 +166,29 @@ module _ (Set : List SerialOp → Type 0) where
 
   -- Where thread t moves first: what is known behind a move that commutes with that is known there,
   -- too.
-  pub hints_on : (s : State) (h : List Event) (left : ℕ) (hints : Hints) (known : Known) (t p : ℕ) (new : Hints) → AreKnownBehind Set s h left (IsHint hints) → AreKnownBehind Set s h left (IsKid known) → AreFrom s hints known t new → (next : State) (event : Option Event) → Step s (record { thread = t; pick = p }) next event → AreKnownBehind Set next (h ++ with_event event []) (left - 1) (IsHint new)
-  hints_on s h left hints known t p new by_hint by_kid from next event step = λ u below hint there last moves.
+  pub hints_on : (table : DeadTable) (s : State) → IsDeadTable s.component table → (h : List Event) (left : ℕ) (hints : Hints) (known : Known) (t p : ℕ) (new : Hints) → AreKnownBehind Set s h left (IsHint hints) → AreKnownBehind Set s h left (IsKid known) → AreFrom table s hints known t new → (next : State) (event : Option Event) → Step s (record { thread = t; pick = p }) next event → AreKnownBehind Set next (h ++ with_event event []) (left - 1) (IsHint new)
+  hints_on table s dead h left hints known t p new by_hint by_kid from next event step = λ u below hint there last moves.
       (let c = from u below hint in
-      let commute : Commute u t s = c.0 in
+      let commute : Commute table u t s = c.0 in
       let end = commute.0 in
-      let e = commute.1 in
-      let f = commute.2 in
-      let one = commute.3 in
-      let two = commute.4 in
+      let other = commute.1 in
+      let e = commute.2 in
+      let f = commute.3 in
+      let one = commute.4 in
+      let two = commute.5 in
       let feasible : p < picks_of s t = step_feasible s (record { thread = t; pick = p }) next event step in
       let only : p ≡ 0 = omega (arith, two.1.0) in
       let first : Step s (move_of t) next event = subst (λ x. Step s (record { thread = t; pick = x }) next event) only step in
       let at : (next ≡ two.0) × (event ≡ f) = step_same s (move_of t) next two.0 event f first two.1.1 in
       let then : Step two.0 (move_of u) there last = subst (λ x. Step x (move_of u) there last) at.0 moves.1 in
-      let to : (there ≡ end) × (last ≡ e) = step_same two.0 (move_of u) there end last e then two.2.1 in
+      let to : (there ≡ other) × (last ≡ e) = step_same two.0 (move_of u) there other last e then two.2.1 in
       let before = behind u c.1 c.2 one.0 e one.1 in
       let kid = kids_known one.0 (h ++ with_event e []) left c.1 before t below c.3 end f one.2 in
-      let both = either_order h e f commute.5 in
-      rw (at.1, to.0, to.1) (known_reordered end ((h ++ with_event e []) ++ with_event f []) ((h ++ with_event f []) ++ with_event e []) (left - 1) below both kid))
+      let both = either_order h e f commute.7 in
+      let component : end.component ≡ s.component = (step_moved one.0 (move_of t) end f one.2.1).component ∙ (step_moved s (move_of u) one.0 e one.1.1).component in
+      let dead_there : IsDeadTable end.component table = subst (λ x. IsDeadTable x table) (sym component) dead in
+      let here = known_reordered end ((h ++ with_event e []) ++ with_event f []) ((h ++ with_event f []) ++ with_event e []) (left - 1) below both kid in
+      rw (at.1, to.0, to.1) (known_alike table Set end other dead_there commute.6 ((h ++ with_event f []) ++ with_event e []) (left - 1) below here))
     where
       behind : (u : ℕ) (first : Known) → IsKnownBy hints known u first → (r : State) (e : Option Event) → Moves u s r e → IsKnown Set r (h ++ with_event e []) left first
       behind u first (inl hint) = by_hint u first hint

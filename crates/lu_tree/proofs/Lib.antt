@@ -17,4 +17,8 @@ mod Reordering
 mod KnownLaws
 mod Leaving
 mod Accessing
-mod SameLeft
+mod SameHeld
+mod Alike
+mod AlikeLaws
+mod AlikeRuns
+mod LeftAlike

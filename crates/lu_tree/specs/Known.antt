@@ -8,6 +8,7 @@ use Rattle.lu_machine.specs.Runs.{with_event}
 use Rattle.lu_machine.specs.States.{State}
 use Rattle.lu_machine.specs.Steps.{Step, picks_of}
 use Rattle.lu_machine.specs.Undoes.{CanTake, restored}
+use Rattle.lu_horizon.specs.Dead.{DeadTable}
 use Rattle.lu_tail.specs.Solo.{move_of}
 use Rattle.lu_history.specs.declared.serial.SerialOp.{SerialOp}
 use Rattle.lu_witness.specs.Witnesses.{IsMember}
@@ -15,6 +16,7 @@ use Rattle.lu_tree.specs.declared.commuting.Both.{Both}
 use Rattle.lu_tree.specs.declared.known.Known.{Known, out-Known}
 use Rattle.lu_tree.specs.declared.known.Hints.{Hints}
 use Rattle.lu_tree.specs.declared.node.Node.{Node}
+use Rattle.lu_tree.specs.Alike.{AreAlike}
 use Rattle.lu_tree.specs.Reordered.{AreUnordered}
 use Rattle.lu_tree.specs.Walks.{AreBelow}
 
@@ -30,12 +32,13 @@ MovesBoth t u s end e f = (r : State) × Moves t s r e × Moves u r end f
 abbrev pub MoveNotBoth : ℕ → ℕ → State → Type 0
 MoveNotBoth t u s = (end : State) (e f : Option Event) → MovesBoth t u s end e f → ⊥
 
--- The only moves of t and of u commute: in either order they lead to one state, with the same
--- events, and where u moves first these have no more precedence.
-abbrev pub Commute : ℕ → ℕ → State → Type 0
-Commute t u s =
-    (end : State) × (e : Option Event) × (f : Option Event) × MovesBoth t u s end e f
-    × MovesBoth u t s end f e × AreUnordered e f
+-- The only moves of t and of u commute: in either order they lead to one state, but for dead
+-- registers, with the same events, and where u moves first these have no more precedence.
+abbrev pub Commute : DeadTable → ℕ → ℕ → State → Type 0
+Commute table t u s =
+    (end : State) × (other : State) × (e : Option Event) × (f : Option Event)
+    × MovesBoth t u s end e f × MovesBoth u t s other f e × AreAlike table end other
+    × AreUnordered e f
 
 -- the events of the only moves of t and of u have no more precedence in the other order
 abbrev pub AreFree : ℕ → ℕ → State → Type 0
@@ -117,10 +120,10 @@ AreKnownBehind Set s h left IsTold =
 
 -- Where thread t moves first: each hint is of a move that commutes with that, and was known behind
 -- it.
-abbrev pub AreFrom : State → Hints → Known → ℕ → Hints → Type 0
-AreFrom s hints known t new =
+abbrev pub AreFrom : DeadTable → State → Hints → Known → ℕ → Hints → Type 0
+AreFrom table s hints known t new =
     (u : ℕ) (below : Known) → IsHint new u below
-    → Commute u t s × (first : Known) × IsKnownBy hints known u first × IsKid first t below
+    → Commute table u t s × (first : Known) × IsKnownBy hints known u first × IsKid first t below
 
 -- the same of a node, over the histories of its tree
 abbrev pub IsKnownNode : {T Place : Type 0} → (T → List (List SerialOp)) → Node T Place → ℕ

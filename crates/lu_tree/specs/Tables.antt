@@ -2,13 +2,14 @@
 use Rattle.std.specs.Prelude.{ℕ}
 use Rattle.lu_component.specs.Component.{Declarations}
 use Rattle.lu_test.specs.Matrix.{Matrix}
+use Rattle.lu_horizon.specs.Dead.{IsDeadTable}
 use Rattle.lu_horizon.specs.Tables.{ServesRuns}
 use Rattle.lu_tail.specs.Orders.{CountsUpTo}
 use Rattle.lu_tree.specs.declared.tables.Tables.{Tables}
 
 -- the tables are those of the runs of the component and the matrix
 abbrev pub AreTables : Declarations → Matrix → Tables → Type 0
-AreTables c matrix tables = ServesRuns c matrix tables.horizon
+AreTables c matrix tables = ServesRuns c matrix tables.horizon × IsDeadTable c tables.dead
 
 -- and count the orders of so many moves
 abbrev pub CountOrdersUpTo : ℕ → Tables → Type 0

@@ -1,14 +1,16 @@
 //! What a thread's next move accesses of what all threads share.
 
-ghost use Rattle.std.specs.Prelude.{◌≡◌, ◌<◌, IfSome, length};
+ghost use Rattle.std.specs.Prelude.{◌≡◌, ◌<◌, ◌↔◌, true, IfSome, length};
 ghost use Rattle.std.specs.Option.{option_map};
 ghost use Rattle.lu_component.specs.Component.{IsOperand};
 ghost use Rattle.lu_machine.specs.Effects.{value_of};
 ghost use Rattle.lu_machine.specs.States.{cell_of};
 ghost use Rattle.lu_tree.specs.Accesses as spec;
 ghost use Rattle.lu_tree.specs.Accesses.{HasLocation, of_cell};
+ghost use Rattle.lu_tree.specs.Alike.{AreActivitiesAlike, AreFramesAlike, AreLeftAlike, AreStandingAlike};
 
 use lu_component::{Instr, Operand};
+use lu_horizon::DeadRegisters;
 use lu_machine::{Activity, Frame, Machine, Thread};
 
 /// A cell or a lock.
@@ -40,12 +42,15 @@ pub(crate) enum Held {
 }
 
 /// Where two threads stand, and what a location holds.
-#[derive(Clone, Copy, Debug, PartialEq, Eq)]
+#[derive(Clone, Copy, Debug)]
 pub(crate) struct Left {
     pub(crate) first: Option<Thread>,
     pub(crate) second: Option<Thread>,
     pub(crate) held: Held,
 }
+
+/// How many registers an operation has.
+const REGISTERS: u8 = 8;
 
 /// The access of a cell of the array, if it has one at this index.
 #[inline(always)]
@@ -149,4 +154,55 @@ pub(crate) fn left_at(machine: &Machine<'_>, first: u8, second: u8, location: Lo
         second: machine.standing(second).copied(),
         held: held_at(machine, location),
     }
+}
+
+/// Whether two operations are one, at one place, with the same in each register that is not dead
+/// there.
+fn are_frames_alike(dead: &DeadRegisters, one: &Frame, other: &Frame) -> bool
+    ensures { result ≡ true ↔ AreFramesAlike dead.now one.now other.now }
+{
+    if one.op != other.op || one.place != other.place {
+        return false;
+    }
+    for register in 0..REGISTERS {
+        let operand = Operand::Reg(register);
+        let same = one.value(operand) == other.value(operand);
+        if !same && !dead.is_dead(one.op, one.place, register) {
+            return false;
+        }
+    }
+    true
+}
+
+/// Whether both are idle, or are at operations that are alike.
+fn are_activities_alike(dead: &DeadRegisters, one: &Activity, other: &Activity) -> bool
+    ensures { result ≡ true ↔ AreActivitiesAlike dead.now one.now other.now }
+{
+    match (one, other) {
+        (Activity::Idle, Activity::Idle) => true,
+        (Activity::Open(frame), Activity::Open(next)) => are_frames_alike(dead, frame, next),
+        (Activity::Idle, Activity::Open(_)) | (Activity::Open(_), Activity::Idle) => false,
+    }
+}
+
+/// Whether two threads stand alike, or neither is there.
+fn are_standing_alike(dead: &DeadRegisters, one: Option<Thread>, other: Option<Thread>) -> bool
+    ensures { result ≡ true ↔ AreStandingAlike dead.now one other }
+{
+    match (one, other) {
+        (None, None) => true,
+        (Some(one), Some(other)) => {
+            one.done == other.done && are_activities_alike(dead, &one.activity, &other.activity)
+        }
+        (None, Some(_)) | (Some(_), None) => false,
+    }
+}
+
+/// Whether two threads stand alike, but for dead registers, and the location holds the same.
+pub(crate) fn are_left_alike(dead: &DeadRegisters, one: Left, other: Left) -> bool
+    ensures { result ≡ true ↔ AreLeftAlike dead.now one other }
+{
+    are_standing_alike(dead, one.first, other.first)
+        && are_standing_alike(dead, one.second, other.second)
+        && other.held == one.held
 }

@@ -4,7 +4,8 @@
 //! 1977), and the other order has no more precedence, the schedules below are the same in both
 //! orders, and good in the other where they are in the one. They are walked behind the one order,
 //! and counted behind both. Moves that access nothing of what the other changes are independent, so
-//! they lead to one state; of others it is seen by making them in both orders.
+//! they lead to one state; of others it is seen by making them in both orders. The states may differ
+//! in dead registers, which nothing reads any more.
 
 ghost use Rattle.std.specs.Prelude.{◌≡◌, ◌≢◌, ◌<◌, ◌↔◌, ℕ, false, true, IfNone, IfSome, Some, slice_get};
 ghost use Rattle.lu_machine.specs.Changes.{idle};
@@ -15,8 +16,9 @@ ghost use Rattle.lu_tree.specs.Accesses.{HasLocation, conflict, next_access};
 ghost use Rattle.lu_tree.specs.Known.{AreFree, AreFrom, Commute, HaveSameEvents, IsKnownBy, MadeBoth, MoveNotBoth, Moves, taken_back};
 ghost use Rattle.lu_tree.specs.Reordered.{AreUnordered};
 
-use crate::access::{Location, conflict, left_at, next_access};
+use crate::access::{Location, are_left_alike, conflict, left_at, next_access};
 use crate::known::{Hints, Known};
+use lu_horizon::DeadRegisters;
 use lu_machine::{Activity, Event, Machine, Undo};
 use lu_test::Move;
 
@@ -146,6 +148,7 @@ fn commute_at<const LONG: bool>(
     first: u8,
     second: u8,
     location: Location,
+    dead: &DeadRegisters,
     machine: &mut Machine<'_>,
 ) -> bool
     requires one { LONG ≡ false → machine.old.component.local ≡ 0 }
@@ -156,7 +159,7 @@ fn commute_at<const LONG: bool>(
         ≡ Some location }
     requires there { HasLocation machine.old location }
     ensures machine { machine.new ≡ machine.old }
-    ensures commute { result ≡ true ↔ Commute first second machine.old }
+    ensures commute { result ≡ true ↔ Commute dead.now first second machine.old }
 {
     let Some(there) = make_both::<LONG>(first, second, machine) else {
         return false;
@@ -166,26 +169,31 @@ fn commute_at<const LONG: bool>(
     let Some(here) = make_both::<LONG>(second, first, machine) else {
         return false;
     };
-    let same = left_at(machine, first, second, location) == left;
+    let alike = are_left_alike(dead, left, left_at(machine, first, second, location));
     take_back(here, machine);
-    same && have_same_events(there, here)
+    alike && have_same_events(there, here)
 }
 
 /// Whether the moves of two threads are their only ones and commute: in the other order they lead
-/// to the same state, and with no more precedence. Where they are independent neither is made,
-/// unless one opens a call.
-fn commute<const LONG: bool>(first: u8, second: u8, machine: &mut Machine<'_>) -> bool
+/// to the same state, but for dead registers, and with no more precedence. Where they are
+/// independent neither is made, unless one opens a call.
+fn commute<const LONG: bool>(
+    first: u8,
+    second: u8,
+    dead: &DeadRegisters,
+    machine: &mut Machine<'_>,
+) -> bool
     requires one { LONG ≡ false → machine.old.component.local ≡ 0 }
     requires differ { first ≢ second }
     ensures machine { machine.new ≡ machine.old }
-    ensures commute { result ≡ true ↔ Commute first second machine.old }
+    ensures commute { result ≡ true ↔ Commute dead.now first second machine.old }
 {
     if machine.picks(first) != 1 || machine.picks(second) != 1 {
         return false;
     }
     match conflict(next_access(machine, first), next_access(machine, second)) {
         None => are_free::<LONG>(first, second, machine),
-        Some(location) => commute_at::<LONG>(first, second, location, machine),
+        Some(location) => commute_at::<LONG>(first, second, location, dead, machine),
     }
 }
 
@@ -206,12 +214,13 @@ pub(crate) fn hints_behind<'h: 'k, 'k, const LONG: bool>(
     thread: u8,
     hints: &Hints<'h>,
     known: &'k Known,
+    dead: &DeadRegisters,
     machine: &mut Machine<'_>,
 ) -> Hints<'k>
     requires few { thread < 8 }
     requires one { LONG ≡ false → machine.old.component.local ≡ 0 }
     ensures machine { machine.new ≡ machine.old }
-    ensures from { AreFrom machine.old hints.now known.now thread result }
+    ensures from { AreFrom dead.now machine.old hints.now known.now thread result }
 {
     let mut found = Hints::NONE;
     for other in 0..machine.threads() {
@@ -224,7 +233,7 @@ pub(crate) fn hints_behind<'h: 'k, 'k, const LONG: bool>(
         let Some(below) = first.behind(thread) else {
             continue;
         };
-        if commute::<LONG>(other, thread, machine) {
+        if commute::<LONG>(other, thread, dead, machine) {
             found.add(other, below);
         }
     }

@@ -4,17 +4,18 @@ ghost use Rattle.std.specs.Prelude.{IfOk};
 ghost use Rattle.lu_tree.specs.Tables.{AreTables, CountOrdersUpTo};
 
 use lu_component::Component;
-use lu_horizon::Horizon;
+use lu_horizon::{DeadRegisters, Horizon};
 use lu_tail::Orders;
 use lu_test::Matrix;
 use std::alloc::{AllocError, Global};
 
-/// How many moves of each thread of a component and a matrix are certain, and in how many orders
-/// moves of several threads can be made. Made once, for any number of searches.
+/// How many moves of each thread of a component and a matrix are certain, in how many orders moves of
+/// several threads can be made, and which registers are dead. Made once, for any number of searches.
 #[derive(Debug, Drop)]
 pub struct Tables {
     pub(crate) horizon: Horizon,
     pub(crate) orders: Orders,
+    pub(crate) dead: DeadRegisters,
 }
 
 impl Tables {
@@ -36,6 +37,7 @@ impl Tables {
         Ok(Tables {
             horizon: Horizon::new(alloc, component, matrix, bound)?,
             orders: Orders::new(alloc, bound)?,
+            dead: DeadRegisters::new(alloc, component)?,
         })
     }
 }

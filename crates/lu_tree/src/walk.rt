@@ -3,6 +3,7 @@
 ghost use Rattle.std.specs.Prelude.{◌≡◌, ◌≤◌, ◌-◌, false, true, [], is_some, IfNone, IfSome};
 ghost use Rattle.lu_machine.specs.States.{progress};
 ghost use Rattle.lu_machine.specs.Ends.{IsEnded};
+ghost use Rattle.lu_horizon.specs.Dead.{IsDeadTable};
 ghost use Rattle.lu_horizon.specs.Tables.{Serves};
 ghost use Rattle.lu_history.specs.Standing.{Agree};
 ghost use Rattle.lu_witness.specs.Caches.{SameButEntries};
@@ -111,6 +112,7 @@ pub(crate) fn walk<'a, 't, T: SerialTree, W: Watch>(
 ) -> Option<Known>
     requires few { left ≤ 256 }
     requires serves { Serves ahead.now.tables.now.horizon node.old.machine }
+    requires dead { IsDeadTable node.old.machine.component ahead.now.tables.now.dead }
     requires agree { Agree (progress node.old.machine) node.old.trail.history }
     requires tree { cache.old.tree ≡ node.old.trail.tree }
     requires running { W.is_stopped watch.old ≡ false }
@@ -167,6 +169,7 @@ fn walk_as<'a, 't, 'h, const LONG: bool, T: SerialTree, W: Watch>(
     requires few { left ≤ 256 }
     requires one { LONG ≡ false → node.old.machine.component.local ≡ 0 }
     requires serves { Serves ahead.now.tables.now.horizon node.old.machine }
+    requires dead { IsDeadTable node.old.machine.component ahead.now.tables.now.dead }
     requires agree { Agree (progress node.old.machine) node.old.trail.history }
     requires tree { cache.old.tree ≡ node.old.trail.tree }
     requires running { W.is_stopped watch.old ≡ false }
@@ -199,7 +202,8 @@ fn walk_as<'a, 't, 'h, const LONG: bool, T: SerialTree, W: Watch>(
                 known.add(hinted.counts);
                 continue;
             }
-            let further = hints_behind::<LONG>(thread, hints, &known, &mut node.machine);
+            let dead = &ahead.tables.dead;
+            let further = hints_behind::<LONG>(thread, hints, &known, dead, &mut node.machine);
             let next = Move { thread, pick };
             let undo = node.enter::<LONG>(next);
             let walked = walk_as::<LONG, T, W>(

@@ -1,4 +1,4 @@
-use Rattle.std.proofs.Common.{rules, ◌≡◌, None, arith, sym, ◌∙◌, subst}
+use Rattle.std.proofs.Common.{rules, ◌≡◌, None, arith}
 use Rattle.std.proofs.lemmas.Bool.Decides.{nat_tests}
 use Rattle.lu_machine.specs.Steps.{picks_of}
 use Rattle.lu_tree.specs.Accesses.{conflict, next_access}
@@ -11,6 +11,6 @@ returns-in-None-clause-commute g c =
     let none : conflict (next_access s c.args.first) (next_access s c.args.second) ≡ None = search rules in
     let first : picks_of s c.args.first ≡ 1 = (let is = c.if-picks-ne1.false in grind (arith, nat_tests, c.picks.ensures)) in
     let second : picks_of s c.args.second ≡ 1 = (let is = c.if-picks-ne1-2.false in grind (arith, nat_tests, c.picks-else-picks-ne1.ensures)) in (
-      λ is. free_commute c.args.first c.args.second s first second (c.requires.differ, none) (c.are_free.ensures.free.0 is),
-      λ commute. c.are_free.ensures.free.1 (commute_is_free c.args.first c.args.second s commute),
+      λ is. free_commute c.args.dead.now c.args.first c.args.second s first second (c.requires.differ, none) (c.are_free.ensures.free.0 is),
+      λ commute. c.are_free.ensures.free.1 (commute_is_free c.args.dead.now c.args.first c.args.second s commute),
     )

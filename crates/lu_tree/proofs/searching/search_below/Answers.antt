@@ -7,7 +7,8 @@ use Rattle.lu_witness.specs.Witnesses.{IsMember}
 use Rattle.lu_tree.specs.Known.{counts_of}
 use Rattle.lu_tree.specs.Trees.{Below}
 use Rattle.lu_tree.specs.Walks.{IsFirstAt}
-use Rattle.lu_horizon.proofs.OwnLaws.{serves_end}
+use Rattle.lu_horizon.specs.Dead.{IsDeadTable}
+use Rattle.lu_horizon.proofs.OwnLaws.{leads_component, serves_end}
 use Rattle.lu_tree.proofs.Added.{walk_passed, walk_stopped}
 use Rattle.lu_tree.proofs.Leaving.{bad_found, bad_not_abandoned}
 use Rattle.lu_tree.proofs.KnownLaws.{known_below}
@@ -36,8 +37,17 @@ walk-walked-requires-clause-serves g c =
     let moves = c.moves.result.now in
     let node = c.args.node.now in
     let leads = subst (λ u. Leads start u node.machine node.trail.history) (sym c.moves.ensures.moves) (c.requires.leads start there.1) in
-    let serves = c.requires.tables start there.1 in
+    let serves = c.requires.tables.0 start there.1 in
     serves_end c.args.tables.now.horizon start moves node.machine node.trail.history leads serves
+
+pub walk-walked-requires-clause-dead : goal.walk-walked-requires-clause-dead
+walk-walked-requires-clause-dead g c =
+    let there = start_there c.args.component.now c.args.matrix.now c.requires.of.settles in
+    let start : State = there.0 in
+    let node = c.args.node.now in
+    let begins : start.component ≡ c.args.component.now = ap (λ (x : State). x.component) there.1.is in
+    let component : node.machine.component ≡ c.args.component.now = leads_component start c.args.from.now node.machine node.trail.history (c.requires.leads start there.1) ∙ begins in
+    subst (λ x. IsDeadTable x c.args.tables.now.dead) (sym component) c.requires.tables.1
 
 pub found_bad-requires-clause-ended : goal.found_bad-requires-clause-ended
 found_bad-requires-clause-ended g c =

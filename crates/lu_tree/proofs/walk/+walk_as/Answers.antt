@@ -10,7 +10,9 @@ use Rattle.lu_witness.specs.Witnesses.{IsMember}
 use Rattle.lu_tree.specs.Known.{AreFrom, AreKnownBehind, IsHint, IsKnown, Moves, counts_of}
 use Rattle.lu_tree.specs.Walks.{AreBelow, Counted, StopsAt}
 use Rattle.lu_tree.proofs.Added.{AreAdded, added_all, added_more, added_none, added_turn, end_below, end_stops, stops_more, stops_there}
+use Rattle.lu_horizon.specs.Dead.{IsDeadTable}
 use Rattle.lu_horizon.proofs.OwnLaws.{serves_next}
+use Rattle.lu_machine.proofs.Keeping.{step_moved}
 use Rattle.lu_tree.proofs.KnownLaws.{behind_here, behind_more, behind_same, hints_on, known_alone, known_behind, known_below, known_with, none_behind}
 use Rattle.lu_tree.proofs.Leaving.{ready_still, some_both, stays_home, where_none}
 use Rattle.lu_tree.proofs.Walking.{ended_all, ended_first, ended_picked, ended_turn}
@@ -83,12 +85,14 @@ walk_as-walked-requires g t c =
     let step : Step s next r event = subst (λ x. Step x next r event) home c.enter-undo.ensures.step in
     let grown : k ≡ h ++ with_event event [] = c.enter-undo.ensures.history ∙ ap (λ x. x ++ with_event event []) i.history in
     let serves = serves_next c.args.ahead.now.tables.now.horizon s next r event c.requires.serves step in
-    let from = subst (λ x. AreFrom x c.args.hints.now c.loop-pick.known thread c.hints_behind-further.result) i.machine c.hints_behind-further.ensures.from in
-    let hints = hints_on Set s h (c.args.left - 1) c.args.hints.now c.loop-pick.known thread pick c.hints_behind-further.result c.requires.hints i.kids from r event step in
+    let table = c.args.ahead.now.tables.now.dead in
+    let dead : IsDeadTable r.component table = subst (λ x. IsDeadTable x table) (sym (step_moved s next r event step).component) c.requires.dead in
+    let from = subst (λ x. AreFrom table x c.args.hints.now c.loop-pick.known thread c.hints_behind-further.result) i.machine c.hints_behind-further.ensures.from in
+    let hints = hints_on Set table s c.requires.dead h (c.args.left - 1) c.args.hints.now c.loop-pick.known thread pick c.hints_behind-further.result c.requires.hints i.kids from r event step in
     let tree = ap (λ x. g.T.SerialTree.members x) (c.enter-undo.ensures.tree ∙ i.tree) in
     let there = subst (λ x. AreKnownBehind Set r x (c.args.left - 1 - 1) (IsHint c.hints_behind-further.result)) (sym grown) hints in
     let told = subst (λ x. AreKnownBehind (IsMember x) r k (c.args.left - 1 - 1) (IsHint c.hints_behind-further.result)) (sym tree) there in
-    search (rules, serves, told)
+    search (rules, serves, dead, told)
 
 pub returns-in_default-walked-clause-stops : goal.returns-in_default-walked-clause-stops
 returns-in_default-walked-clause-stops g t c = λ _ running.
