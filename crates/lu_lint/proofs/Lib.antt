@@ -9,3 +9,4 @@ pub mod SettingUp
 pub mod Played
 pub mod LineNumbers
 pub mod LearntHints
+pub mod FaultsTold

@@ -1,20 +1,19 @@
 -- The third part of a bundle: a specification, a report or a schedule, as its first words say.
-use Rattle.std.specs.Prelude.{◌≡◌, ◌⊎◌, ℕ, List, [], ◌∷◌, ◌++◌, Option, Some, None, codes, take, if◌then◌else◌}
+use Rattle.std.specs.Prelude.{◌≡◌, ℕ, List, [], ◌++◌, map, Option, Some, None, codes, take, if◌then◌else◌}
 use Rattle.std.specs.Str.{bytes_eq}
-use Rattle.lu_text.specs.declared.fault.Fault.TheVariants.{At}
-use Rattle.lu_history.specs.declared.serial.SerialOp.{SerialOp}
+use Rattle.lu_text.specs.Lines.{kept_lines}
 use Rattle.lu_test.specs.Matrix.{Matrix}
-use Rattle.lu_report.specs.declared.fault.ReportFaultKind.{ReportFaultKind}
-use Rattle.lu_report.specs.declared.report.Report.{Report as AReport}
-use Rattle.lu_report.specs.Forms.{IsFault, Spells}
-use Rattle.lu_spec.specs.declared.fault.SpecFaultKind.{SpecFaultKind}
-use Rattle.lu_spec.specs.SpecText.{IsReadAs, IsSpecFault}
+use Rattle.lu_report.specs.declared.fault.ReportFaultKind.TheVariants.{Form}
+use Rattle.lu_report.specs.declared.faults.ReportLineFault.{ReportLineFault}
+use Rattle.lu_report.specs.EveryLine.{AreReportFaults}
+use Rattle.lu_spec.specs.declared.fault.SpecLineFault.{SpecLineFault}
+use Rattle.lu_spec.specs.EveryFault.{AreSpecFaults}
 use Rattle.lu_lint.specs.declared.remark.Said.{Said}
 use Rattle.lu_lint.specs.declared.remark.FaultKind.TheVariants as part
 use Rattle.lu_lint.specs.declared.third.Third.{Third}
 use Rattle.lu_lint.specs.declared.third.Third.TheVariants.{Specification, Report, Schedule}
 use Rattle.lu_lint.specs.Lint.{told_here}
-use Rattle.lu_lint.specs.Said.{said_faults}
+use Rattle.lu_lint.specs.Said.{said_faults, said_told}
 use Rattle.lu_lint.specs.Schedule.{schedule_faults, schedule_told}
 
 -- what a part is to be
@@ -27,19 +26,26 @@ third_of text =
 abbrev pub Adds : (List Said → Type 0) → List Said → List Said → Type 0
 Adds P before after = (said : List Said) × P said × (after ≡ before ++ said)
 
--- what is said of a report: nothing, or its fault
+-- a fault of a report is said of its own line
+abbrev pub report_said : ℕ → ReportLineFault → Said
+report_said above fault = said_told part.Report above (told_here fault.line Form)
+
+-- what is said of a report: each of its faults
 abbrev pub ReportSaid : ℕ → List ℕ → List Said → Type 0
 ReportSaid above text said =
-    ((r : AReport) × Spells text r × (said ≡ []))
-    ⊎ ((kind : ReportFaultKind) × (n : ℕ) × IsFault text (At kind n)
-    × (said ≡ said_faults part.Report above (told_here n kind ∷ [])))
+    (faults : List ReportLineFault) × AreReportFaults (kept_lines text) faults
+    × (said ≡ map (report_said above) faults)
 
--- what is said of a specification of a matrix: nothing, or its first fault
+-- a fault of a specification is said of its own line
+abbrev pub specification_said : ℕ → SpecLineFault → Said
+specification_said above fault =
+    said_told part.Specification above (told_here fault.line fault.kind)
+
+-- what is said of a specification of a matrix: each of its faults
 abbrev pub SpecificationSaid : Matrix → ℕ → List ℕ → List Said → Type 0
 SpecificationSaid matrix above text said =
-    ((closed : List (List SerialOp)) × IsReadAs matrix text closed × (said ≡ []))
-    ⊎ ((kind : SpecFaultKind) × (n : ℕ) × IsSpecFault matrix text (At kind n)
-    × (said ≡ said_faults part.Specification above (told_here n kind ∷ [])))
+    (faults : List SpecLineFault) × AreSpecFaults matrix text faults
+    × (said ≡ map (specification_said above) faults)
 
 -- where there is no matrix, nothing is said
 abbrev pub SaidOfSome : Option Matrix → ℕ → List ℕ → List Said → Type 0

@@ -391,8 +391,7 @@ fn have_fault(remarks: &[Remark]) -> bool
 /// Every fault of a bundle, in words: of its component, of its matrix, where the component is read,
 /// and of the lines between its parts. Of a third part, which is a specification where it begins
 /// with `lineup spec`, else a report where it begins with `lineup`, and else a schedule: each fault
-/// of a schedule, the first of a report, and the first of a specification, where the matrix is
-/// read.
+/// of a schedule, of a report, and, where the matrix is read, of a specification.
 ///
 /// A line that is nearly `---` parts too, so that what stands behind it is not told for it. Where
 /// the component is read, its warnings are said too, which are no faults.

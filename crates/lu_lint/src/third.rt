@@ -1,20 +1,18 @@
 //! The third part of a bundle: a specification, a report or a schedule.
 
-ghost use Rattle.std.specs.Prelude.{◌≡◌, IfOk, codes, take};
+ghost use Rattle.std.specs.Prelude.{◌≡◌, ◌++◌, IfOk, codes, map, take};
 ghost use Rattle.std.specs.Str.{bytes_eq};
-ghost use Rattle.lu_lint.specs.Lint.{told_here};
-ghost use Rattle.lu_lint.specs.Said.{said_of, said_told};
+ghost use Rattle.lu_lint.specs.Said.{said_of};
 ghost use Rattle.lu_lint.specs.Third as spec;
 ghost use Rattle.lu_lint.specs.Third.{Adds, ReportSaid, SpecificationSaid, ThirdSaid};
-ghost use Rattle.lu_lint.specs.declared.remark.FaultKind.TheVariants as part;
 
+use crate::bundle::kept_in;
 use crate::remark::{Cause, FaultKind, Remark, Said, line_below, with_remark};
 use crate::schedule::with_schedule;
 use crate::third_wording::{report_wording, specification_wording};
-use lu_report::{ReportFaultKind, read_report};
-use lu_spec::{SpecFaultKind, read_spec};
+use lu_report::{ReportFaultKind, ReportLineFault, report_faults};
+use lu_spec::{SpecLineFault, spec_faults};
 use lu_test::Matrix;
-use lu_text::Fault;
 use std::alloc::{AllocError, Global};
 
 /// What a third part is to be, as its first words say.
@@ -50,17 +48,40 @@ pub(crate) fn third_of(text: &[u8]) -> Third
     }
 }
 
+/// A line of these, from 1.
+fn line_of<'a>(lines: &[&'a [u8]], number: usize) -> Option<&'a [u8]> {
+    lines.get(number.saturating_sub(1)).copied()
+}
+
 /// What is said of a fault of a report.
-fn report_said(above: usize, kind: ReportFaultKind, line: usize) -> Said
-    ensures { result ≡ said_told part.Report above (told_here line kind) }
+fn report_said(above: usize, fault: &ReportLineFault) -> Said
+    ensures { result ≡ spec.report_said above fault.now }
 {
     Said {
-        place: line_below(above, line),
-        cause: Cause::Fault(FaultKind::Report(kind), line),
+        place: line_below(above, fault.line),
+        cause: Cause::Fault(FaultKind::Report(ReportFaultKind::Form), fault.line),
     }
 }
 
-/// The remarks with that on a report, where it has a fault.
+/// The remarks with those on these faults of a report of these lines.
+fn with_report_faults(
+    alloc: Global,
+    mut all: Vec<Remark>,
+    above: usize,
+    lines: &[&[u8]],
+    faults: &[ReportLineFault],
+) -> Result<Vec<Remark>, AllocError>
+    ensures { IfOk result (λ next.
+        said_of next.items ≡ said_of all.items ++ map (spec.report_said above) faults.now) }
+{
+    for fault in faults {
+        let words = report_wording(alloc, fault, line_of(lines, fault.line))?;
+        all = with_remark(all, report_said(above, fault), words)?;
+    }
+    Ok(all)
+}
+
+/// The remarks with those on a report.
 fn with_report(
     alloc: Global,
     all: Vec<Remark>,
@@ -70,28 +91,42 @@ fn with_report(
     ensures { IfOk result (λ next.
         Adds (ReportSaid above text.now) (said_of all.items) (said_of next.items)) }
 {
-    match read_report(alloc, text) {
-        Ok(_) => Ok(all),
-        Err(Fault::At(kind, line)) => {
-            let words = report_wording(alloc, text, line)?;
-            let all = with_remark(all, report_said(above, kind, line), words)?;
-            Ok(all)
-        }
-        Err(Fault::Memory) => Err(AllocError),
-    }
+    let lines = kept_in(alloc, text)?;
+    let faults = report_faults(alloc, &lines)?;
+    let all = with_report_faults(alloc, all, above, &lines, &faults)?;
+    Ok(all)
 }
 
 /// What is said of a fault of a specification.
-fn specification_said(above: usize, kind: SpecFaultKind, line: usize) -> Said
-    ensures { result ≡ said_told part.Specification above (told_here line kind) }
+fn specification_said(above: usize, fault: &SpecLineFault) -> Said
+    ensures { result ≡ spec.specification_said above fault.now }
 {
     Said {
-        place: line_below(above, line),
-        cause: Cause::Fault(FaultKind::Specification(kind), line),
+        place: line_below(above, fault.line),
+        cause: Cause::Fault(FaultKind::Specification(fault.kind), fault.line),
     }
 }
 
-/// The remarks with that on a specification of this matrix, where it has a fault.
+/// The remarks with those on these faults of a specification of this matrix, of these lines.
+fn with_specification_faults(
+    alloc: Global,
+    mut all: Vec<Remark>,
+    matrix: &Matrix,
+    above: usize,
+    lines: &[&[u8]],
+    faults: &[SpecLineFault],
+) -> Result<Vec<Remark>, AllocError>
+    ensures { IfOk result (λ next. said_of next.items ≡
+        said_of all.items ++ map (spec.specification_said above) faults.now) }
+{
+    for fault in faults {
+        let words = specification_wording(alloc, matrix, fault, line_of(lines, fault.line))?;
+        all = with_remark(all, specification_said(above, fault), words)?;
+    }
+    Ok(all)
+}
+
+/// The remarks with those on a specification of this matrix.
 fn with_specification(
     alloc: Global,
     all: Vec<Remark>,
@@ -102,18 +137,13 @@ fn with_specification(
     ensures { IfOk result (λ next. Adds (SpecificationSaid matrix.now above text.now)
         (said_of all.items) (said_of next.items)) }
 {
-    match read_spec(alloc, matrix, text) {
-        Ok(_) => Ok(all),
-        Err(Fault::At(kind, line)) => {
-            let words = specification_wording(alloc, matrix, text, kind, line)?;
-            let all = with_remark(all, specification_said(above, kind, line), words)?;
-            Ok(all)
-        }
-        Err(Fault::Memory) => Err(AllocError),
-    }
+    let lines = kept_in(alloc, text)?;
+    let faults = spec_faults(alloc, matrix, text)?;
+    let all = with_specification_faults(alloc, all, matrix, above, &lines, &faults)?;
+    Ok(all)
 }
 
-/// The remarks with that on a specification, where there is a matrix.
+/// The remarks with those on a specification, where there is a matrix.
 fn with_specification_of(
     alloc: Global,
     all: Vec<Remark>,

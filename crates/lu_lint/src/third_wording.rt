@@ -1,7 +1,8 @@
 //! The words for a fault of a schedule, a report or a specification.
 
 use crate::wording::shown;
-use lu_spec::SpecFaultKind;
+use lu_report::{LineForm, ReportLineFault};
+use lu_spec::{SpecFaultKind, SpecLineFault};
 use lu_test::{Matrix, ScheduleFault};
 use lu_text::{is_number, number_up_to, place_of};
 use std::alloc::{AllocError, Global};
@@ -81,14 +82,11 @@ pub(crate) fn length_wording(alloc: Global, words: usize) -> Result<String, Allo
     format!(in alloc; "a schedule has at most 4,112 moves, and here are {words}")
 }
 
-/// A line of a text, from 1, with its LF.
-fn line_at(text: &[u8], number: usize) -> Option<&[u8]> {
-    let mut lines = text.split_inclusive(|byte| *byte == b'\n');
-    lines.nth(number.saturating_sub(1))
-}
-
 /// What stands on the line, in words.
-fn line_shown(line: &[u8]) -> &str {
+fn line_shown(line: Option<&[u8]>) -> &str {
+    let Some(line) = line else {
+        return "nothing";
+    };
     match line.strip_suffix(b"\n") {
         None => "a line without its LF",
         Some(line) => {
@@ -103,33 +101,52 @@ fn line_shown(line: &[u8]) -> &str {
     }
 }
 
-/// The words for a fault on this line of a report.
+/// What a line of a report is to be, in words; behind the end nothing.
+fn form_words(form: LineForm) -> Option<&'static str> {
+    match form {
+        LineForm::Version => Some("`lineup report 1`, or 2 or 3"),
+        LineForm::Bound => Some("`bound N`, N from 0 to 256"),
+        LineForm::Serial => Some("`serial S`, S from 1 to 256"),
+        LineForm::Local => Some("`local L`, L from 1 to 16"),
+        LineForm::AnyLocal => Some("`local L`, L from 0 to 16"),
+        LineForm::Finding => Some(
+            "`pass`, `fail complete`, `fail stuck T` (T from 0 to 7), `nondeterministic` or `serial-cut`",
+        ),
+        LineForm::Judgement => Some("`pass`, `fail complete` or `fail stuck T` (T from 0 to 7)"),
+        LineForm::Schedule => Some("`schedule` and its moves, with one space before each"),
+        LineForm::ConflictSchedule => {
+            Some("`schedule` and its moves, with one space before each")
+        }
+        LineForm::Before => Some("`before K`, K from 0 to 15"),
+        LineForm::Earlier => Some("`earlier ret N`, `earlier trap` or `earlier stuck`"),
+        LineForm::Complete => Some("`complete N`"),
+        LineForm::Stuck => Some("`stuck N`"),
+        LineForm::Cut => Some("`cut N`"),
+        LineForm::End => None,
+    }
+}
+
+/// The words for a fault of a report, on this line, where it is there.
 pub(crate) fn report_wording(
     alloc: Global,
-    text: &[u8],
-    number: usize,
+    fault: &ReportLineFault,
+    line: Option<&[u8]>,
 ) -> Result<String, AllocError> {
-    let here = match line_at(text, number) {
-        None => "nothing",
-        Some(line) => line_shown(line),
-    };
-    let third = text.starts_with(b"lineup report 3\n");
-    match number {
-        1 => format!(in alloc;
-            "the first line of a report is `lineup report 1`, or 2 or 3; here stands {here}"
-        ),
-        2 => format!(in alloc;
-            "line 2 of a report is `bound N`, N from 0 to 256; here stands {here}"
-        ),
-        3 if third => format!(in alloc;
-            "line 3 of this report is `local L`, L from 0 to 16; here stands {here}"
-        ),
-        3 => format!(in alloc;
-            "line 3 of this report is `serial S`, S from 1 to 256; here stands {here}"
-        ),
-        _ => format!(in alloc;
-            "here stands {here}, and no report has that behind the lines before it; docs/FORMATS.md has its forms"
-        ),
+    let here = line_shown(line);
+    let number = fault.line;
+    match form_words(fault.form) {
+        None => format!(in alloc; "the report ends before this line; here stands {here}"),
+        Some(form) => {
+            if number == 1 {
+                return format!(in alloc;
+                    "the first line of a report is {form}; here stands {here}"
+                );
+            }
+            if number == 2 {
+                return format!(in alloc; "line 2 of a report is {form}; here stands {here}");
+            }
+            format!(in alloc; "line {number} of this report is {form}; here stands {here}")
+        }
     }
 }
 
@@ -170,24 +187,23 @@ fn history_wording(alloc: Global, line: &[u8]) -> Result<String, AllocError> {
     }
     String::from_str(
         alloc,
-        "this history is not above that of the line before, or begins as that one does; histories rise",
+        "this history is not above the one before it, or begins as that one does; histories rise",
     )
 }
 
-/// The words for a fault of this kind on this line of a specification of this matrix.
+/// The words for a fault of a specification of this matrix, on this line.
 pub(crate) fn specification_wording(
     alloc: Global,
     matrix: &Matrix,
-    text: &[u8],
-    kind: SpecFaultKind,
-    number: usize,
+    fault: &SpecLineFault,
+    line: Option<&[u8]>,
 ) -> Result<String, AllocError> {
-    match kind {
+    match fault.kind {
         SpecFaultKind::Form => {
-            if number == 1 {
+            if fault.line == 1 {
                 return String::from_str(alloc, "the first line is `lineup spec 1`");
             }
-            match line_at(text, number) {
+            match line {
                 None => String::from_str(alloc, "a line is missing"),
                 Some(line) => history_wording(alloc, line),
             }
