@@ -9,3 +9,5 @@ pub mod Parts
 pub mod Going
 pub mod Mend
 pub mod Place
+pub mod Faulty
+pub mod Meant

@@ -1,7 +1,7 @@
 -- What a line with a fault leaves, so that the lines behind it are told for their own faults alone.
-use Rattle.std.specs.Prelude.{ℕ, ◌-◌, Bool, false, List, [], ◌∷◌, ◌++◌, length, take, slice_index, Option, Some, None, is_some, option_and_then, codes, ◌==◌, ◌&&◌, ◌||◌, not, nat_le, if◌then◌else◌}
+use Rattle.std.specs.Prelude.{ℕ, ◌-◌, Bool, false, List, [], ◌∷◌, ◌++◌, length, take, slice_index, Option, Some, None, is_some, codes, ◌==◌, ◌&&◌, ◌||◌, not, nat_le, if◌then◌else◌}
 use Rattle.std.specs.Str.{bytes_eq}
-use Rattle.std.specs.Option.{unwrap_or}
+use Rattle.std.specs.Option.{option_map}
 use Rattle.lu_text.specs.Names.{has_name_form, is_long}
 use Rattle.lu_text.specs.Lines.{words_of}
 use Rattle.lu_text.specs.Words.{Word}
@@ -19,43 +19,44 @@ bare word =
     if slice_index word (length word - 1) == 44 then take (length word - 1) word
     else (if slice_index word (length word - 1) == 59 then take (length word - 1) word else word)
 
--- the word, where it is a name
-abbrev pub name_if : Word → Option Word
-name_if word = if has_name_form word && not (is_long word) then Some word else None
+-- the word, where it is a name, and else `_`
+abbrev pub name_or_blank : Word → Word
+name_or_blank word = if has_name_form word && not (is_long word) then word else codes "_"
 
--- the first word, where it is a name
-abbrev pub first_name : List Word → Option Word
-first_name [] = None
-first_name (word ∷ words) = name_if (bare word)
+-- the name that the first word is to be
+abbrev pub first_name : List Word → Word
+first_name [] = codes "_"
+first_name (word ∷ words) = name_or_blank (bare word)
 
--- an array of this name is declared, where there is a name and room
-abbrev pub with_array : Drafted → Option Word → Drafted
-with_array d None = d
-with_array d (Some name) =
+-- an array of this name is declared, where there is room
+abbrev pub with_array : Drafted → Word → Drafted
+with_array d name =
     if nat_le 16 (length d.arrays) then d
     else record d { arrays = d.arrays ++ record { name = name; len = 64; init = 0 } ∷ [] }
 
 -- a lock
-abbrev pub with_lock : Drafted → Option Word → Drafted
-with_lock d None = d
-with_lock d (Some name) =
+abbrev pub with_lock : Drafted → Word → Drafted
+with_lock d name =
     if nat_le 8 (length d.locks) then d else record d { locks = d.locks ++ name ∷ [] }
 
--- an operation of this name, or, where there is none, `_`
-abbrev pub op_begun : Option Word → Begun
-op_begun name = record { name = unwrap_or name (codes "_"); args = 0; statements = []; labels = [] }
+-- an operation of this name
+abbrev pub op_begun : Word → Begun
+op_begun name = record { name = name; args = 0; statements = []; labels = [] }
 
 -- an operation of this name is begun
-abbrev pub with_op : Drafted → Option Word → Drafted
+abbrev pub with_op : Drafted → Word → Drafted
 with_op d name = record d { begun = Some (op_begun name) }
 
 -- this operation is closed
 abbrev pub with_end : Drafted → Begun → Drafted
 with_end d b = record d { operations = d.operations ++ op_of b ∷ [] }
 
+-- with this label, of which no more are kept than a thousand or so
 abbrev pub labels_with : List Label → Option Word → List Label
 labels_with labels None = labels
-labels_with labels (Some name) = labels ++ record { name = name; place = 0 } ∷ []
+labels_with labels (Some name) =
+    if nat_le 1024 (length labels) then labels
+    else labels ++ record { name = name; place = 0 } ∷ []
 
 -- `return 0` stands in this operation, behind this label
 abbrev pub with_return : Drafted → Begun → Option Word → Drafted
@@ -98,7 +99,7 @@ abbrev pub mend_other : Drafted → Word → List Word → List Word → Drafted
 mend_other d word words next =
     if not (begins_code next) || bytes_eq word (codes "end") then d
     else (if is_code word
-    then with_return d (op_begun None) (option_and_then name_if (label_in word))
+    then with_return d (op_begun (codes "_")) (option_map name_or_blank (label_in word))
     else with_op d (first_name words))
 
 -- outside an operation a declaration declares its name
@@ -128,9 +129,9 @@ mend_inside d b label word words next =
 -- behind a label, or without one
 abbrev pub mend_labelled : Drafted → Begun → Option Word → Word → List Word → List Word → Drafted
 mend_labelled d b None word words next = mend_inside d b None word words next
-mend_labelled d b (Some label) word [] next = with_return d b (name_if label)
+mend_labelled d b (Some label) word [] next = with_return d b (Some (name_or_blank label))
 mend_labelled d b (Some label) word (first ∷ words) next =
-    mend_inside d b (name_if label) (bare first) words next
+    mend_inside d b (Some (name_or_blank label)) (bare first) words next
 
 -- where there is no `component` line yet, the component is called `_`
 abbrev pub mend_by_state : Drafted → Option Word → Option Begun → Word → List Word → List Word

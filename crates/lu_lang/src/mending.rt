@@ -1,7 +1,7 @@
 //! What a line with a fault leaves, so that the lines behind it are told for their own faults alone.
 
-ghost use Rattle.std.specs.Prelude.{◌≡◌, IfOk, Some, codes, option_and_then};
-ghost use Rattle.std.specs.Option.{unwrap_or};
+ghost use Rattle.std.specs.Prelude.{◌≡◌, IfOk, Some, codes};
+ghost use Rattle.std.specs.Option.{option_map};
 ghost use Rattle.lu_text.specs.Lines.{texts};
 ghost use Rattle.lu_lang.specs.Mend as spec;
 ghost use Rattle.lu_lang.specs.Mend.{mend};
@@ -15,8 +15,11 @@ use lu_component::{Array, Instr, Operand};
 use lu_text::{Name, has_name_form, is_long, words_of};
 use std::alloc::{AllocError, Global};
 
+/// The most labels of an operation with faults that are kept.
+const MOST_LABELS: usize = 1024;
+
 /// The word without a comma or a semicolon behind it.
-fn bare(word: &[u8]) -> &[u8]
+pub(crate) fn bare(word: &[u8]) -> &[u8]
     ensures { result.now ≡ spec.bare word.now }
 {
     match word {
@@ -26,91 +29,71 @@ fn bare(word: &[u8]) -> &[u8]
     }
 }
 
-/// The word, where it is a name.
-fn name_if(alloc: Global, word: &[u8]) -> Result<Option<Name>, AllocError>
-    ensures { IfOk result (λ name. name ≡ spec.name_if word.now) }
+/// The word, where it is a name, and else `_`.
+fn name_or_blank(alloc: Global, word: &[u8]) -> Result<Name, AllocError>
+    ensures { IfOk result (λ name. name ≡ spec.name_or_blank word.now) }
 {
     if has_name_form(word) && !is_long(word) {
-        Ok(Some(Name::new(alloc, word)?))
+        Name::new(alloc, word)
     } else {
-        Ok(None)
+        Name::new(alloc, b"_")
     }
 }
 
-/// The first word, where it is a name.
-fn first_name(alloc: Global, words: &[&[u8]]) -> Result<Option<Name>, AllocError>
+/// The name that the first word is to be.
+fn first_name(alloc: Global, words: &[&[u8]]) -> Result<Name, AllocError>
     ensures { IfOk result (λ name. name ≡ spec.first_name (texts words.now)) }
 {
     match words.split_first() {
-        None => Ok(None),
-        Some((word, _)) => name_if(alloc, bare(word)),
-    }
-}
-
-/// The name, or `_`.
-fn or_blank(alloc: Global, name: Option<Name>) -> Result<Name, AllocError>
-    ensures { IfOk result (λ it. it ≡ unwrap_or name (codes "_")) }
-{
-    match name {
-        Some(name) => Ok(name),
         None => Name::new(alloc, b"_"),
+        Some((word, _)) => name_or_blank(alloc, bare(word)),
     }
 }
 
-/// The draft with an array of this name.
-fn with_array(mut draft: Draft, name: Option<Name>) -> Result<Draft, AllocError>
+/// The draft with an array of this name, where there is room.
+fn with_array(mut draft: Draft, name: Name) -> Result<Draft, AllocError>
     ensures { IfOk result (λ next. next ≡ spec.with_array draft name) }
 {
-    match name {
-        None => Ok(draft),
-        Some(name) => {
-            if has_most_arrays(&draft) {
-                return Ok(draft);
-            }
-            draft.arrays.push(Array {
-                name,
-                len: 64,
-                init: 0,
-            })?;
-            Ok(draft)
-        }
+    if has_most_arrays(&draft) {
+        return Ok(draft);
     }
+    draft.arrays.push(Array {
+        name,
+        len: 64,
+        init: 0,
+    })?;
+    Ok(draft)
 }
 
-/// The draft with a lock of this name.
-fn with_lock(mut draft: Draft, name: Option<Name>) -> Result<Draft, AllocError>
+/// The draft with a lock of this name, where there is room.
+fn with_lock(mut draft: Draft, name: Name) -> Result<Draft, AllocError>
     ensures { IfOk result (λ next. next ≡ spec.with_lock draft name) }
 {
-    match name {
-        None => Ok(draft),
-        Some(name) => {
-            if has_most_locks(&draft) {
-                return Ok(draft);
-            }
-            draft.locks.push(name)?;
-            Ok(draft)
-        }
+    if has_most_locks(&draft) {
+        return Ok(draft);
     }
+    draft.locks.push(name)?;
+    Ok(draft)
 }
 
 /// An operation of this name, of which no line is read.
-fn op_begun(alloc: Global, name: Option<Name>) -> Result<OpenOp, AllocError>
-    ensures { IfOk result (λ op. op ≡ spec.op_begun name) }
+fn op_begun(alloc: Global, name: Name) -> OpenOp
+    ensures { result ≡ spec.op_begun name }
 {
-    Ok(OpenOp {
-        name: or_blank(alloc, name)?,
+    OpenOp {
+        name,
         args: 0,
         statements: Vec::new(alloc),
         labels: Vec::new(alloc),
-    })
+    }
 }
 
 /// The draft with an operation begun.
-fn with_op(alloc: Global, mut draft: Draft, name: Option<Name>) -> Result<Draft, AllocError>
-    ensures { IfOk result (λ next. next ≡ spec.with_op draft name) }
+fn with_op(alloc: Global, mut draft: Draft, name: Name) -> Draft
+    ensures { result ≡ spec.with_op draft name }
 {
-    draft.begun = Some(op_begun(alloc, name)?);
-    Ok(draft)
+    draft.begun = Some(op_begun(alloc, name));
+    draft
 }
 
 /// The draft with this operation closed.
@@ -128,7 +111,9 @@ fn with_label(mut op: OpenOp, label: Option<Name>) -> Result<OpenOp, AllocError>
     match label {
         None => Ok(op),
         Some(name) => {
-            op.labels.push(Label { name, place: 0 })?;
+            if op.labels.len() < MOST_LABELS {
+                op.labels.push(Label { name, place: 0 })?;
+            }
             Ok(op)
         }
     }
@@ -185,23 +170,23 @@ fn begins_outside(words: &[&[u8]]) -> bool
     }
 }
 
-/// The name of the label that a word is, where it has a good one.
+/// The name that a label is to be, where the word is one.
 fn label_name(alloc: Global, word: &[u8]) -> Result<Option<Name>, AllocError>
     ensures { IfOk result (λ name.
-        name ≡ option_and_then spec.name_if (grammar.label_in word.now)) }
+        name ≡ option_map spec.name_or_blank (grammar.label_in word.now)) }
 {
     match label_in(word) {
         None => Ok(None),
-        Some(label) => name_if(alloc, label),
+        Some(label) => Ok(Some(name_or_blank(alloc, label)?)),
     }
 }
 
 /// The draft with an operation begun, which has one instruction.
 fn with_first(alloc: Global, draft: Draft, word: &[u8]) -> Result<Draft, AllocError>
-    ensures { IfOk result (λ next. next ≡ spec.with_return draft (spec.op_begun None)
-        (option_and_then spec.name_if (grammar.label_in word.now))) }
+    ensures { IfOk result (λ next. next ≡ spec.with_return draft (spec.op_begun (codes "_"))
+        (option_map spec.name_or_blank (grammar.label_in word.now))) }
 {
-    let op = op_begun(alloc, None)?;
+    let op = op_begun(alloc, Name::new(alloc, b"_")?);
     with_return(draft, op, label_name(alloc, word)?)
 }
 
@@ -221,7 +206,7 @@ fn mend_other(
     } else if is_code(word) {
         with_first(alloc, draft, word)
     } else {
-        with_op(alloc, draft, first_name(alloc, words)?)
+        Ok(with_op(alloc, draft, first_name(alloc, words)?))
     }
 }
 
@@ -240,7 +225,7 @@ fn mend_outside(
     } else if word == b"lock".as_slice() {
         with_lock(draft, first_name(alloc, words)?)
     } else if word == b"op".as_slice() {
-        with_op(alloc, draft, first_name(alloc, words)?)
+        Ok(with_op(alloc, draft, first_name(alloc, words)?))
     } else {
         mend_other(alloc, draft, word, words, next)
     }
@@ -281,7 +266,7 @@ fn mend_inside(
 {
     if word == b"op".as_slice() {
         let draft = with_end(alloc, draft, op)?;
-        with_op(alloc, draft, first_name(alloc, words)?)
+        Ok(with_op(alloc, draft, first_name(alloc, words)?))
     } else if word == b"end".as_slice() {
         with_end(alloc, draft, op)
     } else if word == b"word".as_slice() {
@@ -303,7 +288,7 @@ fn mend_behind(
     ensures { IfOk result (λ after. after ≡ spec.mend_labelled
         draft op (Some label.now) word.now (texts words.now) (texts next.now)) }
 {
-    let label = name_if(alloc, label)?;
+    let label = Some(name_or_blank(alloc, label)?);
     match words.split_first() {
         None => with_return(draft, op, label),
         Some((first, rest)) => mend_inside(alloc, draft, op, label, bare(first), rest, next),
@@ -338,7 +323,7 @@ fn mend_first(
     ensures { IfOk result (λ after. after ≡ spec.mend_outside
         (record draft { name = Some (codes "_") }) word.now (texts words.now) (texts next.now)) }
 {
-    draft.name = Some(or_blank(alloc, None)?);
+    draft.name = Some(Name::new(alloc, b"_")?);
     mend_outside(alloc, draft, word, words, next)
 }
 
@@ -385,7 +370,7 @@ fn mend_words(
 /// # Errors
 ///
 /// There is no memory for what the line leaves.
-pub fn mended(
+pub(crate) fn mended_draft(
     alloc: Global,
     draft: Draft,
     text: &[u8],

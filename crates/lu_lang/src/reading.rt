@@ -281,7 +281,7 @@ fn label_place(labels: &[Label], label: &[u8]) -> Option<usize>
     labels.iter().position(|other| other.name.is(label))
 }
 
-fn has_label(op: &OpenOp, label: &[u8]) -> bool
+pub(crate) fn has_label(op: &OpenOp, label: &[u8]) -> bool
     ensures { result ≡ is_some (spec.label_place op.now.labels label.now) }
 {
     label_place(&op.labels, label).is_some()

@@ -1,24 +1,27 @@
 -- Going on behind faults: the loop, and that the first fault is the reader's.
-use Rattle.std.proofs.Common.{arith, ◌≡◌, ℕ, ◌+◌, true, false, eqb, List, [], ◌∷◌, ◌++◌, length, map, drop, Option, Some, None, Result, Ok, Err, refl, sym, ap, ◌∙◌}
+use Rattle.std.proofs.Common.{arith, ◌≡◌, ℕ, ◌+◌, true, false, eqb, List, [], ◌∷◌, ◌++◌, length, map, drop, Option, Some, None, Result, Ok, Err, refl, sym, ap, subst, ◌∙◌}
 use Rattle.std.proofs.lemmas.Bool.{eqb-true, eqb-false}
 use Rattle.std.proofs.lemmas.List.{append_assoc, append-nil, drop-map, map-append}
+use Rattle.lu_text.specs.declared.fault.Fault.{Fault}
 use Rattle.lu_text.specs.declared.fault.Fault.TheVariants.{At}
 use Rattle.lu_text.specs.Faults.{on_line, then_lines, lines_after, meaning_of}
 use Rattle.lu_text.specs.Lines.{lines_of, texts}
 use denote.Ref.{Bor}
 use Rattle.lu_component.specs.Component.{Declarations}
 use Rattle.lu_lang.specs.Going.{going_on}
-use Rattle.lu_lang.specs.Grammar.{fault_in as component_fault}
+use Rattle.lu_lang.specs.Grammar.{component_grammar, fault_in as component_fault}
+use Rattle.lu_lang.proofs.Understood.{faulty_meaning}
 use Rattle.lu_lang.specs.declared.fault.LangFaultKind.{LangFaultKind}
 use Rattle.lu_test.specs.declared.matrix_fault.MatrixFaultKind.{MatrixFaultKind}
 use Rattle.lu_test.specs.MatrixGoing.{fault_in as matrix_fault}
+use Rattle.lu_test.specs.MatrixText.{matrix_grammar}
 use Rattle.lu_lint.specs.declared.remark.Said.{Said}
 use Rattle.lu_lint.specs.declared.remark.Remark.{Remark}
 use Rattle.lu_lint.specs.declared.remark.FaultKind.{FaultKind}
 use Rattle.lu_lint.specs.Said.{said_of, said_told, said_faults}
-use Rattle.lu_lint.specs.Lint.{Lint, Told, with_words, told, told_here, told_at, told_on, left_by, end_told, end_faults, then_faults, faults_after, faults_in, Agree}
+use Rattle.lu_lint.specs.Lint.{Lint, Told, with_words, told, told_here, told_at, told_on, left_by, end_told, end_faults, then_faults, faults_after, faults_in, Agree, draft_after, left_behind}
 use Rattle.lu_lint.specs.Component.{component_lint}
-use Rattle.lu_lint.specs.Matrix.{matrix_lint}
+use Rattle.lu_lint.specs.Matrix.{judged_line, matrix_lint}
 
 pub said_push : (all : List Remark) (r : Remark) → said_of (all ++ r ∷ []) ≡ said_of all ++ r.said ∷ []
 said_push all r = map-append (λ r. r.said) all (r ∷ [])
@@ -94,11 +97,12 @@ agree_after {Kind = Kind} {Draft = Draft} {Value = Value} l seen n d (line ∷ l
 pub agrees : {Kind Draft Value : Type 0} (l : Lint Kind Draft Value) (text : List ℕ) → Agree (meaning_of l.grammar text) (faults_in l text)
 agrees l text = agree_after l [] 1 l.grammar.nothing (lines_of text)
 
-pub component_agrees : (text : List ℕ) → Agree (meaning_of component_lint.grammar text) (faults_in component_lint text)
-component_agrees text = agrees component_lint text
+pub component_agrees : (text : List ℕ) → Agree (meaning_of component_grammar text) (faults_in component_lint text)
+component_agrees text = subst (λ (r : Result Declarations (Fault LangFaultKind)). Agree r (faults_in component_lint text)) (faulty_meaning text) (agrees component_lint text)
 
-pub matrix_agrees : (c : Declarations) (text : List ℕ) → Agree (meaning_of (matrix_lint c).grammar text) (faults_in (matrix_lint c) text)
-matrix_agrees c text = agrees (matrix_lint c) text
+pub matrix_agrees : (c : Declarations) (text : List ℕ) → Agree (meaning_of (matrix_grammar c) text) (faults_in (matrix_lint c None) text)
+unfolding judged_line
+matrix_agrees c text = agrees (matrix_lint c None) text
 
 -- the lines behind a line, in memory
 pub texts_behind : (lines : List (Bor (List ℕ))) (i : ℕ) → texts (drop i lines) ≡ drop i (texts lines)
@@ -117,3 +121,25 @@ matrix_end n fault meant (Err k) e is = rw (e, is) refl
 -- what is said first, and then
 pub two_more : (all one two x y : List Said) → one ≡ all ++ x → two ≡ one ++ y → two ≡ all ++ (x ++ y)
 two_more all one two x y e f = rw (f, e) (append_assoc all x y)
+
+-- a line behind others, and the draft that all of them leave
+pub draft_goes_on : {Kind Draft Value : Type 0} (l : Lint Kind Draft Value) (d d1 next total : Draft) (fault : Option Kind) (line : List ℕ) (rest behind : List (List ℕ))
+    → (d1, fault) ≡ going_on d (l.grammar.line d line) → next ≡ left_by l.mend d1 line behind fault → behind ≡ rest
+    → draft_after l d (line ∷ rest) ≡ total → draft_after l next rest ≡ total
+unfolding draft_after
+draft_goes_on {Kind = Kind} {Draft = Draft} l d d1 next total fault line rest behind e left is so_far = go (l.grammar.line d line) e so_far
+  where
+    go : (r : Result Draft Kind) → (d1, fault) ≡ going_on d r → draft_after l (left_behind l d line rest r) rest ≡ total → draft_after l next rest ≡ total
+    go (Ok y) f h =
+        let same : d1 ≡ y = ap (λ (x : Draft × Option Kind). x.0) f in
+        let none : fault ≡ None = ap (λ (x : Draft × Option Kind). x.1) f in
+        rw (left, is, same, none) h
+    go (Err k) f h =
+        let same : d1 ≡ d = ap (λ (x : Draft × Option Kind). x.0) f in
+        let some : fault ≡ Some k = ap (λ (x : Draft × Option Kind). x.1) f in
+        rw (left, is, same, some) h
+
+-- no line is left
+pub draft_done : {Kind Draft Value : Type 0} (l : Lint Kind Draft Value) (d total : Draft) → draft_after l d [] ≡ total → d ≡ total
+unfolding draft_after
+draft_done l d total e = e

@@ -10,3 +10,4 @@ pub mod Played
 pub mod LineNumbers
 pub mod LearntHints
 pub mod FaultsTold
+pub mod Outlined

@@ -12,21 +12,22 @@ use Rattle.lu_lint.specs.declared.remark.FaultKind.{FaultKind}
 use Rattle.lu_lint.specs.Said.{said_faults}
 use Rattle.lu_lint.specs.Lint.{Lint, left_by, told_on, faults_after, with_words}
 use Rattle.lu_lint.proofs.Going as lines
-use Rattle.lu_lint.specs.Matrix.{matrix_mend}
+use Rattle.lu_lang.specs.Faulty.{Faulty}
+use Rattle.lu_lint.specs.Matrix.{judged_line, matrix_mend}
 
 pub same_going : {Kind Draft : Type 0} (d : Draft) (r : Result Draft Kind) → going_on d r ≡ lang.going_on d r
 same_going d (Ok next) = refl
 same_going d (Err kind) = refl
 
 -- the limits hold of what a line leaves
-pub step_kept : (c : Declarations) → IsComponent c → (d d1 next : Drafted) (fault : Option MatrixFaultKind) (line : List ℕ) (lines : List (List ℕ)) → IsKept c d → (d1, fault) ≡ going_on d (line_of c.operations d line) → next ≡ left_by matrix_mend d1 line lines fault → IsKept c next
-step_kept c is d d1 next fault line lines kept e left = go (line_of c.operations d line) refl e
+pub step_kept : (c : Declarations) → IsComponent c → (d d1 next : Drafted) (fault : Option MatrixFaultKind) (faulty : Option Faulty) (line : List ℕ) (lines : List (List ℕ)) → IsKept c d → (d1, fault) ≡ going_on d (line_of c.operations d (judged_line faulty line)) → next ≡ left_by matrix_mend d1 line lines fault → IsKept c next
+step_kept c is d d1 next fault faulty line lines kept e left = go (line_of c.operations d (judged_line faulty line)) refl e
   where
-    go : (r : Result Drafted MatrixFaultKind) → line_of c.operations d line ≡ r → (d1, fault) ≡ going_on d r → IsKept c next
+    go : (r : Result Drafted MatrixFaultKind) → line_of c.operations d (judged_line faulty line) ≡ r → (d1, fault) ≡ going_on d r → IsKept c next
     go (Ok y) read f =
         let same : d1 ≡ y = ap (λ (x : Drafted × Option MatrixFaultKind). x.0) f in
         let none : fault ≡ None = ap (λ (x : Drafted × Option MatrixFaultKind). x.1) f in
-        rw (left, same, none) (record { limits = line_limits c is d kept.limits kept.fits line y read; fits = line_fits c is d kept.limits kept.fits line y read })
+        rw (left, same, none) (record { limits = line_limits c is d kept.limits kept.fits (judged_line faulty line) y read; fits = line_fits c is d kept.limits kept.fits (judged_line faulty line) y read })
     go (Err k) read f =
         let same : d1 ≡ d = ap (λ (x : Drafted × Option MatrixFaultKind). x.0) f in
         let some : fault ≡ Some k = ap (λ (x : Drafted × Option MatrixFaultKind). x.1) f in

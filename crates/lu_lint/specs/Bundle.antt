@@ -15,7 +15,9 @@ use Rattle.lu_test.specs.MatrixText.{matrix_grammar}
 use Rattle.lu_lint.specs.Lint.{faults_in}
 use Rattle.lu_lint.specs.Third.{Adds, ThirdSaid, third_of}
 use Rattle.lu_lint.specs.Component.{component_lint}
+use Rattle.lu_lang.specs.Faulty.{Faulty}
 use Rattle.lu_lint.specs.Matrix.{matrix_lint}
+use Rattle.lu_lint.specs.Outline.{faulty_end, outline_text}
 use Rattle.lu_lint.specs.Said.{line_below, said_faults}
 use Rattle.lu_lint.specs.Warnings.{warnings_in}
 use Rattle.lu_lint.specs.Runs.{RunsSaid}
@@ -67,10 +69,24 @@ abbrev pub matrix_read : Option Declarations → List ℕ → Option Matrix
 matrix_read None text = None
 matrix_read (Some c) text = result_ok (meaning_of (matrix_grammar c) text)
 
--- what is said of a matrix, where its component is read
-abbrev pub matrix_said : Option Declarations → ℕ → List ℕ → List Said
-matrix_said None above text = []
-matrix_said (Some c) above text = said_faults part.Matrix above (faults_in (matrix_lint c) text)
+-- what is said of a matrix by the operations of a component with faults, where these can be told
+-- apart
+abbrev pub outline_said : Faulty → Option Declarations → ℕ → List ℕ → List Said
+outline_said f None above text = []
+outline_said f (Some c) above text =
+    said_faults part.Matrix above (faults_in (matrix_lint c (Some f)) text)
+
+abbrev pub faulty_said : Faulty → ℕ → List ℕ → List Said
+faulty_said f above text = outline_said f (component_read (outline_text f.draft)) above text
+
+-- what is said of a matrix, by its component's text
+abbrev pub judged_said : Option Declarations → List ℕ → ℕ → List ℕ → List Said
+judged_said None component above text = faulty_said (faulty_end component) above text
+judged_said (Some c) component above text =
+    said_faults part.Matrix above (faults_in (matrix_lint c None) text)
+
+abbrev pub matrix_said : List ℕ → ℕ → List ℕ → List Said
+matrix_said component above text = judged_said (component_read component) component above text
 
 -- the warnings of a component that is read
 abbrev pub warnings_said : Option Declarations → List ℕ → List Said
@@ -87,7 +103,7 @@ component_said text =
 abbrev pub behind_component : List ℕ → List (List ℕ) → List Said
 behind_component component [] = []
 behind_component component (matrix ∷ parts) =
-    matrix_said (component_read component) (above_next 0 component) matrix
+    matrix_said component (above_next 0 component) matrix
 
 abbrev pub parts_said : List (List ℕ) → List Said
 parts_said [] = []

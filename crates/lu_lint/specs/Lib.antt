@@ -1,5 +1,6 @@
 pub mod Lint
 pub mod Component
+pub mod Outline
 pub mod Matrix
 pub mod Said
 pub mod Messages

@@ -105,3 +105,18 @@ Agree (Ok x) [] = Unit {0}
 Agree (Ok x) (first ∷ others) = ⊥
 Agree (Err e) [] = ⊥
 Agree (Err e) (first ∷ others) = e ≡ At first.kind first.line
+
+-- the draft that these lines leave, with faults or without
+abbrev pub left_behind : {Kind Draft Value : Type 0} → Lint Kind Draft Value → Draft → List ℕ
+    → List (List ℕ)
+    → Result Draft Kind
+    → Draft
+left_behind l d line lines (Ok next) = next
+left_behind l d line lines (Err kind) = l.mend d line lines
+
+unfoldable pub draft_after : {Kind Draft Value : Type 0} → Lint Kind Draft Value → Draft
+    → List (List ℕ)
+    → Draft
+draft_after l d [] = d
+draft_after l d (line ∷ lines) =
+    draft_after l (left_behind l d line lines (l.grammar.line d line)) lines

@@ -1,10 +1,11 @@
 //! The faults of a component's text.
 
 ghost use Rattle.std.specs.Prelude.{◌≡◌, ◌++◌, IfOk, map};
-ghost use Rattle.lu_lang.specs.Grammar.{component_grammar, fault_in};
-ghost use Rattle.lu_lang.specs.Mend.{mend};
+ghost use Rattle.lu_lang.specs.Grammar.{fault_in};
+ghost use Rattle.lu_lang.specs.Meant.{faulty_grammar, mend_faulty};
 ghost use Rattle.lu_lint.specs.Component.{component_lint};
 ghost use Rattle.lu_lint.specs.Lint as spec;
+ghost use Rattle.lu_lint.specs.Outline as outline;
 ghost use Rattle.lu_lint.specs.Lint.{end_told, faults_in, faults_of_lines, told_on};
 ghost use Rattle.lu_lint.specs.Said.{said_faults, said_of, said_told};
 ghost use Rattle.lu_lint.specs.declared.remark.FaultKind.TheVariants as part;
@@ -14,7 +15,9 @@ use crate::remark::{
     Cause, FaultKind, Position, Remark, Said, line_below, place_of, with_remark, with_words,
 };
 use crate::wording::{end_wording, jump_wording, wording};
-use lu_lang::{Draft, LangFaultKind, end_fault, line_or_fault, mended, message_backs};
+use lu_lang::{
+    Draft, FaultyDraft, LangFaultKind, end_fault, meant_line, mended, message_backs, read_or_fault,
+};
 use lu_text::lines_of;
 use std::alloc::{AllocError, Global};
 
@@ -50,12 +53,25 @@ fn with_jumps(
     Ok(all)
 }
 
+/// The words for a fault of this line, which was read as it was meant.
+fn words_of_fault(
+    alloc: Global,
+    draft: &FaultyDraft,
+    kind: LangFaultKind,
+    text: &[u8],
+) -> Result<String, AllocError> {
+    match meant_line(alloc, draft, text)? {
+        None => wording(alloc, &draft.draft, kind, text),
+        Some(line) => wording(alloc, &draft.draft, kind, &line),
+    }
+}
+
 /// The remarks with those on a fault of this line.
 fn with_fault(
     alloc: Global,
     all: Vec<Remark>,
     at: &Position,
-    draft: &Draft,
+    draft: &FaultyDraft,
     kind: LangFaultKind,
     text: &[u8],
 ) -> Result<Vec<Remark>, AllocError>
@@ -63,13 +79,13 @@ fn with_fault(
         ++ said_faults part.Component at.now.above
         (told_on component_lint at.now.seen.items at.now.line draft.now text.now (Some kind))) }
 {
-    let backs = message_backs(alloc, draft, text, kind)?;
+    let backs = message_backs(alloc, &draft.draft, text, kind)?;
     if backs.is_empty() {
-        let words = wording(alloc, draft, kind, text)?;
+        let words = words_of_fault(alloc, draft, kind, text)?;
         let all = with_remark(all, said(at, kind, at.line), words)?;
         return Ok(all);
     }
-    let all = with_jumps(alloc, all, at, draft, kind, &backs)?;
+    let all = with_jumps(alloc, all, at, &draft.draft, kind, &backs)?;
     Ok(all)
 }
 
@@ -78,7 +94,7 @@ fn with_line(
     alloc: Global,
     all: Vec<Remark>,
     at: &Position,
-    draft: &Draft,
+    draft: &FaultyDraft,
     fault: Option<LangFaultKind>,
     text: &[u8],
 ) -> Result<Vec<Remark>, AllocError>
@@ -95,13 +111,13 @@ fn with_line(
 /// The draft from which the lines behind a line are read.
 fn left_by(
     alloc: Global,
-    draft: Draft,
+    draft: FaultyDraft,
     fault: Option<LangFaultKind>,
     text: &[u8],
     lines: &[&[u8]],
-) -> Result<Draft, AllocError>
+) -> Result<FaultyDraft, AllocError>
     ensures { IfOk result (λ next.
-        next ≡ spec.left_by mend draft text.now (texts lines.now) fault) }
+        next ≡ spec.left_by mend_faulty draft text.now (texts lines.now) fault) }
 {
     match fault {
         None => Ok(draft),
@@ -114,16 +130,16 @@ fn with_end(
     alloc: Global,
     all: Vec<Remark>,
     at: &Position,
-    draft: &Draft,
+    draft: &FaultyDraft,
 ) -> Result<Vec<Remark>, AllocError>
     ensures { IfOk result (λ next. said_of next.items ≡ said_of all.items
         ++ said_faults part.Component at.now.above
-        (end_told at.now.line (fault_in (component_grammar.finish draft.now)))) }
+        (end_told at.now.line (fault_in (faulty_grammar.finish draft.now)))) }
 {
-    match end_fault(draft) {
+    match end_fault(&draft.draft) {
         None => Ok(all),
         Some(kind) => {
-            let words = end_wording(alloc, draft)?;
+            let words = end_wording(alloc, &draft.draft)?;
             with_remark(all, said(at, kind, at.line), words)
         }
     }
@@ -138,7 +154,7 @@ fn faults_of_lines(
     ensures { IfOk result (λ next. said_of next.items ≡ said_of all.items
         ++ said_faults part.Component above (faults_of_lines component_lint (texts lines.now))) }
 {
-    let mut draft = Draft::new(alloc);
+    let mut draft = FaultyDraft::new(alloc);
     let mut seen = Vec::new(alloc);
     for (before, text) in lines.iter().enumerate() {
         let at = Position {
@@ -146,7 +162,7 @@ fn faults_of_lines(
             line: before + 1,
             seen,
         };
-        let (next, fault) = line_or_fault(alloc, draft, text)?;
+        let (next, fault) = read_or_fault(alloc, draft, text)?;
         all = with_line(alloc, all, &at, &next, fault, text)?;
         let (_, behind) = lines.split_at(before + 1);
         draft = left_by(alloc, next, fault, text, behind)?;
@@ -178,4 +194,30 @@ pub(crate) fn with_component(
 {
     let lines = lines_of(alloc, text)?;
     faults_of_lines(alloc, all, above, &lines)
+}
+
+/// What these lines leave, each read as it was meant.
+fn draft_of_lines(alloc: Global, lines: &[&[u8]]) -> Result<FaultyDraft, AllocError>
+    ensures { IfOk result (λ draft. draft ≡
+        spec.draft_after component_lint component_lint.grammar.nothing (texts lines.now)) }
+{
+    let mut draft = FaultyDraft::new(alloc);
+    for (before, text) in lines.iter().enumerate() {
+        let (next, fault) = read_or_fault(alloc, draft, text)?;
+        let (_, behind) = lines.split_at(before + 1);
+        draft = left_by(alloc, next, fault, text, behind)?;
+    }
+    Ok(draft)
+}
+
+/// What the lines of a component's text leave, each read as it was meant.
+///
+/// # Errors
+///
+/// There is no memory for what they declare.
+pub(crate) fn faulty_end(alloc: Global, text: &[u8]) -> Result<FaultyDraft, AllocError>
+    ensures { IfOk result (λ draft. draft ≡ outline.faulty_end text.now) }
+{
+    let lines = lines_of(alloc, text)?;
+    draft_of_lines(alloc, &lines)
 }

@@ -9,18 +9,20 @@ ghost use Rattle.lu_lint.specs.Bundle.{BundleSaid, IsSaidOf, RunsOfParts, RunsOf
 ghost use Rattle.lu_lint.specs.Third.{Adds};
 ghost use Rattle.lu_lint.specs.Runs.{RunsSaid};
 ghost use Rattle.lu_lint.specs.Messages.{remarks_text};
+ghost use Rattle.lu_lint.specs.Outline.{faulty_end};
 ghost use Rattle.lu_lint.specs.Said.{is_fault, said_of};
 
 use crate::bundle::{above_next, kept_in, parts_in, with_separators};
-use crate::component::with_component;
-use crate::matrix::with_matrix;
+use crate::component::{faulty_end, with_component};
+use crate::matrix::{Basis, with_matrix};
+use crate::outline::outline_text;
 use crate::remark::Remark;
 use crate::runs::with_runs_of;
 use crate::third::with_third;
 use crate::warning::with_warnings;
 use crate::writing::write_remarks;
 use lu_component::Component;
-use lu_lang::read_component;
+use lu_lang::{FaultyDraft, read_component};
 use lu_test::{Matrix, read_matrix};
 use lu_text::Fault;
 use std::alloc::{AllocError, Global};
@@ -78,21 +80,46 @@ fn matrix_read(
     }
 }
 
-/// The remarks with those on a matrix, where its component is read.
-fn with_matrix_of(
+/// The remarks with those on a matrix, by the operations of a component with faults, where these can
+/// be told apart.
+fn with_matrix_by(
     alloc: Global,
     all: Vec<Remark>,
-    component: &Option<Component>,
+    faulty: &FaultyDraft,
     above: usize,
     text: &[u8],
 ) -> Result<Vec<Remark>, AllocError>
     ensures { IfOk result (λ next. said_of next.items ≡
-        said_of all.items ++ spec.matrix_said component.now above text.now) }
+        said_of all.items ++ spec.faulty_said faulty.now above text.now) }
 {
-    match component {
+    let outline = outline_text(alloc, &faulty.draft)?;
+    match component_read(alloc, outline.as_bytes())? {
         None => Ok(all),
-        Some(component) => with_matrix(alloc, component, all, above, text),
+        Some(component) => {
+            let basis = Basis {
+                component: &component,
+                faulty: Some(faulty),
+            };
+            let all = with_matrix(alloc, &basis, all, above, text)?;
+            Ok(all)
+        }
     }
+}
+
+/// The remarks with those on a matrix behind a component with faults.
+fn with_matrix_behind(
+    alloc: Global,
+    all: Vec<Remark>,
+    component: &[u8],
+    above: usize,
+    text: &[u8],
+) -> Result<Vec<Remark>, AllocError>
+    ensures { IfOk result (λ next. said_of next.items ≡
+        said_of all.items ++ spec.faulty_said (faulty_end component.now) above text.now) }
+{
+    let faulty = faulty_end(alloc, component)?;
+    let all = with_matrix_by(alloc, all, &faulty, above, text)?;
+    Ok(all)
 }
 
 /// The remarks with those on the matrix behind a component.
@@ -103,13 +130,20 @@ fn with_second(
     matrix: &[u8],
 ) -> Result<Vec<Remark>, AllocError>
     ensures { IfOk result (λ next. said_of next.items ≡ said_of all.items
-        ++ spec.matrix_said (spec.component_read component.now)
-        (spec.above_next 0 component.now) matrix.now) }
+        ++ spec.matrix_said component.now (spec.above_next 0 component.now) matrix.now) }
 {
-    let read = component_read(alloc, component)?;
     let above = above_next(alloc, 0, component)?;
-    let all = with_matrix_of(alloc, all, &read, above, matrix)?;
-    Ok(all)
+    match component_read(alloc, component)? {
+        None => with_matrix_behind(alloc, all, component, above, matrix),
+        Some(read) => {
+            let basis = Basis {
+                component: &read,
+                faulty: None,
+            };
+            let all = with_matrix(alloc, &basis, all, above, matrix)?;
+            Ok(all)
+        }
+    }
 }
 
 /// The remarks with those on the parts behind a component.
@@ -388,8 +422,9 @@ fn have_fault(remarks: &[Remark]) -> bool
     remarks.iter().any(|remark| remark.said.cause.is_fault())
 }
 
-/// Every fault of a bundle, in words: of its component, of its matrix, where the component is read,
-/// and of the lines between its parts. Of a third part, which is a specification where it begins
+/// Every fault of a bundle, in words: of its component, of its matrix, and of the lines between its
+/// parts. Behind a component with faults the matrix is judged by the operations that its lines were
+/// to declare. Of a third part, which is a specification where it begins
 /// with `lineup spec`, else a report where it begins with `lineup`, and else a schedule: each fault
 /// of a schedule, of a report, and, where the matrix is read, of a specification.
 ///

@@ -1,20 +1,25 @@
 //! The faults of a matrix's text.
 
-ghost use Rattle.std.specs.Prelude.{◌≡◌, ◌++◌, ℕ, List, IfOk};
+ghost use Rattle.std.specs.Prelude.{◌≡◌, ◌++◌, ℕ, List, IfOk, OnOk, Option};
+ghost use Rattle.std.specs.Option.{option_copied};
+ghost use Rattle.lu_component.specs.Component.{Declarations, IsComponent};
+ghost use Rattle.lu_lang.specs.Faulty.{Faulty};
 ghost use Rattle.lu_lint.specs.Lint as spec;
 ghost use Rattle.lu_lint.specs.Lint.{end_told, faults_in, faults_of_lines, told_on};
-ghost use Rattle.lu_lint.specs.Matrix.{matrix_lint, matrix_mend};
+ghost use Rattle.lu_lint.specs.Matrix.{judged_line, matrix_lint, matrix_mend};
 ghost use Rattle.lu_lint.specs.Said.{said_faults, said_of, said_told};
 ghost use Rattle.lu_lint.specs.declared.remark.FaultKind.TheVariants as part;
-ghost use Rattle.lu_test.specs.MatrixGoing.{fault_in};
-ghost use Rattle.lu_test.specs.MatrixText.{finished, nothing};
+ghost use Rattle.lu_test.specs.MatrixGoing.{fault_in, going_on};
+ghost use Rattle.lu_test.specs.MatrixText.{IsDraft, finished, line_of, nothing};
 ghost use Rattle.lu_text.specs.Lines.{texts};
 
 use crate::matrix_wording::{end_wording, matrix_wording};
+use crate::outline::sure_line;
 use crate::remark::{
     Cause, FaultKind, Position, Remark, Said, line_below, with_remark, with_words,
 };
 use lu_component::Component;
+use lu_lang::FaultyDraft;
 use lu_test::{Draft, MatrixFaultKind, end_fault, line_or_fault, mended};
 use lu_text::lines_of;
 use std::alloc::{AllocError, Global};
@@ -39,25 +44,76 @@ fn said(above: usize, kind: MatrixFaultKind, line: usize) -> Said
     }
 }
 
+/// What a matrix is judged by.
+#[derive(Clone, Copy, Drop)]
+pub(crate) struct Basis<'a> {
+    /// The component, or one with the operations of a component with faults.
+    pub component: &'a Component,
+
+    /// What the lines of a component with faults left.
+    pub faulty: Option<&'a FaultyDraft>,
+}
+
+/// The words for a fault of a line, as it is judged.
+fn words_of_fault(
+    alloc: Global,
+    basis: &Basis<'_>,
+    draft: &Draft,
+    kind: MatrixFaultKind,
+    text: &[u8],
+) -> Result<String, AllocError> {
+    match basis.faulty {
+        None => matrix_wording(alloc, basis.component, draft, kind, text),
+        Some(faulty) => {
+            let line = sure_line(alloc, faulty, text)?;
+            matrix_wording(alloc, basis.component, draft, kind, &line)
+        }
+    }
+}
+
+/// The draft after one more line, as it is judged, and no fault; or the draft before it, and what is
+/// wrong with the line.
+#[tactic(auto, unfolding(crate::specs::Matrix::judged_line))]
+fn judged(
+    alloc: Global,
+    basis: &Basis<'_>,
+    draft: Draft,
+    text: &[u8],
+) -> Result<(Draft, Option<MatrixFaultKind>), AllocError>
+    requires { IsDraft draft }
+    ensures judged { IfOk result (λ r. r ≡ going_on draft (line_of
+        basis.now.component.now.operations draft
+        (judged_line (option_copied basis.now.faulty) text.now))) }
+    ensures sound { OnOk result (IsComponent basis.now.component.now) }
+{
+    let operations = basis.component.operations();
+    match basis.faulty {
+        None => line_or_fault(alloc, operations, draft, text),
+        Some(faulty) => {
+            let line = sure_line(alloc, faulty, text)?;
+            line_or_fault(alloc, operations, draft, &line)
+        }
+    }
+}
+
 /// The remarks with that on this line, where it has a fault.
 fn with_line(
     alloc: Global,
-    component: &Component,
+    basis: &Basis<'_>,
     all: Vec<Remark>,
     at: &Position,
     draft: &Draft,
     fault: Option<MatrixFaultKind>,
     text: &[u8],
 ) -> Result<Vec<Remark>, AllocError>
-    ensures { IfOk result (λ next. said_of next.items ≡ said_of all.items
-        ++ said_faults part.Matrix at.now.above
-        (told_on (matrix_lint component.now) at.now.seen.items at.now.line
-        draft.now text.now fault)) }
+    ensures { (of : Declarations) (faulty : Option Faulty) → IfOk result (λ next.
+        said_of next.items ≡ said_of all.items ++ said_faults part.Matrix at.now.above
+        (told_on (matrix_lint of faulty) at.now.seen.items at.now.line draft.now text.now fault)) }
 {
     match fault {
         None => Ok(all),
         Some(kind) => {
-            let words = matrix_wording(alloc, component, draft, kind, text)?;
+            let words = words_of_fault(alloc, basis, draft, kind, text)?;
             with_remark(all, said(at.above, kind, at.line), words)
         }
     }
@@ -101,16 +157,16 @@ fn with_end(
 
 fn faults_of_lines(
     alloc: Global,
-    component: &Component,
+    basis: &Basis<'_>,
     mut all: Vec<Remark>,
     above: usize,
     lines: &[&[u8]],
 ) -> Result<Vec<Remark>, AllocError>
     ensures { IfOk result (λ next. said_of next.items ≡ said_of all.items
-        ++ said_faults part.Matrix above
-        (faults_of_lines (matrix_lint component.now) (texts lines.now))) }
+        ++ said_faults part.Matrix above (faults_of_lines
+        (matrix_lint basis.now.component.now (option_copied basis.now.faulty))
+        (texts lines.now))) }
 {
-    let operations = component.operations();
     let mut draft = no_lines(alloc);
     let mut seen = Vec::new(alloc);
     for (before, text) in lines.iter().enumerate() {
@@ -119,8 +175,8 @@ fn faults_of_lines(
             line: before + 1,
             seen,
         };
-        let (next, fault) = line_or_fault(alloc, operations, draft, text)?;
-        all = with_line(alloc, component, all, &at, &next, fault, text)?;
+        let (next, fault) = judged(alloc, basis, draft, text)?;
+        all = with_line(alloc, basis, all, &at, &next, fault, text)?;
         draft = left_by(alloc, next, fault, text)?;
         seen = with_words(alloc, at.seen, before + 1, text)?;
     }
@@ -133,22 +189,23 @@ fn faults_of_lines(
     Ok(all)
 }
 
-/// The remarks with those on the text of a matrix of this component, before which `above` lines of
-/// the bundle stand: one on every fault, in the order of their lines.
+/// The remarks with those on the text of a matrix, before which `above` lines of the bundle stand:
+/// one on every fault, in the order of their lines.
 ///
 /// # Errors
 ///
 /// There is no memory for the remarks.
 pub(crate) fn with_matrix(
     alloc: Global,
-    component: &Component,
+    basis: &Basis<'_>,
     all: Vec<Remark>,
     above: usize,
     text: &[u8],
 ) -> Result<Vec<Remark>, AllocError>
     ensures { IfOk result (λ next. said_of next.items ≡ said_of all.items
-        ++ said_faults part.Matrix above (faults_in (matrix_lint component.now) text.now)) }
+        ++ said_faults part.Matrix above (faults_in
+        (matrix_lint basis.now.component.now (option_copied basis.now.faulty)) text.now)) }
 {
     let lines = lines_of(alloc, text)?;
-    faults_of_lines(alloc, component, all, above, &lines)
+    faults_of_lines(alloc, basis, all, above, &lines)
 }

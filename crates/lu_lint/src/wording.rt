@@ -271,9 +271,18 @@ fn no_operand(alloc: Global, word: &[u8], rest: &[&[u8]]) -> Result<String, Allo
     }
 }
 
+/// The name that a word is, or its label.
+fn without_colon<'a>(word: &'a [u8]) -> &'a [u8] {
+    match word {
+        [label @ .., b':'] => label,
+        _ => word,
+    }
+}
+
 fn limit(alloc: Global, draft: &Draft, words: &[&[u8]]) -> Result<String, AllocError> {
     if let Some(word) = words
         .iter()
+        .map(|word| without_colon(word))
         .find(|word| has_name_form(word) && is_long(word))
     {
         let (length, word) = (word.len(), shown(word));

@@ -1,0 +1,173 @@
+-- A line is read as its writer meant it: a declaration with a fault was to declare a name, and the
+-- lines behind it may use that name.
+use Rattle.std.specs.Prelude.{ℕ, ◌+◌, Bool, true, false, List, [], ◌∷◌, ◌++◌, length, take, drop, Option, Some, None, is_some, option_and_then, slice_get, Result, Ok, Err, codes, ◌==◌, ◌&&◌, not, if◌then◌else◌}
+use Rattle.std.specs.List.{flat_map, list_all, list_any}
+use Rattle.std.specs.Str.{bytes_eq}
+use Rattle.std.specs.Option.{unwrap_or, option_map}
+use Rattle.lu_text.specs.Faults.{Grammar}
+use Rattle.lu_text.specs.Lines.{words_of, is_allowed}
+use Rattle.lu_text.specs.Words.{Word}
+use Rattle.lu_component.specs.Component.{Declarations}
+use Rattle.lu_lang.specs.declared.fault.LangFaultKind.{LangFaultKind}
+use Rattle.lu_lang.specs.declared.keyword.Keyword.{Keyword}
+use Rattle.lu_lang.specs.declared.keyword.Keyword.TheVariants as keyword
+use Rattle.lu_lang.specs.declared.meant.Family.{Family}
+use Rattle.lu_lang.specs.declared.meant.Family.TheVariants.{Array, Lock, Label, Operation}
+use Rattle.lu_lang.specs.Draft.{Begun, Drafted, nothing}
+use Rattle.lu_lang.specs.Words.{keyword_in}
+use Rattle.lu_lang.specs.Grammar.{array_place, lock_place, label_place, label_in, line_of, component_grammar}
+use Rattle.lu_lang.specs.Faulty.{Meant, Faulty}
+use Rattle.lu_lang.specs.Mend.{bare, mend}
+
+-- ---- names
+
+abbrev pub same_family : Family → Family → Bool
+same_family Array Array = true
+same_family Lock Lock = true
+same_family (Label n) (Label m) = n == m
+same_family Operation Operation = true
+same_family _ _ = false
+
+-- a faulty declaration was to declare this name in this family
+abbrev pub is_meant : List Meant → Family → Word → Bool
+is_meant meant family word =
+    list_any (λ m. same_family m.family family && bytes_eq m.word word) meant
+
+abbrev pub has_label : Option Begun → Word → Bool
+has_label None word = false
+has_label (Some b) word = is_some (label_place b.labels word)
+
+abbrev pub is_declared : Drafted → Family → Word → Bool
+is_declared d Array word = is_some (array_place d word)
+is_declared d Lock word = is_some (lock_place d word)
+is_declared d (Label n) word = has_label d.begun word
+is_declared d Operation word = false
+
+abbrev pub first_label : Option Begun → Option Word
+first_label None = None
+first_label (Some b) = option_map (λ l. l.name) (slice_get b.labels 0)
+
+-- the first declared name of a family
+abbrev pub first_of : Drafted → Family → Option Word
+first_of d Array = option_map (λ a. a.name) (slice_get d.arrays 0)
+first_of d Lock = slice_get d.locks 0
+first_of d (Label n) = first_label d.begun
+first_of d Operation = None
+
+-- ---- a line as it was meant
+
+-- What an instruction names, and which of its line's words is the name, where it stands behind so
+-- many words in operation n.
+abbrev pub named_by : ℕ → ℕ → Keyword → Option (Family × ℕ)
+named_by n before keyword.Load = Some (Array, before + 2)
+named_by n before keyword.Cas = Some (Array, before + 2)
+named_by n before keyword.Store = Some (Array, before + 1)
+named_by n before keyword.Await = Some (Array, before + 1)
+named_by n before keyword.AwaitNot = Some (Array, before + 1)
+named_by n before keyword.Lock = Some (Lock, before + 1)
+named_by n before keyword.Unlock = Some (Lock, before + 1)
+named_by n before keyword.Jump = Some (Label n, before + 1)
+named_by n before keyword.JumpIfZero = Some (Label n, before + 2)
+named_by n before _ = None
+
+abbrev pub name_of_code : ℕ → ℕ → List Word → Option (Family × ℕ)
+name_of_code n before [] = None
+name_of_code n before (word ∷ words) = option_and_then (named_by n before) (keyword_in word)
+
+-- the same for a line of operation n, with a label or without one
+abbrev pub name_of_line : ℕ → List Word → Option (Family × ℕ)
+name_of_line n [] = None
+name_of_line n (word ∷ words) =
+    if is_some (label_in word) then name_of_code n 1 words else name_of_code n 0 (word ∷ words)
+
+-- each with a space behind it
+abbrev pub spaced : List Word → List ℕ
+spaced words = flat_map (λ word. word ++ codes " ") words
+
+-- the line of these words, with another in this place
+abbrev pub line_with : List Word → ℕ → Word → List ℕ
+line_with words place other =
+    spaced (take place words) ++ (other ++ codes " ") ++ spaced (drop (place + 1) words)
+
+-- with a declared name in the place of one that was only meant
+abbrev pub renamed : Faulty → List Word → Family × ℕ → Word → Option (List ℕ)
+renamed f words (family, place) word =
+    if is_meant f.meant family word
+    then option_map (line_with words place) (first_of f.draft family)
+    else None
+
+abbrev pub renamed_at : Faulty → List Word → Family × ℕ → Option (List ℕ)
+renamed_at f words (family, place) =
+    option_and_then (renamed f words (family, place)) (slice_get words place)
+
+abbrev pub renamed_words : Faulty → List Word → Option (List ℕ)
+renamed_words f words =
+    if is_some f.draft.begun
+    then option_and_then (renamed_at f words) (name_of_line (length f.draft.operations) words)
+    else None
+
+-- the line as it was meant, where it uses a name that was only meant
+abbrev pub meant_line : Faulty → List ℕ → Option (List ℕ)
+meant_line f line =
+    if list_all is_allowed line then renamed_words f (words_of line) else None
+
+abbrev pub read_as : Faulty → List ℕ → List ℕ
+read_as f line = unwrap_or (meant_line f line) line
+
+-- with the next draft
+abbrev pub with_draft : Faulty → Result Drafted LangFaultKind → Result Faulty LangFaultKind
+with_draft f (Ok next) = Ok (record f { draft = next })
+with_draft f (Err kind) = Err kind
+
+-- the text of a component, each line as it was meant
+abbrev pub faulty_grammar : Grammar LangFaultKind Faulty Declarations
+faulty_grammar = record {
+  nothing = record { draft = nothing; meant = [] };
+  line = λ f line. with_draft f (line_of f.draft (read_as f line));
+  finish = λ f. component_grammar.finish f.draft;
+}
+
+-- ---- what a line with a fault was to declare, where d is the draft that it leaves
+
+-- this name, where it is not declared
+abbrev pub with_name : Drafted → List Meant → Family → Word → List Meant
+with_name d meant family word =
+    if is_declared d family word then meant else meant ++ record { family = family; word = word } ∷ []
+
+-- `word` declares an array, outside operations `lock` a lock, and `op` an operation: how many
+-- arguments it takes is not known, though its name is declared
+abbrev pub declared_by : Drafted → Word → Option Family
+declared_by d first =
+    if bytes_eq first (codes "word") then Some Array
+    else (if bytes_eq first (codes "lock") && not (is_some d.begun) then Some Lock
+    else (if bytes_eq first (codes "op") then Some Operation else None))
+
+abbrev pub with_declared : Drafted → List Meant → Option Family → List Word → List Meant
+with_declared d meant None words = meant
+with_declared d meant (Some family) [] = meant
+with_declared d meant (Some family) (name ∷ words) = with_name d meant family (bare name)
+
+-- a label of the open operation
+abbrev pub with_label_name : Drafted → List Meant → Word → List Meant
+with_label_name d meant label =
+    if is_some d.begun then with_name d meant (Label (length d.operations)) label else meant
+
+abbrev pub with_behind : Drafted → List Meant → List Word → List Meant
+with_behind d meant [] = meant
+with_behind d meant (first ∷ words) =
+    with_declared d meant (declared_by d (bare first)) words
+
+abbrev pub with_labelled : Drafted → List Meant → Option Word → Word → List Word → List Meant
+with_labelled d meant None first words = with_behind d meant (first ∷ words)
+with_labelled d meant (Some label) first words =
+    with_behind d (with_label_name d meant label) words
+
+abbrev pub with_names : Drafted → List Meant → List Word → List Meant
+with_names d meant [] = meant
+with_names d meant (first ∷ words) = with_labelled d meant (label_in (bare first)) first words
+
+-- what a line with a fault leaves, before these lines
+abbrev pub mend_faulty : Faulty → List ℕ → List (List ℕ) → Faulty
+mend_faulty f line lines =
+    let next = mend f.draft line lines in
+    record { draft = next; meant = with_names next f.meant (words_of line) }

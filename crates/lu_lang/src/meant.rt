@@ -1,0 +1,450 @@
+//! Lines as their writer meant them: a declaration with a fault was to declare a name, and the lines
+//! behind it may use that name.
+
+ghost use Rattle.std.specs.Prelude.{◌≡◌, ◌≤◌, ◌<◌, ◌++◌, IfOk, length, option_and_then, slice_get};
+ghost use Rattle.std.specs.Option.{option_map, unwrap_or};
+ghost use Rattle.lu_text.specs.Lines.{text_if, texts};
+ghost use Rattle.lu_lang.specs.Going.{going_on};
+ghost use Rattle.lu_lang.specs.Meant as spec;
+ghost use Rattle.lu_lang.specs.Meant.{faulty_grammar, mend_faulty};
+ghost use Rattle.lu_lang.specs.declared.meant.Family.TheVariants.{Operation};
+
+use crate::draft::{Draft, OpenOp};
+use crate::fault::LangFaultKind;
+use crate::going::line_or_fault;
+use crate::instructions::{array_number, lock_number};
+use crate::keyword::{Keyword, keyword_in};
+use crate::mending::{bare, mended_draft};
+use crate::reading::{has_label, label_in};
+use lu_text::{are_allowed, words_of};
+use std::alloc::{AllocError, Global};
+use std::marker::Model;
+
+/// What a name is a name of. Each stands once in its family.
+#[derive(Clone, Copy, Debug, Drop, PartialEq, Eq)]
+pub enum Family {
+    Array,
+    Lock,
+
+    /// A label of the operation of this number, from 0.
+    Label(usize),
+    Operation,
+}
+
+impl Family {
+    fn is_same(self, other: Family) -> bool
+        ensures { result ≡ spec.same_family self other }
+    {
+        match (self, other) {
+            (Family::Array, Family::Array) => true,
+            (Family::Lock, Family::Lock) => true,
+            (Family::Label(left), Family::Label(right)) => left == right,
+            (Family::Operation, Family::Operation) => true,
+            _ => false,
+        }
+    }
+}
+
+/// A name that a faulty declaration was to declare; the word need be no name.
+#[derive(Debug, Drop)]
+pub struct MeantName {
+    family: Family,
+    word: Vec<u8>,
+}
+
+impl Model for MeantName {
+    ghost use Rattle.lu_lang.specs.Faulty.{Meant};
+
+    ghost Value = { Meant };
+
+    ghost view = { λ m. record { family = m.family; word = m.word.items } };
+}
+
+/// What lines of which some have faults have declared.
+#[derive(Debug, Drop)]
+pub struct FaultyDraft {
+    pub draft: Draft,
+
+    /// The names that faulty declarations were to declare, and that are not declared.
+    pub meant: Vec<MeantName>,
+}
+
+impl Model for FaultyDraft {
+    ghost use Rattle.lu_lang.specs.Faulty.{Faulty};
+
+    ghost Value = { Faulty };
+
+    ghost view = { λ f. record { draft = f.draft; meant = f.meant.items } };
+}
+
+impl FaultyDraft {
+    /// Nothing is declared yet.
+    pub fn new(alloc: Global) -> FaultyDraft
+        ensures { result ≡ faulty_grammar.nothing }
+    {
+        FaultyDraft {
+            draft: Draft::new(alloc),
+            meant: Vec::new(alloc),
+        }
+    }
+
+    /// Whether a line that begins an operation of this name has a fault: how many arguments it
+    /// takes is then not known.
+    pub fn is_unsure(&self, name: &[u8]) -> bool
+        ensures { result ≡ spec.is_meant self.now.meant Operation name.now }
+    {
+        is_meant(&self.meant, Family::Operation, name)
+    }
+}
+
+fn is_meant(meant: &[MeantName], family: Family, word: &[u8]) -> bool
+    ensures { result ≡ spec.is_meant meant.now family word.now }
+{
+    meant.iter().any(|name| name.family.is_same(family) && name.word.as_slice() == word)
+}
+
+fn open_has(begun: &Option<OpenOp>, label: &[u8]) -> bool
+    ensures { result ≡ spec.has_label begun.now label.now }
+{
+    match begun {
+        None => false,
+        Some(op) => has_label(op, label),
+    }
+}
+
+fn is_declared(draft: &Draft, family: Family, word: &[u8]) -> bool
+    ensures { result ≡ spec.is_declared draft.now family word.now }
+{
+    match family {
+        Family::Array => array_number(draft, word).is_some(),
+        Family::Lock => lock_number(draft, word).is_some(),
+        Family::Label(_) => open_has(&draft.begun, word),
+        Family::Operation => false,
+    }
+}
+
+fn first_label(begun: &Option<OpenOp>) -> Option<&[u8]>
+    ensures { text_if result ≡ spec.first_label begun.now }
+{
+    match begun {
+        None => None,
+        Some(op) => match op.labels.get(0) {
+            None => None,
+            Some(label) => Some(label.name.as_bytes()),
+        },
+    }
+}
+
+/// The first declared name of a family.
+fn first_of(draft: &Draft, family: Family) -> Option<&[u8]>
+    ensures { text_if result ≡ spec.first_of draft.now family }
+{
+    match family {
+        Family::Array => match draft.arrays.get(0) {
+            None => None,
+            Some(array) => Some(array.name.as_bytes()),
+        },
+        Family::Lock => match draft.locks.get(0) {
+            None => None,
+            Some(lock) => Some(lock.as_bytes()),
+        },
+        Family::Label(_) => first_label(&draft.begun),
+        Family::Operation => None,
+    }
+}
+
+/// What an instruction of this operation names, and the place of the name on its line, where so many
+/// words stand before it.
+fn named_by(operation: usize, before: usize, keyword: Keyword) -> Option<(Family, usize)>
+    requires { before ≤ 1 }
+    ensures { result ≡ spec.named_by operation before keyword }
+{
+    match keyword {
+        Keyword::Load | Keyword::Cas => Some((Family::Array, before + 2)),
+        Keyword::Store | Keyword::Await | Keyword::AwaitNot => Some((Family::Array, before + 1)),
+        Keyword::Lock | Keyword::Unlock => Some((Family::Lock, before + 1)),
+        Keyword::Jump => Some((Family::Label(operation), before + 1)),
+        Keyword::JumpIfZero => Some((Family::Label(operation), before + 2)),
+        Keyword::Set | Keyword::Compute(_) | Keyword::Pick | Keyword::Return => None,
+    }
+}
+
+fn name_of_code(operation: usize, before: usize, words: &[&[u8]]) -> Option<(Family, usize)>
+    requires { before ≤ 1 }
+    ensures { result ≡ spec.name_of_code operation before (texts words.now) }
+{
+    match words.split_first() {
+        None => None,
+        Some((word, _)) => match keyword_in(word) {
+            None => None,
+            Some(keyword) => named_by(operation, before, keyword),
+        },
+    }
+}
+
+/// The same of a line of this operation.
+fn name_of_line(operation: usize, words: &[&[u8]]) -> Option<(Family, usize)>
+    ensures { result ≡ spec.name_of_line operation (texts words.now) }
+{
+    match words.split_first() {
+        None => None,
+        Some((word, rest)) => {
+            if label_in(word).is_some() {
+                name_of_code(operation, 1, rest)
+            } else {
+                name_of_code(operation, 0, words)
+            }
+        }
+    }
+}
+
+/// The text with these words, each with a space behind it.
+fn with_words(mut text: Vec<u8>, words: &[&[u8]]) -> Result<Vec<u8>, AllocError>
+    ensures { IfOk result (λ next. next.items ≡ text.items ++ spec.spaced (texts words.now)) }
+{
+    for word in words {
+        text.extend_from_slice(word)?;
+        text.push(b' ')?;
+    }
+    Ok(text)
+}
+
+/// The line of these words, with another in a place.
+fn line_with(
+    alloc: Global,
+    words: &[&[u8]],
+    place: usize,
+    other: &[u8],
+) -> Result<Vec<u8>, AllocError>
+    requires { place < length words.now }
+    ensures { IfOk result (λ line.
+        line.items ≡ spec.line_with (texts words.now) place other.now) }
+{
+    let mut text = with_words(Vec::new(alloc), &words[..place])?;
+    text.extend_from_slice(other)?;
+    text.push(b' ')?;
+    with_words(text, &words[place + 1..])
+}
+
+/// The line with a declared name in the place of one that was only meant.
+#[tactic(auto, using(crate::proofs::Understood::text_at))]
+fn renamed(
+    alloc: Global,
+    draft: &FaultyDraft,
+    words: &[&[u8]],
+    family: Family,
+    place: usize,
+) -> Result<Option<Vec<u8>>, AllocError>
+    ensures { IfOk result (λ line.
+        option_map (λ l. l.items) line ≡ spec.renamed_at draft.now (texts words.now) (family, place)) }
+{
+    let Some(word) = words.get(place) else {
+        return Ok(None);
+    };
+    if !is_meant(&draft.meant, family, word) {
+        return Ok(None);
+    }
+    match first_of(&draft.draft, family) {
+        None => Ok(None),
+        Some(other) => Ok(Some(line_with(alloc, words, place, other)?)),
+    }
+}
+
+fn renamed_words(
+    alloc: Global,
+    draft: &FaultyDraft,
+    words: &[&[u8]],
+) -> Result<Option<Vec<u8>>, AllocError>
+    ensures { IfOk result (λ line.
+        option_map (λ l. l.items) line ≡ spec.renamed_words draft.now (texts words.now)) }
+{
+    if draft.draft.begun.is_none() {
+        return Ok(None);
+    }
+    match name_of_line(draft.draft.operations.len(), words) {
+        None => Ok(None),
+        Some((family, place)) => renamed(alloc, draft, words, family, place),
+    }
+}
+
+/// The line as it was meant, where it uses a name that was only meant: with a declared name of the
+/// family in its place.
+///
+/// # Errors
+///
+/// There is no memory for the line.
+pub fn meant_line(
+    alloc: Global,
+    draft: &FaultyDraft,
+    text: &[u8],
+) -> Result<Option<Vec<u8>>, AllocError>
+    ensures { IfOk result (λ line.
+        option_map (λ l. l.items) line ≡ spec.meant_line draft.now text.now) }
+{
+    if draft.meant.is_empty() {
+        return Ok(None);
+    }
+    if !are_allowed(text) {
+        return Ok(None);
+    }
+    let words = words_of(alloc, text)?;
+    renamed_words(alloc, draft, &words)
+}
+
+/// The line as it was meant, where it is another, or as it stands.
+fn or_as_it_stands<'a>(meant: &'a Option<Vec<u8>>, text: &'a [u8]) -> &'a [u8]
+    ensures { result.now ≡ unwrap_or (option_map (λ l. l.items) meant.now) text.now }
+{
+    match meant {
+        None => text,
+        Some(line) => line.as_slice(),
+    }
+}
+
+/// The draft after one more line, and no fault; or the draft before it, and what is wrong with the
+/// line. The line is read as it was meant.
+///
+/// # Errors
+///
+/// There is no memory for what the line declares.
+#[tactic(auto, using(crate::proofs::Understood::faulty_going))]
+pub fn read_or_fault(
+    alloc: Global,
+    draft: FaultyDraft,
+    text: &[u8],
+) -> Result<(FaultyDraft, Option<LangFaultKind>), AllocError>
+    ensures { IfOk result (λ r. r ≡ going_on draft (faulty_grammar.line draft text.now)) }
+{
+    let line = meant_line(alloc, &draft, text)?;
+    let FaultyDraft { draft, meant } = draft;
+    let (draft, fault) = line_or_fault(alloc, draft, or_as_it_stands(&line, text))?;
+    Ok((FaultyDraft { draft, meant }, fault))
+}
+
+/// The names with this one, where it is not declared.
+fn with_name(
+    alloc: Global,
+    draft: &Draft,
+    mut meant: Vec<MeantName>,
+    family: Family,
+    word: &[u8],
+) -> Result<Vec<MeantName>, AllocError>
+    ensures { IfOk result (λ next.
+        next.items ≡ spec.with_name draft.now meant.items family word.now) }
+{
+    if !is_declared(draft, family, word) {
+        let word = Vec::from_slice(alloc, word)?;
+        meant.push(MeantName { family, word })?;
+    }
+    Ok(meant)
+}
+
+/// What a line of this first word declares: an array, or outside operations a lock.
+fn declared_by(draft: &Draft, first: &[u8]) -> Option<Family>
+    ensures { result ≡ spec.declared_by draft.now first.now }
+{
+    if first == b"word".as_slice() {
+        Some(Family::Array)
+    } else if first == b"lock".as_slice() && draft.begun.is_none() {
+        Some(Family::Lock)
+    } else if first == b"op".as_slice() {
+        Some(Family::Operation)
+    } else {
+        None
+    }
+}
+
+fn with_declared(
+    alloc: Global,
+    draft: &Draft,
+    meant: Vec<MeantName>,
+    family: Option<Family>,
+    words: &[&[u8]],
+) -> Result<Vec<MeantName>, AllocError>
+    ensures { IfOk result (λ next.
+        next.items ≡ spec.with_declared draft.now meant.items family (texts words.now)) }
+{
+    match (family, words.split_first()) {
+        (Some(family), Some((name, _))) => with_name(alloc, draft, meant, family, bare(name)),
+        _ => Ok(meant),
+    }
+}
+
+/// The names with that of a label of the open operation.
+fn with_label_name(
+    alloc: Global,
+    draft: &Draft,
+    meant: Vec<MeantName>,
+    label: &[u8],
+) -> Result<Vec<MeantName>, AllocError>
+    ensures { IfOk result (λ next.
+        next.items ≡ spec.with_label_name draft.now meant.items label.now) }
+{
+    if draft.begun.is_some() {
+        let family = Family::Label(draft.operations.len());
+        with_name(alloc, draft, meant, family, label)
+    } else {
+        Ok(meant)
+    }
+}
+
+/// The names with those of a line behind its label.
+fn with_behind(
+    alloc: Global,
+    draft: &Draft,
+    meant: Vec<MeantName>,
+    words: &[&[u8]],
+) -> Result<Vec<MeantName>, AllocError>
+    ensures { IfOk result (λ next.
+        next.items ≡ spec.with_behind draft.now meant.items (texts words.now)) }
+{
+    match words.split_first() {
+        None => Ok(meant),
+        Some((first, rest)) => {
+            let family = declared_by(draft, bare(first));
+            with_declared(alloc, draft, meant, family, rest)
+        }
+    }
+}
+
+/// The names with those that a line of these words was to declare, where it leaves this draft.
+fn with_names(
+    alloc: Global,
+    draft: &Draft,
+    meant: Vec<MeantName>,
+    words: &[&[u8]],
+) -> Result<Vec<MeantName>, AllocError>
+    ensures { IfOk result (λ next.
+        next.items ≡ spec.with_names draft.now meant.items (texts words.now)) }
+{
+    match words.split_first() {
+        None => Ok(meant),
+        Some((first, rest)) => match label_in(bare(first)) {
+            None => with_behind(alloc, draft, meant, words),
+            Some(label) => {
+                let meant = with_label_name(alloc, draft, meant, label)?;
+                with_behind(alloc, draft, meant, rest)
+            }
+        },
+    }
+}
+
+/// The draft from which the lines behind a line with a fault are read; `lines` are these.
+///
+/// # Errors
+///
+/// There is no memory for what the line leaves.
+pub fn mended(
+    alloc: Global,
+    draft: FaultyDraft,
+    text: &[u8],
+    lines: &[&[u8]],
+) -> Result<FaultyDraft, AllocError>
+    ensures { IfOk result (λ after. after ≡ mend_faulty draft text.now (texts lines.now)) }
+{
+    let FaultyDraft { draft, meant } = draft;
+    let draft = mended_draft(alloc, draft, text, lines)?;
+    let words = words_of(alloc, text)?;
+    let meant = with_names(alloc, &draft, meant, &words)?;
+    Ok(FaultyDraft { draft, meant })
+}
