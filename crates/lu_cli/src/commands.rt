@@ -1,6 +1,6 @@
 //! What is answered to each command.
 
-ghost use Rattle.std.specs.Prelude.{◌≡◌, ◌≢◌, IfOk};
+ghost use Rattle.std.specs.Prelude.{◌≡◌, IfOk};
 ghost use Rattle.lu_text.specs.Lines.{texts};
 ghost use Rattle.lu_test.specs.Matrix.{IsMatrix};
 ghost use Rattle.lu_machine.specs.Starts.{CanRun};
@@ -8,24 +8,21 @@ ghost use Rattle.lu_report.specs.Parts.{IsOfOffence};
 ghost use Rattle.lu_spec.specs.Specs.{AreOf};
 ghost use Rattle.lu_cli.specs.Refusals.{Answered};
 ghost use Rattle.lu_cli.specs.Replies as spec;
-ghost use Rattle.lu_cli.specs.Replies.{no_device};
 
 use crate::answer::{
     Answer, infeasible, show_certificate, show_matrix, show_refusal, show_report, show_schedule,
     show_spec,
 };
-use crate::bundle::parts_in;
 use crate::campaigning::answer_campaign;
 use crate::drawing::draw;
 use crate::explaining::{Presentation, answer_explain, answer_explain_against};
-use crate::order::{Order, Request};
+use crate::order::Order;
 use crate::refusal::Refusal;
 use crate::shown::read_shown;
-use crate::texts::{read_texts, report_against};
+use crate::texts::{read_texts, report_against, report_of};
 use lu_certify::certify_by_workers;
 use lu_lang::Component;
-use lu_lint::lint;
-use lu_parallel::{OpenGate, Options, check};
+use lu_parallel::{OpenGate, Options};
 use lu_refine::{ShrinkFault, shrink};
 use lu_refute::refute;
 use lu_replay::{ReplayFault, replay, set_or_offence, write_replay};
@@ -244,15 +241,7 @@ fn answer_check<X: AllocGlobal + Threads + Wait>(
     ensures { Answered (spec.IsCheckOf options (texts parts.now)) result }
 {
     let (component, matrix) = two(parts).ok_or(Refusal::Parts)?;
-    let case = read_texts(rt.alloc(), component, matrix)?;
-    let report = check(
-        rt,
-        rt.alloc(),
-        &OpenGate,
-        &case.component,
-        &case.matrix,
-        options,
-    )?;
+    let report = report_of(rt, rt.alloc(), component, matrix, options)?;
     Ok(show_report(rt.alloc(), &report)?)
 }
 
@@ -411,37 +400,20 @@ fn carry_out<X: AllocGlobal + Threads + Wait>(
     }
 }
 
-/// What there is to say of a bundle.
-fn answer_lint(alloc: Global, bounds: Bounds, bundle: &[u8]) -> Result<Answer, AllocError>
-    ensures { IfOk result (spec.IsLinted bounds bundle.now) }
-{
-    let linted = lint(alloc, bundle, bounds.serial())?;
-    Ok(Answer {
-        text: linted.text,
-        status: if linted.faults { 2 } else { 0 },
-    })
-}
-
-/// The answer to what is asked for and the bytes of a bundle.
+/// The answer to an order and the parts of a bundle.
 ///
 /// # Errors
 ///
 /// `AllocError` where memory was refused.
 pub fn answer_to<X: AllocGlobal + Threads + Wait>(
     rt: &X,
-    request: Request,
-    bundle: &[u8],
+    order: Order,
+    parts: &[&[u8]],
 ) -> Result<Answer, AllocError>
-    ensures answer { IfOk result (spec.IsAnswerIn request bundle.now) }
-    ensures blames_none { IfOk result (λ r. r ≢ no_device) }
+    ensures { IfOk result (spec.IsAnswerTo order (texts parts.now)) }
 {
-    match request {
-        Request::Lint(bounds) => answer_lint(rt.alloc(), bounds, bundle),
-        Request::Ordered(order) => {
-            match carry_out(rt, order, &parts_in(rt.alloc(), bundle)?) {
-                Ok(answer) => Ok(answer),
-                Err(refusal) => show_refusal(rt.alloc(), refusal),
-            }
-        }
+    match carry_out(rt, order, parts) {
+        Ok(answer) => Ok(answer),
+        Err(refusal) => show_refusal(rt.alloc(), refusal),
     }
 }

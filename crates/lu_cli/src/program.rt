@@ -3,15 +3,18 @@
 ghost use Rattle.std.specs.Prelude.{◌≡◌, ◌≢◌, ◌<◌, ◌≤◌, ◌-◌, ◌^◌, ◌⊎◌, Some, None, map, IfOk, IsErrOf};
 ghost use Rattle.lu_cli.specs.declared.program.Failure.TheVariants.{Memory};
 ghost use Rattle.lu_cli.specs.Args.{request_of};
-ghost use Rattle.lu_cli.specs.Replies.{IsAnswerFor, SaysAnswer, SaysNoCommand, Sends, TellsElse, TellsUnread, no_command, no_device};
+ghost use Rattle.lu_cli.specs.Replies.{IsAnswerFor, IsAnswerFrom, IsAnswerIn, IsLinted, SaysAnswer, SaysNoCommand, Sends, TellsElse, TellsUnread, no_command, no_device};
 
 use crate::answer::{Answer, refused};
 use crate::args::read_request;
+use crate::bundle::parts_in;
 use crate::commands::answer_to;
 use crate::counted::Counted;
 use crate::input::{InputFault, read_input};
-use crate::order::ArgsFault;
+use crate::order::{ArgsFault, Request};
 use crate::output::write_text;
+use lu_lint::lint;
+use lu_report::Bounds;
 use std::alloc::{AllocError, Global};
 use std::convert::AsStr;
 use std::io::{Read, Write};
@@ -36,6 +39,52 @@ impl From<AllocError> for Failure {
     }
 }
 
+/// What there is to say of a bundle.
+fn answer_lint(alloc: Global, bounds: Bounds, bundle: &[u8]) -> Result<Answer, AllocError>
+    ensures { IfOk result (IsLinted bounds bundle.now) }
+{
+    let linted = lint(alloc, bundle, bounds.serial())?;
+    Ok(Answer {
+        text: linted.text,
+        status: if linted.faults { 2 } else { 0 },
+    })
+}
+
+/// The answer to the bytes of a bundle.
+fn answer_bytes<X: AllocGlobal + Threads + Wait>(
+    rt: &X,
+    request: Request,
+    bytes: &[u8],
+) -> Result<Answer, AllocError>
+    ensures answer { IfOk result (IsAnswerIn request bytes.now) }
+    ensures blames_none { IfOk result (λ r. r ≢ no_device) }
+{
+    match request {
+        Request::Lint(bounds) => answer_lint(rt.alloc(), bounds, bytes),
+        Request::Ordered(order) => answer_to(rt, order, &parts_in(rt.alloc(), bytes)?),
+    }
+}
+
+/// The answer to what is read.
+fn answer_in<X: AllocGlobal + Threads + Wait, R: Read>(
+    rt: &X,
+    request: Request,
+    input: &mut Counted<R>,
+) -> Result<Answer, Failure>
+    requires { input.old.failures < 2 ^ 64 - 1 }
+    ensures answer { IfOk result (IsAnswerFrom request (R.remaining input.old.inner)) }
+    ensures blames_none { IfOk result (λ r. r ≢ no_device) }
+    ensures device { IsErrOf result Failure.Device → input.old.failures < input.new.failures }
+    ensures unfailed { IsErrOf result Failure.Device ⊎ (input.new.failures ≡ input.old.failures) }
+{
+    match read_input(rt.alloc(), input) {
+        Ok(bytes) => Ok(answer_bytes(rt, request, &bytes)?),
+        Err(InputFault::TooLong) => Ok(refused(rt.alloc(), "B2")?),
+        Err(InputFault::Device) => Err(Failure::Device),
+        Err(InputFault::Memory) => Err(Failure::Memory),
+    }
+}
+
 /// The answer to the words of a command line and to what is read for them.
 fn answer_for<X: AllocGlobal + Threads + Wait, S: AsStr, R: Read>(
     rt: &X,
@@ -51,17 +100,19 @@ fn answer_for<X: AllocGlobal + Threads + Wait, S: AsStr, R: Read>(
     ensures device { IsErrOf result Failure.Device → input.old.failures < input.new.failures }
     ensures unfailed { IsErrOf result Failure.Device ⊎ (input.new.failures ≡ input.old.failures) }
 {
-    let request = match read_request(rt.alloc(), words) {
-        Ok(request) => request,
-        Err(ArgsFault::Refused) => return Ok(refused(rt.alloc(), "command line")?),
-        Err(ArgsFault::Memory) => return Err(Failure::Memory),
-    };
-    match read_input(rt.alloc(), input) {
-        Ok(bytes) => Ok(answer_to(rt, request, &bytes)?),
-        Err(InputFault::TooLong) => Ok(refused(rt.alloc(), "B2")?),
-        Err(InputFault::Device) => Err(Failure::Device),
-        Err(InputFault::Memory) => Err(Failure::Memory),
+    match read_request(rt.alloc(), words) {
+        Ok(request) => answer_in(rt, request, input),
+        Err(ArgsFault::Refused) => Ok(refuse_command(rt.alloc())?),
+        Err(ArgsFault::Memory) => Err(Failure::Memory),
     }
+}
+
+/// That the command line is refused.
+fn refuse_command(alloc: Global) -> Result<Answer, AllocError>
+    ensures answer { IfOk result (λ r. r ≡ no_command) }
+    ensures blames_none { IfOk result (λ r. r ≢ no_device) }
+{
+    refused(alloc, "command line")
 }
 
 /// Runs the program on the words behind its name, and answers its exit status: 0 where all is well,
