@@ -4,7 +4,7 @@ ghost use Rattle.lu_machine.specs.Starts.{CanRun};
 
 use lu_cases::{Case, case_of};
 use lu_examples::ROWS;
-use lu_horizon::{Horizon, is_unseen_at, stand_at};
+use lu_horizon::{DeadRegisters, Horizon, is_unseen_at, stand_at};
 use lu_machine::Machine;
 use lu_tail::Orders;
 use lu_test::Move;
@@ -155,4 +155,38 @@ fn longer_moves_are_certain(rt: HostRuntime) -> Result<(), Fail> {
     let case = case_of(&rt, LONG, b"thread put\nthread think\n")?;
     let cuts = [(4, Some(16)), (5, Some(30)), (7, Some(70)), (8, None)];
     assert_cuts_ahead(&rt, &case, 40, &cuts)
+}
+
+/// Three places, then one behind which nothing is read.
+const COUNTER: &[u8] = b"component counter
+word count 1 0
+op inc 0
+load r0 count 0
+add r1 r0 1
+store count 0 r1
+return 0
+end
+";
+
+/// A place of `inc`, a register, and whether it is dead there. There is no place 4.
+const DEAD: &[(u8, u8, bool)] = &[
+    (0, 0, true),
+    (1, 0, false),
+    (1, 1, true),
+    (2, 0, true),
+    (2, 1, false),
+    (3, 1, true),
+    (3, 7, true),
+    (4, 0, false),
+];
+
+/// A register is dead before it is written, and behind its last read.
+#[test]
+fn registers_that_nobody_reads_are_dead(rt: HostRuntime) -> Result<(), Fail> {
+    let case = case_of(&rt, COUNTER, b"thread inc\n")?;
+    let dead = DeadRegisters::new(rt.alloc(), &case.component)?;
+    for (place, register, is_dead) in DEAD {
+        assert_eq!(rt; dead.is_dead(0, *place, *register), *is_dead);
+    }
+    Ok(())
 }
