@@ -150,7 +150,7 @@ impl Board {
     }
 
     /// Claims the next piece, which the seat then holds and no seat had before. Where none is left,
-    /// the answer is None and the seat is spent. A spent seat takes no step and is told None again.
+    /// `None` is returned and the seat is spent. A spent seat takes no step and is told None again.
     ///
     /// The step is one atomic `fetch_add` on one word. It waits for nobody and takes no memory.
     pub fn claim(&self, seat: &mut Seat) -> Option<u64>

@@ -2,7 +2,7 @@
 //! has one.
 
 use lu_cli::{Fault, check_texts, check_texts_against};
-use lu_examples::ROWS;
+use lu_fixtures::ROWS;
 use lu_parallel::Options;
 use std::alloc::AllocError;
 use std::process::Abort;

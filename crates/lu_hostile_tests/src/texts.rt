@@ -2,7 +2,7 @@
 
 use crate::bent::{Outcome, Tally, Texts, try_all, try_beginnings};
 use lu_component::Component;
-use lu_examples::ROWS;
+use lu_fixtures::ROWS;
 use lu_lang::{read_component, write_component};
 use lu_report::{read_report, write_report};
 use lu_spec::{read_spec, write_spec};

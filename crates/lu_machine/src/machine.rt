@@ -245,7 +245,7 @@ impl<'a> Machine<'a> {
         }
     }
 
-    /// The value of the cell at this place, which [`Machine::cell`] answers.
+    /// The value of the cell at this place, which [`Machine::cell`] returns.
     #[inline(always)]
     pub fn value_at(&self, place: usize) -> u32
         requires { place < length self.now.cells }
@@ -409,7 +409,7 @@ impl<'a> Machine<'a> {
         }
     }
 
-    /// Makes the move, and answers its event, if it has one. The move is asked to be feasible
+    /// Makes the move, and returns its event, if it has one. The move is asked to be feasible
     /// ([`Machine::feasible`]).
     pub fn step(&mut self, next: Move) -> Option<Event>
         requires { IsFeasible self.old next }
@@ -610,7 +610,7 @@ impl<'a> Machine<'a> {
     }
 
     /// Makes the first step of a move alone, the local instructions behind it left out: the thread
-    /// opens its next call or carries out one instruction. Answers the event, if it has one. The
+    /// opens its next call or carries out one instruction. Returns the event, if it has one. The
     /// move is asked to be feasible ([`Machine::feasible`]).
     pub fn step_once(&mut self, next: Move) -> Option<Event>
         requires { IsFeasible self.old next }

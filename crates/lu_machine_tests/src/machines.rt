@@ -1,7 +1,7 @@
 //! Machines of small components: what is taken back and chosen.
 
-use lu_cases::{Case, case_of};
 use lu_component::Instr;
+use lu_fixtures::{Fixture, fixture_of};
 use lu_machine::{Counts, Event, Machine, Outcome, is_local};
 use lu_test::Move;
 use std::process::Abort;
@@ -57,7 +57,7 @@ fn taken_back(
     matrix: &[u8],
     moves: u8,
 ) -> Result<Option<Event>, Fail> {
-    let case = case_of(rt, component, matrix)?;
+    let case = fixture_of(rt, component, matrix)?;
     let mut machine = Machine::start(rt.alloc(), &case.component, &case.matrix)?;
     Ok(take_back(rt, &mut machine, moves))
 }
@@ -109,7 +109,7 @@ fn assert_picks(rt: &impl Abort, machine: &mut Machine<'_>) {
 /// A pick is one of its choices.
 #[test]
 fn picks(rt: HostRuntime) -> Result<(), Fail> {
-    let case = case_of(&rt, PICKS, b"thread choose\n")?;
+    let case = fixture_of(&rt, PICKS, b"thread choose\n")?;
     let mut machine = Machine::start(rt.alloc(), &case.component, &case.matrix)?;
     assert_picks(&rt, &mut machine);
     Ok(())

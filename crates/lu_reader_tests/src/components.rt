@@ -1,7 +1,7 @@
 //! Components that are written, and texts whose last line has no end. What else is read and refused
 //! stands among the cases of lu_program_tests.
 
-use lu_examples::ROWS;
+use lu_fixtures::ROWS;
 use lu_lang::{LangFaultKind, read_component, write_component};
 use lu_text::Fault;
 use std::alloc::Global;

@@ -2,7 +2,7 @@
 //! results are held against.
 //!
 //! [`shrink`] takes calls away from a matrix that fails, one after the other, as long as it goes on
-//! failing. [`campaign`] tries all matrices of a size over some calls, and answers the first that
+//! failing. [`campaign`] tries all matrices of a size over some calls, and returns the first that
 //! does not pass. Both stand on checks of one matrix (Burckhardt, Dern, Musuvathi and Tan, 2010).
 //! [`campaign_by_thread`] does so where each thread has calls of its own to choose from, as the
 //! owner and the thieves of a deque; [`campaign_slice`] tries a part of its matrices, so that

@@ -70,7 +70,7 @@ pub fn none_linearizable()
     ensures reported { FailingIsNotLinearizable }
 {}
 
-/// The set that [`lu_serial::learn`] answers may be closed to a specification:
+/// The set that [`lu_serial::learn`] returns may be closed to a specification:
 /// [`lu_spec::Spec::closure`] asks for no more.
 pub fn learnt_closes()
     ensures { LearntCloses }

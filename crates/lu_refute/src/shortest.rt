@@ -59,7 +59,7 @@ impl<'a> Walk<'a> {
     }
 
     /// Goes along a serial schedule whose history is no member of the set, until its entries are no
-    /// member, or to its end. Answers the number of moves made.
+    /// member, or to its end. Returns the number of moves made.
     fn go_outside(&mut self, moves: &[Move], set: &Trie<Global>) -> Result<usize, AllocError>
         requires before { IsBefore self.old }
         requires empty { IsMember set.now [] }

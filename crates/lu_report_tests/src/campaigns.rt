@@ -2,8 +2,7 @@
 
 ghost use Rattle.lu_machine.specs.Starts.{CanRun};
 
-use lu_cases::{Case, case_of};
-use lu_examples::ROWS;
+use lu_fixtures::{Fixture, ROWS, fixture_of};
 use lu_refine::{Campaign, CampaignFault, campaign};
 use std::process::Abort;
 use std::test::Fail;
@@ -11,7 +10,7 @@ use std::test::Fail;
 /// What a campaign of this size finds over the calls of the matrix's first thread.
 fn campaign_over(
     rt: &impl AllocGlobal,
-    case: &Case,
+    case: &Fixture,
     threads: u8,
     calls: u8,
 ) -> Result<Campaign, CampaignFault>
@@ -35,7 +34,7 @@ fn refusal(
     threads: u8,
     calls: u8,
 ) -> Result<Option<&'static str>, Fail> {
-    let case = case_of(rt, ROWS.as_bytes(), matrix)?;
+    let case = fixture_of(rt, ROWS.as_bytes(), matrix)?;
     Ok(
         campaign_over(rt, &case, threads, calls)
             .err()

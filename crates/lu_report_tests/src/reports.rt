@@ -2,7 +2,7 @@
 
 ghost use Rattle.lu_machine.specs.Starts.{CanRun};
 
-use lu_cases::{Case, case_of};
+use lu_fixtures::{Fixture, fixture_of};
 use lu_machine::Counts;
 use lu_replay::{confirm, confirm_against};
 use lu_report::{Finding, Report, ReportFaultKind, read_report, write_report};
@@ -145,7 +145,7 @@ fn confirmed(
     matrix: &[u8],
     report: &[u8],
 ) -> Result<bool, Fail> {
-    let case = case_of(rt, component, matrix)?;
+    let case = fixture_of(rt, component, matrix)?;
     let report = read_report(rt.alloc(), report)?;
     Ok(confirm(rt.alloc(), &case.component, &case.matrix, &report)?)
 }
@@ -211,7 +211,7 @@ fn cuts_are_confirmed(rt: HostRuntime) -> Result<(), Fail> {
 /// Whether the report is confirmed against a specification of the case.
 fn confirmed_by(
     rt: &impl AllocGlobal,
-    case: &Case,
+    case: &Fixture,
     specification: &[u8],
     report: &[u8],
 ) -> Result<bool, Fail>
@@ -229,7 +229,7 @@ fn confirmed_against(
     specification: &[u8],
     report: &[u8],
 ) -> Result<bool, Fail> {
-    let case = case_of(rt, COUNTER, TWICE)?;
+    let case = fixture_of(rt, COUNTER, TWICE)?;
     confirmed_by(rt, &case, specification, report)
 }
 

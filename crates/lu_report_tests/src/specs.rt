@@ -1,7 +1,6 @@
 //! Specifications, their members and their texts.
 
-use lu_cases::case_of;
-use lu_examples::ROWS;
+use lu_fixtures::{ROWS, fixture_of};
 use lu_history::{SerialOp, SerialOutcome};
 use lu_spec::{Spec, read_spec, write_spec};
 use std::process::Abort;
@@ -9,7 +8,7 @@ use std::test::Fail;
 
 /// The specification of a matrix of two increments.
 fn spec_of(rt: &(impl AllocGlobal + Abort), text: &[u8]) -> Result<Spec, Fail> {
-    let case = case_of(rt, ROWS.as_bytes(), b"thread inc\nthread inc\n")?;
+    let case = fixture_of(rt, ROWS.as_bytes(), b"thread inc\nthread inc\n")?;
     Ok(read_spec(rt.alloc(), &case.matrix, text)?)
 }
 
@@ -60,7 +59,7 @@ fn a_first_line_alone_lists_nothing(rt: HostRuntime) -> Result<(), Fail> {
 
 /// Whether the specification is one of the matrix of this text.
 fn is_of(rt: &(impl AllocGlobal + Abort), spec: &Spec, matrix: &[u8]) -> Result<bool, Fail> {
-    let case = case_of(rt, ROWS.as_bytes(), matrix)?;
+    let case = fixture_of(rt, ROWS.as_bytes(), matrix)?;
     Ok(spec.of(&case.matrix))
 }
 

@@ -1,7 +1,7 @@
 //! Which verdicts a small cache keeps.
 
 use crate::serial_runs::set_of;
-use lu_examples::ROWS;
+use lu_fixtures::ROWS;
 use lu_history::History;
 use lu_machine::{Event, Outcome};
 use lu_trie::SerialTree;

@@ -2,11 +2,10 @@
 
 ghost use Rattle.lu_machine.specs.Starts.{CanRun};
 
-use lu_cases::{Case, case_of};
-use lu_examples::ROWS;
+use lu_fixtures::{Fixture, ROWS, fixture_of};
 use lu_horizon::{DeadRegisters, Horizon, is_unseen_at, stand_at};
 use lu_machine::Machine;
-use lu_tail::Orders;
+use lu_orders::Orders;
 use lu_test::Move;
 use std::process::Abort;
 use std::test::Fail;
@@ -76,7 +75,7 @@ fn assert_cuts(
 /// The same at the start of the case, with tables for so many moves.
 fn assert_cuts_ahead(
     rt: &(impl AllocGlobal + Abort),
-    case: &Case,
+    case: &Fixture,
     most: u16,
     cuts: &[(usize, Option<u64>)],
 ) -> Result<(), Fail>
@@ -102,7 +101,7 @@ fn assert_stands(rt: &impl Abort, machine: &mut Machine<'_>) {
 }
 
 /// The same of a machine at the start of the case.
-fn assert_stands_ahead(rt: &(impl AllocGlobal + Abort), case: &Case) -> Result<(), Fail>
+fn assert_stands_ahead(rt: &(impl AllocGlobal + Abort), case: &Fixture) -> Result<(), Fail>
     requires { CanRun case.now.component case.now.matrix }
 {
     let mut machine = Machine::start(rt.alloc(), &case.component, &case.matrix)?;
@@ -122,7 +121,7 @@ const CUTS: &[(usize, Option<u64>)] = &[
 /// An open operation has a place; the first instruction of `spin` is a jump.
 #[test]
 fn threads_stand_at_places(rt: HostRuntime) -> Result<(), Fail> {
-    let case = case_of(&rt, ROWS.as_bytes(), b"thread spin\nthread spin\n")?;
+    let case = fixture_of(&rt, ROWS.as_bytes(), b"thread spin\nthread spin\n")?;
     assert_cuts_ahead(&rt, &case, 70, CUTS)?;
     assert_stands_ahead(&rt, &case)
 }
@@ -152,7 +151,7 @@ end
 /// Of two threads with four moves each.
 #[test]
 fn longer_moves_are_certain(rt: HostRuntime) -> Result<(), Fail> {
-    let case = case_of(&rt, LONG, b"thread put\nthread think\n")?;
+    let case = fixture_of(&rt, LONG, b"thread put\nthread think\n")?;
     let cuts = [(4, Some(16)), (5, Some(30)), (7, Some(70)), (8, None)];
     assert_cuts_ahead(&rt, &case, 40, &cuts)
 }
@@ -183,7 +182,7 @@ const DEAD: &[(u8, u8, bool)] = &[
 /// A register is dead before it is written, and behind its last read.
 #[test]
 fn registers_that_nobody_reads_are_dead(rt: HostRuntime) -> Result<(), Fail> {
-    let case = case_of(&rt, COUNTER, b"thread inc\n")?;
+    let case = fixture_of(&rt, COUNTER, b"thread inc\n")?;
     let dead = DeadRegisters::new(rt.alloc(), &case.component)?;
     for (place, register, is_dead) in DEAD {
         assert_eq!(rt; dead.is_dead(0, *place, *register), *is_dead);

@@ -2,7 +2,7 @@
 
 ghost use Rattle.lu_machine.specs.Starts.{CanRun};
 
-use lu_cases::{Case, case_of};
+use lu_fixtures::{Fixture, fixture_of};
 use lu_serial::{Learnt, first_outside, learn};
 use lu_test::{Schedule, write_schedule};
 use lu_trie::Trie;
@@ -13,7 +13,7 @@ use std::test::Fail;
 /// The set of all serial histories of the case.
 pub(crate) fn serial_histories(
     rt: &(impl AllocGlobal + Abort),
-    case: &Case,
+    case: &Fixture,
 ) -> Result<Trie<Global>, Fail>
     requires { CanRun case.now.component case.now.matrix }
 {
@@ -29,7 +29,7 @@ pub(crate) fn set_of(
     component: &[u8],
     matrix: &[u8],
 ) -> Result<Trie<Global>, Fail> {
-    let case = case_of(rt, component, matrix)?;
+    let case = fixture_of(rt, component, matrix)?;
     serial_histories(rt, &case)
 }
 
@@ -100,7 +100,7 @@ fn outside(
     matrix: &[u8],
     set: &Trie<Global>,
 ) -> Result<Option<Schedule>, Fail> {
-    let case = case_of(rt, component, matrix)?;
+    let case = fixture_of(rt, component, matrix)?;
     Ok(first_outside(rt.alloc(), &case.component, &case.matrix, 8, set)?)
 }
 

@@ -7,8 +7,8 @@ ghost use Rattle.lu_history.specs.Histories.{calls, outcomes};
 ghost use Rattle.lu_history.specs.declared.serial.SerialOutcome.TheVariants.{Ret as Returned};
 
 use lu_history::{SerialOp, SerialOutcome};
+use lu_judge::Trail;
 use lu_machine::{Event, Outcome};
-use lu_trail::Trail;
 use lu_trie::{SerialTree, Trie};
 use lu_witness::{Cache, Verdict};
 use std::alloc::AllocError;

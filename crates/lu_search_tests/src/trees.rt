@@ -6,8 +6,7 @@ ghost use Rattle.lu_machine.specs.Schedules.{IsSchedule};
 ghost use Rattle.lu_machine.specs.Starts.{CanRun, IsStart};
 
 use crate::serial_runs::{assert_spelled, set_of};
-use lu_cases::{Case, case_of};
-use lu_examples::ROWS;
+use lu_fixtures::{Fixture, ROWS, fixture_of};
 use lu_machine::Counts;
 use lu_replay::replay;
 use lu_test::{Schedule, read_schedule};
@@ -19,7 +18,11 @@ use std::process::Abort;
 use std::test::Fail;
 
 /// The schedule of this text, each move of which is feasible.
-pub(crate) fn beginning(rt: &impl AllocGlobal, case: &Case, text: &[u8]) -> Result<Schedule, Fail>
+pub(crate) fn beginning(
+    rt: &impl AllocGlobal,
+    case: &Fixture,
+    text: &[u8],
+) -> Result<Schedule, Fail>
     requires { CanRun case.now.component case.now.matrix }
     ensures { (s : State) → IsStart case.now.component case.now.matrix s →
         IfOk result (IsSchedule s) }
@@ -32,7 +35,7 @@ pub(crate) fn beginning(rt: &impl AllocGlobal, case: &Case, text: &[u8]) -> Resu
 /// What is found below the schedule of this text over the set.
 fn found_below(
     rt: &(impl AllocGlobal + Abort),
-    case: &Case,
+    case: &Fixture,
     set: &Trie<Global>,
     from: &[u8],
     bound: u16,
@@ -61,7 +64,7 @@ fn found(
     bound: u16,
 ) -> Result<Found, Fail> {
     let set = set_of(rt, ROWS.as_bytes(), other)?;
-    let case = case_of(rt, ROWS.as_bytes(), matrix)?;
+    let case = fixture_of(rt, ROWS.as_bytes(), matrix)?;
     found_below(rt, &case, &set, from, bound)
 }
 
@@ -142,7 +145,7 @@ fn pieces_of(
     bound: u16,
     depth: u8,
 ) -> Result<Vec<Schedule>, Fail> {
-    let case = case_of(rt, ROWS.as_bytes(), matrix)?;
+    let case = fixture_of(rt, ROWS.as_bytes(), matrix)?;
     assert!(rt; bound <= 256 && depth <= 8);
     Ok(frontier(rt.alloc(), &case.component, &case.matrix, bound, depth)?)
 }

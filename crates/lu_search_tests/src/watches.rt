@@ -6,8 +6,7 @@ ghost use Rattle.lu_tree.specs.Tables.{AreTables};
 
 use crate::serial_runs::set_of;
 use crate::trees::{assert_clean, beginning};
-use lu_cases::{Case, case_of};
-use lu_examples::ROWS;
+use lu_fixtures::{Fixture, ROWS, fixture_of};
 use lu_test::Schedule;
 use lu_tree::{Found, Tables, Unwatched, Watch, search_watched, search_with};
 use lu_trie::{PackedTrie, SerialTree};
@@ -63,7 +62,7 @@ fn packed(rt: &(impl AllocGlobal + Abort), matrix: &[u8]) -> Result<PackedTrie<G
 /// What is found among all schedules within the bound, over the tree, with a cache of one verdict.
 fn found_watched<T: SerialTree>(
     rt: &(impl AllocGlobal + Abort),
-    case: &Case,
+    case: &Fixture,
     tree: &T,
     bound: u16,
     watch: &mut Patience,
@@ -97,7 +96,7 @@ fn found_over(
     requires { watch.old.stopped ≡ false }
 {
     let packed = packed(rt, other)?;
-    let case = case_of(rt, ROWS.as_bytes(), matrix)?;
+    let case = fixture_of(rt, ROWS.as_bytes(), matrix)?;
     found_watched(rt, &case, &&packed, bound, watch)
 }
 
@@ -157,7 +156,7 @@ fn a_watch_is_asked_of_what_is_counted(rt: HostRuntime) -> Result<(), Fail> {
 /// What is found below the schedule within 40 moves, with a cache of one verdict.
 fn found_below<T: SerialTree>(
     rt: &(impl AllocGlobal + Abort),
-    case: &Case,
+    case: &Fixture,
     tables: &Tables,
     tree: &T,
     from: &[u8],
@@ -190,7 +189,7 @@ const PARTS: &[(&[u8], u64)] = &[
 /// One table serves all parts.
 fn assert_parts<T: SerialTree>(
     rt: &(impl AllocGlobal + Abort),
-    case: &Case,
+    case: &Fixture,
     tree: &T,
 ) -> Result<(), Fail>
     requires { CanRun case.now.component case.now.matrix }
@@ -205,6 +204,6 @@ fn assert_parts<T: SerialTree>(
 #[test]
 fn one_table_serves_all_parts(rt: HostRuntime) -> Result<(), Fail> {
     let packed = packed(&rt, EXCHANGES)?;
-    let case = case_of(&rt, ROWS.as_bytes(), EXCHANGES)?;
+    let case = fixture_of(&rt, ROWS.as_bytes(), EXCHANGES)?;
     assert_parts(&rt, &case, &&packed)
 }

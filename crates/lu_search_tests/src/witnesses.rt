@@ -3,8 +3,7 @@
 ghost use Rattle.lu_machine.specs.Starts.{CanRun};
 
 use crate::serial_runs::serial_histories;
-use lu_cases::{Case, case_of};
-use lu_examples::ROWS;
+use lu_fixtures::{Fixture, ROWS, fixture_of};
 use lu_history::History;
 use lu_replay::{Replay, replay};
 use lu_test::read_schedule;
@@ -96,7 +95,7 @@ fn assert_judged_by(
 }
 
 /// What the schedule shows.
-fn replayed(rt: &impl AllocGlobal, case: &Case, schedule: &[u8]) -> Result<Replay, Fail>
+fn replayed(rt: &impl AllocGlobal, case: &Fixture, schedule: &[u8]) -> Result<Replay, Fail>
     requires { CanRun case.now.component case.now.matrix }
 {
     let schedule = read_schedule(rt.alloc(), schedule)?;
@@ -106,7 +105,7 @@ fn replayed(rt: &impl AllocGlobal, case: &Case, schedule: &[u8]) -> Result<Repla
 /// The same for the history of a schedule, over the serial histories of its case.
 fn assert_case_judged(
     rt: &(impl AllocGlobal + Abort),
-    case: &Case,
+    case: &Fixture,
     schedule: &[u8],
     wanted: Verdict,
     witness: bool,
@@ -126,7 +125,7 @@ fn assert_matrix_judged(
     wanted: Verdict,
     witness: bool,
 ) -> Result<(), Fail> {
-    let case = case_of(rt, ROWS.as_bytes(), matrix)?;
+    let case = fixture_of(rt, ROWS.as_bytes(), matrix)?;
     assert_case_judged(rt, &case, schedule, wanted, witness)
 }
 

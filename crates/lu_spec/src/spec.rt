@@ -36,7 +36,7 @@ impl Model for Spec {
 impl Spec {
     /// The specification of all beginnings of the members, and of the empty history. It is one of
     /// the matrix. Asks for members of this matrix that do not conflict, as those of the set that
-    /// `learn` answers.
+    /// `learn` returns.
     ///
     /// # Errors
     ///

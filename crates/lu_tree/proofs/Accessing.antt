@@ -29,8 +29,8 @@ use Rattle.lu_machine.proofs.Running.{ran}
 use Rattle.lu_machine.proofs.StepLaws.{feasible_step, step_same}
 use Rattle.lu_horizon.proofs.OwnLaws.{get_set_other, get_set_same, one_step_by}
 use Rattle.lu_horizon.specs.Dead.{DeadTable}
-use Rattle.lu_tail.specs.Solo.{IsSame, move_of}
-use Rattle.lu_tail.proofs.Frames.{frame_runs, more_alike}
+use Rattle.lu_orders.specs.Solo.{IsSame, move_of}
+use Rattle.lu_orders.proofs.Frames.{frame_runs, more_alike}
 use Rattle.lu_tree.specs.declared.access.Access.{Access}
 use Rattle.lu_tree.specs.declared.access.Held.{Held}
 use Rattle.lu_tree.specs.declared.access.Held.TheVariants.{Value, Owner as OwnedBy}

@@ -24,7 +24,7 @@ use Rattle.lu_machine.proofs.Numbers.{number_same}
 use Rattle.lu_machine.proofs.StepLaws.{feasible_step, step_feasible}
 use Rattle.lu_horizon.specs.Dead.{DeadTable, IsDeadTable, is_dead}
 use Rattle.lu_horizon.proofs.OwnLaws.{leads_component}
-use Rattle.lu_tail.specs.Solo.{move_of}
+use Rattle.lu_orders.specs.Solo.{move_of}
 use Rattle.lu_history.specs.declared.serial.SerialOp.{SerialOp}
 use Rattle.lu_witness.specs.Goodness.{Any, IsGoodAt}
 use Rattle.lu_tree.specs.declared.known.Known.{Known}

@@ -11,7 +11,7 @@ use Rattle.lu_machine.proofs.Paths.{child_leads}
 use Rattle.lu_machine.proofs.StepLaws.{feasible_step}
 use Rattle.lu_horizon.specs.Sure.{AreCaps}
 use Rattle.lu_horizon.proofs.CapLaws.{cap_picks, caps_step}
-use Rattle.lu_tail.specs.Orders.{first_below, first_of, orders_within}
+use Rattle.lu_orders.specs.Orders.{first_below, first_of, orders_within}
 use Rattle.lu_tree.specs.Tails.{IsCutBelow}
 use Rattle.lu_tree.specs.Trees.{Below}
 use Rattle.lu_tree.specs.Walks.{cuts, one_cut}

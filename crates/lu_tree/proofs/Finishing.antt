@@ -20,10 +20,10 @@ use Rattle.lu_machine.proofs.Keeping.{step_keeps_threads, step_moved}
 use Rattle.lu_machine.proofs.Paths.{with_event-append}
 use Rattle.lu_machine.proofs.StepLaws.{step_same}
 use Rattle.lu_horizon.proofs.OwnLaws.{one_step_by, other_stands}
-use Rattle.lu_tail.specs.Orders.{all_moves, interleavings}
-use Rattle.lu_tail.specs.Solo.{AreApart, HasSolo, IsSame, IsShared, LastEvents, Solo, move_of}
-use Rattle.lu_tail.proofs.Frames.{Touches, Works, frame, same_itself, solo_same}
-use Rattle.lu_tail.proofs.SoloRuns.{solo_run}
+use Rattle.lu_orders.specs.Orders.{all_moves, interleavings}
+use Rattle.lu_orders.specs.Solo.{AreApart, HasSolo, IsSame, IsShared, LastEvents, Solo, move_of}
+use Rattle.lu_orders.proofs.Frames.{Touches, Works, frame, same_itself, solo_same}
+use Rattle.lu_orders.proofs.SoloRuns.{solo_run}
 use Rattle.lu_history.specs.declared.serial.SerialOp.{SerialOp}
 use Rattle.lu_history.specs.Standing.{Agree}
 use Rattle.lu_tree.specs.declared.look.Judging.TheVariants.{OneVerdict}

@@ -13,7 +13,7 @@ use Rattle.lu_machine.specs.Runs.{with_event}
 use Rattle.lu_machine.proofs.Keeping.{step_moved}
 use Rattle.lu_machine.proofs.StepLaws.{step_feasible, step_same}
 use Rattle.lu_horizon.specs.Dead.{DeadTable, IsDeadTable}
-use Rattle.lu_tail.specs.Solo.{move_of}
+use Rattle.lu_orders.specs.Solo.{move_of}
 use Rattle.lu_history.specs.declared.serial.SerialOp.{SerialOp}
 use Rattle.lu_witness.specs.Witnesses.{IsMember}
 use Rattle.lu_tree.specs.declared.commuting.Both.{Both}

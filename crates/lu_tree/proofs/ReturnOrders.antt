@@ -17,8 +17,8 @@ use Rattle.lu_history.proofs.PartEntries.{part_returned}
 use Rattle.lu_witness.specs.Witnesses.{entries, IsWitness}
 use Rattle.lu_witness.specs.Search.{IsBeginning, IsNext}
 use Rattle.lu_witness.proofs.Beginnings.{begun_push, begun_witness}
-use Rattle.lu_trail.specs.Returned.{returned}
-use Rattle.lu_trail.proofs.Returning.{returned-append}
+use Rattle.lu_judge.specs.Returned.{returned}
+use Rattle.lu_judge.proofs.Returning.{returned-append}
 
 -- each thread's are those of its part
 pub returned_entries : (t : ℕ) (h : List Event) → entries t (returned h) ≡ map as_serial (outcomes t h)

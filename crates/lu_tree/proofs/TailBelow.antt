@@ -11,10 +11,10 @@ use Rattle.lu_machine.specs.Sums.{capped, plus}
 use Rattle.lu_machine.proofs.Ended.{complete_no_move}
 use Rattle.lu_machine.proofs.Paths.{child_leads, with_event-append}
 use Rattle.lu_machine.proofs.StepLaws.{feasible_step}
-use Rattle.lu_tail.specs.Orders.{all_moves, interleavings, led_below, led_by}
-use Rattle.lu_tail.specs.Solo.{IsTail, LastEvents, Sharing}
-use Rattle.lu_tail.proofs.OrderLaws.{fewer_moves, led_all, led_by_none, led_some}
-use Rattle.lu_tail.proofs.TailLaws.{none_interleavings, none_left, solo_picks, some_left, tail_complete, tail_step}
+use Rattle.lu_orders.specs.Orders.{all_moves, interleavings, led_below, led_by}
+use Rattle.lu_orders.specs.Solo.{IsTail, LastEvents, Sharing}
+use Rattle.lu_orders.proofs.OrderLaws.{fewer_moves, led_all, led_by_none, led_some}
+use Rattle.lu_orders.proofs.TailLaws.{none_interleavings, none_left, solo_picks, some_left, tail_complete, tail_step}
 use Rattle.lu_tree.specs.Trees.{Below}
 use Rattle.lu_tree.specs.Walks.{completes, one_complete}
 use Rattle.lu_tree.proofs.Walking.{AllEndSo, GoesOnBelow, kids_all, kids_more, kids_none, kids_turn, complete_counted}

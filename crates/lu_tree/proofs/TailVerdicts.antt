@@ -13,8 +13,8 @@ use Rattle.lu_machine.specs.Runs.{Leads, with_event}
 use Rattle.lu_machine.specs.Ends.{IsComplete}
 use Rattle.lu_machine.proofs.Paths.{with_event-append}
 use Rattle.lu_machine.proofs.Progress.{Way, opens, goes_on, ends, step_goes}
-use Rattle.lu_tail.specs.Solo.{IsTail, LastEvents, Sharing, last_events}
-use Rattle.lu_tail.proofs.TailLaws.{tail_over, tail_step}
+use Rattle.lu_orders.specs.Solo.{IsTail, LastEvents, Sharing, last_events}
+use Rattle.lu_orders.proofs.TailLaws.{tail_over, tail_step}
 use Rattle.lu_history.specs.declared.operation.OpId.{OpId}
 use Rattle.lu_history.specs.declared.serial.SerialOp.{SerialOp}
 use Rattle.lu_history.specs.Histories.{IsCallAt, IsWellFormed, Precedes, calls, outcomes}
@@ -27,8 +27,8 @@ use Rattle.lu_history.proofs.Following.{step_agrees, step_fits}
 use Rattle.lu_history.proofs.PartEntries.{pending_tells}
 use Rattle.lu_witness.specs.Witnesses.{HasWitness, IsWitness, entries}
 use Rattle.lu_witness.proofs.Endings.{complete_alone}
-use Rattle.lu_trail.specs.Returned.{returned}
-use Rattle.lu_trail.proofs.Returning.{returned-append}
+use Rattle.lu_judge.specs.Returned.{returned}
+use Rattle.lu_judge.proofs.Returning.{returned-append}
 use Rattle.lu_tree.specs.declared.look.Judging.{Judging}
 use Rattle.lu_tree.specs.declared.look.Judging.TheVariants.{OneVerdict, EveryOrder}
 use Rattle.lu_tree.specs.Tails.{EndsWell, HasEveryOrder, HasNoCall, StartsBehind}

@@ -9,7 +9,7 @@ use Rattle.lu_machine.specs.States.{State}
 use Rattle.lu_machine.specs.Steps.{Step, picks_of}
 use Rattle.lu_machine.specs.Undoes.{CanTake, restored}
 use Rattle.lu_horizon.specs.Dead.{DeadTable}
-use Rattle.lu_tail.specs.Solo.{move_of}
+use Rattle.lu_orders.specs.Solo.{move_of}
 use Rattle.lu_history.specs.declared.serial.SerialOp.{SerialOp}
 use Rattle.lu_witness.specs.Witnesses.{IsMember}
 use Rattle.lu_tree.specs.declared.commuting.Both.{Both}

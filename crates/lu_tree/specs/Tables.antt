@@ -4,7 +4,7 @@ use Rattle.lu_component.specs.Component.{Declarations}
 use Rattle.lu_test.specs.Matrix.{Matrix}
 use Rattle.lu_horizon.specs.Dead.{IsDeadTable}
 use Rattle.lu_horizon.specs.Tables.{ServesRuns}
-use Rattle.lu_tail.specs.Orders.{CountsUpTo}
+use Rattle.lu_orders.specs.Orders.{CountsUpTo}
 use Rattle.lu_tree.specs.declared.tables.Tables.{Tables}
 
 -- the tables are those of the runs of the component and the matrix

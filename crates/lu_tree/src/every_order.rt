@@ -6,7 +6,7 @@ ghost use Rattle.lu_tree.specs.declared.look.Judging.TheVariants.{EveryOrder};
 ghost use Rattle.lu_tree.specs.Tails.{AreBehind, HasEveryOrder, IsJudged};
 
 use lu_history::SerialOp;
-use lu_trail::Trail;
+use lu_judge::Trail;
 use lu_trie::SerialTree;
 use std::alloc::{AllocError, Global};
 

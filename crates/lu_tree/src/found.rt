@@ -1,4 +1,4 @@
-//! What a search answers.
+//! What a search finds.
 
 use lu_machine::Counts;
 use lu_test::Schedule;

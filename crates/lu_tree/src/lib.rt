@@ -7,7 +7,7 @@
 //! Dern, Musuvathi and Tan, 2010).
 //!
 //! [`search`] walks the schedules that begin with a given one, in order, and judges each ended one:
-//! it answers the least that is not good, or how many schedules are complete, stuck and cut.
+//! it returns the least that is not good, or how many schedules are complete, stuck and cut.
 //! [`frontier`] cuts the tree into pieces, each of which can be searched by itself.
 //!
 //! ```text

@@ -17,9 +17,9 @@ ghost use Rattle.lu_witness.specs.Witnesses.{HasWitness, IsMember};
 ghost use Rattle.lu_tree.specs.Walks.{IsBadEnd, IsGoodComplete, IsGoodEnd, IsTakenBack};
 
 use lu_component::Component;
+use lu_judge::Trail;
 use lu_machine::{Machine, Status, Undo};
 use lu_test::{Matrix, Move};
-use lu_trail::Trail;
 use lu_trie::SerialTree;
 use lu_witness::{Cache, Verdict, Why};
 use std::alloc::{AllocError, Global};

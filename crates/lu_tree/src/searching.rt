@@ -203,7 +203,7 @@ pub fn search_watched<'a, 't, T: SerialTree, W: Watch>(
     )
 }
 
-/// Searches the schedules that begin with `from`: answers the least one that is ended within the
+/// Searches the schedules that begin with `from`: returns the least one that is ended within the
 /// bound, 0 to 256 moves, and not good for the set of the tree, and why it is not good; or, where
 /// all are good, how many are complete, stuck and cut. The matrix has to be one of the component
 /// (`Matrix::of`), and `from` has to be feasible and to have at most `bound` moves.

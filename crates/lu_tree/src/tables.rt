@@ -5,7 +5,7 @@ ghost use Rattle.lu_tree.specs.Tables.{AreTables, CountOrdersUpTo};
 
 use lu_component::Component;
 use lu_horizon::{DeadRegisters, Horizon};
-use lu_tail::Orders;
+use lu_orders::Orders;
 use lu_test::Matrix;
 use std::alloc::{AllocError, Global};
 

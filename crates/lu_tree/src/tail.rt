@@ -133,7 +133,7 @@ fn no_moves<'t, T: SerialTree>(
 }
 
 /// Runs thread `t` and those behind it to their ends, one after the other, and takes it back. Where
-/// that is all that the order of their moves could change, and the end is good, it answers how many
+/// that is all that the order of their moves could change, and the end is good, it returns how many
 /// moves each thread makes: none where it is not certain, or takes more than `left` moves, or a
 /// thread touches more than it may.
 fn finish<'t, const LONG: bool, T: SerialTree>(

@@ -36,7 +36,7 @@ impl Tally {
         })
     }
 
-    /// Passes a schedule. Answers whether the walk goes on: after each 64 the watch is asked.
+    /// Passes a schedule. Returns whether the walk goes on: after each 64 the watch is asked.
     #[inline(always)]
     pub(crate) fn pass<W: Watch>(&mut self, watch: &mut W) -> bool
         requires { W.is_stopped watch.old ≡ false }
@@ -53,7 +53,7 @@ impl Tally {
         !watch.stop()
     }
 
-    /// Passes so many schedules together. Answers whether the walk goes on: the watch is asked as
+    /// Passes so many schedules together. Returns whether the walk goes on: the watch is asked as
     /// often as if they had been passed one after another.
     pub(crate) fn pass_many<W: Watch>(&mut self, passed: Counts, watch: &mut W) -> bool
         requires { W.is_stopped watch.old ≡ false }

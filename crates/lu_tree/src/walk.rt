@@ -29,7 +29,7 @@ use std::alloc::Global;
 /// The most beginnings of schedules of which a walk keeps what is known.
 const MOST_BEGINNINGS: u32 = 98_304;
 
-/// Ends a schedule here, which is cut, or is ended and has to be good. Answers what is then known:
+/// Ends a schedule here, which is cut, or is ended and has to be good. Returns what is then known:
 /// none where it is not found good, or the watch stops the walk.
 #[inline(always)]
 fn end<'t, T: SerialTree, W: Watch>(
@@ -81,7 +81,7 @@ fn end<'t, T: SerialTree, W: Watch>(
     }
 }
 
-/// Passes the schedules below a node, which are so many. Answers what is then known: none where the
+/// Passes the schedules below a node, which are so many. Returns what is then known: none where the
 /// watch stops the walk.
 #[inline(always)]
 fn pass<W: Watch>(alloc: Global, counts: Counts, watch: &mut W, tally: &mut Tally) -> Option<Known>
@@ -99,7 +99,7 @@ fn pass<W: Watch>(alloc: Global, counts: Counts, watch: &mut W, tally: &mut Tall
     }
 }
 
-/// Walks the schedules below the node, of no more than `left` moves, in order. Answers what is then
+/// Walks the schedules below the node, of no more than `left` moves, in order. Returns what is then
 /// known: none where the walk stops, at the first that is not found good, or where the watch stops
 /// it. It is then still there.
 pub(crate) fn walk<'a, 't, T: SerialTree, W: Watch>(

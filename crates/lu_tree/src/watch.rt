@@ -6,7 +6,7 @@ ghost use Rattle.std.specs.Prelude.{◌≡◌, Bool, false};
 ///
 /// A search asks after each 64 further schedules: by `stop`, or by `stop_within` where many were
 /// counted together. An implementor's `stop` may expect a watch that has not stopped, and owes that
-/// `stopped` then says what it answered; after a yes no more is asked. That it is asked after each
+/// `stopped` then says what it returned; after a yes no more is asked. That it is asked after each
 /// 64 is tested and not proved, and where an implementor has a `stop_within` of its own, that alone
 /// says how often it asks.
 pub trait Watch {

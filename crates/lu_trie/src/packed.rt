@@ -47,7 +47,7 @@ impl<A: Allocator> Model for Table<A> {
 }
 
 impl<A: Allocator> Table<A> {
-    /// Adds a node that has these links, and answers its place.
+    /// Adds a node that has these links, and returns its place.
     fn push_node(&mut self, ends: bool, links: &[(SerialOp, usize)]) -> Result<usize, AllocError>
         requires below { AllBelow (length self.old) links.now }
         requires branches { AreBranches (resolve self.old links.now) }
@@ -70,7 +70,7 @@ impl<A: Allocator> Table<A> {
 }
 
 impl<B: Allocator> Trie<B> {
-    /// Adds the trie's nodes to a table, and answers the place of its root. It may have added some
+    /// Adds the trie's nodes to a table, and returns the place of its root. It may have added some
     /// where memory is refused.
     fn add_to<A: Allocator + Clone>(&self, table: &mut Table<A>) -> Result<usize, AllocError>
         ensures grows { (more : List (List (List SerialOp))) × (table.new ≡ table.old ++ more) }

@@ -128,7 +128,7 @@ impl<A: Allocator + Clone> Trie<A> {
         }
     }
 
-    /// Adds a history, in which `Stuck` may stand only last, and answers whether it was no member
+    /// Adds a history, in which `Stuck` may stand only last, and returns whether it was no member
     /// before.
     ///
     /// # Errors

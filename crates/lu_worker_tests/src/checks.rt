@@ -6,8 +6,7 @@ ghost use Rattle.lu_parallel.specs.Works.{ArePieces, IsFresh, IsSpentWork};
 
 use lu_board::board::{Board, Seat};
 use lu_board::view::Kind;
-use lu_cases::{Case, case_of};
-use lu_examples::ROWS;
+use lu_fixtures::{Fixture, ROWS, fixture_of};
 use lu_machine::Counts;
 use lu_parallel::{CheckFault, Gate, OpenGate, Options, Work, check, conclude, work};
 use lu_report::{Finding, Report};
@@ -40,7 +39,7 @@ fn report<R: AllocGlobal + Abort + Threads + Wait, G: Gate>(
     workers: u8,
     depth: u8,
 ) -> Result<Report, Fail> {
-    let case = case_of(rt, ROWS.as_bytes(), matrix)?;
+    let case = fixture_of(rt, ROWS.as_bytes(), matrix)?;
     let options = options(rt, workers, depth);
     Ok(check(rt, rt.alloc(), gate, &case.component, &case.matrix, options)?)
 }
@@ -278,7 +277,7 @@ fn sixteen_workers_meet(rt: HostRuntime) -> Result<(), Fail> {
 }
 
 /// The pieces of a case: the schedules of four moves, and the ended ones of fewer.
-fn four_moves(rt: &impl AllocGlobal, case: &Case) -> Result<Vec<Schedule>, Fail>
+fn four_moves(rt: &impl AllocGlobal, case: &Fixture) -> Result<Vec<Schedule>, Fail>
     requires { CanRun case.now.component case.now.matrix }
     ensures few { IfOk result (λ pieces. vec_len pieces ≤ 65536) }
     ensures pieces { IfOk result (λ pieces.
@@ -290,7 +289,7 @@ fn four_moves(rt: &impl AllocGlobal, case: &Case) -> Result<Vec<Schedule>, Fail>
 /// The works of the seats, one after another on this thread.
 fn work_in_turn<R: AllocGlobal, T: SerialTree>(
     rt: &R,
-    case: &Case,
+    case: &Fixture,
     tree: &T,
     pieces: &[Schedule],
     board: &Board,
@@ -348,7 +347,7 @@ fn settle_and_lower(rt: &impl Abort, board: &Board, seat: &mut Seat)
 /// second.
 fn works_above<R: AllocGlobal + Abort, T: SerialTree>(
     rt: &R,
-    case: &Case,
+    case: &Fixture,
     tree: &T,
     pieces: &[Schedule],
 ) -> Result<Vec<Work>, Fail>
@@ -367,7 +366,7 @@ fn works_above<R: AllocGlobal + Abort, T: SerialTree>(
 /// What two workers conclude that work one after the other on this thread.
 fn concluded_in_turn<R: AllocGlobal, T: SerialTree>(
     rt: &R,
-    case: &Case,
+    case: &Fixture,
     tree: &T,
     pieces: &[Schedule],
 ) -> Result<Option<Found>, Fail>
@@ -404,7 +403,7 @@ fn is_idle(works: &[Work]) -> bool {
 }
 
 /// The serial histories of the case.
-fn serial_histories(rt: &(impl AllocGlobal + Abort), case: &Case) -> Result<Trie<Global>, Fail>
+fn serial_histories(rt: &(impl AllocGlobal + Abort), case: &Fixture) -> Result<Trie<Global>, Fail>
     requires { CanRun case.now.component case.now.matrix }
 {
     match learn(rt.alloc(), rt.alloc(), &case.component, &case.matrix, 40)? {
@@ -414,7 +413,7 @@ fn serial_histories(rt: &(impl AllocGlobal + Abort), case: &Case) -> Result<Trie
 }
 
 /// What two workers conclude that take turns on the pieces of the case.
-fn concluded(rt: &(impl AllocGlobal + Abort), case: &Case) -> Result<Option<Found>, Fail>
+fn concluded(rt: &(impl AllocGlobal + Abort), case: &Fixture) -> Result<Option<Found>, Fail>
     requires { CanRun case.now.component case.now.matrix }
 {
     let set = serial_histories(rt, case)?;
@@ -423,7 +422,7 @@ fn concluded(rt: &(impl AllocGlobal + Abort), case: &Case) -> Result<Option<Foun
 }
 
 /// The work of a worker above a lesser failure, on the pieces of the case.
-fn above(rt: &(impl AllocGlobal + Abort), case: &Case) -> Result<Vec<Work>, Fail>
+fn above(rt: &(impl AllocGlobal + Abort), case: &Fixture) -> Result<Vec<Work>, Fail>
     requires { CanRun case.now.component case.now.matrix }
 {
     let set = serial_histories(rt, case)?;
@@ -434,14 +433,14 @@ fn above(rt: &(impl AllocGlobal + Abort), case: &Case) -> Result<Vec<Work>, Fail
 /// Where no piece is bad, the numbers are concluded.
 #[test]
 fn clean_works_are_added(rt: HostRuntime) -> Result<(), Fail> {
-    let case = case_of(&rt, ROWS.as_bytes(), TWO_READS)?;
+    let case = fixture_of(&rt, ROWS.as_bytes(), TWO_READS)?;
     assert!(rt; is_clean(&concluded(&rt, &case)?, 20));
     Ok(())
 }
 
 /// A worker above a lesser failure searches none of 16 pieces, and two workers in turn find the
 /// least failure.
-fn assert_turns(rt: &(impl AllocGlobal + Abort), case: &Case) -> Result<(), Fail>
+fn assert_turns(rt: &(impl AllocGlobal + Abort), case: &Fixture) -> Result<(), Fail>
     requires { CanRun case.now.component case.now.matrix }
 {
     assert_eq!(rt; four_moves(rt, case)?.len(), 16);
@@ -452,6 +451,6 @@ fn assert_turns(rt: &(impl AllocGlobal + Abort), case: &Case) -> Result<(), Fail
 
 #[test]
 fn workers_take_turns(rt: HostRuntime) -> Result<(), Fail> {
-    let case = case_of(&rt, ROWS.as_bytes(), TWO_INCREMENTS)?;
+    let case = fixture_of(&rt, ROWS.as_bytes(), TWO_INCREMENTS)?;
     assert_turns(&rt, &case)
 }

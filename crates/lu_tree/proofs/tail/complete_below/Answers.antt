@@ -1,7 +1,7 @@
 use Rattle.std.proofs.Common.{◌≡◌, IfSome}
 use Rattle.std.proofs.lemmas.Option.{IfSome_then}
 use Rattle.lu_machine.specs.Sums.{capped}
-use Rattle.lu_tail.specs.Orders.{interleavings}
+use Rattle.lu_orders.specs.Orders.{interleavings}
 use Rattle.lu_witness.specs.Witnesses.{IsMember}
 use Rattle.lu_tree.specs.Tails.{IsGoodTail, IsRest}
 use Rattle.lu_tree.proofs.Finishing.{rest_all}

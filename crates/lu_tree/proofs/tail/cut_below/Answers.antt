@@ -1,7 +1,7 @@
 use Rattle.std.proofs.Common.{◌≡◌, IfSome}
 use Rattle.std.proofs.lemmas.Option.{IfSome_then}
 use Rattle.lu_machine.specs.Sums.{capped}
-use Rattle.lu_tail.specs.Orders.{orders_within}
+use Rattle.lu_orders.specs.Orders.{orders_within}
 use Rattle.lu_tree.specs.Tails.{IsCutBelow}
 use Rattle.lu_tree.proofs.tail.cut_below.Goals as goal
 

@@ -1,0 +1,55 @@
+//! What the tests of several crates share: components, and components with matrices that can run,
+//! from their texts.
+#![tactic(auto)]
+
+ghost use Rattle.std.specs.Prelude.{◌≡◌, IfOk, Ok, OnOk};
+ghost use Rattle.lu_text.specs.Faults.{meaning_of};
+ghost use Rattle.lu_lang.specs.Grammar.{component_grammar};
+ghost use Rattle.lu_test.specs.MatrixText.{matrix_grammar};
+ghost use Rattle.lu_test.specs.Matrix.{IsOf};
+ghost use Rattle.lu_machine.specs.Starts.{CanRun};
+
+use lu_lang::{Component, read_component};
+use lu_machine::settles;
+use lu_test::{Matrix, read_matrix};
+use std::test::Fail;
+
+mod components;
+
+pub use components::ROWS;
+
+/// A component and a matrix of it.
+#[derive(Drop)]
+pub struct Fixture {
+    pub component: Component,
+    pub matrix: Matrix,
+}
+
+/// Whether the setup of the matrix settles.
+fn settled(rt: &impl AllocGlobal, component: &Component, matrix: &Matrix) -> Result<(), Fail>
+    requires { IsOf matrix.now component.now }
+    ensures { OnOk result (CanRun component.now matrix.now) }
+{
+    match settles(rt.alloc(), component, matrix)? {
+        None => Ok(()),
+        Some(_) => Err(Fail::from("a call of the setup does not end")),
+    }
+}
+
+/// The component and the matrix of these texts, which can run.
+///
+/// # Errors
+///
+/// A text that has a fault, a setup that does not settle, and want of memory.
+pub fn fixture_of(rt: &impl AllocGlobal, component: &[u8], matrix: &[u8]) -> Result<Fixture, Fail>
+    ensures component { IfOk result (λ fixture.
+        meaning_of component_grammar component.now ≡ Ok fixture.component) }
+    ensures matrix { IfOk result (λ fixture.
+        meaning_of (matrix_grammar fixture.component) matrix.now ≡ Ok fixture.matrix) }
+    ensures runs { IfOk result (λ fixture. CanRun fixture.component fixture.matrix) }
+{
+    let component = read_component(rt.alloc(), component)?;
+    let matrix = read_matrix(rt.alloc(), &component, matrix)?;
+    settled(rt, &component, &matrix)?;
+    Ok(Fixture { component, matrix })
+}

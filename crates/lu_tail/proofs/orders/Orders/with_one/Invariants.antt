@@ -1,8 +1,0 @@
-use Rattle.std.proofs.Common.{◌≡◌, ℕ}
-use Rattle.lu_machine.specs.Sums.{capped}
-use Rattle.lu_tail.specs.Orders.{AreNumbers}
-use Rattle.lu_tail.proofs.CapOrders.{terms}
-use Rattle.lu_tail.proofs.orders.Orders.with_one.Given as goal
-
-abbrev pub invariant-loop-moves : goal.invariant-loop-moves
-invariant-loop-moves l = (others : ℕ → ℕ) → AreNumbers others l.left l.row → l.number ≡ capped (terms others l.left l.moves)

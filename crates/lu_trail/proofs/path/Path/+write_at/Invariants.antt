@@ -1,4 +1,0 @@
-use Rattle.lu_trail.proofs.path.Path.+write_at.Given as goal
-
-abbrev pub decreases-write_at : goal.decreases-write_at
-decreases-write_at l = l.place

@@ -1,6 +1,0 @@
-use Rattle.lu_trail.specs.Paths.{history_of}
-use Rattle.lu_trail.proofs.Lengths.{few_events}
-use Rattle.lu_trail.proofs.path.Path.write.Goals as goal
-
-pub write_at-requires-clause-few : goal.write_at-requires-clause-few
-write_at-requires-clause-few c = few_events (history_of c.args.self.now) c.requires.well_formed
