@@ -7,7 +7,7 @@ use mathlib.Core.Option.{some, some-ne-none, some-injective}
 use lib.ListN.{get_elem?}
 use Rattle.std.proofs.lemmas.Bool.Decides.{nat_tests}
 use Rattle.lu_board.specs.declared.view.View.{View}
-use Rattle.lu_board.specs.Pieces.{count_of, is_in, without, once_below}
+use Rattle.lu_board.specs.Pieces.{count_of, is_in, without_first, once_below}
 use Rattle.lu_board.specs.Views.{pieces_of}
 
 -- x is in the list, told by how often it is there
@@ -24,11 +24,11 @@ one_at-same x = ap (λ b. cond b 1 0) (eq-eqb x x refl)
 pub one_at-else : (x i : ℕ) → x ≢ i → one_at x i ≡ 0
 one_at-else x i ne = ap (λ b. cond b 1 0) (ne_eqb x i ne)
 
-pub count_of-without : (i x : ℕ) (xs : List ℕ) → Has xs i → count_of x (without i xs) + one_at x i ≡ count_of x xs
-count_of-without i x [] h = absurd (omega arith)
-count_of-without i x (y ∷ ys) h = at (eqb i y) refl (count_of-without i x ys)
+pub count_of-without_first : (i x : ℕ) (xs : List ℕ) → Has xs i → count_of x (without_first i xs) + one_at x i ≡ count_of x xs
+count_of-without_first i x [] h = absurd (omega arith)
+count_of-without_first i x (y ∷ ys) h = at (eqb i y) refl (count_of-without_first i x ys)
   where
-    at : (b : Bool) → eqb i y ≡ b → (Has ys i → count_of x (without i ys) + one_at x i ≡ count_of x ys) → count_of x (cond b ys (y ∷ without i ys)) + one_at x i ≡ one_at x y + count_of x ys
+    at : (b : Bool) → eqb i y ≡ b → (Has ys i → count_of x (without_first i ys) + one_at x i ≡ count_of x ys) → count_of x (cond b ys (y ∷ without_first i ys)) + one_at x i ≡ one_at x y + count_of x ys
     at true e more = let same : one_at x i ≡ one_at x y = ap (one_at x) (eqb-true i y e) in omega arith
     at false e more = let none : one_at i y ≡ 0 = ap (λ b. cond b 1 0) e in let deeper = more (omega arith) in omega arith
 
@@ -154,29 +154,29 @@ is_in-has p (x ∷ xs) e = at (eqb x p) refl e (is_in-has p xs)
     at false other e more = let r = more e in omega arith
 
 -- the first p in the list is at i
-pub out-here : (p : ℕ) (xs : List ℕ) (i : ℕ) → i < length xs → HoldsAt (λ y. y ≡ p) xs i → AllWithin (λ y. y ≢ p) xs 0 i → (is_in p xs ≡ true) × (remove xs i ≡ without p xs)
+pub out-here : (p : ℕ) (xs : List ℕ) (i : ℕ) → i < length xs → HoldsAt (λ y. y ≡ p) xs i → AllWithin (λ y. y ≢ p) xs 0 i → (is_in p xs ≡ true) × (remove xs i ≡ without_first p xs)
 out-here p [] i h at none = absurd (omega arith)
 out-here p (x ∷ xs) zero h at none = (
   ap (λ b. b || is_in p xs) (eq-eqb x p (at 0)),
-  sym (ap (λ b. cond b xs (x ∷ without p xs)) (eq-eqb p x (sym (at 0)))),
+  sym (ap (λ b. cond b xs (x ∷ without_first p xs)) (eq-eqb p x (sym (at 0)))),
 )
 out-here p (x ∷ xs) (suc i) h at none =
     let r = out-here p xs i (omega arith) at (λ k d a b. none (suc k) d (omega arith) (omega arith)) in
     let other : x ≢ p = none 0 0 (omega arith) (omega arith) in
-    (ap (λ b. b || is_in p xs) (ne_eqb x p other) ∙ r.0, ap (λ l. x ∷ l) r.1 ∙ sym (ap (λ b. cond b xs (x ∷ without p xs)) (ne_eqb p x (λ e. other (sym e)))))
+    (ap (λ b. b || is_in p xs) (ne_eqb x p other) ∙ r.0, ap (λ l. x ∷ l) r.1 ∙ sym (ap (λ b. cond b xs (x ∷ without_first p xs)) (ne_eqb p x (λ e. other (sym e)))))
 
 -- no p is in the list
-pub out-nowhere : (p : ℕ) (xs : List ℕ) → AllWithin (λ y. y ≢ p) xs 0 (length xs) → (is_in p xs ≡ false) × (xs ≡ without p xs)
+pub out-nowhere : (p : ℕ) (xs : List ℕ) → AllWithin (λ y. y ≢ p) xs 0 (length xs) → (is_in p xs ≡ false) × (xs ≡ without_first p xs)
 out-nowhere p [] none = (refl, refl)
 out-nowhere p (x ∷ xs) none =
     let r = out-nowhere p xs (λ k d a b. none (suc k) d (omega arith) (omega arith)) in
     let other : x ≢ p = none 0 0 (omega arith) (omega arith) in
-    (ap (λ b. b || is_in p xs) (ne_eqb x p other) ∙ r.0, ap (λ l. x ∷ l) r.1 ∙ sym (ap (λ b. cond b xs (x ∷ without p xs)) (ne_eqb p x (λ e. other (sym e)))))
+    (ap (λ b. b || is_in p xs) (ne_eqb x p other) ∙ r.0, ap (λ l. x ∷ l) r.1 ∙ sym (ap (λ b. cond b xs (x ∷ without_first p xs)) (ne_eqb p x (λ e. other (sym e)))))
 
 -- what a search for p tells of taking it out
 abbrev pub Out : ℕ → List ℕ → Option ℕ → Type 0
-Out p xs None = (is_in p xs ≡ false) × (xs ≡ without p xs)
-Out p xs (Some i) = (is_in p xs ≡ true) × (remove xs i ≡ without p xs)
+Out p xs None = (is_in p xs ≡ false) × (xs ≡ without_first p xs)
+Out p xs (Some i) = (is_in p xs ≡ true) × (remove xs i ≡ without_first p xs)
 
 pub out : (p : ℕ) (xs : List ℕ) (r : Option ℕ) → MatchOption r (AllWithin (λ y. y ≢ p) xs 0 (length xs)) (λ i. (i < length xs) × HoldsAt (λ y. y ≡ p) xs i × AllWithin (λ y. y ≢ p) xs 0 i) → Out p xs r
 out p xs None none = out-nowhere p xs none

@@ -14,7 +14,7 @@ use Rattle.lu_board.specs.Pieces.{count_of, once_below}
 use Rattle.lu_board.specs.Events.{with_held, with_spent, with_seen, with_skipped, with_found, with_settled, after_claim, after_look}
 use Rattle.lu_board.specs.Fit.{ViewFits, FitsBoard, FitsWords}
 use Rattle.lu_board.specs.Plays.{Claimed, Looked, Lowered, Settled}
-use Rattle.lu_board.proofs.Counts.{Has, having, one_at-same, contains-has, has-contains, all-at, all-of, count_of-append, count_of-without, count_of-all, count_of-flat_map, once_below-suc, once_below-lt, sum_by-set, sum_by-has, sum_by-le-sum_by}
+use Rattle.lu_board.proofs.Counts.{Has, having, one_at-same, contains-has, has-contains, all-at, all-of, count_of-append, count_of-without_first, count_of-all, count_of-flat_map, once_below-suc, once_below-lt, sum_by-set, sum_by-has, sum_by-le-sum_by}
 
 -- what a change of one view owes
 pub record Moves (n next best next' best' : ℕ) (v w : View) : Type 0 where
@@ -144,7 +144,7 @@ see-moves n next best v one = record {
 -- the best is below the piece, which is skipped
 skip-moves : (n next best i : ℕ) (v : View) → v.weight ≡ 1 → Has v.held i → best < i → Moves n next best next best v (with_skipped i best v)
 skip-moves n next best i v one held below = record {
-  once = λ x. let t = count_of-without i x v.held held in let l = count_of-append x v.skipped (i ∷ []) in omega arith;
+  once = λ x. let t = count_of-without_first i x v.held held in let l = count_of-append x v.skipped (i ∷ []) in omega arith;
   lower = omega arith;
   best_found = inr (refl, omega arith);
   sound = λ s. record {
@@ -173,7 +173,7 @@ look-moves n next best i v one held = at (ltb best i) refl
 -- the piece is found bad
 pub find-moves : (n next best i : ℕ) (v : View) → v.weight ≡ 1 → Has v.held i → Moves n next best next (min best i) v (with_found i (min best i) v)
 find-moves n next best i v one held = record {
-  once = λ x. let t = count_of-without i x v.held held in let l = count_of-append x v.found (i ∷ []) in omega arith;
+  once = λ x. let t = count_of-without_first i x v.held held in let l = count_of-append x v.found (i ∷ []) in omega arith;
   lower = omega arith;
   best_found = at (ltb best i) refl;
   sound = λ s. record {
@@ -199,7 +199,7 @@ find-moves n next best i v one held = record {
 -- the piece is settled
 pub settle-moves : (n next best i : ℕ) (kind : Kind) (v : View) → v.weight ≡ 1 → Has v.held i → Moves n next best next best v (with_settled i kind v)
 settle-moves n next best i Clean v one held = record {
-  once = λ x. let t = count_of-without i x v.held held in let l = count_of-append x v.clean (i ∷ []) in omega arith;
+  once = λ x. let t = count_of-without_first i x v.held held in let l = count_of-append x v.clean (i ∷ []) in omega arith;
   lower = omega arith;
   best_found = inr (refl, omega arith);
   sound = λ s. record { found = s.found; skipped = s.skipped; spent = s.spent; past = let p = s.past in omega arith; sees = s.sees; blank = λ e. let e' : v.weight ≡ 0 = e in absurd (omega arith) };
@@ -210,7 +210,7 @@ settle-moves n next best i Clean v one held = record {
   weight = refl;
 }
 settle-moves n next best i GivenUp v one held = record {
-  once = λ x. let t = count_of-without i x v.held held in let l = count_of-append x v.given (i ∷ []) in omega arith;
+  once = λ x. let t = count_of-without_first i x v.held held in let l = count_of-append x v.given (i ∷ []) in omega arith;
   lower = omega arith;
   best_found = inr (refl, omega arith);
   sound = λ s. record { found = s.found; skipped = s.skipped; spent = s.spent; past = let p = s.past in omega arith; sees = s.sees; blank = λ e. let e' : v.weight ≡ 0 = e in absurd (omega arith) };

@@ -12,7 +12,7 @@ use Rattle.atomic_table.proofs.Lists.{at_set, at_snoc, set_else}
 use Rattle.atomic_table.specs.Table.{Splits, Joins}
 use Rattle.lu_board.specs.declared.view.View.{View}
 use Rattle.lu_board.specs.Pieces.{count_of, once_below, HasEachOnce, IsLeastPiece, AllAbove}
-use Rattle.lu_board.specs.Views.{newcomer, blank, cut, merged}
+use Rattle.lu_board.specs.Views.{newcomer, blank, without_newcomer, merged}
 use Rattle.lu_board.specs.Fit.{ViewFits, FitsBoard, FitsWords}
 use Rattle.lu_board.specs.Seats.{SeatModel, TellsGiven, IsDone, gathered}
 use Rattle.lu_board.specs.Close.{found_by, skipped_by, given_by, SharesOut}
@@ -51,9 +51,9 @@ begins n workers few fewer some_workers = record {
     one (suc k) v e = absurd (some-ne-none v (sym e))
 
 module _ (n workers : ℕ) where
-  pub splits : (id : ℕ) (v : View) → 1 < v.weight → v.spent ≡ 0 → Splits (Rule n workers) id v (cut v) (newcomer v.pieces 1)
+  pub splits : (id : ℕ) (v : View) → 1 < v.weight → v.spent ≡ 0 → Splits (Rule n workers) id v (without_newcomer v) (newcomer v.pieces 1)
   splits id v wide unspent s k at =
-      let l : List View = set s.views id (cut v) in
+      let l : List View = set s.views id (without_newcomer v) in
       let new : View = newcomer v.pieces 1 in
       let sound = all-at (ViewFits n k.next k.best) s.views id v k.fits.each at in
       let named = sound.sees (omega arith) in
@@ -64,16 +64,16 @@ module _ (n workers : ℕ) where
         words_are = k.words_are;
         small = k.small;
         fits = record {
-          once = λ x. let o = k.fits.once x in let t = sum_by-set (having x) s.views id v (cut v) at in let a = sum_by-append (having x) l (new ∷ []) in
+          once = λ x. let o = k.fits.once x in let t = sum_by-set (having x) s.views id v (without_newcomer v) at in let a = sum_by-append (having x) l (new ∷ []) in
               let before = count_of-all x s.views in let after = count_of-all x (l ++ new ∷ []) in omega arith;
           best_found = best-listed n k.best (l ++ new ∷ []) (
-              let t = sum_by-set (λ u. count_of k.best u.found) s.views id v (cut v) at in let a = sum_by-append (λ u. count_of k.best u.found) l (new ∷ []) in
+              let t = sum_by-set (λ u. count_of k.best u.found) s.views id v (without_newcomer v) at in let a = sum_by-append (λ u. count_of k.best u.found) l (new ∷ []) in
               ⊎_elim (λ (e : k.best ≡ n). inl e) (λ (h : 0 < found_times k.best s.views). inr (omega arith)) (best-counted n k.best s.views k.fits.best_found));
           each = all-of (ViewFits n k.next k.best) (l ++ new ∷ []) (λ j u e.
               ⊎_elim
               (λ (old : get_elem? l j ≡ some u).
               ⊎_elim
-              (λ (here : (j ≡ id) × (cut v ≡ u)). subst (ViewFits n k.next k.best) here.1 (record {
+              (λ (here : (j ≡ id) × (without_newcomer v ≡ u)). subst (ViewFits n k.next k.best) here.1 (record {
                 found = sound.found;
                 skipped = sound.skipped;
                 spent = omega arith;
@@ -82,7 +82,7 @@ module _ (n workers : ℕ) where
                 blank = λ z. let z' : v.weight - 1 ≡ 0 = z in absurd (omega arith);
               }))
               (λ (there : (j ≢ id) × (get_elem? s.views j ≡ some u)). all-at (ViewFits n k.next k.best) s.views j u k.fits.each there.1)
-              (at_set s.views id j (cut v) u old))
+              (at_set s.views id j (without_newcomer v) u old))
               (λ (is : new ≡ u). subst (ViewFits n k.next k.best) is (record {
                 found = All-nil (λ x. k.best ≤ x);
                 skipped = All-nil (λ x. k.best < x);
@@ -92,9 +92,9 @@ module _ (n workers : ℕ) where
                 blank = λ z. let z' : 1 ≡ 0 = z in absurd (omega arith);
               }))
               (at_snoc l new u j e));
-          claims = let g = k.fits.claims in let t = sum_by-set (λ u. u.spent) s.views id v (cut v) at in let a = sum_by-append (λ u. u.spent) l (new ∷ []) in omega arith;
-          used_up = λ h. let t = sum_by-set (λ u. u.spent) s.views id v (cut v) at in let a = sum_by-append (λ u. u.spent) l (new ∷ []) in k.fits.used_up (omega arith);
-          weights = let g = k.fits.weights in let t = sum_by-set (λ u. u.weight) s.views id v (cut v) at in let a = sum_by-append (λ u. u.weight) l (new ∷ []) in omega arith;
+          claims = let g = k.fits.claims in let t = sum_by-set (λ u. u.spent) s.views id v (without_newcomer v) at in let a = sum_by-append (λ u. u.spent) l (new ∷ []) in omega arith;
+          used_up = λ h. let t = sum_by-set (λ u. u.spent) s.views id v (without_newcomer v) at in let a = sum_by-append (λ u. u.spent) l (new ∷ []) in k.fits.used_up (omega arith);
+          weights = let g = k.fits.weights in let t = sum_by-set (λ u. u.weight) s.views id v (without_newcomer v) at in let a = sum_by-append (λ u. u.weight) l (new ∷ []) in omega arith;
         };
       }
 

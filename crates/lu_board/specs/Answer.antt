@@ -7,12 +7,12 @@ use Rattle.lu_board.specs.Events.{with_seen, with_skipped}
 
 -- piece i is to be worked on, and the best piece that is told is one of the pieces; where none is
 -- told, that is n
-abbrev pub GoesOn : ℕ → Option ℕ → ℕ → View → View → Type 0
-GoesOn i told best v w =
+abbrev pub StaysHeld : ℕ → Option ℕ → ℕ → View → View → Type 0
+StaysHeld i told best v w =
     (i ≤ best) × (best ≤ v.seen) × (w ≡ with_seen best v) × IfSome told (λ b. b < v.pieces)
 
 -- The answer to a look for piece i, from the view v before it to the view w after it. The best
 -- piece that it tells, where None stands for n, is what w has seen, and at most what v had seen.
 abbrev pub IsLookAnswer : ℕ → Look → View → View → Type 0
 IsLookAnswer i (Skip best) v w = (best < i) × (best ≤ v.seen) × (w ≡ with_skipped i best v)
-IsLookAnswer i (Go told) v w = GoesOn i told (unwrap_or told v.pieces) v w
+IsLookAnswer i (Go told) v w = StaysHeld i told (unwrap_or told v.pieces) v w

@@ -4,7 +4,7 @@ use Rattle.std.specs.Prelude.{ℕ, ◌+◌, nat_lt, if◌then◌else◌, [], ◌
 use Rattle.lu_board.specs.declared.view.View.{View}
 use Rattle.lu_board.specs.declared.view.Kind.{Kind}
 use Rattle.lu_board.specs.declared.view.Kind.TheVariants.{Clean, GivenUp}
-use Rattle.lu_board.specs.Pieces.{without}
+use Rattle.lu_board.specs.Pieces.{without_first}
 
 -- the view with piece i joined to the held ones. The seat will claim no piece up to i again
 abbrev pub with_held : ℕ → View → View
@@ -21,16 +21,17 @@ with_seen best v = record v { seen = best }
 -- piece i, which was held, is skipped, since this best piece was seen
 abbrev pub with_skipped : ℕ → ℕ → View → View
 with_skipped i best v =
-    record v { seen = best; held = without i v.held; skipped = v.skipped ++ i ∷ [] }
+    record v { seen = best; held = without_first i v.held; skipped = v.skipped ++ i ∷ [] }
 
 -- piece i, which was held, is found bad, and this is the best piece now
 abbrev pub with_found : ℕ → ℕ → View → View
-with_found i best v = record v { seen = best; held = without i v.held; found = v.found ++ i ∷ [] }
+with_found i best v =
+    record v { seen = best; held = without_first i v.held; found = v.found ++ i ∷ [] }
 
 -- piece i, which was held, is clean or given up
 abbrev pub with_settled : ℕ → Kind → View → View
-with_settled i Clean v = record v { held = without i v.held; clean = v.clean ++ i ∷ [] }
-with_settled i GivenUp v = record v { held = without i v.held; given = v.given ++ i ∷ [] }
+with_settled i Clean v = record v { held = without_first i v.held; clean = v.clean ++ i ∷ [] }
+with_settled i GivenUp v = record v { held = without_first i v.held; given = v.given ++ i ∷ [] }
 
 -- after a claim that found this next piece, on a board of n pieces
 abbrev pub after_claim : ℕ → ℕ → View → View

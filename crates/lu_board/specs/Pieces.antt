@@ -13,9 +13,9 @@ abbrev pub is_in : ℕ → List ℕ → Bool
 is_in x xs = list_any (λ y. nat_eq y x) xs
 
 -- the list without the first x in it
-abbrev pub without : ℕ → List ℕ → List ℕ
-without x [] = []
-without x (y ∷ ys) = if nat_eq x y then ys else y ∷ without x ys
+abbrev pub without_first : ℕ → List ℕ → List ℕ
+without_first x [] = []
+without_first x (y ∷ ys) = if nat_eq x y then ys else y ∷ without_first x ys
 
 -- how often x is among the numbers below n: once or never
 abbrev pub once_below : ℕ → ℕ → ℕ

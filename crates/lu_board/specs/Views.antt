@@ -32,8 +32,8 @@ abbrev pub IsOver : View → Type 0
 IsOver v = (v.spent ≡ 1) × (v.held ≡ [])
 
 -- what is left of a view after a newcomer of weight 1 was cut off
-abbrev pub cut : View → View
-cut v = record v { weight = v.weight - 1 }
+abbrev pub without_newcomer : View → View
+without_newcomer v = record v { weight = v.weight - 1 }
 
 -- the view v, with all that w has. Both are of one board, so they name the same number of pieces
 abbrev pub merged : View → View → View

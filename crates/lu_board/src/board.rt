@@ -9,7 +9,7 @@ ghost use Rattle.lu_board.specs.Seats.{unused_seat, gathered, IsSeatOf, IsDone, 
 ghost use Rattle.lu_board.specs.Close.{SharesOut, found_by, skipped_by, given_by};
 
 use crate::view::{
-    About, BoardRule, Claims, Deal, Gather, Kind, Look, Looks, Lowers, Settles, Size, View,
+    About, BoardRule, Claims, Deal, Gather, Kind, Look, Looks, Lowers, SettlesPiece, Size, View,
 };
 use atomic_table::Table;
 use std::alloc::{AllocError, Global};
@@ -257,7 +257,9 @@ impl Board {
         ensures board { seat.new.board ≡ seat.old.board }
         ensures settled { seat.new.view ≡ with_settled piece kind seat.old.view }
     {
-        self.table.shared.load::<Settles<J>>(&mut seat.token, 1);
+        self.table
+            .shared
+            .load::<SettlesPiece<J>>(&mut seat.token, 1);
         if let Kind::GivenUp = kind {
             seat.gave_up = true;
         }

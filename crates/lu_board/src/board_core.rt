@@ -2,7 +2,7 @@
 ghost use Rattle.std.specs.Prelude.{◌≡◌, [], ◌<◌, ◌≤◌, ◌^◌, ◌↔◌, IsTrue, true, OnOk, IfOk, IfErr, length, nat_eq};
 ghost use Rattle.lu_board.specs.declared.view.TheConstants.{MAX_PIECES, MAX_WORKERS};
 ghost use Rattle.lu_board.specs.declared.board_core.CoreEvent.TheVariants.{Claim, Look, Lower, Settle};
-ghost use Rattle.lu_board.specs.Pieces.{is_in, without};
+ghost use Rattle.lu_board.specs.Pieces.{is_in, without_first};
 ghost use Rattle.lu_board.specs.Views.{newcomer, IsOver};
 ghost use Rattle.lu_board.specs.Events.{with_found, with_settled, after_claim, after_look};
 ghost use Rattle.lu_board.specs.Fit.{FitsBoard};
@@ -77,7 +77,7 @@ impl Model for Worker {
 /// Takes the piece out of the list, and says whether it was there.
 fn take_out(pieces: &mut Vec<u64>, piece: u64) -> bool
     ensures taken { result ≡ is_in piece pieces.old.items }
-    ensures left { pieces.new.items ≡ without piece pieces.old.items }
+    ensures left { pieces.new.items ≡ without_first piece pieces.old.items }
 {
     let Some(place) = pieces.iter().position(|held| *held == piece) else {
         return false;

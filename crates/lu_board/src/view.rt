@@ -132,11 +132,11 @@ impl Play<(), View> for Lowers {
 }
 
 /// A piece is settled.
-pub(crate) struct Settles<J> {
+pub(crate) struct SettlesPiece<J> {
     about: PhantomData<J>,
 }
 
-impl<J: About> Play<(), View> for Settles<J> {
+impl<J: About> Play<(), View> for SettlesPiece<J> {
     ghost use Rattle.lu_board.specs.Plays.{Settled};
 
     ghost then = { Settled J.piece J.kind };
@@ -146,9 +146,9 @@ impl<J: About> Play<(), View> for Settles<J> {
 pub(crate) struct Deal;
 
 impl Split<View> for Deal {
-    ghost use Rattle.lu_board.specs.Views.{cut, newcomer};
+    ghost use Rattle.lu_board.specs.Views.{without_newcomer, newcomer};
 
-    ghost left = { cut };
+    ghost left = { without_newcomer };
 
     ghost right = { λ v. newcomer v.pieces 1 };
 }

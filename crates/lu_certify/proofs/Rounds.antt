@@ -24,7 +24,7 @@ use Rattle.lu_refute.proofs.Outside.{whole_cut}
 use Rattle.lu_certify.specs.declared.certificate.Certificate.{Certificate}
 use Rattle.lu_certify.specs.declared.certificate.Certificate.TheVariants.{Linearizable, NotLinearizable, Undecided}
 use Rattle.lu_certify.specs.Certificates.{AllCuts, AreBeginnings, HasReport, IsCertificate, IsFailure, IsFirstOfCuts, IsFullPass, IsUnclear, NamesCutOf, NoCuts}
-use Rattle.lu_certify.specs.Places.{IsConcluded, IsCutAtPlace, IsFirstUnclear, IsWithoutOffence, cut_count, place_of}
+use Rattle.lu_certify.specs.Places.{IsConcluded, IsCutAtPlace, IsFirstUnclear, IsWithoutOffence, cut_count, place_of_lengths}
 use Rattle.lu_certify.proofs.Counted.{earlier, place_below, place_same}
 use Rattle.lu_certify.proofs.Linear.{at_cut, full_at}
 
@@ -32,12 +32,12 @@ module _ (c : Declarations) (matrix : Matrix) (bound serial : ℕ) where
   -- the cuts of all places before this one have reports of this kind
   abbrev pub AllBefore : (Finding → Type 0) → ℕ → Type 0
   AllBefore Kind place =
-      (other : List ℕ) → AreLengths matrix other → place_of matrix.threads other < place → HasReport Kind c bound serial (cut matrix other)
+      (other : List ℕ) → AreLengths matrix other → place_of_lengths matrix.threads other < place → HasReport Kind c bound serial (cut matrix other)
 
   -- none of them has
   abbrev pub NoneBefore : (Finding → Type 0) → ℕ → Type 0
   NoneBefore Kind place =
-      (other : List ℕ) → AreLengths matrix other → place_of matrix.threads other < place → HasReport Kind c bound serial (cut matrix other) → ⊥
+      (other : List ℕ) → AreLengths matrix other → place_of_lengths matrix.threads other < place → HasReport Kind c bound serial (cut matrix other) → ⊥
 
   -- the first of them that is no full pass, if any
   abbrev pub IsFound : ℕ → Option (Matrix × Report) → Type 0
@@ -62,9 +62,9 @@ module _ (c : Declarations) (matrix : Matrix) (bound serial : ℕ) where
         subst (λ (x : Report). Kind x.finding) same has.2
 
     -- a cut before the next place is before this one, or it is this one
-    this_or_before : (P : List ℕ → Type 0) → ((other : List ℕ) → AreLengths matrix other → place_of matrix.threads other < place → P other) → P at.0 → (other : List ℕ) → AreLengths matrix other → place_of matrix.threads other < place + 1 → P other
+    this_or_before : (P : List ℕ → Type 0) → ((other : List ℕ) → AreLengths matrix other → place_of_lengths matrix.threads other < place → P other) → P at.0 → (other : List ℕ) → AreLengths matrix other → place_of_lengths matrix.threads other < place + 1 → P other
     this_or_before P before here other are less =
-        elim (cases_lt (place_of matrix.threads other) place) as (λ _. P other) [
+        elim (cases_lt (place_of_lengths matrix.threads other) place) as (λ _. P other) [
           | inl lt ↦ before other are lt
           | inr least ↦
               (let there = at.1.at in

@@ -18,15 +18,16 @@ cut_count [] = 1
 cut_count (calls ∷ threads) = (length calls + 1) * cut_count threads
 
 -- how many of them come before the one of these lengths
-abbrev pub place_of : List (List Call) → List ℕ → ℕ
-place_of [] lengths = 0
-place_of (calls ∷ threads) [] = 0
-place_of (calls ∷ threads) (n ∷ lengths) = n * cut_count threads + place_of threads lengths
+abbrev pub place_of_lengths : List (List Call) → List ℕ → ℕ
+place_of_lengths [] lengths = 0
+place_of_lengths (calls ∷ threads) [] = 0
+place_of_lengths (calls ∷ threads) (n ∷ lengths) =
+    n * cut_count threads + place_of_lengths threads lengths
 
 -- the lengths of the cut at this place
 pub record AreLengthsAt (matrix : Matrix) (place : ℕ) (lengths : List ℕ) : Type 0 where
   pub are : AreLengths matrix lengths
-  pub at : place_of matrix.threads lengths ≡ place
+  pub at : place_of_lengths matrix.threads lengths ≡ place
 
 -- the cut at this place
 abbrev pub IsCutAtPlace : Matrix → ℕ → Matrix → Type 0

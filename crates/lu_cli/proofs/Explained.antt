@@ -19,18 +19,18 @@ use Rattle.lu_machine.proofs.Starting.{start_same}
 use Rattle.lu_report.specs.Parts.{Parts}
 use Rattle.lu_report.specs.declared.fault.ReportFaultKind.{ReportFaultKind}
 use Rattle.lu_report.specs.Forms.{IsFault, Spells}
-use Rattle.lu_replay.specs.Replays.{Shows}
+use Rattle.lu_replay.specs.Replays.{PlaysToStatus}
 use Rattle.lu_cli.specs.declared.explaining.Target.{Target}
 use Rattle.lu_cli.specs.declared.explaining.Target.TheVariants as target
 use Rattle.lu_cli.specs.declared.refusal.Refusal.{Refusal}
 use Rattle.lu_cli.specs.declared.refusal.Refusal.TheVariants as refusal
 use Rattle.lu_cli.specs.Refusals.{refusal_answer, schedule_answer}
 use Rattle.lu_cli.specs.Explaining.{is_report}
-use Rattle.lu_cli.specs.Replies.{Answer, IsShown, IsShownRefusal, IsTarget, IsTargetRefusal, ToReport, ToSchedule, ToShown, ToTarget, or_schedule}
+use Rattle.lu_cli.specs.Replies.{Answer, IsScheduleIn, IsShownRefusal, IsTarget, IsTargetRefusal, ToReport, ToSchedule, ToShown, ToTarget, or_schedule}
 use Rattle.lu_cli.proofs.Refuted.{report_refused}
 
 -- what shows something is a schedule from each start
-pub schedule_from : (c : Declarations) (m : Matrix) (u : List Move) (h : List Event) (status : Status) → Shows c m u h status → (s : State) → IsStart c m s → IsSchedule s u
+pub schedule_from : (c : Declarations) (m : Matrix) (u : List Move) (h : List Event) (status : Status) → PlaysToStatus c m u h status → (s : State) → IsStart c m s → IsSchedule s u
 schedule_from c m u h status shows s is =
     let plays = shows.1 in
     let same = start_same c m plays.0 s plays.1 is in
@@ -51,7 +51,7 @@ module _ (text : List ℕ) (IsAnswer : List Move → Answer → Type 0) where
   shown_refused refused (inr e) = subst (λ (r : Refusal). IfSome (refusal_answer r) (ToShown text IsAnswer)) (sym e) tt
 
   -- what is answered to the schedule that is read is the answer
-  pub shown_answered : (u : List Move) → IsShown text u → (answer : Answer) → IsAnswer u answer → ToShown text IsAnswer answer
+  pub shown_answered : (u : List Move) → IsScheduleIn text u → (answer : Answer) → IsAnswer u answer → ToShown text IsAnswer answer
   shown_answered u (found, of, read) answer says = (found, of, rw read says)
 
 module _ (text : List ℕ) (IsAnswer : Target → Answer → Type 0) where

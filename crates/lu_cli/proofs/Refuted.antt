@@ -1,6 +1,6 @@
 -- Answers to specifications.
 use Rattle.std.proofs.Common.{ℕ, zero, suc, List, [], ◌∷◌, sym, subst, arith, inl, inr, refl, Result, Ok, Err}
-use Rattle.std.specs.Prelude.{All, IfSome}
+use Rattle.std.specs.Prelude.{All, IfSome, Option}
 use Rattle.std.proofs.lemmas.List.Elements.{All-take}
 use Rattle.std.proofs.lemmas.Option.{IfSome_then}
 use Rattle.lu_component.specs.Component.{Declarations}
@@ -19,7 +19,7 @@ use Rattle.lu_spec.specs.Codes.{spec_code_of}
 use Rattle.lu_spec.specs.SpecText.{IsSpecFault}
 use Rattle.lu_refute.specs.Linearizable.{IsCounterexample}
 use Rattle.lu_cli.specs.declared.refusal.Refusal.{Refusal}
-use Rattle.lu_cli.specs.Refusals.{Answered, line_answer, refusal_answer}
+use Rattle.lu_cli.specs.Refusals.{Answered, SaysResult, line_answer, refusal_answer}
 use Rattle.lu_cli.specs.Replies.{Answer, ToReport, ToSpec, ToTexts}
 use Rattle.lu_cli.specs.Texts.{AreSettled}
 
@@ -36,6 +36,11 @@ cut_of c matrix lengths of = (of.0, first_of c matrix.threads lengths of.1)
 -- a counterexample is one of the component
 pub example_of : (c : Declarations) (matrix : Matrix) (Set : List SerialOp → Type 0) (example : Matrix × List Move) → IsOf matrix c → IsCounterexample c matrix Set example → IsOf example.0 c
 example_of c matrix Set example of is = subst (λ (m : Matrix). IsOf m c) (sym is.0.2) (cut_of c matrix is.0.0 of)
+
+-- what an answer or the line of a refusal is, is what is said
+pub says_answered : (IsAnswer : Answer → Type 0) (carried : Result Answer Refusal) (said : Answer) → Answered IsAnswer carried → SaysResult carried said → IsAnswer said
+says_answered IsAnswer (Ok a) said is says = subst IsAnswer (sym says) is
+says_answered IsAnswer (Err e) said is says = subst (λ (o : Option Answer). IfSome o IsAnswer) says is
 
 -- ---- texts
 

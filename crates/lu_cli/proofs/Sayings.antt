@@ -9,7 +9,7 @@ use Rattle.std.proofs.lemmas.List.{length-replicate}
 use Rattle.lu_text.specs.declared.fault.Fault.{Fault}
 use Rattle.lu_text.specs.declared.fault.Fault.TheVariants.{At, Memory}
 use Rattle.lu_text.specs.Faults.{meaning_of}
-use Rattle.lu_text.specs.Words.{two, three, four}
+use Rattle.lu_text.specs.Words.{exactly_two, exactly_three, exactly_four}
 use Rattle.lu_component.specs.Component.{Declarations}
 use Rattle.lu_lang.specs.Kinds.{code_of}
 use Rattle.lu_lang.specs.Grammar.{component_grammar}
@@ -33,6 +33,7 @@ use Rattle.lu_report.specs.Parts.{Parts}
 use Rattle.lu_parallel.specs.Ranges.{Choice}
 use Rattle.lu_spec.specs.Codes.{spec_code_of}
 use Rattle.lu_refine.specs.declared.campaigns.Campaign.{Campaign}
+use Rattle.lu_refine.specs.ByThread.{Asked}
 use Rattle.lu_refine.specs.declared.campaigns.Campaign.TheVariants.{AllPass, First}
 use Rattle.lu_certify.specs.declared.certificate.Certificate.{Certificate}
 use Rattle.lu_certify.specs.declared.certificate.Certificate.TheVariants.{Linearizable, NotLinearizable, Undecided}
@@ -43,8 +44,8 @@ use Rattle.lu_cli.specs.declared.order.CampaignThreads.{CampaignThreads}
 use Rattle.lu_cli.specs.declared.order.CampaignThreads.TheVariants.{Alike, Own}
 use Rattle.lu_cli.specs.declared.order.Request.{Request}
 use Rattle.lu_cli.specs.declared.order.Request.TheVariants.{Lint, Ordered}
-use Rattle.lu_cli.specs.declared.order.Order.{Order}
-use Rattle.lu_cli.specs.declared.order.Order.TheVariants.{Replay, Trace, TraceFromSetup, Draw, DrawExplained, Explain, ExplainAgainst, Serial, Spec, Check, CheckAgainst, Certify, Refute, Shrink, Campaign as Campaigning}
+use Rattle.lu_cli.specs.declared.order.BundleCommand.{BundleCommand}
+use Rattle.lu_cli.specs.declared.order.BundleCommand.TheVariants.{Replay, Trace, TraceFromSetup, Draw, DrawExplained, Explain, ExplainAgainst, Serial, Spec, Check, CheckAgainst, Certify, Refute, Shrink, Campaign as Campaigning}
 use Rattle.lu_cli.specs.declared.explaining.Presentation.{Presentation}
 use Rattle.lu_cli.specs.declared.explaining.Presentation.TheVariants.{Words, Picture}
 use Rattle.lu_explain.specs.Explanations.{Explained}
@@ -56,7 +57,7 @@ use Rattle.lu_cli.specs.declared.explaining.Target.TheVariants as target
 use Rattle.lu_cli.specs.Explaining.{IsExplained, IsExplainedBy, IsExplainedSchedule, IsExplainedSerially, IsPicturedBy, IsPresentedBy, ToEnded, ToFinding, is_report, status_by, unexplained}
 use Rattle.lu_cli.specs.Bundle.{bundle_parts}
 use Rattle.lu_report.specs.Limits.{Limits}
-use Rattle.lu_cli.specs.Replies.{Answer, Answers, IsAnswerFrom, IsAnswerIn, IsAnswerOf, IsAnswerTo, IsAnswerToAlike, IsAnswerToPart, IsByThreadAnswer, IsCampaignAlike, IsCampaignAnswer, IsCampaignBy, IsCampaignFrom, IsCertified, IsCheckAgainstFrom, IsCheckAgainstOf, IsChecked, IsCheckedAgainst, IsCollected, IsCountAnswer, IsDrawn, IsExplainAgainstOf, IsExplainOf, IsExplainedAgainst, IsExplainedText, IsLinted, IsRefuted, IsRefutedBy, IsRefuteOf, IsReplayed, IsRunSerially, IsShrinkAnswer, IsSliceAnswer, IsSpecOf, IsTraced, IsTracedFromSetup, ShowsCertificate, Tells, ToMatrix, ToParts, ToReport, ToSchedule, ToSettled, ToShown, ToSpec, ToTarget, ToTexts, ToValue, found_answer, no_command, no_device, no_memory, or_schedule, refused, reported, status_of, with_matrix}
+use Rattle.lu_cli.specs.Replies.{Answer, Answers, IsAnswerFrom, IsAnswerIn, IsAnswerOf, IsAnswerToOrder, IsAnswerToAlike, IsAnswerToPart, IsByThreadAnswer, IsCampaignAlike, IsCampaignReply, IsCampaignBy, IsCampaignFrom, IsCertified, IsCheckAgainstFrom, IsCheckAgainstOf, IsChecked, IsCheckedAgainst, IsCollected, IsCountAnswer, IsDrawn, IsExplainAgainstOf, IsExplainOf, IsExplainedAgainst, IsExplainedText, IsLinted, IsRefuted, IsRefutedBy, IsRefuteOf, IsReplayed, IsRunSerially, IsShrinkAnswer, IsSliceReply, IsSpecOf, IsTraced, IsTracedFromSetup, ShowsCertificate, Tells, ToMatrix, ToParts, ToReport, ToSchedule, ToSettled, ToShown, ToSpec, ToTarget, ToTexts, ToValue, found_answer, lists_of, no_command, no_device, no_memory, or_schedule, refused, reported, status_of, with_matrix}
 
 -- an answer that was made and said
 pub said : (IsAnswer : Answer → Type 0) (answer : Answer) (text : List ℕ) (old new : Option (List ℕ)) (status : ℕ) → IsAnswer answer → text ≡ answer.text → Appends old new text × (status ≡ answer.status) → Answers IsAnswer old new status
@@ -174,21 +175,21 @@ parts_else : {A : Type 0} (parts : Option A) (IsAnswer : A → Answer → Type 0
 parts_else None IsAnswer answer h is = refused_else (codes "B1") answer is
 parts_else (Some parts) IsAnswer answer h is = h parts is
 
-two_else : (parts : List (List ℕ)) (IsAnswer : Declarations → Matrix → Answer → Type 0) (answer : Answer) → ((c : Declarations) (m : Matrix) → IsAnswer c m answer → IsElse answer) → ToParts (two parts) (λ p. ToTexts p.0 p.1 IsAnswer) answer → IsElse answer
+two_else : (parts : List (List ℕ)) (IsAnswer : Declarations → Matrix → Answer → Type 0) (answer : Answer) → ((c : Declarations) (m : Matrix) → IsAnswer c m answer → IsElse answer) → ToParts (exactly_two parts) (λ p. ToTexts p.0 p.1 IsAnswer) answer → IsElse answer
 two_else parts IsAnswer answer h is =
-    parts_else (two parts) (λ p. ToTexts p.0 p.1 IsAnswer) answer (λ p more. texts_else p.0 p.1 IsAnswer answer h more) is
+    parts_else (exactly_two parts) (λ p. ToTexts p.0 p.1 IsAnswer) answer (λ p more. texts_else p.0 p.1 IsAnswer answer h more) is
 
-three_else : (parts : List (List ℕ)) (IsAnswer : Declarations → Matrix → List Move → Answer → Type 0) (answer : Answer) → ((c : Declarations) (m : Matrix) (u : List Move) → IsAnswer c m u answer → IsElse answer) → ToParts (three parts) (λ p. ToTexts p.0 p.1 (λ c m. ToSchedule (schedule_of p.2) (IsAnswer c m))) answer → IsElse answer
+three_else : (parts : List (List ℕ)) (IsAnswer : Declarations → Matrix → List Move → Answer → Type 0) (answer : Answer) → ((c : Declarations) (m : Matrix) (u : List Move) → IsAnswer c m u answer → IsElse answer) → ToParts (exactly_three parts) (λ p. ToTexts p.0 p.1 (λ c m. ToSchedule (schedule_of p.2) (IsAnswer c m))) answer → IsElse answer
 three_else parts IsAnswer answer h is =
-    parts_else (three parts) (λ p. ToTexts p.0 p.1 (λ c m. ToSchedule (schedule_of p.2) (IsAnswer c m))) answer
+    parts_else (exactly_three parts) (λ p. ToTexts p.0 p.1 (λ c m. ToSchedule (schedule_of p.2) (IsAnswer c m))) answer
     (λ p more. texts_else p.0 p.1 (λ c m. ToSchedule (schedule_of p.2) (IsAnswer c m)) answer (λ c m play. scheduled_else (schedule_of p.2) (IsAnswer c m) answer (h c m) play) more) is
 
 told_shown_else : (text : List ℕ) (IsAnswer : List Move → Answer → Type 0) (answer : Answer) → ((u : List Move) → IsAnswer u answer → IsElse answer) → ToShown text IsAnswer answer → IsElse answer
 told_shown_else text IsAnswer answer h (found, of, more) = scheduled_else (or_schedule found text) IsAnswer answer h more
 
-shown_parts_else : (parts : List (List ℕ)) (IsAnswer : Declarations → Matrix → List Move → Answer → Type 0) (answer : Answer) → ((c : Declarations) (m : Matrix) (u : List Move) → IsAnswer c m u answer → IsElse answer) → ToParts (three parts) (λ p. ToTexts p.0 p.1 (λ c m. ToShown p.2 (IsAnswer c m))) answer → IsElse answer
+shown_parts_else : (parts : List (List ℕ)) (IsAnswer : Declarations → Matrix → List Move → Answer → Type 0) (answer : Answer) → ((c : Declarations) (m : Matrix) (u : List Move) → IsAnswer c m u answer → IsElse answer) → ToParts (exactly_three parts) (λ p. ToTexts p.0 p.1 (λ c m. ToShown p.2 (IsAnswer c m))) answer → IsElse answer
 shown_parts_else parts IsAnswer answer h is =
-    parts_else (three parts) (λ p. ToTexts p.0 p.1 (λ c m. ToShown p.2 (IsAnswer c m))) answer
+    parts_else (exactly_three parts) (λ p. ToTexts p.0 p.1 (λ c m. ToShown p.2 (IsAnswer c m))) answer
     (λ p more. texts_else p.0 p.1 (λ c m. ToShown p.2 (IsAnswer c m)) answer (λ c m play. told_shown_else p.2 (IsAnswer c m) answer (h c m) play) more) is
 
 matrix_else : (c : Declarations) (m : Matrix) (r : Parts) (answer : Answer) → answer ≡ with_matrix c m r → IsElse answer
@@ -217,13 +218,13 @@ refute_else c m report spec answer is =
 
 spec_parts_else : (choice : Choice) (parts : List (List ℕ)) (answer : Answer) → IsCheckAgainstOf choice parts answer → IsElse answer
 spec_parts_else choice parts answer is =
-    parts_else (three parts) (λ p. ToTexts p.0 p.1 (λ c m. IsCheckAgainstFrom c m choice p.2)) answer
+    parts_else (exactly_three parts) (λ p. ToTexts p.0 p.1 (λ c m. IsCheckAgainstFrom c m choice p.2)) answer
     (λ p more. texts_else p.0 p.1 (λ c m. IsCheckAgainstFrom c m choice p.2) answer
     (λ c m from. spec_else m p.2 (IsCheckedAgainst c m choice) answer (λ members last. against_else c m choice members answer last) from) more) is
 
 four_else : (parts : List (List ℕ)) (answer : Answer) → IsRefuteOf parts answer → IsElse answer
 four_else parts answer is =
-    parts_else (four parts) (λ p. ToTexts p.0 p.1 (λ c m. IsRefutedBy c m p.2 p.3)) answer
+    parts_else (exactly_four parts) (λ p. ToTexts p.0 p.1 (λ c m. IsRefutedBy c m p.2 p.3)) answer
     (λ p more. texts_else p.0 p.1 (λ c m. IsRefutedBy c m p.2 p.3) answer (λ c m from. refute_else c m p.2 p.3 answer from) more) is
 
 unexplained_else : (why schedule : List ℕ) (answer : Answer) → answer ≡ unexplained why schedule → IsElse answer
@@ -276,13 +277,13 @@ target_else text IsAnswer answer h is = go (is_report text) is
 
 explain_else : (by : Presentation) (limits : Limits) (parts : List (List ℕ)) (answer : Answer) → IsExplainOf by limits parts answer → IsElse answer
 explain_else by limits parts answer is =
-    parts_else (three parts) (λ p. ToTexts p.0 p.1 (λ c m. IsExplainedText by limits c m p.2)) answer
+    parts_else (exactly_three parts) (λ p. ToTexts p.0 p.1 (λ c m. IsExplainedText by limits c m p.2)) answer
     (λ p more. texts_else p.0 p.1 (λ c m. IsExplainedText by limits c m p.2) answer
     (λ c m from. target_else p.2 (IsExplainedSerially by limits.serial c m) answer (λ t last. serially_else by limits.serial c m t answer last) from) more) is
 
 explain_against_else : (parts : List (List ℕ)) (answer : Answer) → IsExplainAgainstOf parts answer → IsElse answer
 explain_against_else parts answer is =
-    parts_else (four parts) (λ p. ToTexts p.0 p.1 (λ c m. IsExplainedAgainst c m p.2 p.3)) answer
+    parts_else (exactly_four parts) (λ p. ToTexts p.0 p.1 (λ c m. IsExplainedAgainst c m p.2 p.3)) answer
     (λ p more. texts_else p.0 p.1 (λ c m. IsExplainedAgainst c m p.2 p.3) answer
     (λ c m from. target_else p.2 (λ t. ToSpec m p.3 (λ members. IsExplained Words members c m t)) answer
     (λ t read. spec_else m p.3 (λ members. IsExplained Words members c m t) answer (λ members last. explanation_else Words members c m t answer last) read) from) more) is
@@ -291,31 +292,31 @@ found_else : (c : Declarations) (found : Campaign) (answer : Answer) → answer 
 found_else c (AllPass count) answer is = status_else answer 0 (ap (λ (a : Answer). a.status) is) (λ e. omega arith)
 found_else c (First m r) answer is = matrix_else c m r answer is
 
-campaign_else : (c : Declarations) (options : CampaignOptions) (setup candidates : List Call) (threads : ℕ) (answer : Answer) → IsCampaignAnswer c setup candidates threads options answer → IsElse answer
+campaign_else : (c : Declarations) (options : CampaignOptions) (setup candidates : List Call) (threads : ℕ) (answer : Answer) → IsCampaignReply c setup candidates threads options answer → IsElse answer
 campaign_else c options setup candidates threads answer (inl is) = found_else c is.0 answer is.2
 campaign_else c options setup candidates threads answer (inr is) = refused_else _ answer is.3
 
-by_thread_else : (c : Declarations) (options : CampaignOptions) (setup : List Call) (lists : List (List Call)) (answer : Answer) → IsByThreadAnswer c setup lists options answer → IsElse answer
-by_thread_else c options setup lists answer (inl is) = found_else c is.0 answer is.2
-by_thread_else c options setup lists answer (inr is) = refused_else _ answer is.3
+by_thread_else : (asked : Asked) (answer : Answer) → IsByThreadAnswer asked answer → IsElse answer
+by_thread_else asked answer (inl is) = found_else asked.component is.0 answer is.2
+by_thread_else asked answer (inr is) = refused_else _ answer is.3
 
-slice_else : (c : Declarations) (options : CampaignOptions) (setup : List Call) (lists : List (List Call)) (from upto : ℕ) (answer : Answer) → IsSliceAnswer c setup lists options from upto answer → IsElse answer
-slice_else c options setup lists from upto answer (inl is) = found_else c is.0 answer is.2
-slice_else c options setup lists from upto answer (inr is) = refused_else _ answer is.3
+slice_else : (asked : Asked) (from upto : ℕ) (answer : Answer) → IsSliceReply asked from upto answer → IsElse answer
+slice_else asked from upto answer (inl is) = found_else asked.component is.0 answer is.2
+slice_else asked from upto answer (inr is) = refused_else _ answer is.3
 
 count_else : (lists : List (List Call)) (calls : ℕ) (answer : Answer) → IsCountAnswer lists calls answer → IsElse answer
 count_else lists calls answer (inl is) = status_else answer 0 (ap (λ (a : Answer). a.status) is.1) (λ e. omega arith)
 count_else lists calls answer (inr is) = refused_else _ answer is.3
 
-lists_else : (part : CampaignPart) (c : Declarations) (options : CampaignOptions) (setup : List Call) (lists : List (List Call)) (answer : Answer) → IsAnswerToPart part c setup lists options answer → IsElse answer
-lists_else Whole c options setup lists answer is = by_thread_else c options setup lists answer is
-lists_else (Slice from upto) c options setup lists answer is = slice_else c options setup lists from upto answer is
-lists_else Count c options setup lists answer is = count_else lists options.calls answer is
+lists_else : (part : CampaignPart) (asked : Asked) (answer : Answer) → IsAnswerToPart part asked answer → IsElse answer
+lists_else Whole asked answer is = by_thread_else asked answer is
+lists_else (Slice from upto) asked answer is = slice_else asked from upto answer is
+lists_else Count asked answer is = count_else asked.candidates asked.calls answer is
 
 alike_else : (part : CampaignPart) (c : Declarations) (options : CampaignOptions) (setup candidates : List Call) (threads : ℕ) (answer : Answer) → IsAnswerToAlike part c setup candidates threads options answer → IsElse answer
 alike_else Whole c options setup candidates threads answer is = campaign_else c options setup candidates threads answer is
-alike_else (Slice from upto) c options setup candidates threads answer is = lists_else options.part c options setup (replicate threads candidates) answer is
-alike_else Count c options setup candidates threads answer is = lists_else options.part c options setup (replicate threads candidates) answer is
+alike_else (Slice from upto) c options setup candidates threads answer is = lists_else options.part (lists_of c setup (replicate threads candidates) options) answer is
+alike_else Count c options setup candidates threads answer is = lists_else options.part (lists_of c setup (replicate threads candidates) options) answer is
 
 candidates_else : (c : Declarations) (threads : ℕ) (options : CampaignOptions) (setup : List Call) (lists : List (List Call)) (answer : Answer) → IsCampaignAlike c threads options (record { setup = setup; threads = lists }) answer → IsElse answer
 candidates_else c threads options setup [] answer is = refused_else (codes "G2") answer is
@@ -324,7 +325,7 @@ candidates_else c threads options setup (a ∷ b ∷ m) answer is = refused_else
 
 matrices_else : (threads : CampaignThreads) (c : Declarations) (options : CampaignOptions) (m : Matrix) (answer : Answer) → IsCampaignBy threads c options m answer → IsElse answer
 matrices_else (Alike threads) c options m answer is = candidates_else c threads options m.setup m.threads answer is
-matrices_else Own c options m answer is = lists_else options.part c options m.setup m.threads answer is
+matrices_else Own c options m answer is = lists_else options.part (lists_of c m.setup m.threads options) answer is
 
 collected_else : (m : Matrix) (text : List ℕ) (answer : Answer) → IsCollected m text answer → IsElse answer
 collected_else m text answer (inl is) = status_else answer 0 (ap (λ (a : Answer). a.status) is.2.2) (λ e. omega arith)
@@ -332,10 +333,10 @@ collected_else m text answer (inr is) = refused_else (spec_code_of is.0 ++ codes
 
 collected_parts_else : (parts : List (List ℕ)) (answer : Answer) → IsSpecOf parts answer → IsElse answer
 collected_parts_else parts answer is =
-    parts_else (three parts) (λ p. ToTexts p.0 p.1 (λ c m. IsCollected m p.2)) answer
+    parts_else (exactly_three parts) (λ p. ToTexts p.0 p.1 (λ c m. IsCollected m p.2)) answer
     (λ p more. texts_else p.0 p.1 (λ c m. IsCollected m p.2) answer (λ c m last. collected_else m p.2 answer last) more) is
 
-pub order_else : (order : Order) (parts : List (List ℕ)) (answer : Answer) → IsAnswerTo order parts answer → IsElse answer
+pub order_else : (order : BundleCommand) (parts : List (List ℕ)) (answer : Answer) → IsAnswerToOrder order parts answer → IsElse answer
 order_else Replay parts answer is = three_else parts IsReplayed answer (λ c m u more. replayed_else c m u answer more) is
 order_else Trace parts answer is = shown_parts_else parts IsTraced answer (λ c m u more. traced_else c m u answer more) is
 order_else TraceFromSetup parts answer is = shown_parts_else parts IsTracedFromSetup answer (λ c m u more. from_setup_else c m u answer more) is

@@ -19,11 +19,11 @@ use Rattle.lu_cli.specs.declared.order.CampaignThreads.{CampaignThreads}
 use Rattle.lu_cli.specs.declared.order.CampaignThreads.TheVariants.{Alike, Own}
 use Rattle.lu_cli.specs.declared.order.Request.{Request}
 use Rattle.lu_cli.specs.declared.order.Request.TheVariants.{Lint, Ordered}
-use Rattle.lu_cli.specs.declared.order.Order.{Order}
-use Rattle.lu_cli.specs.declared.order.Order.TheVariants.{Replay, Trace, TraceFromSetup, Draw, DrawExplained, Explain, ExplainAgainst, Serial, Spec, Check, CheckAgainst, Certify, Refute, Shrink, Campaign}
+use Rattle.lu_cli.specs.declared.order.BundleCommand.{BundleCommand}
+use Rattle.lu_cli.specs.declared.order.BundleCommand.TheVariants.{Replay, Trace, TraceFromSetup, Draw, DrawExplained, Explain, ExplainAgainst, Serial, Spec, Check, CheckAgainst, Certify, Refute, Shrink, Campaign}
 use Rattle.lu_cli.specs.Orders.{choice_of}
 use Rattle.lu_report.specs.Limits.{Limits, limits_of, most_moves}
-use Rattle.lu_parallel.specs.Ranges.{Choice}
+use Rattle.lu_parallel.specs.Ranges.{Choice, choice, with_head_start}
 
 -- the greatest number of 64 bits
 abbrev pub most_long : ℕ
@@ -74,7 +74,7 @@ abbrev pub shared_out : Text → Text → App
 shared_out name default =
     with_rule
     (with_rule (bounded name default) (number_option (codes "workers") 1 16 (codes "1")))
-    (number_option (codes "depth") 0 8 (codes "4"))
+    (optional_number (codes "depth") 0 8)
 
 abbrev pub replay_command : App
 replay_command = new_app (codes "replay")
@@ -182,8 +182,8 @@ abbrev pub number_said : ℕ → Option Text → Option ℕ
 number_said bits word =
     option_and_then (λ text. number_by bits (without_leading_plus text)) word
 
-abbrev pub number_in : Text → List Row → Option ℕ
-number_in name rows = number_said 16 (one_of name rows)
+abbrev pub number_named : Text → List Row → Option ℕ
+number_named name rows = number_said 16 (one_of name rows)
 
 abbrev pub long_number_in : Text → List Row → Option ℕ
 long_number_in name rows = number_said 64 (one_of name rows)
@@ -202,51 +202,61 @@ limits_with (Some bound) None = None
 limits_with None serial = None
 
 abbrev pub limits_in : List Row → Option Limits
-limits_in rows = limits_with (number_in (codes "bound") rows) (number_in (codes "serial") rows)
+limits_in rows =
+    limits_with (number_named (codes "bound") rows) (number_named (codes "serial") rows)
+
+-- how many looks of its watch the search of one worker lasts before there are more
+abbrev pub head_start : ℕ
+head_start = 4194304
+
+-- pieces of so many moves at once; where that is not said, a head start, and then pieces of 4
+abbrev pub choice_for : ℕ → ℕ → ℕ → Option ℕ → Choice
+choice_for bound serial workers None = with_head_start head_start (choice bound serial workers 4)
+choice_for bound serial workers (Some depth) = choice bound serial workers depth
 
 abbrev pub choice_with : Option ℕ → Option ℕ → Option ℕ → Option ℕ → Option Choice
-choice_with (Some bound) (Some serial) (Some workers) (Some depth) =
-    choice_of (record { bound = bound; serial = serial; workers = workers; depth = depth })
+choice_with (Some bound) (Some serial) (Some workers) depth =
+    choice_of (choice_for bound serial workers depth)
 choice_with _ _ _ _ = None
 
 abbrev pub choice_in : List Row → Option Choice
 choice_in rows =
-    choice_with (number_in (codes "bound") rows) (number_in (codes "serial") rows)
-    (number_in (codes "workers") rows)
-    (number_in (codes "depth") rows)
+    choice_with (number_named (codes "bound") rows) (number_named (codes "serial") rows)
+    (number_named (codes "workers") rows)
+    (number_named (codes "depth") rows)
 
 -- a check against the serial runs, or one against a specification
-abbrev pub check_order : Bool → Choice → Order
+abbrev pub check_order : Bool → Choice → BundleCommand
 check_order against choice = if against then CheckAgainst choice else Check choice
 
-abbrev pub check_in : List Row → Option Order
+abbrev pub check_in : List Row → Option BundleCommand
 check_in rows = option_map (check_order (flag_in (codes "spec") rows)) (choice_in rows)
 
 -- a trace, or one from the setup on
-abbrev pub trace_order : Bool → Order
+abbrev pub trace_order : Bool → BundleCommand
 trace_order with_setup = if with_setup then TraceFromSetup else Trace
 
-abbrev pub trace_in : List Row → Order
+abbrev pub trace_in : List Row → BundleCommand
 trace_in rows = trace_order (flag_in (codes "setup") rows)
 
 -- a picture, or one with an explanation
-abbrev pub draw_order : Bool → Limits → Order
+abbrev pub draw_order : Bool → Limits → BundleCommand
 draw_order explained limits = if explained then DrawExplained limits else Draw
 
-abbrev pub draw_in : List Row → Option Order
+abbrev pub draw_in : List Row → Option BundleCommand
 draw_in rows =
     option_map (draw_order (flag_in (codes "explain") rows))
-    (limits_with (Some 0) (number_in (codes "serial") rows))
+    (limits_with (Some 0) (number_named (codes "serial") rows))
 
 -- an explanation by the serial runs, or one by a specification
-abbrev pub explain_order : Bool → Limits → Order
+abbrev pub explain_order : Bool → Limits → BundleCommand
 explain_order against limits = if against then ExplainAgainst else Explain limits
 
 -- no schedule is bounded
-abbrev pub explain_in : List Row → Option Order
+abbrev pub explain_in : List Row → Option BundleCommand
 explain_in rows =
     option_map (explain_order (flag_in (codes "spec") rows))
-    (limits_with (Some 0) (number_in (codes "serial") rows))
+    (limits_with (Some 0) (number_named (codes "serial") rows))
 
 -- so many threads, where the number is one of 8 bits
 abbrev pub alike : ℕ → Option CampaignThreads
@@ -260,7 +270,8 @@ threads_with false None = alike 2
 threads_with false (Some threads) = alike threads
 
 abbrev pub threads_in : List Row → Option CampaignThreads
-threads_in rows = threads_with (flag_in (codes "by-thread") rows) (number_in (codes "threads") rows)
+threads_in rows =
+    threads_with (flag_in (codes "by-thread") rows) (number_named (codes "threads") rows)
 
 -- the matrices from one number to another: all, where these are the least and the greatest
 abbrev pub slice_of : ℕ → ℕ → CampaignPart
@@ -289,10 +300,10 @@ campaign_with _ _ _ _ = None
 
 abbrev pub campaign_in : List Row → Option CampaignOptions
 campaign_in rows =
-    campaign_with (limits_in rows) (threads_in rows) (number_in (codes "calls") rows)
+    campaign_with (limits_in rows) (threads_in rows) (number_named (codes "calls") rows)
     (part_in rows)
 
-abbrev pub order_by : Text → List Row → Option Order
+abbrev pub order_by : Text → List Row → Option BundleCommand
 order_by name rows =
     if bytes_eq name (codes "replay") then Some Replay
     else (if bytes_eq name (codes "trace") then Some (trace_in rows)
@@ -309,7 +320,7 @@ order_by name rows =
 
 -- no schedule is bounded
 abbrev pub lint_in : List Row → Option Request
-lint_in rows = option_map Lint (limits_with (Some 0) (number_in (codes "serial") rows))
+lint_in rows = option_map Lint (limits_with (Some 0) (number_named (codes "serial") rows))
 
 -- what a command with these rows asks for
 abbrev pub request_by : Text → List Row → Option Request

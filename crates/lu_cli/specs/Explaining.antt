@@ -18,7 +18,7 @@ use Rattle.lu_witness.specs.Witnesses.{IsMember, IsVerdict}
 use Rattle.lu_report.specs.declared.report.Finding.{Finding}
 use Rattle.lu_report.specs.declared.report.Finding.TheVariants.{SerialCut, Nondeterministic, Fail, Pass}
 pub use Rattle.lu_report.specs.Parts.{IsOfOffence}
-use Rattle.lu_replay.specs.Replays.{IsInfeasibleAt, Shows}
+use Rattle.lu_replay.specs.Replays.{IsInfeasibleAt, PlaysToStatus}
 use Rattle.lu_replay.specs.Reports.{IsFinding}
 use Rattle.lu_explain.specs.Blocks.{IsTextFor, run_of}
 use Rattle.lu_explain.specs.EventMoves.{AreEventMoves}
@@ -80,7 +80,7 @@ ToEnded Stuck IsAnswer answer = IsAnswer answer
 abbrev pub IsExplainedSchedule : Presentation → List (List SerialOp) → Declarations → Matrix
     → List Move → Answer → Type 0
 IsExplainedSchedule by members c m u answer =
-    ((h : List Event) × (status : Status) × Shows c m u h status
+    ((h : List Event) × (status : Status) × PlaysToStatus c m u h status
     × ToEnded status (IsPresentedBy by members c m u h) answer)
     ⊎ ((i : ℕ) × IsInfeasibleAt c m u i × (answer ≡ infeasible i))
 

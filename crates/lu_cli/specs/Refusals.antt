@@ -1,5 +1,5 @@
 -- What is written of a refusal.
-use Rattle.std.specs.Prelude.{ℕ, List, Option, Some, None, Result, Ok, Err, IfSome, codes}
+use Rattle.std.specs.Prelude.{◌≡◌, ℕ, List, Option, Some, None, Result, Ok, Err, IfSome, codes}
 use Rattle.lu_text.specs.declared.fault.Fault.{Fault}
 use Rattle.lu_text.specs.declared.fault.Fault.TheVariants.{At, Memory}
 use Rattle.lu_lang.specs.Kinds.{code_of}
@@ -64,3 +64,8 @@ refusal_answer refusal.Memory = None
 abbrev pub Answered : (Answer → Type 0) → Result Answer Refusal → Type 0
 Answered IsAnswer (Ok answer) = IsAnswer answer
 Answered IsAnswer (Err refusal) = IfSome (refusal_answer refusal) IsAnswer
+
+-- what is told of it: the answer, or the refusal's line
+abbrev pub SaysResult : Result Answer Refusal → Answer → Type 0
+SaysResult (Ok answer) told = told ≡ answer
+SaysResult (Err refusal) told = refusal_answer refusal ≡ Some told

@@ -5,7 +5,7 @@ use Rattle.std.specs.Io.KnownBytes.{Appends}
 use Rattle.lu_text.specs.declared.fault.Fault.{Fault}
 use Rattle.lu_text.specs.declared.fault.Fault.TheVariants.{At, Memory}
 use Rattle.lu_text.specs.Faults.{meaning_of}
-use Rattle.lu_text.specs.Words.{two, three, four}
+use Rattle.lu_text.specs.Words.{exactly_two, exactly_three, exactly_four}
 use Rattle.lu_component.specs.Component.{Declarations}
 use Rattle.lu_lang.specs.Kinds.{code_of}
 use Rattle.lu_lang.specs.Grammar.{component_grammar}
@@ -34,7 +34,7 @@ use Rattle.lu_report.specs.declared.fault.ReportFaultKind.{ReportFaultKind}
 use Rattle.lu_report.specs.Codes.{report_code_of}
 use Rattle.lu_report.specs.Forms.{IsFault, Spells}
 use Rattle.lu_replay.specs.Confirmed.{IsFailure}
-use Rattle.lu_replay.specs.Replays.{Shows, IsInfeasibleAt}
+use Rattle.lu_replay.specs.Replays.{PlaysToStatus, IsInfeasibleAt}
 use Rattle.lu_replay.specs.Text.{replay_text}
 use Rattle.lu_trace.specs.Traces.{IsTrace}
 use Rattle.lu_trace.specs.Setups.{IsTraceFromSetup}
@@ -76,8 +76,8 @@ use Rattle.lu_cli.specs.declared.order.CampaignThreads.{CampaignThreads}
 use Rattle.lu_cli.specs.declared.order.CampaignThreads.TheVariants.{Alike, Own}
 use Rattle.lu_cli.specs.declared.order.Request.{Request}
 use Rattle.lu_cli.specs.declared.order.Request.TheVariants.{Lint, Ordered}
-use Rattle.lu_cli.specs.declared.order.Order.{Order}
-use Rattle.lu_cli.specs.declared.order.Order.TheVariants.{Replay, Trace, TraceFromSetup, Draw, DrawExplained, Explain, ExplainAgainst, Serial, Spec, Check, CheckAgainst, Certify, Refute, Shrink, Campaign as Campaigning}
+use Rattle.lu_cli.specs.declared.order.BundleCommand.{BundleCommand}
+use Rattle.lu_cli.specs.declared.order.BundleCommand.TheVariants.{Replay, Trace, TraceFromSetup, Draw, DrawExplained, Explain, ExplainAgainst, Serial, Spec, Check, CheckAgainst, Certify, Refute, Shrink, Campaign as Campaigning}
 use Rattle.lu_cli.specs.declared.refusal.Refusal.{Refusal}
 use Rattle.lu_cli.specs.declared.refusal.Refusal.TheVariants as refusal
 use Rattle.lu_cli.specs.declared.explaining.Target.{Target}
@@ -106,7 +106,7 @@ ToSchedule (Err fault) IsAnswer answer = answer ≡ refused (schedule_code_of fa
 -- what the schedule shows, or where it is infeasible
 abbrev pub IsReplayed : Declarations → Matrix → List Move → Answer → Type 0
 IsReplayed c matrix u answer =
-    ((history : List Event) × (status : Status) × Shows c matrix u history status
+    ((history : List Event) × (status : Status) × PlaysToStatus c matrix u history status
     × (answer ≡ record { text = replay_text history status; status = 0 }))
     ⊎ ((i : ℕ) × IsInfeasibleAt c matrix u i
     × (answer ≡ infeasible i))
@@ -312,8 +312,8 @@ ToShown text IsAnswer answer =
     × ToSchedule (or_schedule found text) IsAnswer answer
 
 -- what is read of such a text
-abbrev pub IsShown : List ℕ → List Move → Type 0
-IsShown text u =
+abbrev pub IsScheduleIn : List ℕ → List Move → Type 0
+IsScheduleIn text u =
     (found : Option (List Move)) × IsOfReport text found × (or_schedule found text ≡ Ok u)
 
 -- why it is refused: by its fault as a schedule, or memory ran out
@@ -384,9 +384,9 @@ options_of c setup candidates threads o =
 
 -- what the campaign of so many threads over these calls finds, with this setup, or why there is
 -- none
-abbrev pub IsCampaignAnswer : Declarations → List Call → List Call → ℕ → CampaignOptions → Answer
+abbrev pub IsCampaignReply : Declarations → List Call → List Call → ℕ → CampaignOptions → Answer
     → Type 0
-IsCampaignAnswer c setup candidates threads o answer =
+IsCampaignReply c setup candidates threads o answer =
     ((found : Campaign) × IsFound (options_of c setup candidates threads o) found
     × (answer ≡ found_answer c found))
     ⊎ ((fault : CampaignFault) × (fault ≢ NoMemory)
@@ -404,20 +404,18 @@ IsListsRefusal candidates calls answer =
     × (answer ≡ refused (campaign_code_of fault))
 
 -- what the campaign finds in which each thread has its own candidates, or why there is none
-abbrev pub IsByThreadAnswer : Declarations → List Call → List (List Call) → CampaignOptions
-    → Answer → Type 0
-IsByThreadAnswer c setup candidates o answer =
-    ((found : Campaign) × IsFoundOfThreads (lists_of c setup candidates o) found
-    × (answer ≡ found_answer c found))
-    ⊎ IsListsRefusal candidates o.calls answer
+abbrev pub IsByThreadAnswer : Asked → Answer → Type 0
+IsByThreadAnswer asked answer =
+    ((found : Campaign) × IsFoundOfThreads asked found
+    × (answer ≡ found_answer asked.component found))
+    ⊎ IsListsRefusal asked.candidates asked.calls answer
 
 -- what its matrices with these numbers show
-abbrev pub IsSliceAnswer : Declarations → List Call → List (List Call) → CampaignOptions → ℕ → ℕ
-    → Answer → Type 0
-IsSliceAnswer c setup candidates o from upto answer =
-    ((found : Campaign) × IsFoundOfSlice (lists_of c setup candidates o) from upto found
-    × (answer ≡ found_answer c found))
-    ⊎ IsListsRefusal candidates o.calls answer
+abbrev pub IsSliceReply : Asked → ℕ → ℕ → Answer → Type 0
+IsSliceReply asked from upto answer =
+    ((found : Campaign) × IsFoundOfSlice asked from upto found
+    × (answer ≡ found_answer asked.component found))
+    ⊎ IsListsRefusal asked.candidates asked.calls answer
 
 -- how many matrices it has
 abbrev pub IsCountAnswer : List (List Call) → ℕ → Answer → Type 0
@@ -426,17 +424,15 @@ IsCountAnswer candidates calls answer =
     × (answer ≡ numbered (choice_count (bases calls candidates))))
     ⊎ IsListsRefusal candidates calls answer
 
-abbrev pub IsAnswerToPart : CampaignPart → Declarations → List Call → List (List Call)
-    → CampaignOptions → Answer → Type 0
-IsAnswerToPart Whole c setup candidates o = IsByThreadAnswer c setup candidates o
-IsAnswerToPart (Slice from upto) c setup candidates o =
-    IsSliceAnswer c setup candidates o from upto
-IsAnswerToPart Count c setup candidates o = IsCountAnswer candidates o.calls
+abbrev pub IsAnswerToPart : CampaignPart → Asked → Answer → Type 0
+IsAnswerToPart Whole asked = IsByThreadAnswer asked
+IsAnswerToPart (Slice from upto) asked = IsSliceReply asked from upto
+IsAnswerToPart Count asked = IsCountAnswer asked.candidates asked.calls
 
 -- what is answered where each thread has its own candidates
 abbrev pub IsListsAnswer : Declarations → List Call → List (List Call) → CampaignOptions → Answer
     → Type 0
-IsListsAnswer c setup candidates o = IsAnswerToPart o.part c setup candidates o
+IsListsAnswer c setup candidates o = IsAnswerToPart o.part (lists_of c setup candidates o)
 
 -- what is answered where so many threads have the same, and a part is asked for
 abbrev pub IsPartAnswer : Declarations → List Call → List Call → ℕ → CampaignOptions → Answer
@@ -445,7 +441,7 @@ IsPartAnswer c setup candidates threads o = IsListsAnswer c setup (replicate thr
 
 abbrev pub IsAnswerToAlike : CampaignPart → Declarations → List Call → List Call → ℕ
     → CampaignOptions → Answer → Type 0
-IsAnswerToAlike Whole c setup candidates threads o = IsCampaignAnswer c setup candidates threads o
+IsAnswerToAlike Whole c setup candidates threads o = IsCampaignReply c setup candidates threads o
 IsAnswerToAlike (Slice from upto) c setup candidates threads o =
     IsPartAnswer c setup candidates threads o
 IsAnswerToAlike Count c setup candidates threads o = IsPartAnswer c setup candidates threads o
@@ -502,76 +498,78 @@ ToParts (Some parts) IsAnswer answer = IsAnswer parts answer
 
 abbrev pub IsReplayOf : List (List ℕ) → Answer → Type 0
 IsReplayOf parts =
-    ToParts (three parts)
+    ToParts (exactly_three parts)
     (λ p. ToTexts p.0 p.1 (λ c m. ToSchedule (schedule_of p.2) (IsReplayed c m)))
 
 abbrev pub IsTraceOf : List (List ℕ) → Answer → Type 0
 IsTraceOf parts =
-    ToParts (three parts) (λ p. ToTexts p.0 p.1 (λ c m. IsTracedText c m p.2))
+    ToParts (exactly_three parts) (λ p. ToTexts p.0 p.1 (λ c m. IsTracedText c m p.2))
 
 abbrev pub IsTraceFromSetupOf : List (List ℕ) → Answer → Type 0
 IsTraceFromSetupOf parts =
-    ToParts (three parts) (λ p. ToTexts p.0 p.1 (λ c m. IsTracedFromSetupText c m p.2))
+    ToParts (exactly_three parts) (λ p. ToTexts p.0 p.1 (λ c m. IsTracedFromSetupText c m p.2))
 
 abbrev pub IsDrawOf : List (List ℕ) → Answer → Type 0
 IsDrawOf parts =
-    ToParts (three parts) (λ p. ToTexts p.0 p.1 (λ c m. IsDrawnText c m p.2))
+    ToParts (exactly_three parts) (λ p. ToTexts p.0 p.1 (λ c m. IsDrawnText c m p.2))
 
 abbrev pub IsExplainOf : Presentation → Limits → List (List ℕ) → Answer → Type 0
 IsExplainOf by limits parts =
-    ToParts (three parts) (λ p. ToTexts p.0 p.1 (λ c m. IsExplainedText by limits c m p.2))
+    ToParts (exactly_three parts) (λ p. ToTexts p.0 p.1 (λ c m. IsExplainedText by limits c m p.2))
 
 abbrev pub IsExplainAgainstOf : List (List ℕ) → Answer → Type 0
 IsExplainAgainstOf parts =
-    ToParts (four parts) (λ p. ToTexts p.0 p.1 (λ c m. IsExplainedAgainst c m p.2 p.3))
+    ToParts (exactly_four parts) (λ p. ToTexts p.0 p.1 (λ c m. IsExplainedAgainst c m p.2 p.3))
 
 abbrev pub IsSerialOf : Limits → List (List ℕ) → Answer → Type 0
 IsSerialOf limits parts =
-    ToParts (two parts) (λ p. ToTexts p.0 p.1 (λ c m. IsRunSerially c m limits))
+    ToParts (exactly_two parts) (λ p. ToTexts p.0 p.1 (λ c m. IsRunSerially c m limits))
 
 abbrev pub IsSpecOf : List (List ℕ) → Answer → Type 0
 IsSpecOf parts =
-    ToParts (three parts) (λ p. ToTexts p.0 p.1 (λ c m. IsCollected m p.2))
+    ToParts (exactly_three parts) (λ p. ToTexts p.0 p.1 (λ c m. IsCollected m p.2))
 
 abbrev pub IsCheckOf : Choice → List (List ℕ) → Answer → Type 0
-IsCheckOf choice parts = ToParts (two parts) (λ p. ToTexts p.0 p.1 (λ c m. IsChecked c m choice))
+IsCheckOf choice parts =
+    ToParts (exactly_two parts) (λ p. ToTexts p.0 p.1 (λ c m. IsChecked c m choice))
 
 abbrev pub IsCheckAgainstOf : Choice → List (List ℕ) → Answer → Type 0
 IsCheckAgainstOf choice parts =
-    ToParts (three parts) (λ p. ToTexts p.0 p.1 (λ c m. IsCheckAgainstFrom c m choice p.2))
+    ToParts (exactly_three parts) (λ p. ToTexts p.0 p.1 (λ c m. IsCheckAgainstFrom c m choice p.2))
 
 abbrev pub IsCertifyOf : Choice → List (List ℕ) → Answer → Type 0
 IsCertifyOf choice parts =
-    ToParts (two parts) (λ p. ToTexts p.0 p.1 (λ c m. IsCertified c m choice))
+    ToParts (exactly_two parts) (λ p. ToTexts p.0 p.1 (λ c m. IsCertified c m choice))
 
 abbrev pub IsShrinkOf : Limits → List (List ℕ) → Answer → Type 0
 IsShrinkOf limits parts =
-    ToParts (two parts) (λ p. ToTexts p.0 p.1 (λ c m. IsShrinkAnswer c m limits))
+    ToParts (exactly_two parts) (λ p. ToTexts p.0 p.1 (λ c m. IsShrinkAnswer c m limits))
 
 abbrev pub IsRefuteOf : List (List ℕ) → Answer → Type 0
-IsRefuteOf parts = ToParts (four parts) (λ p. ToTexts p.0 p.1 (λ c m. IsRefutedBy c m p.2 p.3))
+IsRefuteOf parts =
+    ToParts (exactly_four parts) (λ p. ToTexts p.0 p.1 (λ c m. IsRefutedBy c m p.2 p.3))
 
 abbrev pub IsCampaignOf : CampaignOptions → List (List ℕ) → Answer → Type 0
 IsCampaignOf options parts =
-    ToParts (two parts) (λ p. ToTexts p.0 p.1 (λ c m. IsCampaignFrom c options m))
+    ToParts (exactly_two parts) (λ p. ToTexts p.0 p.1 (λ c m. IsCampaignFrom c options m))
 
 -- the answer to an order and the parts of the bundle
-abbrev pub IsAnswerTo : Order → List (List ℕ) → Answer → Type 0
-IsAnswerTo Replay parts = IsReplayOf parts
-IsAnswerTo Trace parts = IsTraceOf parts
-IsAnswerTo TraceFromSetup parts = IsTraceFromSetupOf parts
-IsAnswerTo Draw parts = IsDrawOf parts
-IsAnswerTo (DrawExplained limits) parts = IsExplainOf Picture limits parts
-IsAnswerTo (Explain limits) parts = IsExplainOf Words limits parts
-IsAnswerTo ExplainAgainst parts = IsExplainAgainstOf parts
-IsAnswerTo (Serial limits) parts = IsSerialOf limits parts
-IsAnswerTo Spec parts = IsSpecOf parts
-IsAnswerTo (Check choice) parts = IsCheckOf choice parts
-IsAnswerTo (CheckAgainst choice) parts = IsCheckAgainstOf choice parts
-IsAnswerTo (Certify choice) parts = IsCertifyOf choice parts
-IsAnswerTo Refute parts = IsRefuteOf parts
-IsAnswerTo (Shrink limits) parts = IsShrinkOf limits parts
-IsAnswerTo (Campaigning options) parts = IsCampaignOf options parts
+abbrev pub IsAnswerToOrder : BundleCommand → List (List ℕ) → Answer → Type 0
+IsAnswerToOrder Replay parts = IsReplayOf parts
+IsAnswerToOrder Trace parts = IsTraceOf parts
+IsAnswerToOrder TraceFromSetup parts = IsTraceFromSetupOf parts
+IsAnswerToOrder Draw parts = IsDrawOf parts
+IsAnswerToOrder (DrawExplained limits) parts = IsExplainOf Picture limits parts
+IsAnswerToOrder (Explain limits) parts = IsExplainOf Words limits parts
+IsAnswerToOrder ExplainAgainst parts = IsExplainAgainstOf parts
+IsAnswerToOrder (Serial limits) parts = IsSerialOf limits parts
+IsAnswerToOrder Spec parts = IsSpecOf parts
+IsAnswerToOrder (Check choice) parts = IsCheckOf choice parts
+IsAnswerToOrder (CheckAgainst choice) parts = IsCheckAgainstOf choice parts
+IsAnswerToOrder (Certify choice) parts = IsCertifyOf choice parts
+IsAnswerToOrder Refute parts = IsRefuteOf parts
+IsAnswerToOrder (Shrink limits) parts = IsShrinkOf limits parts
+IsAnswerToOrder (Campaigning options) parts = IsCampaignOf options parts
 
 -- what is said of the lines of a bundle, and whether one of it is a fault
 abbrev pub remarked : List Remark → Answer
@@ -589,7 +587,7 @@ IsLinted limits bundle answer =
 -- the answer to what is asked for and the input, where that is not too long
 abbrev pub IsAnswerIn : Request → List ℕ → Answer → Type 0
 IsAnswerIn (Lint limits) input answer = IsLinted limits input answer
-IsAnswerIn (Ordered order) input answer = IsAnswerTo order (bundle_parts input) answer
+IsAnswerIn (Ordered order) input answer = IsAnswerToOrder order (bundle_parts input) answer
 
 -- the answer to what is asked for and the whole input
 abbrev pub IsAnswerOf : Request → List ℕ → Answer → Type 0

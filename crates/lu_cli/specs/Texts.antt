@@ -94,8 +94,8 @@ IsReportIn component matrix spec choice text =
 
 -- where the first two texts are those of a component and a matrix whose setup settles, this is the
 -- fault
-abbrev pub IsFaultBehind : List ℕ → List ℕ → List ℕ → Choice → TextsFault → Type 0
-IsFaultBehind component matrix spec choice fault =
+abbrev pub IsFaultOnceSettled : List ℕ → List ℕ → List ℕ → Choice → TextsFault → Type 0
+IsFaultOnceSettled component matrix spec choice fault =
     (c : Declarations) × (m : AMatrix) × AreSettled component matrix c m
     × IsFaultAgainst c m spec choice fault
 
@@ -107,6 +107,6 @@ IsFaultOfThree component matrix spec choice (Matrix fault) =
     IsFaultOfTexts component matrix (Matrix fault)
 IsFaultOfThree component matrix spec choice (Setup k) = IsFaultOfTexts component matrix (Setup k)
 IsFaultOfThree component matrix spec choice (Spec fault) =
-    IsFaultBehind component matrix spec choice (Spec fault)
+    IsFaultOnceSettled component matrix spec choice (Spec fault)
 IsFaultOfThree component matrix spec choice (Check fault) =
-    IsFaultBehind component matrix spec choice (Check fault)
+    IsFaultOnceSettled component matrix spec choice (Check fault)

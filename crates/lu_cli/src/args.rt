@@ -5,8 +5,11 @@ ghost use Rattle.clap.specs.Words.{App, Rule, found_of, new_app, rows_of, rule_o
 ghost use Rattle.clap.specs.declared.builder.value_parser.ValueParser.TheVariants.{Signed};
 ghost use Rattle.lu_cli.specs.Args as spec;
 ghost use Rattle.lu_cli.specs.Args.{IsApp, lineup, request_of};
+ghost use Rattle.lu_cli.specs.Orders.{choice_of};
 
-use crate::order::{ArgsFault, CampaignOptions, CampaignPart, CampaignThreads, Order, Request};
+use crate::order::{
+    ArgsFault, BundleCommand, CampaignOptions, CampaignPart, CampaignThreads, Request,
+};
 use clap::builder::{ValueParser, ValueParserFactory};
 use clap::error::ErrorKind;
 use clap::{Arg, ArgAction, ArgMatches, Command};
@@ -14,6 +17,9 @@ use lu_parallel::Options;
 use lu_report::{Bounds, MOST_MOVES};
 use std::alloc::{AllocError, Global};
 use std::convert::AsStr;
+
+/// How many looks of its watch the search of one worker lasts before there are more: some seconds.
+const HEAD_START: u64 = 4_194_304;
 
 /// What reads a number from `least` to `most`.
 fn number_parser<'a>(least: u8, most: u16) -> ValueParser<'a>
@@ -130,7 +136,7 @@ fn with_workers<'a>(
 {
     let command = with_bounds(alloc, name, default);
     let command = with_option(command, number_option(alloc, "workers", 1, 16, "1"));
-    with_option(command, number_option(alloc, "depth", 0, 8, "4"))
+    with_option(command, optional_number(alloc, "depth", 0, 8))
 }
 
 fn explain_command<'a>(alloc: Global) -> Result<Command<'a>, AllocError>
@@ -226,8 +232,8 @@ fn lineup_command<'a>(alloc: Global) -> Result<Command<'a>, AllocError>
     with_command(program, lint_command(alloc))
 }
 
-fn number_in(given: &ArgMatches<'_>, name: &str) -> Option<u16>
-    ensures { result ≡ spec.number_in name.now (rows_of (found_of given.now)) }
+fn number_named(given: &ArgMatches<'_>, name: &str) -> Option<u16>
+    ensures { result ≡ spec.number_named name.now (rows_of (found_of given.now)) }
 {
     given.get_one::<u16>(name)
 }
@@ -247,21 +253,33 @@ fn flag_in(given: &ArgMatches<'_>, name: &str) -> bool
 fn bounds_in(given: &ArgMatches<'_>) -> Option<Bounds>
     ensures { result ≡ spec.limits_in (rows_of (found_of given.now)) }
 {
-    let bound = number_in(given, "bound")?;
-    let serial = number_in(given, "serial")?;
+    let bound = number_named(given, "bound")?;
+    let serial = number_named(given, "serial")?;
     Bounds::new(bound, serial)
+}
+
+/// The options with pieces of so many moves. Where that is not said, one worker has a head start,
+/// and then pieces have 4.
+fn options_with(bound: u16, serial: u16, workers: u16, depth: Option<u16>) -> Option<Options>
+    ensures { result ≡ choice_of (spec.choice_for bound serial workers depth) }
+{
+    let workers = u8::try_from(workers).ok()?;
+    match depth {
+        None => {
+            let options = Options::new(bound, serial, workers, 4)?;
+            Some(options.with_head_start(HEAD_START))
+        }
+        Some(depth) => Options::new(bound, serial, workers, u8::try_from(depth).ok()?),
+    }
 }
 
 fn options_in(given: &ArgMatches<'_>) -> Option<Options>
     ensures { result ≡ spec.choice_in (rows_of (found_of given.now)) }
 {
-    let bound = number_in(given, "bound")?;
-    let serial = number_in(given, "serial")?;
-    let workers = number_in(given, "workers")?;
-    let depth = number_in(given, "depth")?;
-    let workers = u8::try_from(workers).ok()?;
-    let depth = u8::try_from(depth).ok()?;
-    Options::new(bound, serial, workers, depth)
+    let bound = number_named(given, "bound")?;
+    let serial = number_named(given, "serial")?;
+    let workers = number_named(given, "workers")?;
+    options_with(bound, serial, workers, number_named(given, "depth"))
 }
 
 /// So many threads.
@@ -289,7 +307,7 @@ fn threads_with(own: bool, threads: Option<u16>) -> Option<CampaignThreads>
 fn threads_in(given: &ArgMatches<'_>) -> Option<CampaignThreads>
     ensures { result ≡ spec.threads_in (rows_of (found_of given.now)) }
 {
-    threads_with(flag_in(given, "by-thread"), number_in(given, "threads"))
+    threads_with(flag_in(given, "by-thread"), number_named(given, "threads"))
 }
 
 /// The matrices from one number to another.
@@ -329,7 +347,7 @@ fn campaign_in(given: &ArgMatches<'_>) -> Option<CampaignOptions>
 {
     let bounds = bounds_in(given)?;
     let threads = threads_in(given)?;
-    let calls = number_in(given, "calls")?;
+    let calls = number_named(given, "calls")?;
     let part = part_in(given)?;
     let calls = u8::try_from(calls).ok()?;
     Some(CampaignOptions {
@@ -341,17 +359,17 @@ fn campaign_in(given: &ArgMatches<'_>) -> Option<CampaignOptions>
 }
 
 /// A check against the serial runs, or one against a specification.
-fn check_order(options: Options, against: bool) -> Order
+fn check_order(options: Options, against: bool) -> BundleCommand
     ensures { result ≡ spec.check_order against options }
 {
     if against {
-        Order::CheckAgainst(options)
+        BundleCommand::CheckAgainst(options)
     } else {
-        Order::Check(options)
+        BundleCommand::Check(options)
     }
 }
 
-fn check_in(given: &ArgMatches<'_>) -> Option<Order>
+fn check_in(given: &ArgMatches<'_>) -> Option<BundleCommand>
     ensures { result ≡ spec.check_in (rows_of (found_of given.now)) }
 {
     let options = options_in(given)?;
@@ -359,76 +377,76 @@ fn check_in(given: &ArgMatches<'_>) -> Option<Order>
 }
 
 /// A trace, or one from the setup on.
-fn trace_order(with_setup: bool) -> Order
+fn trace_order(with_setup: bool) -> BundleCommand
     ensures { result ≡ spec.trace_order with_setup }
 {
     if with_setup {
-        Order::TraceFromSetup
+        BundleCommand::TraceFromSetup
     } else {
-        Order::Trace
+        BundleCommand::Trace
     }
 }
 
-fn trace_in(given: &ArgMatches<'_>) -> Order
+fn trace_in(given: &ArgMatches<'_>) -> BundleCommand
     ensures { result ≡ spec.trace_in (rows_of (found_of given.now)) }
 {
     trace_order(flag_in(given, "setup"))
 }
 
 /// A picture, or one with an explanation.
-fn draw_order(explained: bool, bounds: Bounds) -> Order
+fn draw_order(explained: bool, bounds: Bounds) -> BundleCommand
     ensures { result ≡ spec.draw_order explained bounds }
 {
     if explained {
-        Order::DrawExplained(bounds)
+        BundleCommand::DrawExplained(bounds)
     } else {
-        Order::Draw
+        BundleCommand::Draw
     }
 }
 
-fn draw_in(given: &ArgMatches<'_>) -> Option<Order>
+fn draw_in(given: &ArgMatches<'_>) -> Option<BundleCommand>
     ensures { result ≡ spec.draw_in (rows_of (found_of given.now)) }
 {
-    let serial = number_in(given, "serial")?;
+    let serial = number_named(given, "serial")?;
     let bounds = Bounds::new(0, serial)?;
     Some(draw_order(flag_in(given, "explain"), bounds))
 }
 
 /// An explanation by the serial runs, or one by a specification.
-fn explain_order(bounds: Bounds, against: bool) -> Order
+fn explain_order(bounds: Bounds, against: bool) -> BundleCommand
     ensures { result ≡ spec.explain_order against bounds }
 {
     if against {
-        Order::ExplainAgainst
+        BundleCommand::ExplainAgainst
     } else {
-        Order::Explain(bounds)
+        BundleCommand::Explain(bounds)
     }
 }
 
-fn explain_in(given: &ArgMatches<'_>) -> Option<Order>
+fn explain_in(given: &ArgMatches<'_>) -> Option<BundleCommand>
     ensures { result ≡ spec.explain_in (rows_of (found_of given.now)) }
 {
-    let serial = number_in(given, "serial")?;
+    let serial = number_named(given, "serial")?;
     let bounds = Bounds::new(0, serial)?;
     Some(explain_order(bounds, flag_in(given, "spec")))
 }
 
 /// The order of a command's name and of what is given to the command.
-fn order_by(name: &str, given: &ArgMatches<'_>) -> Option<Order>
+fn order_by(name: &str, given: &ArgMatches<'_>) -> Option<BundleCommand>
     ensures { result ≡ spec.order_by name.now (rows_of (found_of given.now)) }
 {
     match name {
-        "replay" => Some(Order::Replay),
+        "replay" => Some(BundleCommand::Replay),
         "trace" => Some(trace_in(given)),
         "draw" => draw_in(given),
         "explain" => explain_in(given),
-        "serial" => bounds_in(given).map(Order::Serial),
-        "spec" => Some(Order::Spec),
+        "serial" => bounds_in(given).map(BundleCommand::Serial),
+        "spec" => Some(BundleCommand::Spec),
         "check" => check_in(given),
-        "certify" => options_in(given).map(Order::Certify),
-        "refute" => Some(Order::Refute),
-        "shrink" => bounds_in(given).map(Order::Shrink),
-        "campaign" => campaign_in(given).map(Order::Campaign),
+        "certify" => options_in(given).map(BundleCommand::Certify),
+        "refute" => Some(BundleCommand::Refute),
+        "shrink" => bounds_in(given).map(BundleCommand::Shrink),
+        "campaign" => campaign_in(given).map(BundleCommand::Campaign),
         _ => None,
     }
 }
@@ -437,7 +455,7 @@ fn order_by(name: &str, given: &ArgMatches<'_>) -> Option<Order>
 fn lint_in(given: &ArgMatches<'_>) -> Option<Request>
     ensures { result ≡ spec.lint_in (rows_of (found_of given.now)) }
 {
-    let serial = number_in(given, "serial")?;
+    let serial = number_named(given, "serial")?;
     Bounds::new(0, serial).map(Request::Lint)
 }
 

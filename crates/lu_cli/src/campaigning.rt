@@ -6,6 +6,7 @@ ghost use Rattle.lu_test.specs.Matrix.{IsSetup};
 ghost use Rattle.lu_machine.specs.Starts.{AllEnd, CanRun};
 ghost use Rattle.lu_refine.specs.Campaigns.{AreCallsOf, HaveArguments, IsFoundOf};
 ghost use Rattle.lu_refine.specs.Roles.{AllCallsOf, AllHaveArguments};
+ghost use Rattle.lu_refine.specs.ByThread.{CanAsk, asked_of};
 ghost use Rattle.lu_cli.specs.Refusals.{Answered};
 ghost use Rattle.lu_cli.specs.Replies as spec;
 
@@ -15,11 +16,11 @@ use crate::refusal::Refusal;
 use crate::texts::read_texts;
 use lu_component::Component;
 use lu_refine::{
-    Campaign, CampaignFault, campaign, campaign_by_thread, campaign_slice, count_matrices,
+    Campaign, CampaignFault, Roles, campaign, campaign_by_thread, campaign_slice, count_matrices,
     same_lists,
 };
 use lu_test::{Call, Calls, Matrix};
-use lu_text::two;
+use lu_text::exactly_two;
 use std::alloc::{AllocError, Global};
 
 /// How many matrices there are, where all pass; or the first that does not, with its report.
@@ -48,7 +49,7 @@ fn try_matrices(
     requires of { AreCallsOf component.now candidates.now }
     requires arguments { HaveArguments candidates.now }
     ensures { Answered
-        (spec.IsCampaignAnswer component.now setup.now candidates.now threads options) result }
+        (spec.IsCampaignReply component.now setup.now candidates.now threads options) result }
 {
     let bounds = options.bounds;
     let found = campaign(
@@ -64,66 +65,22 @@ fn try_matrices(
     Ok(show_found(alloc, component, &found)?)
 }
 
-/// What the campaign in which each thread has its own candidates finds, with this setup.
-fn try_by_thread(
-    alloc: Global,
-    component: &Component,
-    setup: &Calls,
-    candidates: &[Calls],
-    options: CampaignOptions,
-) -> Result<Answer, Refusal>
-    requires setup { IsSetup setup.now }
-    requires setup_of { AreCallsOf component.now setup.now }
-    requires settles { AllEnd component.now setup.now }
-    requires of { AllCallsOf component.now candidates.now }
-    requires arguments { AllHaveArguments candidates.now }
-    ensures { Answered
-        (spec.IsByThreadAnswer component.now setup.now candidates.now options) result }
+/// What the campaign in which each thread has its own candidates finds.
+fn try_by_thread(alloc: Global, roles: Roles<'_>) -> Result<Answer, Refusal>
+    requires { CanAsk (asked_of roles) }
+    ensures { Answered (spec.IsByThreadAnswer (asked_of roles.entry)) result }
 {
-    let bounds = options.bounds;
-    let found = campaign_by_thread(
-        alloc,
-        component,
-        setup,
-        candidates,
-        options.calls,
-        bounds.bound(),
-        bounds.serial(),
-    )?;
-    Ok(show_found(alloc, component, &found)?)
+    let found = campaign_by_thread(alloc, roles)?;
+    Ok(show_found(alloc, roles.component, &found)?)
 }
 
 /// What the matrices of that campaign with the numbers `from` to `upto - 1` show.
-fn try_slice(
-    alloc: Global,
-    component: &Component,
-    setup: &Calls,
-    candidates: &[Calls],
-    options: CampaignOptions,
-    from: u64,
-    upto: u64,
-) -> Result<Answer, Refusal>
-    requires setup { IsSetup setup.now }
-    requires setup_of { AreCallsOf component.now setup.now }
-    requires settles { AllEnd component.now setup.now }
-    requires of { AllCallsOf component.now candidates.now }
-    requires arguments { AllHaveArguments candidates.now }
-    ensures { Answered
-        (spec.IsSliceAnswer component.now setup.now candidates.now options from upto) result }
+fn try_slice(alloc: Global, roles: Roles<'_>, from: u64, upto: u64) -> Result<Answer, Refusal>
+    requires { CanAsk (asked_of roles) }
+    ensures { Answered (spec.IsSliceReply (asked_of roles.entry) from upto) result }
 {
-    let bounds = options.bounds;
-    let found = campaign_slice(
-        alloc,
-        component,
-        setup,
-        candidates,
-        options.calls,
-        bounds.bound(),
-        bounds.serial(),
-        from,
-        upto,
-    )?;
-    Ok(show_found(alloc, component, &found)?)
+    let found = campaign_slice(alloc, roles, from, upto)?;
+    Ok(show_found(alloc, roles.component, &found)?)
 }
 
 /// How many matrices that campaign has.
@@ -150,11 +107,17 @@ fn try_lists(
     ensures { Answered
         (spec.IsListsAnswer component.now setup.now candidates.now options) result }
 {
+    let roles = Roles {
+        component,
+        setup,
+        candidates,
+        calls: options.calls,
+        bound: options.bounds.bound(),
+        serial: options.bounds.serial(),
+    };
     match options.part {
-        CampaignPart::Whole => try_by_thread(alloc, component, setup, candidates, options),
-        CampaignPart::Slice { from, upto } => {
-            try_slice(alloc, component, setup, candidates, options, from, upto)
-        }
+        CampaignPart::Whole => try_by_thread(alloc, roles),
+        CampaignPart::Slice { from, upto } => try_slice(alloc, roles, from, upto),
         CampaignPart::Count => count_all(alloc, candidates, options.calls),
     }
 }
@@ -275,7 +238,7 @@ pub(crate) fn answer_campaign(
 ) -> Result<Answer, Refusal>
     ensures { Answered (spec.IsCampaignOf options (texts parts.now)) result }
 {
-    let (component, matrix) = two(parts).ok_or(Refusal::Parts)?;
+    let (component, matrix) = exactly_two(parts).ok_or(Refusal::Parts)?;
     let case = read_texts(alloc, component, matrix)?;
     try_matrix(alloc, &case.component, &case.matrix, options)
 }

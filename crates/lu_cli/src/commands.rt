@@ -6,7 +6,7 @@ ghost use Rattle.lu_test.specs.Matrix.{IsMatrix};
 ghost use Rattle.lu_machine.specs.Starts.{CanRun};
 ghost use Rattle.lu_report.specs.Parts.{IsOfOffence};
 ghost use Rattle.lu_spec.specs.Specs.{AreOf};
-ghost use Rattle.lu_cli.specs.Refusals.{Answered};
+ghost use Rattle.lu_cli.specs.Refusals.{Answered, SaysResult};
 ghost use Rattle.lu_cli.specs.Replies as spec;
 
 use crate::answer::{
@@ -16,13 +16,13 @@ use crate::answer::{
 use crate::campaigning::answer_campaign;
 use crate::drawing::draw;
 use crate::explaining::{Presentation, answer_explain, answer_explain_against};
-use crate::order::Order;
+use crate::order::BundleCommand;
 use crate::refusal::Refusal;
 use crate::shown::read_shown;
-use crate::texts::{read_texts, report_against, report_of};
+use crate::texts::read_texts;
 use lu_certify::certify_by_workers;
 use lu_lang::Component;
-use lu_parallel::{OpenGate, Options};
+use lu_parallel::{OpenGate, Options, check, check_against};
 use lu_refine::{ShrinkFault, shrink};
 use lu_refute::refute;
 use lu_replay::{ReplayFault, replay, set_or_offence, write_replay};
@@ -30,7 +30,7 @@ use lu_report::{Bounds, Finding, Report, read_report};
 use lu_serial::learn;
 use lu_spec::{Spec, collect_spec, read_spec};
 use lu_test::{Matrix, Schedule, read_schedule};
-use lu_text::{four, three, two};
+use lu_text::{exactly_four, exactly_three, exactly_two};
 use lu_trace::{TraceFault, write_trace, write_trace_from_setup};
 use std::alloc::{AllocError, Global};
 use std::sync::Wait;
@@ -60,7 +60,7 @@ fn play(
 fn answer_replay(alloc: Global, parts: &[&[u8]]) -> Result<Answer, Refusal>
     ensures { Answered (spec.IsReplayOf (texts parts.now)) result }
 {
-    let (component, matrix, schedule) = three(parts).ok_or(Refusal::Parts)?;
+    let (component, matrix, schedule) = exactly_three(parts).ok_or(Refusal::Parts)?;
     let case = read_texts(alloc, component, matrix)?;
     let schedule = read_schedule(alloc, schedule)?;
     Ok(play(alloc, &case.component, &case.matrix, &schedule)?)
@@ -101,7 +101,7 @@ fn trace_text(
 fn answer_trace(alloc: Global, parts: &[&[u8]]) -> Result<Answer, Refusal>
     ensures { Answered (spec.IsTraceOf (texts parts.now)) result }
 {
-    let (component, matrix, shown) = three(parts).ok_or(Refusal::Parts)?;
+    let (component, matrix, shown) = exactly_three(parts).ok_or(Refusal::Parts)?;
     let case = read_texts(alloc, component, matrix)?;
     trace_text(alloc, &case.component, &case.matrix, shown)
 }
@@ -141,7 +141,7 @@ fn trace_text_from_setup(
 fn answer_trace_from_setup(alloc: Global, parts: &[&[u8]]) -> Result<Answer, Refusal>
     ensures { Answered (spec.IsTraceFromSetupOf (texts parts.now)) result }
 {
-    let (component, matrix, shown) = three(parts).ok_or(Refusal::Parts)?;
+    let (component, matrix, shown) = exactly_three(parts).ok_or(Refusal::Parts)?;
     let case = read_texts(alloc, component, matrix)?;
     trace_text_from_setup(alloc, &case.component, &case.matrix, shown)
 }
@@ -164,7 +164,7 @@ fn draw_text(
 fn answer_draw(alloc: Global, parts: &[&[u8]]) -> Result<Answer, Refusal>
     ensures { Answered (spec.IsDrawOf (texts parts.now)) result }
 {
-    let (component, matrix, shown) = three(parts).ok_or(Refusal::Parts)?;
+    let (component, matrix, shown) = exactly_three(parts).ok_or(Refusal::Parts)?;
     let case = read_texts(alloc, component, matrix)?;
     draw_text(alloc, &case.component, &case.matrix, shown)
 }
@@ -210,7 +210,7 @@ fn run_serially(
 fn answer_serial(alloc: Global, bounds: Bounds, parts: &[&[u8]]) -> Result<Answer, Refusal>
     ensures { Answered (spec.IsSerialOf bounds (texts parts.now)) result }
 {
-    let (component, matrix) = two(parts).ok_or(Refusal::Parts)?;
+    let (component, matrix) = exactly_two(parts).ok_or(Refusal::Parts)?;
     let case = read_texts(alloc, component, matrix)?;
     Ok(run_serially(alloc, &case.component, &case.matrix, bounds)?)
 }
@@ -227,7 +227,7 @@ fn collect_text(alloc: Global, matrix: &Matrix, text: &[u8]) -> Result<Answer, R
 fn answer_spec(alloc: Global, parts: &[&[u8]]) -> Result<Answer, Refusal>
     ensures { Answered (spec.IsSpecOf (texts parts.now)) result }
 {
-    let (component, matrix, specification) = three(parts).ok_or(Refusal::Parts)?;
+    let (component, matrix, specification) = exactly_three(parts).ok_or(Refusal::Parts)?;
     let case = read_texts(alloc, component, matrix)?;
     collect_text(alloc, &case.matrix, specification)
 }
@@ -240,23 +240,10 @@ fn answer_check<X: AllocGlobal + Threads + Wait>(
 ) -> Result<Answer, Refusal>
     ensures { Answered (spec.IsCheckOf options (texts parts.now)) result }
 {
-    let (component, matrix) = two(parts).ok_or(Refusal::Parts)?;
-    let report = report_of(rt, rt.alloc(), component, matrix, options)?;
-    Ok(show_report(rt.alloc(), &report)?)
-}
-
-/// The report of the component and the matrix against the specification of a text.
-fn check_against_text<X: AllocGlobal + Threads + Wait>(
-    rt: &X,
-    component: &Component,
-    matrix: &Matrix,
-    text: &[u8],
-    options: Options,
-) -> Result<Answer, Refusal>
-    requires { CanRun component.now matrix.now }
-    ensures { Answered (spec.IsCheckAgainstFrom component.now matrix.now options text.now) result }
-{
-    let report = report_against(rt, rt.alloc(), component, matrix, text, options)?;
+    let (component, matrix) = exactly_two(parts).ok_or(Refusal::Parts)?;
+    let case = read_texts(rt.alloc(), component, matrix)?;
+    let (component, matrix) = (&case.component, &case.matrix);
+    let report = check(rt, rt.alloc(), &OpenGate, component, matrix, options)?;
     Ok(show_report(rt.alloc(), &report)?)
 }
 
@@ -268,9 +255,13 @@ fn answer_check_against<X: AllocGlobal + Threads + Wait>(
 ) -> Result<Answer, Refusal>
     ensures { Answered (spec.IsCheckAgainstOf options (texts parts.now)) result }
 {
-    let (component, matrix, specification) = three(parts).ok_or(Refusal::Parts)?;
+    let (component, matrix, specification) = exactly_three(parts).ok_or(Refusal::Parts)?;
     let case = read_texts(rt.alloc(), component, matrix)?;
-    check_against_text(rt, &case.component, &case.matrix, specification, options)
+    let (component, matrix) = (&case.component, &case.matrix);
+    let specification = read_spec(rt.alloc(), matrix, specification)?;
+    let tree = specification.tree();
+    let report = check_against(rt, rt.alloc(), &OpenGate, component, matrix, &tree, options)?;
+    Ok(show_report(rt.alloc(), &report)?)
 }
 
 /// What the checks of all cuts of the matrix say.
@@ -295,7 +286,7 @@ fn answer_certify<X: AllocGlobal + Threads + Wait>(
 ) -> Result<Answer, Refusal>
     ensures { Answered (spec.IsCertifyOf options (texts parts.now)) result }
 {
-    let (component, matrix) = two(parts).ok_or(Refusal::Parts)?;
+    let (component, matrix) = exactly_two(parts).ok_or(Refusal::Parts)?;
     let case = read_texts(rt.alloc(), component, matrix)?;
     certify_matrix(rt, &case.component, &case.matrix, options)
 }
@@ -339,7 +330,7 @@ fn refute_texts(
 fn answer_refute(alloc: Global, parts: &[&[u8]]) -> Result<Answer, Refusal>
     ensures { Answered (spec.IsRefuteOf (texts parts.now)) result }
 {
-    let (component, matrix, report, specification) = four(parts).ok_or(Refusal::Parts)?;
+    let (component, matrix, report, specification) = exactly_four(parts).ok_or(Refusal::Parts)?;
     let case = read_texts(alloc, component, matrix)?;
     refute_texts(alloc, &case.component, &case.matrix, report, specification)
 }
@@ -366,54 +357,58 @@ fn shrink_matrix(
 fn answer_shrink(alloc: Global, bounds: Bounds, parts: &[&[u8]]) -> Result<Answer, Refusal>
     ensures { Answered (spec.IsShrinkOf bounds (texts parts.now)) result }
 {
-    let (component, matrix) = two(parts).ok_or(Refusal::Parts)?;
+    let (component, matrix) = exactly_two(parts).ok_or(Refusal::Parts)?;
     let case = read_texts(alloc, component, matrix)?;
     Ok(shrink_matrix(alloc, &case.component, &case.matrix, bounds)?)
 }
 
-/// What is answered to an order, or why it is refused.
-fn carry_out<X: AllocGlobal + Threads + Wait>(
+/// The answer to an order and the parts of a bundle, or why it is refused.
+pub(crate) fn carry_out<X: AllocGlobal + Threads + Wait>(
     rt: &X,
-    order: Order,
+    order: BundleCommand,
     parts: &[&[u8]],
 ) -> Result<Answer, Refusal>
-    ensures { Answered (spec.IsAnswerTo order (texts parts.now)) result }
+    ensures { Answered (spec.IsAnswerToOrder order (texts parts.now)) result }
 {
     match order {
-        Order::Replay => answer_replay(rt.alloc(), parts),
-        Order::Trace => answer_trace(rt.alloc(), parts),
-        Order::TraceFromSetup => answer_trace_from_setup(rt.alloc(), parts),
-        Order::Draw => answer_draw(rt.alloc(), parts),
-        Order::DrawExplained(bounds) => {
+        BundleCommand::Replay => answer_replay(rt.alloc(), parts),
+        BundleCommand::Trace => answer_trace(rt.alloc(), parts),
+        BundleCommand::TraceFromSetup => answer_trace_from_setup(rt.alloc(), parts),
+        BundleCommand::Draw => answer_draw(rt.alloc(), parts),
+        BundleCommand::DrawExplained(bounds) => {
             answer_explain(rt.alloc(), bounds, parts, Presentation::Picture)
         }
-        Order::Explain(bounds) => answer_explain(rt.alloc(), bounds, parts, Presentation::Words),
-        Order::ExplainAgainst => answer_explain_against(rt.alloc(), parts),
-        Order::Serial(bounds) => answer_serial(rt.alloc(), bounds, parts),
-        Order::Spec => answer_spec(rt.alloc(), parts),
-        Order::Check(options) => answer_check(rt, options, parts),
-        Order::CheckAgainst(options) => answer_check_against(rt, options, parts),
-        Order::Certify(options) => answer_certify(rt, options, parts),
-        Order::Refute => answer_refute(rt.alloc(), parts),
-        Order::Shrink(bounds) => answer_shrink(rt.alloc(), bounds, parts),
-        Order::Campaign(options) => answer_campaign(rt.alloc(), options, parts),
+        BundleCommand::Explain(bounds) => answer_explain(
+            rt.alloc(),
+            bounds,
+            parts,
+            Presentation::Words,
+        ),
+        BundleCommand::ExplainAgainst => answer_explain_against(rt.alloc(), parts),
+        BundleCommand::Serial(bounds) => answer_serial(rt.alloc(), bounds, parts),
+        BundleCommand::Spec => answer_spec(rt.alloc(), parts),
+        BundleCommand::Check(options) => answer_check(rt, options, parts),
+        BundleCommand::CheckAgainst(options) => answer_check_against(rt, options, parts),
+        BundleCommand::Certify(options) => answer_certify(rt, options, parts),
+        BundleCommand::Refute => answer_refute(rt.alloc(), parts),
+        BundleCommand::Shrink(bounds) => answer_shrink(rt.alloc(), bounds, parts),
+        BundleCommand::Campaign(options) => answer_campaign(rt.alloc(), options, parts),
     }
 }
 
-/// The answer to an order and the parts of a bundle.
+/// The answer, or what is said of the refusal.
 ///
 /// # Errors
 ///
-/// `AllocError` where memory was refused.
-pub fn answer_to<X: AllocGlobal + Threads + Wait>(
-    rt: &X,
-    order: Order,
-    parts: &[&[u8]],
+/// `AllocError` where memory was refused, now or before.
+pub(crate) fn or_refusal(
+    alloc: Global,
+    carried: Result<Answer, Refusal>,
 ) -> Result<Answer, AllocError>
-    ensures { IfOk result (spec.IsAnswerTo order (texts parts.now)) }
+    ensures { IfOk result (SaysResult carried) }
 {
-    match carry_out(rt, order, parts) {
+    match carried {
         Ok(answer) => Ok(answer),
-        Err(refusal) => show_refusal(rt.alloc(), refusal),
+        Err(refusal) => show_refusal(alloc, refusal),
     }
 }

@@ -3,7 +3,7 @@
 ghost use Rattle.std.specs.Prelude.{◌≡◌, ◌<◌, IfErr, IfOk};
 ghost use Rattle.lu_text.specs.Lines.{texts};
 ghost use Rattle.lu_machine.specs.Starts.{CanRun};
-ghost use Rattle.lu_replay.specs.Replays.{Shows};
+ghost use Rattle.lu_replay.specs.Replays.{PlaysToStatus};
 ghost use Rattle.lu_cli.specs.Refusals.{Answered};
 ghost use Rattle.lu_cli.specs.Drawing.{IsLeastPending, IsShownExplanation, IsShownThread};
 ghost use Rattle.lu_cli.specs.Explaining as spec;
@@ -22,7 +22,7 @@ use lu_report::{Bounds, Finding, Report, read_report};
 use lu_serial::learn;
 use lu_spec::read_spec;
 use lu_test::{Matrix, Schedule, read_schedule, write_schedule};
-use lu_text::{four, three};
+use lu_text::{exactly_four, exactly_three};
 use lu_trie::SerialTree;
 use lu_witness::{Verdict, verdict};
 use std::alloc::{AllocError, Global};
@@ -86,7 +86,7 @@ fn explain_by<T: SerialTree>(
     shown: &Replay,
 ) -> Result<Answer, AllocError>
     requires run { CanRun component.now matrix.now }
-    requires shows { Shows component.now matrix.now schedule.now shown.now.history
+    requires shows { PlaysToStatus component.now matrix.now schedule.now shown.now.history
         shown.now.status }
     ensures { IfOk result (spec.IsExplainedBy (T.members tree.now) component.now matrix.now
         schedule.now shown.now.history) }
@@ -150,22 +150,29 @@ fn picture_by<T: SerialTree>(
     draw(alloc, component, matrix, schedule, Some(&explanation))
 }
 
+/// A schedule, and what it shows.
+#[derive(Clone, Copy)]
+struct ShownSchedule<'a> {
+    schedule: &'a Schedule,
+    shown: &'a Replay,
+}
+
 /// The history of an ended schedule, explained in words or in a picture.
-fn present_by<T: SerialTree>(
+fn present<T: SerialTree>(
     alloc: Global,
     component: &Component,
     matrix: &Matrix,
     tree: &T,
-    schedule: &Schedule,
-    shown: &Replay,
+    run: ShownSchedule<'_>,
     by: Presentation,
 ) -> Result<Answer, AllocError>
-    requires run { CanRun component.now matrix.now }
-    requires shows { Shows component.now matrix.now schedule.now shown.now.history
-        shown.now.status }
+    requires of { CanRun component.now matrix.now }
+    requires shows { PlaysToStatus component.now matrix.now run.schedule.now
+        run.shown.now.history run.shown.now.status }
     ensures { IfOk result (spec.IsPresentedBy by (T.members tree.now) component.now matrix.now
-        schedule.now shown.now.history) }
+        run.entry.schedule.now run.entry.shown.now.history) }
 {
+    let ShownSchedule { schedule, shown } = run;
     match by {
         Presentation::Words => explain_by(alloc, component, matrix, tree, schedule, shown),
         Presentation::Picture => {
@@ -204,7 +211,15 @@ fn explain_schedule<T: SerialTree>(
         Ok(shown) => match shown.status {
             Status::Running => say(alloc, "running", ""),
             Status::Complete | Status::Stuck => {
-                present_by(alloc, component, matrix, tree, schedule, &shown, by)
+                let shown = &shown;
+                present(
+                    alloc,
+                    component,
+                    matrix,
+                    tree,
+                    ShownSchedule { schedule, shown },
+                    by,
+                )
             }
         },
         Err(ReplayFault::Infeasible(index)) => infeasible(alloc, index),
@@ -305,7 +320,7 @@ pub(crate) fn answer_explain(
 ) -> Result<Answer, Refusal>
     ensures { Answered (IsExplainOf by bounds (texts parts.now)) result }
 {
-    let (component, matrix, target) = three(parts).ok_or(Refusal::Parts)?;
+    let (component, matrix, target) = exactly_three(parts).ok_or(Refusal::Parts)?;
     let case = read_texts(alloc, component, matrix)?;
     explain_text(alloc, &case.component, &case.matrix, bounds, target, by)
 }
@@ -348,7 +363,7 @@ fn explain_against(
 pub(crate) fn answer_explain_against(alloc: Global, parts: &[&[u8]]) -> Result<Answer, Refusal>
     ensures { Answered (IsExplainAgainstOf (texts parts.now)) result }
 {
-    let (component, matrix, target, specification) = four(parts).ok_or(Refusal::Parts)?;
+    let (component, matrix, target, specification) = exactly_four(parts).ok_or(Refusal::Parts)?;
     let case = read_texts(alloc, component, matrix)?;
     explain_against(alloc, &case.component, &case.matrix, target, specification)
 }

@@ -1,7 +1,7 @@
 //! All that a reader gives, up to a limit.
 
 ghost use Rattle.std.specs.Prelude.{◌≡◌, ◌⊎◌, ◌<◌, ◌≤◌, ◌-◌, ◌^◌, length, IfOk, IsErrOf};
-ghost use Rattle.lu_cli.specs.Inputs.{IsTooLong, IsWhole, most_bytes};
+ghost use Rattle.lu_cli.specs.Inputs.{IsTooLong, IsWholeInput, most_bytes};
 ghost use Rattle.lu_cli.specs.declared.input.InputFault.TheVariants.{Memory};
 
 use crate::counted::Counted;
@@ -30,7 +30,7 @@ impl From<AllocError> for InputFault {
 /// All that the reader gives. A read that failed is not tried again.
 pub fn read_input<R: Read>(alloc: Global, input: &mut Counted<R>) -> Result<Vec<u8>, InputFault>
     requires { input.old.failures < 2 ^ 64 - 1 }
-    ensures all { IfOk result (λ bytes. IsWhole (R.remaining input.old.inner) bytes.items) }
+    ensures all { IfOk result (λ bytes. IsWholeInput (R.remaining input.old.inner) bytes.items) }
     ensures short { IfOk result (λ bytes. length bytes.items ≤ most_bytes) }
     ensures long { IsErrOf result InputFault.TooLong → IsTooLong (R.remaining input.old.inner) }
     ensures device { IsErrOf result InputFault.Device → input.old.failures < input.new.failures }

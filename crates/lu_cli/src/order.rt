@@ -46,12 +46,12 @@ pub enum Request {
     Lint(Bounds),
 
     /// A command over the parts of a bundle.
-    Ordered(Order),
+    Ordered(BundleCommand),
 }
 
 /// A command over the parts of a bundle, with its options.
 #[derive(Clone, Copy, Debug, PartialEq, Eq)]
-pub enum Order {
+pub enum BundleCommand {
     /// `lineup replay`: play a schedule of a component and a matrix.
     Replay,
 

@@ -3,12 +3,12 @@
 ghost use Rattle.std.specs.Prelude.{◌≡◌, ◌≢◌, ◌<◌, ◌≤◌, ◌-◌, ◌^◌, ◌⊎◌, Some, None, map, IfOk, IsErrOf};
 ghost use Rattle.lu_cli.specs.declared.program.Failure.TheVariants.{Memory};
 ghost use Rattle.lu_cli.specs.Args.{request_of};
-ghost use Rattle.lu_cli.specs.Replies.{IsAnswerFor, IsAnswerFrom, IsAnswerIn, IsLinted, SaysAnswer, SaysNoCommand, Sends, TellsElse, TellsUnread, no_command, no_device};
+ghost use Rattle.lu_cli.specs.Replies.{IsAnswerFor, IsAnswerFrom, IsLinted, SaysAnswer, SaysNoCommand, Sends, TellsElse, TellsUnread, no_command, no_device};
 
 use crate::answer::{Answer, refused};
 use crate::args::read_request;
 use crate::bundle::parts_in;
-use crate::commands::answer_to;
+use crate::commands::{carry_out, or_refusal};
 use crate::counted::Counted;
 use crate::input::{InputFault, read_input};
 use crate::order::{ArgsFault, Request};
@@ -50,21 +50,6 @@ fn answer_lint(alloc: Global, bounds: Bounds, bundle: &[u8]) -> Result<Answer, A
     })
 }
 
-/// The answer to the bytes of a bundle.
-fn answer_bytes<X: AllocGlobal + Threads + Wait>(
-    rt: &X,
-    request: Request,
-    bytes: &[u8],
-) -> Result<Answer, AllocError>
-    ensures answer { IfOk result (IsAnswerIn request bytes.now) }
-    ensures blames_none { IfOk result (λ r. r ≢ no_device) }
-{
-    match request {
-        Request::Lint(bounds) => answer_lint(rt.alloc(), bounds, bytes),
-        Request::Ordered(order) => answer_to(rt, order, &parts_in(rt.alloc(), bytes)?),
-    }
-}
-
 /// The answer to what is read.
 fn answer_in<X: AllocGlobal + Threads + Wait, R: Read>(
     rt: &X,
@@ -77,11 +62,18 @@ fn answer_in<X: AllocGlobal + Threads + Wait, R: Read>(
     ensures device { IsErrOf result Failure.Device → input.old.failures < input.new.failures }
     ensures unfailed { IsErrOf result Failure.Device ⊎ (input.new.failures ≡ input.old.failures) }
 {
-    match read_input(rt.alloc(), input) {
-        Ok(bytes) => Ok(answer_bytes(rt, request, &bytes)?),
-        Err(InputFault::TooLong) => Ok(refused(rt.alloc(), "B2")?),
-        Err(InputFault::Device) => Err(Failure::Device),
-        Err(InputFault::Memory) => Err(Failure::Memory),
+    let bundle = match read_input(rt.alloc(), input) {
+        Ok(bytes) => bytes,
+        Err(InputFault::TooLong) => return Ok(refused(rt.alloc(), "B2")?),
+        Err(InputFault::Device) => return Err(Failure::Device),
+        Err(InputFault::Memory) => return Err(Failure::Memory),
+    };
+    match request {
+        Request::Lint(bounds) => Ok(answer_lint(rt.alloc(), bounds, &bundle)?),
+        Request::Ordered(order) => {
+            let parts = parts_in(rt.alloc(), &bundle)?;
+            Ok(or_refusal(rt.alloc(), carry_out(rt, order, &parts))?)
+        }
     }
 }
 

@@ -135,26 +135,6 @@ pub(crate) fn read_texts(alloc: Global, component: &[u8], matrix: &[u8]) -> Resu
     }
 }
 
-/// The report of the component and the matrix of two texts.
-///
-/// # Errors
-///
-/// As those of [`check_texts`].
-pub(crate) fn report_of<X: Threads + Wait>(
-    rt: &X,
-    alloc: Global,
-    component: &[u8],
-    matrix: &[u8],
-    options: Options,
-) -> Result<Report, Fault>
-    ensures report { IfOk result (IsReportOfTexts component.now matrix.now options) }
-    ensures fault { IfErr result (IsCheckFault component.now matrix.now options) }
-{
-    let case = read_texts(alloc, component, matrix)?;
-    let report = check(rt, alloc, &OpenGate, &case.component, &case.matrix, options)?;
-    Ok(report)
-}
-
 /// Checks the component and the matrix of two texts: answers the text of their report, which is the
 /// same for any number of workers and any depth. The component's text is read first. With two
 /// workers or more the call waits for them.
@@ -175,7 +155,8 @@ pub fn check_texts<X: Threads + Wait>(
         IsReportOf component.now matrix.now options (string_bytes t)) }
     ensures fault { IfErr result (IsCheckFault component.now matrix.now options) }
 {
-    let report = report_of(rt, alloc, component, matrix, options)?;
+    let case = read_texts(alloc, component, matrix)?;
+    let report = check(rt, alloc, &OpenGate, &case.component, &case.matrix, options)?;
     Ok(write_report(alloc, &report)?)
 }
 
@@ -184,7 +165,7 @@ pub fn check_texts<X: Threads + Wait>(
 /// # Errors
 ///
 /// [`Fault::Spec`] and [`Fault::Check`], as those of [`check_texts_against`].
-pub(crate) fn report_against<X: Threads + Wait>(
+fn report_against<X: Threads + Wait>(
     rt: &X,
     alloc: Global,
     component: &Component,

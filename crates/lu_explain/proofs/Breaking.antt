@@ -13,9 +13,9 @@ use Rattle.lu_witness.specs.Witnesses.{IsEntryAt, entries}
 use Rattle.lu_witness.specs.Search.{AreTaken}
 use Rattle.lu_witness.proofs.Entries.{counted_entry}
 use Rattle.lu_explain.specs.Explanations.{IsFree}
-use Rattle.lu_explain.specs.AnyOrders.{HasParts, IsInOrder}
+use Rattle.lu_explain.specs.AnyOrders.{HasEachPart, IsInOrder}
 
-module _ (h : List Event) (well : IsWellFormed h) (q : List SerialOp) (parts : HasParts h q) (i : ℕ) (op : SerialOp) (at : slice_get q i ≡ Some op) (taken : List ℕ) (are : AreTaken (take i q) taken) where
+module _ (h : List Event) (well : IsWellFormed h) (q : List SerialOp) (parts : HasEachPart h q) (i : ℕ) (op : SerialOp) (at : slice_get q i ≡ Some op) (taken : List ℕ) (are : AreTaken (take i q) taken) where
   abbrev here : OpId
   here = record { t = op.thread; k = length (entries op.thread (take i q)) }
 

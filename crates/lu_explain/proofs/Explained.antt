@@ -23,14 +23,14 @@ use Rattle.lu_trie.specs.Conflicts.{ConflictAt}
 use Rattle.lu_trie.specs.Members.{history_cmp}
 use Rattle.lu_trie.proofs.Ops.{entry, exact_ops, histories_total, ops_total, same_histories_are}
 use Rattle.lu_witness.specs.Witnesses.{HasWitness, IsMember, IsWitness, entries}
-use Rattle.lu_witness.specs.Search.{IsBeginning, IsNext}
+use Rattle.lu_witness.specs.Search.{IsBeginning, CanComeNext}
 use Rattle.lu_witness.proofs.Beginnings.{begun_push, begun_witness}
 use Rattle.lu_witness.proofs.Entries.{entries-append, entries_own}
 use Rattle.lu_explain.specs.declared.explanation.Reason.{Reason}
 use Rattle.lu_explain.specs.declared.explanation.Reason.TheVariants.{After, Outcome, Nothing}
-use Rattle.lu_explain.specs.Explanations.{Begins, Behind, Explained, IsBlocker, IsExplanation, IsFirstLongest, IsIn, IsLeastOutcome, IsPartialWitness, IsReason, IsStanding, next, reason_of}
-use Rattle.lu_explain.specs.Search.{GoesOn, IsLongestFrom, TellsStandings}
-use Rattle.lu_explain.specs.Laws.{AllIsWitness, ClosedHasEnds, FullHasEnds, NoneGoesOn, NothingLeft, OneExplanation, OneOutcome, OtherOutcome, StuckHasEnds, Taken}
+use Rattle.lu_explain.specs.Explanations.{Begins, Behind, Explained, IsBlocker, IsExplanation, IsFirstLongest, IsIn, IsLeastOutcome, IsPartialWitness, IsReasonNotNext, IsReasonOrDone, next, reason_of}
+use Rattle.lu_explain.specs.Search.{GoesOnBy, IsLongestFrom, TellsStandings}
+use Rattle.lu_explain.specs.Laws.{AllIsWitness, ClosedHasEnds, FullHasEnds, NoneGoesOn, NothingLeft, OneExplanation, OneOutcomeBehind, OtherOutcome, StuckHasEnds, Taken}
 use Rattle.lu_explain.proofs.Partial.{begins_few, begun_parts, free_tells, in_counts, partial_from, partial_is}
 use Rattle.lu_explain.proofs.Longest.{same_kind}
 use Rattle.lu_explain.proofs.Reasons.{same_standing, same_thread}
@@ -47,7 +47,7 @@ same_parts e witnessed order left a b c = ap (λ w. explained w e.order e.left) 
 module _ (h : List Event) (well : IsWellFormed h) where
   pub found_order : (members : List (List SerialOp)) (order : List SerialOp) (taken : List ℕ) (rest : List (List SerialOp)) → IsLongestFrom members h [] order taken rest → IsFirstLongest (IsPartialWitness (IsMember members) h) order
   found_order members order taken rest found =
-      same_kind (GoesOn members h []) (IsPartialWitness (IsMember members) h) order
+      same_kind (GoesOnBy members h []) (IsPartialWitness (IsMember members) h) order
       (λ q on. partial_from h well (IsMember members) q on.0 on.1)
       (λ q is. (is.begun, partial_is h well (IsMember members) q is))
       found.first
@@ -65,9 +65,9 @@ module _ (h : List Event) (well : IsWellFormed h) where
         witnessed = is;
         order = found_order members order taken rest found;
         threads = l8;
-        left = λ t. elim (cases_lt t 8) as (λ _. IsStanding (Behind (IsMember members) order) h order t (get_or left t None)) [
+        left = λ t. elim (cases_lt t 8) as (λ _. IsReasonOrDone (Behind (IsMember members) order) h order t (get_or left t None)) [
           | inl lt ↦ same_standing (IsMember rest) (Behind (IsMember members) order) (λ q m. sym (found.rest_is q) ∙ m) (λ q m. found.rest_is q ∙ m) h order t (get_or left t None) (stand t lt order found.taken_are begun)
-          | inr past ↦ subst (IsStanding (Behind (IsMember members) order) h order t) (sym (get_or_past left t None (omega arith))) (past_standing order t (begun_parts h order begun t) past)
+          | inr past ↦ subst (IsReasonOrDone (Behind (IsMember members) order) h order t) (sym (get_or_past left t None (omega arith))) (past_standing order t (begun_parts h order begun t) past)
         ];
       }
 
@@ -107,7 +107,7 @@ one_least Set t o x is also =
     go (op_cmp (entry t o) (entry t x)) refl
 
 module _ (Rest : List SerialOp → Type 0) (h : List Event) (p : List SerialOp) (t : ℕ) where
-  one_reason : (r s : Reason) → IsReason Rest h p t r → IsReason Rest h p t s → r ≡ s
+  one_reason : (r s : Reason) → IsReasonNotNext Rest h p t r → IsReasonNotNext Rest h p t s → r ≡ s
   one_reason (After a) (After c) is also = ap After (one_blocker h p (next t p) a c is also)
   one_reason (After a) (Outcome x) is also = absurd (blocker_out h p (next t p) a is (also.0 a is.precedes))
   one_reason (After a) Nothing is also = absurd (blocker_out h p (next t p) a is (also.0 a is.precedes))
@@ -118,7 +118,7 @@ module _ (Rest : List SerialOp → Type 0) (h : List Event) (p : List SerialOp) 
   one_reason Nothing (Outcome x) is also = absurd (is.1 x also.1.is)
   one_reason Nothing Nothing is also = refl
 
-  one_standing : (r s : Option Reason) → IsStanding Rest h p t r → IsStanding Rest h p t s → r ≡ s
+  one_standing : (r s : Option Reason) → IsReasonOrDone Rest h p t r → IsReasonOrDone Rest h p t s → r ≡ s
   one_standing None None is also = refl
   one_standing None (Some s) is also = absurd (omega (arith, also.0))
   one_standing (Some r) None is also = absurd (omega (arith, is.0))
@@ -136,7 +136,7 @@ one_explanation test h d e is also =
     let witnessed : d.witnessed ≡ e.witnessed = one_answer d.witnessed e.witnessed (HasWitness (Taken test) h) is.witnessed also.witnessed in
     let order : d.order ≡ e.order = same_order (IsPartialWitness (Taken test) h) d.order e.order is.order also.order in
     let left : d.left ≡ e.left = same_lists d.left e.left (is.threads ∙ sym also.threads) (λ t x lt.
-    let here = subst (λ p. IsStanding (Behind (Taken test) p) h p t (reason_of d t)) order (is.left t) in
+    let here = subst (λ p. IsReasonOrDone (Behind (Taken test) p) h p t (reason_of d t)) order (is.left t) in
     let same : reason_of d t ≡ reason_of e t = one_standing (Behind (Taken test) e.order) h e.order t (reason_of d t) (reason_of e t) here (also.left t) in
     let within : t < length e.left = omega (arith, is.threads, also.threads) in
     get_or_default d.left t x None lt ∙ same ∙ get_or_default e.left t None x within) in
@@ -175,7 +175,7 @@ module _ (h : List Event) (well : IsWellFormed h) (Set : List SerialOp → Type 
         | inr past ↦ past_standing h well p t (is.is.parts t) past
       ]
 
-none_left : (Rest : List SerialOp → Type 0) (h : List Event) (p : List SerialOp) (t : ℕ) (r : Option Reason) → length (entries t p) ≡ length (part t h) → IsStanding Rest h p t r → r ≡ None
+none_left : (Rest : List SerialOp → Type 0) (h : List Event) (p : List SerialOp) (t : ℕ) (r : Option Reason) → length (entries t p) ≡ length (part t h) → IsReasonOrDone Rest h p t r → r ≡ None
 none_left Rest h p t None all is = refl
 none_left Rest h p t (Some r) all is = absurd (omega (arith, is.0))
 
@@ -186,7 +186,7 @@ nothing_left test h e well is has t =
 pub all_is_witness : AllIsWitness
 all_is_witness test h e well ends is all =
     let begun = partial_is h well (Taken test) e.order is.order.is in
-    let whole : (t : ℕ) → length (entries t e.order) ≡ length (part t h) = λ t. subst (IsStanding (Behind (Taken test) e.order) h e.order t) (all t) (is.left t) in
+    let whole : (t : ℕ) → length (entries t e.order) ≡ length (part t h) = λ t. subst (IsReasonOrDone (Behind (Taken test) e.order) h e.order t) (all t) (is.left t) in
     let witness = begun_witness h well e.order begun whole in
     (witness, ends e.order is.order.is.begun witness.parts)
 
@@ -263,7 +263,7 @@ module _ (p : List SerialOp) (t : ℕ) (o x : SerialOutcome) (q r : List SerialO
     differ = differ;
   }
 
-pub one_outcome : OneOutcome
+pub one_outcome : OneOutcomeBehind
 one_outcome members p t o x det has also =
     let same_or : x ≢ o → ⊥ = λ differ. det (p ++ entry t o ∷ has.0) (p ++ entry t x ∷ also.0) (length p) x has.1 also.1 (conflict p t o x has.0 also.0 differ) in
     let go : (c : Ordering) → op_cmp (entry t o) (entry t x) ≡ c → o ≡ x = elim [
@@ -277,10 +277,10 @@ pub other_outcome : OtherOutcome
 other_outcome test h e t o well is reason same =
     let p : List SerialOp = e.order in
     let op : SerialOp = entry t o in
-    let standing = subst (IsStanding (Behind (Taken test) p) h p t) reason (is.left t) in
+    let standing = subst (IsReasonOrDone (Behind (Taken test) p) h p t) reason (is.left t) in
     let free = standing.1.0 in
     let first = standing.1.1.is in
-    let next_is : IsNext h p op = record { outcome = same; before = λ j u call. free_tells h well p (next t p) free j u call } in
+    let next_is : CanComeNext h p op = record { outcome = same; before = λ j u call. free_tells h well p (next t p) free j u call } in
     let begun = begun_push h p op (partial_is h well (Taken test) p is.order.is) next_is in
     let more = partial_from h well (Taken test) (p ++ op ∷ []) (inr (first.0, subst (Taken test) (sym (append_assoc p (op ∷ []) first.0)) first.1)) begun in
     absurd (omega (arith, is.order.longest (p ++ op ∷ []) more, length_push p op))

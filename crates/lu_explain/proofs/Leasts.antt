@@ -19,7 +19,7 @@ use Rattle.lu_witness.specs.Witnesses.{IsMember, entries}
 use Rattle.lu_witness.proofs.Entries.{entries_own}
 use Rattle.lu_witness.proofs.Nexts.{zeros}
 use Rattle.lu_explain.specs.AnyOrders.{HasOutcomes, IsLeast}
-use Rattle.lu_explain.specs.Search.{Completes, HasLeft, IsOneMore}
+use Rattle.lu_explain.specs.Search.{Completes, HasRestOfParts, IsOneMoreTaken}
 use Rattle.lu_explain.proofs.Kids.{rise_at, member_branch, branch_has}
 use Rattle.lu_explain.proofs.Longest.{empty_least, tied}
 
@@ -52,7 +52,7 @@ past_none h well t k o past at =
     absurd (omega (arith, slice_get_within (part t h) k o at, part_length h well t, turn.none past))
 
 -- nothing is left where of each of 8 threads no more was called than is taken
-pub nothing_left : (h : List Event) → IsWellFormed h → (taken : List ℕ) → ((t : ℕ) → t < 8 → calls t h ≤ get_or taken t 0) → HasLeft h taken []
+pub nothing_left : (h : List Event) → IsWellFormed h → (taken : List ℕ) → ((t : ℕ) → t < 8 → calls t h ≤ get_or taken t 0) → HasRestOfParts h taken []
 nothing_left h well taken each t = elim (cases_lt t 8) as (λ _. [] ≡ drop (get_or taken t 0) (part t h)) [
   | inl lt ↦ sym (drop_short (part t h) (get_or taken t 0) (omega (arith, each t lt, part_length h well t)))
   | inr past ↦
@@ -61,18 +61,18 @@ nothing_left h well taken each t = elim (cases_lt t 8) as (λ _. [] ≡ drop (ge
 ]
 
 -- and only there
-pub left_few : (h : List Event) → IsWellFormed h → (taken : List ℕ) → HasLeft h taken [] → (t : ℕ) → calls t h ≤ get_or taken t 0
+pub left_few : (h : List Event) → IsWellFormed h → (taken : List ℕ) → HasRestOfParts h taken [] → (t : ℕ) → calls t h ≤ get_or taken t 0
 left_few h well taken left t = omega (arith, none_dropped (part t h) (get_or taken t 0) (left t), part_length h well t)
 
 module _ (h : List Event) (taken : List ℕ) (op : SerialOp) where
-  own_dropped : (q : List SerialOp) → HasLeft h taken (op ∷ q) → (slice_get (part op.thread h) (get_or taken op.thread 0) ≡ Some op.outcome) × (entries op.thread q ≡ drop (suc (get_or taken op.thread 0)) (part op.thread h))
+  own_dropped : (q : List SerialOp) → HasRestOfParts h taken (op ∷ q) → (slice_get (part op.thread h) (get_or taken op.thread 0) ≡ Some op.outcome) × (entries op.thread q ≡ drop (suc (get_or taken op.thread 0)) (part op.thread h))
   own_dropped q left = first_dropped (part op.thread h) (get_or taken op.thread 0) op.outcome (entries op.thread q) (sym (entries_own op q) ∙ left op.thread)
 
   -- the first operation has its thread's next outcome
-  pub next_left : (q : List SerialOp) → HasLeft h taken (op ∷ q) → slice_get (part op.thread h) (get_or taken op.thread 0) ≡ Some op.outcome
+  pub next_left : (q : List SerialOp) → HasRestOfParts h taken (op ∷ q) → slice_get (part op.thread h) (get_or taken op.thread 0) ≡ Some op.outcome
   next_left q left = (own_dropped q left).0
 
-module _ (h : List Event) (taken more : List ℕ) (op : SerialOp) (one : IsOneMore op.thread taken more) where
+module _ (h : List Event) (taken more : List ℕ) (op : SerialOp) (one : IsOneMoreTaken op.thread taken more) where
   own_more : (t : ℕ) → (op.thread == t) ≡ true → get_or more t 0 ≡ suc (get_or taken t 0)
   own_more t own = let n = ap (λ b. get_or taken t 0 + (if b then 1 else 0)) own in omega (arith, one t)
 
@@ -80,7 +80,7 @@ module _ (h : List Event) (taken more : List ℕ) (op : SerialOp) (one : IsOneMo
   other_more t other = let n = ap (λ b. get_or taken t 0 + (if b then 1 else 0)) other in omega (arith, one t)
 
   -- the thread's next outcome in front of what is left then
-  pub push_left : slice_get (part op.thread h) (get_or taken op.thread 0) ≡ Some op.outcome → (q : List SerialOp) → HasLeft h more q → HasLeft h taken (op ∷ q)
+  pub push_left : slice_get (part op.thread h) (get_or taken op.thread 0) ≡ Some op.outcome → (q : List SerialOp) → HasRestOfParts h more q → HasRestOfParts h taken (op ∷ q)
   push_left at q left t = elim (eqb_tells op.thread t) as (λ _. entries t (op ∷ q) ≡ drop (get_or taken t 0) (part t h)) [
     | inl own ↦
         let here : slice_get (part t h) (get_or taken t 0) ≡ Some op.outcome = subst (λ u. slice_get (part u h) (get_or taken u 0) ≡ Some op.outcome) own.1 at in
@@ -91,7 +91,7 @@ module _ (h : List Event) (taken more : List ℕ) (op : SerialOp) (one : IsOneMo
   ]
 
   -- and what follows has what is left then
-  pub pop_left : (q : List SerialOp) → HasLeft h taken (op ∷ q) → HasLeft h more q
+  pub pop_left : (q : List SerialOp) → HasRestOfParts h taken (op ∷ q) → HasRestOfParts h more q
   pop_left q left t = elim (eqb_tells op.thread t) as (λ _. entries t q ≡ drop (get_or more t 0) (part t h)) [
     | inl own ↦ subst (λ u. entries u q ≡ drop (suc (get_or taken u 0)) (part u h)) own.1 (own_dropped h taken op q left).1 ∙ ap (λ n. drop n (part t h)) (sym (own_more t own.0))
     | inr other ↦ sym (ap (λ b. if b then op.outcome ∷ entries t q else entries t q) other.0) ∙ left t ∙ ap (λ n. drop n (part t h)) (sym (other_more t other.0))
@@ -125,7 +125,7 @@ module _ (members : List (List SerialOp)) (is : IsBranching members) (h : List E
     pub none_past : (slice_get (part b.0.thread h) (get_or taken b.0.thread 0) ≡ Some b.0.outcome → ⊥) → NoneTo members h taken (n + 1)
     none_past never = none_on (λ q done. never (next_left h taken b.0 q done.1))
 
-    module _ (more : List ℕ) (one : IsOneMore b.0.thread taken more) where
+    module _ (more : List ℕ) (one : IsOneMoreTaken b.0.thread taken more) where
       below_kid : (q : List SerialOp) → Completes members h taken (b.0 ∷ q) → Completes b.1 h more q
       below_kid q done = (sym (branch_has members is n b at q) ∙ done.0, pop_left h taken more b.0 one q done.1)
 

@@ -11,10 +11,10 @@ use Rattle.lu_trie.specs.Members.{contains, history_cmp}
 use Rattle.lu_trie.specs.Branches.{Branch, branches_of, IsBranching}
 use Rattle.lu_trie.proofs.Ops.{ops_total}
 use Rattle.lu_witness.specs.Witnesses.{IsMember}
-use Rattle.lu_witness.specs.Search.{AreTaken, IsBeginning, IsNext}
+use Rattle.lu_witness.specs.Search.{AreTaken, IsBeginning, CanComeNext}
 use Rattle.lu_witness.proofs.Beginnings.{begun_next}
-use Rattle.lu_explain.specs.Explanations.{IsBegun, IsFirstLongest}
-use Rattle.lu_explain.specs.Search.{GoesOn, IsLongestFrom}
+use Rattle.lu_explain.specs.Explanations.{IsBeginningInSet, IsFirstLongest}
+use Rattle.lu_explain.specs.Search.{GoesOnBy, IsLongestFrom}
 use Rattle.lu_explain.proofs.Kids.{rise_at, member_branch, branch_has, branch_some}
 
 -- kinds of the same histories have the same first longest
@@ -29,7 +29,7 @@ pub record IsBelowKid (n : ℕ) (members : List (List SerialOp)) (q : List Seria
   pub below : place < n
   pub at : slice_get (branches_of members) place ≡ Some branch
   pub shape : q ≡ branch.0 ∷ rest
-  pub begun : IsBegun (IsMember branch.1) rest
+  pub begun : IsBeginningInSet (IsMember branch.1) rest
 
 -- a way on that is empty, or by a kid below n
 abbrev pub GoesOnTo : ℕ → List (List SerialOp) → List Event → List SerialOp → List SerialOp → Type 0
@@ -67,7 +67,7 @@ module _ (members : List (List SerialOp)) (is : IsBranching members) (h : List E
   module _ (n : ℕ) (b : Branch) (at : slice_get (branches_of members) n ≡ Some b) where
     -- a way on by the kid n
     abbrev ByKid : List SerialOp → Type 0
-    ByKid q = (rest : List SerialOp) × (q ≡ b.0 ∷ rest) × IsBegun (IsMember b.1) rest × IsBeginning h (p ++ b.0 ∷ rest)
+    ByKid q = (rest : List SerialOp) × (q ≡ b.0 ∷ rest) × IsBeginningInSet (IsMember b.1) rest × IsBeginning h (p ++ b.0 ∷ rest)
 
     by_kid : (q : List SerialOp) → GoesOnTo (n + 1) members h p q → GoesOnTo n members h p q ⊎ ByKid q
     by_kid q (inl e, on) = inl (inl e, on)
@@ -78,7 +78,7 @@ module _ (members : List (List SerialOp)) (is : IsBranching members) (h : List E
           let here : slice_get (branches_of members) n ≡ Some kid.branch = subst (λ i. slice_get (branches_of members) i ≡ Some kid.branch) place kid.at in
           let same : kid.branch ≡ b = cc in
           let shape : q ≡ b.0 ∷ kid.rest = subst (λ (x : Branch). q ≡ x.0 ∷ kid.rest) same kid.shape in
-          inr (kid.rest, shape, subst (λ (x : Branch). IsBegun (IsMember x.1) kid.rest) same kid.begun, subst (λ g. IsBeginning h (p ++ g)) shape on)
+          inr (kid.rest, shape, subst (λ (x : Branch). IsBeginningInSet (IsMember x.1) kid.rest) same kid.begun, subst (λ g. IsBeginning h (p ++ g)) shape on)
     ]
 
     wider : (q : List SerialOp) → GoesOnTo n members h p q → GoesOnTo (n + 1) members h p q
@@ -95,7 +95,7 @@ module _ (members : List (List SerialOp)) (is : IsBranching members) (h : List E
 
     -- no way on by the kid is longer
     pub longest_kept : (order : List SerialOp) (taken : List ℕ) (after : List (List SerialOp)) → IsLongestTo n members h p order taken after
-        → ((rest : List SerialOp) → IsBegun (IsMember b.1) rest → IsBeginning h (p ++ b.0 ∷ rest) → suc (length rest) ≤ length order) → IsLongestTo (n + 1) members h p order taken after
+        → ((rest : List SerialOp) → IsBeginningInSet (IsMember b.1) rest → IsBeginning h (p ++ b.0 ∷ rest) → suc (length rest) ≤ length order) → IsLongestTo (n + 1) members h p order taken after
     longest_kept order taken after old few = record {
       first = record {
         is = wider order old.first.is;
@@ -114,11 +114,11 @@ module _ (members : List (List SerialOp)) (is : IsBranching members) (h : List E
 
     -- the kid's operation can't come next
     pub longest_past : (order : List SerialOp) (taken : List ℕ) (after : List (List SerialOp)) → IsLongestTo n members h p order taken after
-        → (IsNext h p b.0 → ⊥) → IsLongestTo (n + 1) members h p order taken after
+        → (CanComeNext h p b.0 → ⊥) → IsLongestTo (n + 1) members h p order taken after
     longest_past order taken after old never = longest_kept order taken after old (λ rest begun on. absurd (never (begun_next h p rest b.0 on)))
 
     module _ (way : List SerialOp) (more : List ℕ) (behind : List (List SerialOp)) (found : IsLongestFrom b.1 h (p ++ b.0 ∷ []) way more behind) where
-      from_kid : (rest : List SerialOp) → IsBegun (IsMember b.1) rest → IsBeginning h (p ++ b.0 ∷ rest) → GoesOn b.1 h (p ++ b.0 ∷ []) rest
+      from_kid : (rest : List SerialOp) → IsBeginningInSet (IsMember b.1) rest → IsBeginning h (p ++ b.0 ∷ rest) → GoesOnBy b.1 h (p ++ b.0 ∷ []) rest
       from_kid rest begun on = (begun, subst (IsBeginning h) (sym (append_assoc p (b.0 ∷ []) rest)) on)
 
       -- the longest way on by the kid is shorter
@@ -150,10 +150,10 @@ module _ (members : List (List SerialOp)) (is : IsBranching members) (h : List E
         rest_is = λ q. found.rest_is q ∙ sym (branch_has members is n b at (way ++ q));
       }
 
-  to_members : (n : ℕ) (q : List SerialOp) → GoesOnTo n members h p q → GoesOn members h p q
+  to_members : (n : ℕ) (q : List SerialOp) → GoesOnTo n members h p q → GoesOnBy members h p q
   to_members n q (inl e, on) = (inl e, on)
   to_members n q (inr kid, on) = (
-    elim kid.begun as (λ _. IsBegun (IsMember members) q) [
+    elim kid.begun as (λ _. IsBeginningInSet (IsMember members) q) [
       | inl e ↦
           let some = branch_some members is kid.place kid.branch kid.at in
           let shape : q ≡ kid.branch.0 ∷ [] = kid.shape ∙ ap (λ x. kid.branch.0 ∷ x) e in
@@ -163,7 +163,7 @@ module _ (members : List (List SerialOp)) (is : IsBranching members) (h : List E
     on,
   )
 
-  from_members : (q : List SerialOp) → GoesOn members h p q → GoesOnTo (length (branches_of members)) members h p q
+  from_members : (q : List SerialOp) → GoesOnBy members h p q → GoesOnTo (length (branches_of members)) members h p q
   from_members [] on = (inl refl, on.1)
   from_members (op ∷ q) (inl e, on) = cc
   from_members (op ∷ q) (inr goes, on) =
@@ -173,7 +173,7 @@ module _ (members : List (List SerialOp)) (is : IsBranching members) (h : List E
   -- behind the last kid
   pub longest_all : (n : ℕ) (order : List SerialOp) (taken : List ℕ) (after : List (List SerialOp)) → n ≡ length (branches_of members) → IsLongestTo n members h p order taken after → IsLongestFrom members h p order taken after
   longest_all n order taken after all is_to = record {
-    first = same_kind (GoesOnTo n members h p) (GoesOn members h p) order (to_members n) (λ q on. subst (λ i. GoesOnTo i members h p q) (sym all) (from_members q on)) is_to.first;
+    first = same_kind (GoesOnTo n members h p) (GoesOnBy members h p) order (to_members n) (λ q on. subst (λ i. GoesOnTo i members h p q) (sym all) (from_members q on)) is_to.first;
     taken_are = is_to.taken_are;
     rest_is = is_to.rest_is;
   }

@@ -11,12 +11,12 @@ use Rattle.lu_explain.specs.declared.orders.Precedence.{Precedence}
 use Rattle.lu_explain.specs.Explanations.{IsBlocker, IsFree}
 
 -- each thread has its part of h: the first half of what a witness is
-abbrev pub HasParts : List Event → List SerialOp → Type 0
-HasParts h q = (t : ℕ) → entries t q ≡ part t h
+abbrev pub HasEachPart : List Event → List SerialOp → Type 0
+HasEachPart h q = (t : ℕ) → entries t q ≡ part t h
 
 -- a serial history of the set that has the outcomes of h
 abbrev pub HasOutcomes : (List SerialOp → Type 0) → List Event → List SerialOp → Type 0
-HasOutcomes Set h q = Set q × HasParts h q
+HasOutcomes Set h q = Set q × HasEachPart h q
 
 -- q is of this kind, and none of them is smaller
 pub record IsLeast (Kind : List SerialOp → Type 0) (q : List SerialOp) : Type 0 where

@@ -10,7 +10,7 @@ use Rattle.lu_trie.specs.Conflicts.{IsDeterministic}
 use Rattle.lu_witness.specs.Witnesses.{HasWitness, IsMember, IsWitness, entries}
 use Rattle.lu_explain.specs.declared.explanation.Reason.TheVariants.{Outcome}
 use Rattle.lu_explain.specs.AnyOrders.{IsAnyOrder, Ordered, TellsAnyOrder}
-use Rattle.lu_explain.specs.Explanations.{Behind, Explained, HasFirst, IsBegun, IsExplanation, IsPartialWitness, reason_of}
+use Rattle.lu_explain.specs.Explanations.{Behind, Explained, HasFirst, IsBeginningInSet, IsExplanation, IsPartialWitness, reason_of}
 
 -- the serial histories that a test takes
 abbrev pub Taken : (List SerialOp → Bool) → List SerialOp → Type 0
@@ -35,7 +35,7 @@ NothingLeft =
 -- what is begun in the set and has all operations of h is in the set
 abbrev pub HasEnds : (List SerialOp → Type 0) → List Event → Type 0
 HasEnds Set h =
-    (p : List SerialOp) → IsBegun Set p → ((t : ℕ) → entries t p ≡ part t h) → Set p
+    (p : List SerialOp) → IsBeginningInSet Set p → ((t : ℕ) → entries t p ≡ part t h) → Set p
 
 -- in such a set what leaves nothing is a witness
 abbrev pub AllIsWitness : Type 0
@@ -72,8 +72,8 @@ NoneGoesOn =
     → IsPartialWitness (Taken test) h (e.order ++ op ∷ []) → ⊥
 
 -- in a set without conflicts a thread goes on behind p with one outcome at most
-abbrev pub OneOutcome : Type 0
-OneOutcome =
+abbrev pub OneOutcomeBehind : Type 0
+OneOutcomeBehind =
     (members : List (List SerialOp)) (p : List SerialOp) (t : ℕ) (o x : SerialOutcome)
     → IsDeterministic members → HasFirst (Behind (IsMember members) p) t o
     → HasFirst (Behind (IsMember members) p) t x → o ≡ x

@@ -10,7 +10,7 @@ use Rattle.lu_history.specs.Parts.{part}
 use Rattle.lu_witness.specs.Witnesses.{IsMember, entries}
 use Rattle.lu_witness.specs.Search.{AreTaken, IsBeginning}
 use Rattle.lu_explain.specs.declared.explanation.Reason.{Reason}
-use Rattle.lu_explain.specs.Explanations.{IsBegun, IsBlocker, IsFirstLongest, IsFree, IsLeastOutcome, IsStanding, HasFirst}
+use Rattle.lu_explain.specs.Explanations.{IsBeginningInSet, IsBlocker, IsFirstLongest, IsFree, IsLeastOutcome, IsReasonOrDone, HasFirst}
 
 -- how many operations are taken
 abbrev pub number : List ℕ → ℕ
@@ -18,18 +18,18 @@ number [] = 0
 number (n ∷ taken) = n + number taken
 
 -- of each of 8 threads no more operations are taken than it can have
-abbrev pub AreFew : List ℕ → Type 0
-AreFew taken = (length taken ≡ 8) × ((t : ℕ) → get_or taken t 0 ≤ 8)
+abbrev pub AreFewTaken : List ℕ → Type 0
+AreFewTaken taken = (length taken ≡ 8) × ((t : ℕ) → get_or taken t 0 ≤ 8)
 
 -- a member begins with q, and p goes on by it
-abbrev pub GoesOn : List (List SerialOp) → List Event → List SerialOp → List SerialOp → Type 0
-GoesOn members h p q = IsBegun (IsMember members) q × IsBeginning h (p ++ q)
+abbrev pub GoesOnBy : List (List SerialOp) → List Event → List SerialOp → List SerialOp → Type 0
+GoesOnBy members h p q = IsBeginningInSet (IsMember members) q × IsBeginning h (p ++ q)
 
 -- by the order p goes on as far as it can; so many operations are then taken, and this is what
 -- follows the order in the members
 pub record IsLongestFrom (members : List (List SerialOp)) (h : List Event) (p order : List SerialOp)
     (taken : List ℕ) (rest : List (List SerialOp)) : Type 0 where
-  pub first : IsFirstLongest (GoesOn members h p) order
+  pub first : IsFirstLongest (GoesOnBy members h p) order
   pub taken_are : AreTaken (p ++ order) taken
   pub rest_is : (q : List SerialOp) → contains rest q ≡ contains members (order ++ q)
 
@@ -41,16 +41,16 @@ FindsLongest members h taken order more rest =
     → IsLongestFrom members h p order more rest
 
 -- each thread has the outcomes that are left of its part, where so many are taken
-abbrev pub HasLeft : List Event → List ℕ → List SerialOp → Type 0
-HasLeft h taken q = (t : ℕ) → entries t q ≡ drop (get_or taken t 0) (part t h)
+abbrev pub HasRestOfParts : List Event → List ℕ → List SerialOp → Type 0
+HasRestOfParts h taken q = (t : ℕ) → entries t q ≡ drop (get_or taken t 0) (part t h)
 
 -- a member that has them
 abbrev pub Completes : List (List SerialOp) → List Event → List ℕ → List SerialOp → Type 0
-Completes members h taken q = IsMember members q × HasLeft h taken q
+Completes members h taken q = IsMember members q × HasRestOfParts h taken q
 
 -- of thread s one more is taken
-abbrev pub IsOneMore : ℕ → List ℕ → List ℕ → Type 0
-IsOneMore s taken more =
+abbrev pub IsOneMoreTaken : ℕ → List ℕ → List ℕ → Type 0
+IsOneMoreTaken s taken more =
     (t : ℕ) → get_or more t 0 ≡ get_or taken t 0 + (if s == t then 1 else 0)
 
 -- the least thread whose number is greater in `before`, or none
@@ -75,7 +75,7 @@ TellsOutcome Set t found =
 abbrev pub TellsStanding : (List SerialOp → Type 0) → List ℕ → List Event → ℕ → Option Reason
     → Type 0
 TellsStanding Rest taken h t found =
-    (p : List SerialOp) → AreTaken p taken → IsBeginning h p → IsStanding Rest h p t found
+    (p : List SerialOp) → AreTaken p taken → IsBeginning h p → IsReasonOrDone Rest h p t found
 
 -- the same of each thread
 abbrev pub TellsStandings : (List SerialOp → Type 0) → List ℕ → List Event → List (Option Reason)

@@ -1,6 +1,6 @@
 //! Laws of explanations.
 
-ghost use Rattle.lu_explain.specs.Laws.{AllIsWitness, ClosedHasEnds, FullHasEnds, NoneGoesOn, NothingLeft, OneAnyOrder, OneExplanation, OneOutcome, OtherOutcome, StuckHasEnds, UnbrokenIsWitness};
+ghost use Rattle.lu_explain.specs.Laws.{AllIsWitness, ClosedHasEnds, FullHasEnds, NoneGoesOn, NothingLeft, OneAnyOrder, OneExplanation, OneOutcomeBehind, OtherOutcome, StuckHasEnds, UnbrokenIsWitness};
 
 /// A history has one explanation over a set, whatever test tells its members, and nothing can come
 /// behind its order. An outcome that a reason names is not the one in the history, and in a set
@@ -9,7 +9,7 @@ pub fn explanation_laws()
     ensures one { OneExplanation }
     ensures none { NoneGoesOn }
     ensures other { OtherOutcome }
-    ensures outcome { OneOutcome }
+    ensures outcome { OneOutcomeBehind }
 {}
 
 /// Where a history has a witness nothing is left; and where nothing is left the order is a witness,

@@ -8,7 +8,7 @@ ghost use Rattle.std.specs.Prelude.{◌≡◌, ◌↔◌, ◌+◌, [], ◌∷◌
 ghost use Rattle.lu_history.specs.Histories.{IsWellFormed};
 ghost use Rattle.lu_history.specs.Parts.{part};
 ghost use Rattle.lu_explain.specs.AnyOrders.{TellsLeast};
-ghost use Rattle.lu_explain.specs.Search.{AreFew, Completes, HasLeft, number};
+ghost use Rattle.lu_explain.specs.Search.{AreFewTaken, Completes, HasRestOfParts, number};
 
 use crate::order::Order;
 use crate::search::one_more;
@@ -25,7 +25,7 @@ pub(crate) fn least<T: SerialTree>(
 ) -> Option<Order>
     requires history { IsWellFormed history.now }
     requires place { T.is_place tree.now place }
-    requires few { AreFew taken.now }
+    requires few { AreFewTaken taken.now }
     ensures count { IfSome result (λ order. length order + number taken.now ≤ 64) }
     ensures least { TellsLeast (Completes (T.below tree.now place) history.now taken.now) result }
 {
@@ -70,7 +70,7 @@ fn is_done<T: SerialTree>(
 /// Whether each thread's operations are all taken.
 fn is_nothing_left(history: &History, taken: &[u8; MOST_THREADS]) -> bool
     requires { IsWellFormed history.now }
-    ensures { IsTrue result ↔ HasLeft history.now taken.now [] }
+    ensures { IsTrue result ↔ HasRestOfParts history.now taken.now [] }
 {
     for t in 0..8 {
         if taken[usize::from(t)] < history.calls(t) {

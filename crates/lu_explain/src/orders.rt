@@ -3,7 +3,7 @@
 ghost use Rattle.std.specs.Prelude.{◌≡◌, MatchOption, length};
 ghost use Rattle.lu_history.specs.Histories.{IsWellFormed};
 ghost use Rattle.lu_witness.specs.Witnesses.{IsMember};
-ghost use Rattle.lu_explain.specs.AnyOrders.{HasParts, IsFirstBroken, IsInOrder, TellsAnyOrder};
+ghost use Rattle.lu_explain.specs.AnyOrders.{HasEachPart, IsFirstBroken, IsInOrder, TellsAnyOrder};
 
 use crate::least_order::least;
 use crate::order::Order;
@@ -58,7 +58,7 @@ impl AnyOrder {
 /// The first precedence of the history that an order of its operations breaks.
 fn first_broken(history: &History, order: &[SerialOp]) -> Option<Precedence>
     requires history { IsWellFormed history.now }
-    requires parts { HasParts history.now order.now }
+    requires parts { HasEachPart history.now order.now }
     ensures { MatchOption result (IsInOrder history.now order.now (length order.now))
         (IsFirstBroken history.now order.now) }
 {

@@ -7,7 +7,7 @@
 ghost use Rattle.std.specs.Prelude.{◌≡◌, ◌+◌, ◌<◌, ◌∷◌, IsTrue, length, get_or};
 ghost use Rattle.lu_history.specs.Histories.{IsWellFormed};
 ghost use Rattle.lu_witness.specs.Search.{TakesOne, TellsNext};
-ghost use Rattle.lu_explain.specs.Search.{AreFew, FindsLongest, IsOneMore, number};
+ghost use Rattle.lu_explain.specs.Search.{AreFewTaken, FindsLongest, IsOneMoreTaken, number};
 
 use crate::order::Order;
 use crate::standing::blocker;
@@ -32,9 +32,9 @@ pub(crate) fn longest<T: SerialTree>(
 ) -> Way<T::Place>
     requires history { IsWellFormed history.now }
     requires place { T.is_place tree.now place }
-    requires few { AreFew taken.now }
+    requires few { AreFewTaken taken.now }
     ensures place { T.is_place tree.now result.place }
-    ensures few { AreFew result.taken }
+    ensures few { AreFewTaken result.taken }
     ensures count { length result.order + number taken.now ≡ number result.taken }
     ensures longest { FindsLongest (T.below tree.now place) history.now taken.now result.order
         result.taken (T.below tree.now result.place) }
@@ -89,8 +89,8 @@ pub(crate) fn one_more(taken: &[u8; MOST_THREADS], thread: u8) -> [u8; MOST_THRE
     requires thread { thread < 8 }
     requires room { get_or taken.now thread 0 < 8 }
     ensures takes { TakesOne thread taken.now result }
-    ensures one { IsOneMore thread taken.now result }
-    ensures few { AreFew taken.now → AreFew result }
+    ensures one { IsOneMoreTaken thread taken.now result }
+    ensures few { AreFewTaken taken.now → AreFewTaken result }
     ensures count { number result ≡ number taken.now + 1 }
 {
     let mut more = *taken;

@@ -13,14 +13,14 @@ kind_of Trap = 1
 kind_of Stuck = 2
 
 -- the value that was returned
-abbrev pub value_of : SerialOutcome → ℕ
-value_of (Ret n) = n
-value_of Trap = 0
-value_of Stuck = 0
+abbrev pub returned_value : SerialOutcome → ℕ
+returned_value (Ret n) = n
+returned_value Trap = 0
+returned_value Stuck = 0
 
 abbrev pub outcome_cmp : SerialOutcome → SerialOutcome → Ordering
 outcome_cmp a b =
-    ordering_then (nat_cmp (kind_of a) (kind_of b)) (nat_cmp (value_of a) (value_of b))
+    ordering_then (nat_cmp (kind_of a) (kind_of b)) (nat_cmp (returned_value a) (returned_value b))
 
 -- by thread, and then by outcome
 abbrev pub op_cmp : SerialOp → SerialOp → Ordering

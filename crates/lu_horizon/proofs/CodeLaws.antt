@@ -10,8 +10,8 @@ use Rattle.lu_machine.specs.declared.thread.Frame.{Frame}
 use Rattle.lu_machine.specs.States.{State}
 use Rattle.lu_machine.specs.Steps.{RunsOn, choices, is_blocked, more_local}
 use Rattle.lu_horizon.specs.declared.outlook.Outlook.{Outlook}
-use Rattle.lu_horizon.specs.Code.{ahead_at, ahead_of_call, is_there, more_behind, run_on, unless_there}
-use Rattle.lu_horizon.specs.Own.{IsIdle, IsAt}
+use Rattle.lu_horizon.specs.Code.{ahead_at, ahead_of_call, is_certain_cell, more_behind, run_on, unless_there}
+use Rattle.lu_horizon.specs.Own.{IsIdle, IsOpenAt}
 use Rattle.lu_horizon.specs.Outlooks.{IsWeaker, either, no_move, one_before}
 use Rattle.lu_horizon.specs.Sure.{HasOutlook}
 use Rattle.lu_horizon.specs.Tables.{IsCall}
@@ -34,7 +34,7 @@ not_there_rest : (there : Bool) (a b : Outlook) → there ≡ false → IsWeaker
 not_there_rest true a b not = absurd (cc)
 not_there_rest false a b not = either_second a b
 
-module _ (c : Declarations) (matrix : Matrix) (t k : ℕ) (rest : Outlook) (code : List Instr) (known : ℕ → Outlook) (call : IsCall c matrix t k code rest) (next : (q : ℕ) (s : State) → IsAt c matrix t k q s → HasOutlook s t (known q)) where
+module _ (c : Declarations) (matrix : Matrix) (t k : ℕ) (rest : Outlook) (code : List Instr) (known : ℕ → Outlook) (call : IsCall c matrix t k code rest) (next : (q : ℕ) (s : State) → IsOpenAt c matrix t k q s → HasOutlook s t (known q)) where
   -- before a call, one move more than where its own first steps may lead
   pub call_ahead : (s : State) → IsIdle c matrix t k s → HasOutlook s t (ahead_of_call c code known)
   call_ahead =
@@ -49,9 +49,9 @@ module _ (c : Declarations) (matrix : Matrix) (t k : ℕ) (rest : Outlook) (code
       ahead_on c matrix t k rest code call known next c.local 0 step.0 new (own_opens c matrix t k s m step.0 e step.1 i same) runs))
 
   module _ (place : ℕ) where
-    one_more : (instr : Instr) → slice_get code place ≡ Some instr → ((s : State) (f : Frame) → is_blocked s f instr ≡ false) → choices instr ≡ 1 → (o : Outlook) → ((q : ℕ) → MayGoTo instr place q → IsWeaker o (run_on code known (more_behind c instr) q)) → (MayEnd c instr → IsWeaker o rest) → (s : State) → IsAt c matrix t k place s → HasOutlook s t (one_before o)
+    one_more : (instr : Instr) → slice_get code place ≡ Some instr → ((s : State) (f : Frame) → is_blocked s f instr ≡ false) → choices instr ≡ 1 → (o : Outlook) → ((q : ℕ) → MayGoTo instr place q → IsWeaker o (run_on code known (more_behind c instr) q)) → (MayEnd c instr → IsWeaker o rest) → (s : State) → IsOpenAt c matrix t k place s → HasOutlook s t (one_before o)
     one_more instr stands free one o to end =
-        before t o (IsAt c matrix t k place)
+        before t o (IsOpenAt c matrix t k place)
         (λ s a. rw (a.stands, here c matrix t k rest code call place s a, stands, free s a.frame) one)
         (λ s m new e a other step. other_at c matrix t k s m new e step place a other)
         (λ s m new e a same step.
@@ -67,7 +67,7 @@ module _ (c : Declarations) (matrix : Matrix) (t k : ℕ) (rest : Outlook) (code
     to_place on o p within q is = rw is within
 
     -- the outlook at an instruction holds
-    pub ahead_here : (instr : Instr) → slice_get code place ≡ Some instr → (s : State) → IsAt c matrix t k place s → HasOutlook s t (ahead_at c code known rest place instr)
+    pub ahead_here : (instr : Instr) → slice_get code place ≡ Some instr → (s : State) → IsOpenAt c matrix t k place s → HasOutlook s t (ahead_at c code known rest place instr)
     ahead_here (Set to v) stands =
         let on = run_on code known (more_behind c (Set to v)) in
         one_more (Set to v) stands (λ s f. refl) refl (on (place + 1)) (to_place on (on (place + 1)) (place + 1) (within_itself (on (place + 1)))) (λ e. absurd e)
@@ -76,16 +76,16 @@ module _ (c : Declarations) (matrix : Matrix) (t k : ℕ) (rest : Outlook) (code
         one_more (Compute by to a b) stands (λ s f. refl) refl (on (place + 1)) (to_place on (on (place + 1)) (place + 1) (within_itself (on (place + 1)))) (λ e. absurd e)
     ahead_here (Load to w i) stands =
         let on = run_on code known (more_behind c (Load to w i)) in
-        let o = unless_there (is_there c w i) (on (place + 1)) rest in
-        one_more (Load to w i) stands (λ s f. refl) refl o (to_place on o (place + 1) (there_next (is_there c w i) (on (place + 1)) rest)) (not_there_rest (is_there c w i) (on (place + 1)) rest)
+        let o = unless_there (is_certain_cell c w i) (on (place + 1)) rest in
+        one_more (Load to w i) stands (λ s f. refl) refl o (to_place on o (place + 1) (there_next (is_certain_cell c w i) (on (place + 1)) rest)) (not_there_rest (is_certain_cell c w i) (on (place + 1)) rest)
     ahead_here (Store w i v) stands =
         let on = run_on code known (more_behind c (Store w i v)) in
-        let o = unless_there (is_there c w i) (on (place + 1)) rest in
-        one_more (Store w i v) stands (λ s f. refl) refl o (to_place on o (place + 1) (there_next (is_there c w i) (on (place + 1)) rest)) (not_there_rest (is_there c w i) (on (place + 1)) rest)
+        let o = unless_there (is_certain_cell c w i) (on (place + 1)) rest in
+        one_more (Store w i v) stands (λ s f. refl) refl o (to_place on o (place + 1) (there_next (is_certain_cell c w i) (on (place + 1)) rest)) (not_there_rest (is_certain_cell c w i) (on (place + 1)) rest)
     ahead_here (Cas to w i x y) stands =
         let on = run_on code known (more_behind c (Cas to w i x y)) in
-        let o = unless_there (is_there c w i) (on (place + 1)) rest in
-        one_more (Cas to w i x y) stands (λ s f. refl) refl o (to_place on o (place + 1) (there_next (is_there c w i) (on (place + 1)) rest)) (not_there_rest (is_there c w i) (on (place + 1)) rest)
+        let o = unless_there (is_certain_cell c w i) (on (place + 1)) rest in
+        one_more (Cas to w i x y) stands (λ s f. refl) refl o (to_place on o (place + 1) (there_next (is_certain_cell c w i) (on (place + 1)) rest)) (not_there_rest (is_certain_cell c w i) (on (place + 1)) rest)
     ahead_here (Lock l) stands = λ s a. nothing_ahead s t
     ahead_here (Unlock l) stands =
         let on = run_on code known (more_behind c (Unlock l)) in

@@ -19,7 +19,7 @@ use Rattle.lu_machine.proofs.Keeping.{carries_alike}
 use Rattle.lu_machine.proofs.Unseen.{one_without_local}
 use Rattle.lu_horizon.specs.declared.outlook.Outlook.{Outlook}
 use Rattle.lu_horizon.specs.Outlooks.{one_before}
-use Rattle.lu_horizon.specs.Own.{IsAt, IsOwn}
+use Rattle.lu_horizon.specs.Own.{IsOpenAt, IsOwn}
 use Rattle.lu_horizon.specs.Sure.{HasOutlook}
 use Rattle.lu_horizon.proofs.OwnLaws.{itself_stands, one_step_by, other_stands, step_keeps_own}
 use Rattle.lu_horizon.proofs.SureLaws.{before}
@@ -35,7 +35,7 @@ module _ (c : Declarations) (none : c.local ≡ 0) (matrix : Matrix) (t k : ℕ)
   one_pick : (s : State) → Holds s → picks_of s t ≡ 1
   one_pick s holds = rw (holds.1, there s holds) refl
 
-  goes : (s : State) (m : Move) (new : State) (event : Option Event) → Holds s → m.thread ≡ t → Step s m new event → IsAt c matrix t k (if value_of f v == 0 then target else f.place + 1) new
+  goes : (s : State) (m : Move) (new : State) (event : Option Event) → Holds s → m.thread ≡ t → Step s m new event → IsOpenAt c matrix t k (if value_of f v == 0 then target else f.place + 1) new
   goes s m new event holds same step =
       let short : s.component.local ≡ 0 = ap (λ (x : Declarations). x.local) holds.0.component ∙ none in
       let one : OneStep s m new event = (one_without_local s m new event short).0 step in
@@ -48,11 +48,11 @@ module _ (c : Declarations) (none : c.local ≡ 0) (matrix : Matrix) (t k : ℕ)
       let now : slice_get new.threads m.thread ≡ Some (thread_after k h.2) = itself_stands s new m.thread (at_work k f) (thread_after k h.2) stands threads in
       by_value (value_of f v == 0) h.2 carries.1 (subst (λ (x : ℕ). slice_get new.threads x ≡ Some (thread_after k h.2)) same now)
     where
-      by_value : (zero : Bool) (effect : Effect) → effect ≡ (if zero then onward_at f target else onward f) → slice_get new.threads t ≡ Some (thread_after k effect) → IsAt c matrix t k (if zero then target else f.place + 1) new
+      by_value : (zero : Bool) (effect : Effect) → effect ≡ (if zero then onward_at f target else onward f) → slice_get new.threads t ≡ Some (thread_after k effect) → IsOpenAt c matrix t k (if zero then target else f.place + 1) new
       by_value true effect is now = record { own = step_keeps_own c matrix s m new event holds.0 step; frame = record f { place = target }; stands = rw is at now; place_is = refl }
       by_value false effect is now = record { own = step_keeps_own c matrix s m new event holds.0 step; frame = record f { place = f.place + 1 }; stands = rw is at now; place_is = refl }
 
-  pub jump_before : (o : Outlook) → ((s : State) → IsAt c matrix t k (if value_of f v == 0 then target else f.place + 1) s → HasOutlook s t o) → (s : State) → Holds s → HasOutlook s t (one_before o)
+  pub jump_before : (o : Outlook) → ((s : State) → IsOpenAt c matrix t k (if value_of f v == 0 then target else f.place + 1) s → HasOutlook s t o) → (s : State) → Holds s → HasOutlook s t (one_before o)
   jump_before o next =
       before t o Holds one_pick
       (λ s m new e holds other step. (step_keeps_own c matrix s m new e holds.0 step, other_stands s m new e t other step ∙ holds.1))

@@ -12,7 +12,7 @@ use Rattle.lu_machine.specs.States.{State, instr_at}
 use Rattle.lu_machine.specs.Steps.{OneStep, RunsOn, is_at_local, is_local, more_local}
 use Rattle.lu_horizon.specs.declared.outlook.Outlook.{Outlook}
 use Rattle.lu_horizon.specs.Code.{behind_local, more_behind, run_on}
-use Rattle.lu_horizon.specs.Own.{IsAt}
+use Rattle.lu_horizon.specs.Own.{IsOpenAt}
 use Rattle.lu_horizon.specs.Outlooks.{IsWeaker}
 use Rattle.lu_horizon.specs.Sure.{HasOutlook}
 use Rattle.lu_horizon.specs.Tables.{IsCall}
@@ -57,7 +57,7 @@ local_within on place (Return v) is q goes = absurd (cc)
 
 module _ (c : Declarations) (matrix : Matrix) (t k : ℕ) (rest : Outlook) (code : List Instr) (call : IsCall c matrix t k code rest) where
   -- the instruction at a place is that of the code
-  pub here : (place : ℕ) (s : State) (a : IsAt c matrix t k place s) → instr_at s.component a.frame.op a.frame.place ≡ slice_get code place
+  pub here : (place : ℕ) (s : State) (a : IsOpenAt c matrix t k place s) → instr_at s.component a.frame.op a.frame.place ≡ slice_get code place
   here place s a =
       let own = a.own.own t k a.frame a.stands in
       let same : own.0 ≡ call.call = same_Some own.0 call.call (sym own.1 ∙ call.called) in
@@ -65,23 +65,23 @@ module _ (c : Declarations) (matrix : Matrix) (t k : ℕ) (rest : Outlook) (code
       let op : a.frame.op ≡ call.call.op = own.2 ∙ ap (λ (x : Call). x.op) same in
       rw (a.own.component, op, a.place_is) is
 
-  at_local : (place : ℕ) (s : State) (a : IsAt c matrix t k place s) → is_at_local s t ≡ option_map_or is_local (slice_get code place) false
+  at_local : (place : ℕ) (s : State) (a : IsOpenAt c matrix t k place s) → is_at_local s t ≡ option_map_or is_local (slice_get code place) false
   at_local place s a = rw (a.stands, here place s a) refl
 
   -- so many local instructions may follow the one at this place
-  pub more_here : (place : ℕ) (s : State) (a : IsAt c matrix t k place s) (instr : Instr) → slice_get code place ≡ Some instr → more_local s t ≡ more_behind c instr
+  pub more_here : (place : ℕ) (s : State) (a : IsOpenAt c matrix t k place s) (instr : Instr) → slice_get code place ≡ Some instr → more_local s t ≡ more_behind c instr
   more_here place s a instr stands =
       let is : is_at_local s t ≡ is_local instr = rw stands at (at_local place s a) in
       rw (is, a.own.component) refl
 
-  module _ (known : ℕ → Outlook) (next : (q : ℕ) (s : State) → IsAt c matrix t k q s → HasOutlook s t (known q)) where
+  module _ (known : ℕ → Outlook) (next : (q : ℕ) (s : State) → IsOpenAt c matrix t k q s → HasOutlook s t (known q)) where
     -- what is ahead where a thread has run on
-    pub ahead_on : (n place : ℕ) (s end : State) → IsAt c matrix t k place s → RunsOn n s t end → HasOutlook end t (run_on code known n place)
+    pub ahead_on : (n place : ℕ) (s end : State) → IsOpenAt c matrix t k place s → RunsOn n s t end → HasOutlook end t (run_on code known n place)
     ahead_on zero place s end a runs = rw runs (next place s a)
     ahead_on (suc n) place s end a runs =
         by_instr (ahead_on n) (slice_get code place) refl (subst (λ b. MatchBool b ((x : State) × OneStep s (record { thread = t; pick = 0 }) x None × RunsOn n x t end) (end ≡ s)) (at_local place s a) runs)
       where
-        by_local : ((q : ℕ) (x y : State) → IsAt c matrix t k q x → RunsOn n x t y → HasOutlook y t (run_on code known n q)) → (instr : Instr) → slice_get code place ≡ Some instr → (b : Bool) → is_local instr ≡ b → MatchBool b ((x : State) × OneStep s (record { thread = t; pick = 0 }) x None × RunsOn n x t end) (end ≡ s) → HasOutlook end t (if b then behind_local (run_on code known n) place instr else known place)
+        by_local : ((q : ℕ) (x y : State) → IsOpenAt c matrix t k q x → RunsOn n x t y → HasOutlook y t (run_on code known n q)) → (instr : Instr) → slice_get code place ≡ Some instr → (b : Bool) → is_local instr ≡ b → MatchBool b ((x : State) × OneStep s (record { thread = t; pick = 0 }) x None × RunsOn n x t end) (end ≡ s) → HasOutlook end t (if b then behind_local (run_on code known n) place instr else known place)
         by_local go instr at true is h =
             let m : Move = record { thread = t; pick = 0 } in
             let on = run_on code known n in
@@ -91,6 +91,6 @@ module _ (c : Declarations) (matrix : Matrix) (t k : ℕ) (rest : Outlook) (code
             ]
         by_local go instr at false is h = rw h (next place s a)
 
-        by_instr : ((q : ℕ) (x y : State) → IsAt c matrix t k q x → RunsOn n x t y → HasOutlook y t (run_on code known n q)) → (o : Option Instr) → slice_get code place ≡ o → MatchBool (option_map_or is_local o false) ((x : State) × OneStep s (record { thread = t; pick = 0 }) x None × RunsOn n x t end) (end ≡ s) → HasOutlook end t (option_map_or (λ instr. if is_local instr then behind_local (run_on code known n) place instr else known place) o (known place))
+        by_instr : ((q : ℕ) (x y : State) → IsOpenAt c matrix t k q x → RunsOn n x t y → HasOutlook y t (run_on code known n q)) → (o : Option Instr) → slice_get code place ≡ o → MatchBool (option_map_or is_local o false) ((x : State) × OneStep s (record { thread = t; pick = 0 }) x None × RunsOn n x t end) (end ≡ s) → HasOutlook end t (option_map_or (λ instr. if is_local instr then behind_local (run_on code known n) place instr else known place) o (known place))
         by_instr go None at h = rw h (next place s a)
         by_instr go (Some instr) at h = by_local go instr at (is_local instr) refl h

@@ -24,8 +24,8 @@ use Rattle.lu_machine.specs.Starts.{IsStart}
 use Rattle.lu_machine.specs.States.{State, cell_at, instr_at, value_at, with_cell, with_owner}
 use Rattle.lu_machine.specs.Steps.{Carries, ByActivity, OneStep, RunsOn, Step, is_at_local, more_local, opened, owns, thread_after}
 use Rattle.lu_machine.proofs.Keeping.{carries_alike, step_moved}
-use Rattle.lu_horizon.specs.Code.{is_there}
-use Rattle.lu_horizon.specs.Own.{IsOwn, IsIdle, IsAt}
+use Rattle.lu_horizon.specs.Code.{is_certain_cell}
+use Rattle.lu_horizon.specs.Own.{IsOwn, IsIdle, IsOpenAt}
 use Rattle.lu_horizon.specs.Tables.{IsTable, Outlooks, Serves}
 
 pub get_set_same : {A : Type 0} (xs : List A) (i : ℕ) (y : A) → i < length xs → slice_get (slice_set xs i y) i ≡ Some y
@@ -49,9 +49,9 @@ MayGoTo _ place next = next ≡ place + 1
 
 -- whether it may end
 abbrev pub MayEnd : Declarations → Instr → Type 0
-MayEnd c (Load to w i) = is_there c w i ≡ false
-MayEnd c (Store w i v) = is_there c w i ≡ false
-MayEnd c (Cas to w i expected desired) = is_there c w i ≡ false
+MayEnd c (Load to w i) = is_certain_cell c w i ≡ false
+MayEnd c (Store w i v) = is_certain_cell c w i ≡ false
+MayEnd c (Cas to w i expected desired) = is_certain_cell c w i ≡ false
 MayEnd c (Unlock l) = Unit {0}
 MayEnd c (Await w i v) = Unit {0}
 MayEnd c (AwaitNot w i v) = Unit {0}
@@ -62,7 +62,7 @@ abbrev pub Follows : Declarations → Frame → Instr → Effect → Type 0
 Follows c f instr (GoesOn g) = (g.op ≡ f.op) × MayGoTo instr f.place g.place
 Follows c f instr (Ends outcome) = MayEnd c instr
 
-not_there : (s : State) (f : Frame) (w : ℕ) (i : Operand) → cell_at s f w i ≡ None → is_there s.component w i ≡ false
+not_there : (s : State) (f : Frame) (w : ℕ) (i : Operand) → cell_at s f w i ≡ None → is_certain_cell s.component w i ≡ false
 not_there s f w (Reg r) at = refl
 not_there s f w (Num n) at = ap is_some at
 
@@ -268,7 +268,7 @@ module _ (c : Declarations) (matrix : Matrix) (t k : ℕ) (s : State) (m : Move)
     stands = other_stands s m new event t other step ∙ i.stands;
   }
 
-  pub other_at : (place : ℕ) → IsAt c matrix t k place s → (m.thread ≡ t → ⊥) → IsAt c matrix t k place new
+  pub other_at : (place : ℕ) → IsOpenAt c matrix t k place s → (m.thread ≡ t → ⊥) → IsOpenAt c matrix t k place new
   other_at place a other = record {
     own = step_keeps_own c matrix s m new event a.own step;
     frame = a.frame;
@@ -278,7 +278,7 @@ module _ (c : Declarations) (matrix : Matrix) (t k : ℕ) (s : State) (m : Move)
 
 module _ (c : Declarations) (matrix : Matrix) (t k : ℕ) (s : State) (m : Move) (new : State) (event : Option Event) (one : OneStep s m new event) where
   -- the first step of its own opens its next call
-  pub own_opens : IsIdle c matrix t k s → m.thread ≡ t → IsAt c matrix t k 0 new
+  pub own_opens : IsIdle c matrix t k s → m.thread ≡ t → IsOpenAt c matrix t k 0 new
   own_opens i same =
       let stands : slice_get s.threads m.thread ≡ Some (record { done = k; activity = Idle }) = rw same i.stands in
       let opens = idle_opens s m k new event stands one in
@@ -290,7 +290,7 @@ module _ (c : Declarations) (matrix : Matrix) (t k : ℕ) (s : State) (m : Move)
       }
 
   -- or does what the instruction may do
-  pub own_goes : (place : ℕ) (a : IsAt c matrix t k place s) → m.thread ≡ t → (instr : Instr) → instr_at s.component a.frame.op a.frame.place ≡ Some instr → ((q : ℕ) × MayGoTo instr place q × IsAt c matrix t k q new) ⊎ (MayEnd c instr × IsIdle c matrix t (k + 1) new)
+  pub own_goes : (place : ℕ) (a : IsOpenAt c matrix t k place s) → m.thread ≡ t → (instr : Instr) → instr_at s.component a.frame.op a.frame.place ≡ Some instr → ((q : ℕ) × MayGoTo instr place q × IsOpenAt c matrix t k q new) ⊎ (MayEnd c instr × IsIdle c matrix t (k + 1) new)
   own_goes place a same instr at =
       let stands : slice_get s.threads m.thread ≡ Some (record { done = k; activity = Open a.frame }) = rw same a.stands in
       let moves = open_moves s m k a.frame new event stands one in
@@ -298,7 +298,7 @@ module _ (c : Declarations) (matrix : Matrix) (t k : ℕ) (s : State) (m : Move)
       let follows : Follows c a.frame instr moves.0.effect = follows_same s.component c a.frame moves.0.instr instr moves.0.effect a.own.component is moves.0.follows in
       by_effect moves.0.effect follows (subst (λ (x : ℕ). slice_get new.threads x ≡ Some (thread_after k moves.0.effect)) same moves.1)
     where
-      by_effect : (e : Effect) → Follows c a.frame instr e → slice_get new.threads t ≡ Some (thread_after k e) → ((q : ℕ) × MayGoTo instr place q × IsAt c matrix t k q new) ⊎ (MayEnd c instr × IsIdle c matrix t (k + 1) new)
+      by_effect : (e : Effect) → Follows c a.frame instr e → slice_get new.threads t ≡ Some (thread_after k e) → ((q : ℕ) × MayGoTo instr place q × IsOpenAt c matrix t k q new) ⊎ (MayEnd c instr × IsIdle c matrix t (k + 1) new)
       by_effect (GoesOn g) follows now =
           inl (g.place, rw a.place_is at follows.1, record { own = one_keeps_own c matrix s m new event a.own one; frame = g; stands = now; place_is = refl })
       by_effect (Ends outcome) follows now =

@@ -9,40 +9,40 @@ use Rattle.lu_test.specs.Matrix.{Matrix}
 use Rattle.lu_machine.specs.declared.thread.Activity.{Activity}
 use Rattle.lu_machine.specs.declared.thread.Activity.TheVariants.{Idle, Open}
 use Rattle.lu_machine.specs.declared.thread.Frame.{Frame}
-use Rattle.lu_horizon.specs.declared.stand.Stand.{Stand}
+use Rattle.lu_horizon.specs.declared.stand.CallPlace.{CallPlace}
 use Rattle.lu_machine.specs.declared.thread.Thread.{Thread}
 use Rattle.lu_component.specs.declared.instr.Instr.TheVariants.{JumpIfZero}
 use Rattle.lu_machine.specs.Changes.{at_work}
 use Rattle.lu_horizon.specs.Stands.{JumpsTo, place_of, stand_of}
 use Rattle.lu_machine.specs.States.{State, instr_at}
-use Rattle.lu_horizon.specs.Own.{IsAt, IsIdle, IsOwn}
+use Rattle.lu_horizon.specs.Own.{IsOpenAt, IsIdle, IsOwn}
 use Rattle.lu_horizon.specs.declared.outlook.Outlook.{Outlook}
-use Rattle.lu_horizon.specs.Outlooks.{IsWeaker, no_move, nothing, one_before}
+use Rattle.lu_horizon.specs.Outlooks.{IsWeaker, no_move, nothing_known, one_before}
 use Rattle.lu_horizon.specs.Sure.{HasOutlook}
-use Rattle.lu_horizon.specs.Tables.{AreCalls, AreOfCall, ArePlaces, IsTable, IsThread, Outlooks, no_outlooks, outlook_before, outlook_within}
+use Rattle.lu_horizon.specs.Tables.{AreOutlooksOfCalls, AreOfCall, ArePlaces, IsTable, IsThread, Outlooks, no_outlooks, outlook_before, outlook_within}
 use Rattle.lu_horizon.proofs.JumpLaws.{jump_before}
 use Rattle.lu_horizon.proofs.CodeLaws.{idle_over}
 use Rattle.lu_horizon.proofs.SureLaws.{nothing_ahead, outlook_less}
 
-get_or_nothings : (n place : ℕ) → get_or (replicate n nothing) place nothing ≡ nothing
+get_or_nothings : (n place : ℕ) → get_or (replicate n nothing_known) place nothing_known ≡ nothing_known
 get_or_nothings zero place = refl
 get_or_nothings (suc n) zero = refl
 get_or_nothings (suc n) (suc place) = get_or_nothings n place
 
 -- nothing is known
-pub places_none : (c : Declarations) (matrix : Matrix) (t k n : ℕ) → ArePlaces c matrix t k (replicate n nothing)
+pub places_none : (c : Declarations) (matrix : Matrix) (t k n : ℕ) → ArePlaces c matrix t k (replicate n nothing_known)
 places_none c matrix t k n place s a = rw (get_or_nothings n place) (nothing_ahead s t)
 
 -- one place more
-pub places_set : (c : Declarations) (matrix : Matrix) (t k : ℕ) (places : List Outlook) (place : ℕ) (o : Outlook) → place < length places → ((s : State) → IsAt c matrix t k place s → HasOutlook s t o) → ArePlaces c matrix t k places → ArePlaces c matrix t k (slice_set places place o)
+pub places_set : (c : Declarations) (matrix : Matrix) (t k : ℕ) (places : List Outlook) (place : ℕ) (o : Outlook) → place < length places → ((s : State) → IsOpenAt c matrix t k place s → HasOutlook s t o) → ArePlaces c matrix t k places → ArePlaces c matrix t k (slice_set places place o)
 places_set c matrix t k places place o within ahead old q s a =
     elim (cases_eq q place) [
-      | inl same ↦ (let e : get_or (slice_set places place o) q nothing ≡ o = rw same (get_or-set_same places place o nothing within) in rw e (ahead s (rw same at a)))
-      | inr other ↦ rw (get_or-set_other places place q o nothing other) (old q s a)
+      | inl same ↦ (let e : get_or (slice_set places place o) q nothing_known ≡ o = rw same (get_or-set_same places place o nothing_known within) in rw e (ahead s (rw same at a)))
+      | inr other ↦ rw (get_or-set_other places place q o nothing_known other) (old q s a)
     ]
 
 -- call number i of those from k on
-pub calls_at : (c : Declarations) (matrix : Matrix) (t k i : ℕ) (calls : Outlooks) → AreCalls c matrix t k calls → AreOfCall c matrix t (k + i) (get_or calls i no_outlooks)
+pub calls_at : (c : Declarations) (matrix : Matrix) (t k i : ℕ) (calls : Outlooks) → AreOutlooksOfCalls c matrix t k calls → AreOfCall c matrix t (k + i) (get_or calls i no_outlooks)
 calls_at c matrix t k i [] are = record { before = λ s idle. nothing_ahead s t; places = λ place s a. nothing_ahead s t }
 calls_at c matrix t k zero (first ∷ calls) are =
     let e : k + 0 ≡ k = omega arith in
@@ -52,7 +52,7 @@ calls_at c matrix t k (suc i) (first ∷ calls) are =
     subst (λ n. AreOfCall c matrix t n (get_or calls i no_outlooks)) (sym e) (calls_at c matrix t (k + 1) i calls are.1)
 
 -- where a thread stands
-pub stands_idle : (o : Option Thread) (stand : Stand) → option_map stand_of o ≡ Some stand → stand.place ≡ None → o ≡ Some (record { done = stand.done; activity = Idle })
+pub stands_idle : (o : Option Thread) (stand : CallPlace) → option_map stand_of o ≡ Some stand → stand.place ≡ None → o ≡ Some (record { done = stand.done; activity = Idle })
 stands_idle None stand is place = absurd (cc)
 stands_idle (Some thread) stand is place = by_activity thread.activity refl
   where
@@ -61,16 +61,16 @@ stands_idle (Some thread) stand is place = by_activity thread.activity refl
 
     by_activity : (activity : Activity) → thread.activity ≡ activity → Some thread ≡ Some (record { done = stand.done; activity = Idle })
     by_activity Idle at =
-        (let d : thread.done ≡ stand.done = ap (λ (x : Stand). x.done) same in
+        (let d : thread.done ≡ stand.done = ap (λ (x : CallPlace). x.done) same in
         let first : thread ≡ record { done = thread.done; activity = Idle } = ap (λ (x : Activity). let y : Thread = record { done = thread.done; activity = x } in y) at in
         let second : record { done = thread.done; activity = Idle } ≡ record { done = stand.done; activity = Idle } = ap (λ (x : ℕ). let y : Thread = record { done = x; activity = Idle } in y) d in
         ap Some (first ∙ second))
     by_activity (Open f) at =
-        (let p : place_of thread.activity ≡ None = ap (λ (x : Stand). x.place) same ∙ place in
+        (let p : place_of thread.activity ≡ None = ap (λ (x : CallPlace). x.place) same ∙ place in
         let q : place_of (Open f) ≡ None = rw at at p in
         absurd (cc))
 
-pub stands_open : (o : Option Thread) (stand : Stand) (place : ℕ) → option_map stand_of o ≡ Some stand → stand.place ≡ Some place → (f : Frame) × (o ≡ Some (record { done = stand.done; activity = Open f })) × (f.place ≡ place)
+pub stands_open : (o : Option Thread) (stand : CallPlace) (place : ℕ) → option_map stand_of o ≡ Some stand → stand.place ≡ Some place → (f : Frame) × (o ≡ Some (record { done = stand.done; activity = Open f })) × (f.place ≡ place)
 stands_open None stand place is at = absurd (cc)
 stands_open (Some thread) stand place is at = by_activity thread.activity refl
   where
@@ -79,18 +79,18 @@ stands_open (Some thread) stand place is at = by_activity thread.activity refl
 
     by_activity : (activity : Activity) → thread.activity ≡ activity → (f : Frame) × (Some thread ≡ Some (record { done = stand.done; activity = Open f })) × (f.place ≡ place)
     by_activity Idle idle =
-        (let p : place_of thread.activity ≡ Some place = ap (λ (x : Stand). x.place) same ∙ at in
+        (let p : place_of thread.activity ≡ Some place = ap (λ (x : CallPlace). x.place) same ∙ at in
         let q : place_of Idle ≡ Some place = rw idle at p in
         absurd (cc))
     by_activity (Open f) busy =
-        (let d : thread.done ≡ stand.done = ap (λ (x : Stand). x.done) same in
-        let p : place_of thread.activity ≡ Some place = ap (λ (x : Stand). x.place) same ∙ at in
+        (let d : thread.done ≡ stand.done = ap (λ (x : CallPlace). x.done) same in
+        let p : place_of thread.activity ≡ Some place = ap (λ (x : CallPlace). x.place) same ∙ at in
         let q : Some f.place ≡ Some place = rw busy at p in
         let first : thread ≡ record { done = thread.done; activity = Open f } = ap (λ (x : Activity). let y : Thread = record { done = thread.done; activity = x } in y) busy in
         let second : record { done = thread.done; activity = Open f } ≡ record { done = stand.done; activity = Open f } = ap (λ (x : ℕ). let y : Thread = record { done = x; activity = Open f } in y) d in
         (f, ap Some (first ∙ second), same_Some f.place place q))
 
-module _ (c : Declarations) (matrix : Matrix) (s : State) (t : ℕ) (calls : Outlooks) (thread : IsThread c matrix t calls) (own : IsOwn c matrix s) (stand : Stand) (stands : option_map stand_of (slice_get s.threads t) ≡ Some stand) where
+module _ (c : Declarations) (matrix : Matrix) (s : State) (t : ℕ) (calls : Outlooks) (thread : IsThread c matrix t calls) (own : IsOwn c matrix s) (stand : CallPlace) (stands : option_map stand_of (slice_get s.threads t) ≡ Some stand) where
   outlooks : (k : ℕ) → AreOfCall c matrix t k (get_or calls k no_outlooks)
   outlooks k =
       let e : 0 + k ≡ k = omega arith in
@@ -108,7 +108,7 @@ module _ (c : Declarations) (matrix : Matrix) (s : State) (t : ℕ) (calls : Out
       let known = outlook_within calls stand.done next in
       let is : option_map stand_of (Some (at_work jump.done jump.frame)) ≡ Some stand = rw jump.stands at stands in
       let same : stand_of (at_work jump.done jump.frame) ≡ stand = same_Some (stand_of (at_work jump.done jump.frame)) stand is in
-      let number : jump.done ≡ stand.done = ap (λ (x : Stand). x.done) same in
+      let number : jump.done ≡ stand.done = ap (λ (x : CallPlace). x.done) same in
       let there : instr_at c jump.frame.op jump.frame.place ≡ Some (JumpIfZero jump.value jump.target) = rw own.component at jump.is in
       let short : c.local ≡ 0 = rw own.component at none in
       let holds : slice_get s.threads t ≡ Some (at_work stand.done jump.frame) = jump.stands ∙ ap (λ (x : ℕ). Some (at_work x jump.frame)) number in

@@ -9,12 +9,12 @@ use Rattle.lu_component.specs.Component.{Declarations}
 use Rattle.lu_machine.specs.States.{cell_of}
 use Rattle.lu_machine.specs.Steps.{is_local}
 use Rattle.lu_horizon.specs.declared.outlook.Outlook.{Outlook}
-use Rattle.lu_horizon.specs.Outlooks.{either, nothing, one_before}
+use Rattle.lu_horizon.specs.Outlooks.{either, nothing_known, one_before}
 
 -- the index is that of a cell of array w, whatever the registers hold
-abbrev pub is_there : Declarations → ℕ → Operand → Bool
-is_there c w (Reg r) = false
-is_there c w (Num n) = is_some (cell_of c w n)
+abbrev pub is_certain_cell : Declarations → ℕ → Operand → Bool
+is_certain_cell c w (Reg r) = false
+is_certain_cell c w (Num n) = is_some (cell_of c w n)
 
 -- behind an instruction that may trap, unless its cell is there
 abbrev pub unless_there : Bool → Outlook → Outlook → Outlook
@@ -26,16 +26,16 @@ abbrev pub outlook_at : Declarations → (ℕ → Outlook) → Outlook → ℕ �
 outlook_at c on rest place (Set to v) = one_before (on (place + 1))
 outlook_at c on rest place (Compute by to a b) = one_before (on (place + 1))
 outlook_at c on rest place (Load to w i) =
-    one_before (unless_there (is_there c w i) (on (place + 1)) rest)
+    one_before (unless_there (is_certain_cell c w i) (on (place + 1)) rest)
 outlook_at c on rest place (Store w i v) =
-    one_before (unless_there (is_there c w i) (on (place + 1)) rest)
+    one_before (unless_there (is_certain_cell c w i) (on (place + 1)) rest)
 outlook_at c on rest place (Cas to w i expected desired) =
-    one_before (unless_there (is_there c w i) (on (place + 1)) rest)
-outlook_at c on rest place (Lock l) = nothing
+    one_before (unless_there (is_certain_cell c w i) (on (place + 1)) rest)
+outlook_at c on rest place (Lock l) = nothing_known
 outlook_at c on rest place (Unlock l) = one_before (either (on (place + 1)) rest)
-outlook_at c on rest place (Await w i v) = nothing
-outlook_at c on rest place (AwaitNot w i v) = nothing
-outlook_at c on rest place (Pick to count) = nothing
+outlook_at c on rest place (Await w i v) = nothing_known
+outlook_at c on rest place (AwaitNot w i v) = nothing_known
+outlook_at c on rest place (Pick to count) = nothing_known
 outlook_at c on rest place (Jump target) = one_before (on target)
 outlook_at c on rest place (JumpIfZero v target) =
     one_before (either (on target) (on (place + 1)))

@@ -9,22 +9,22 @@ use Rattle.lu_component.specs.declared.instr.Operand.TheVariants.{Reg, Num}
 use Rattle.lu_machine.specs.States.{instr_at}
 
 -- the operand is register r
-abbrev pub is_register : ℕ → Operand → Bool
-is_register r (Reg q) = q == r
-is_register r (Num n) = false
+abbrev pub names_register : ℕ → Operand → Bool
+names_register r (Reg q) = q == r
+names_register r (Num n) = false
 
 -- whether the instruction reads register r
 abbrev pub reads : Instr → ℕ → Bool
-reads (Set to v) r = is_register r v
-reads (Compute by to a b) r = is_register r a || is_register r b
-reads (Load to w i) r = is_register r i
-reads (Store w i v) r = is_register r i || is_register r v
+reads (Set to v) r = names_register r v
+reads (Compute by to a b) r = names_register r a || names_register r b
+reads (Load to w i) r = names_register r i
+reads (Store w i v) r = names_register r i || names_register r v
 reads (Cas to w i expected desired) r =
-    is_register r i || (is_register r expected || is_register r desired)
-reads (Await w i v) r = is_register r i || is_register r v
-reads (AwaitNot w i v) r = is_register r i || is_register r v
-reads (JumpIfZero v target) r = is_register r v
-reads (Return v) r = is_register r v
+    names_register r i || (names_register r expected || names_register r desired)
+reads (Await w i v) r = names_register r i || names_register r v
+reads (AwaitNot w i v) r = names_register r i || names_register r v
+reads (JumpIfZero v target) r = names_register r v
+reads (Return v) r = names_register r v
 reads _ r = false
 
 -- whether it writes register r, where the operation goes on
@@ -36,8 +36,8 @@ writes (Cas to w i expected desired) r = to == r
 writes (Pick to count) r = to == r
 writes _ r = false
 
--- whether register r is dead wherever the operation may go from the instruction at this place, where
--- `dead` tells so of each place
+-- whether register r is dead wherever the operation may go from the instruction at this place,
+-- where `dead` tells so of each place
 abbrev pub dead_behind : (ℕ → ℕ → Bool) → ℕ → Instr → ℕ → Bool
 dead_behind dead place (Jump target) r = dead target r
 dead_behind dead place (JumpIfZero v target) r = dead target r && dead (place + 1) r

@@ -3,8 +3,8 @@ use Rattle.std.specs.Prelude.{◌≡◌, ◌+◌, ◌≤◌, ◌==◌, min, true
 use Rattle.lu_horizon.specs.declared.outlook.Outlook.{Outlook}
 
 -- nothing is known
-abbrev pub nothing : Outlook
-nothing = record { moves = 0; over = false }
+abbrev pub nothing_known : Outlook
+nothing_known = record { moves = 0; over = false }
 
 -- no move is left
 abbrev pub no_move : Outlook

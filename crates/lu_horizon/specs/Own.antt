@@ -22,7 +22,7 @@ pub record IsIdle (c : Declarations) (matrix : Matrix) (t k : ℕ) (s : State) :
   pub stands : slice_get s.threads t ≡ Some (record { done = k; activity = Idle })
 
 -- thread t has its call number k open, at this place
-pub record IsAt (c : Declarations) (matrix : Matrix) (t k place : ℕ) (s : State) : Type 0 where
+pub record IsOpenAt (c : Declarations) (matrix : Matrix) (t k place : ℕ) (s : State) : Type 0 where
   pub own : IsOwn c matrix s
   pub frame : Frame
   pub stands : slice_get s.threads t ≡ Some (record { done = k; activity = Open frame })

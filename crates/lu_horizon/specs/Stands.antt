@@ -10,7 +10,7 @@ use Rattle.lu_machine.specs.declared.thread.Frame.{Frame}
 use Rattle.lu_machine.specs.States.{State, instr_at}
 use Rattle.lu_machine.specs.declared.thread.Activity.{Activity}
 use Rattle.lu_machine.specs.declared.thread.Activity.TheVariants.{Idle, Open}
-use Rattle.lu_horizon.specs.declared.stand.Stand.{Stand}
+use Rattle.lu_horizon.specs.declared.stand.CallPlace.{CallPlace}
 use Rattle.lu_machine.specs.declared.thread.Thread.{Thread}
 
 -- the place of an open operation
@@ -18,7 +18,7 @@ abbrev pub place_of : Activity → Option ℕ
 place_of Idle = None
 place_of (Open f) = Some f.place
 
-abbrev pub stand_of : Thread → Stand
+abbrev pub stand_of : Thread → CallPlace
 stand_of thread = record { done = thread.done; place = place_of thread.activity }
 
 -- an instruction that reads and writes its own registers alone, and always goes on or returns

@@ -7,8 +7,8 @@ use Rattle.lu_test.specs.Matrix.{Matrix, calls_of}
 use Rattle.lu_machine.specs.Starts.{IsStart}
 use Rattle.lu_machine.specs.States.{State, instr_at}
 use Rattle.lu_horizon.specs.declared.outlook.Outlook.{Outlook}
-use Rattle.lu_horizon.specs.Outlooks.{nothing}
-use Rattle.lu_horizon.specs.Own.{IsOwn, IsIdle, IsAt}
+use Rattle.lu_horizon.specs.Outlooks.{nothing_known}
+use Rattle.lu_horizon.specs.Own.{IsOwn, IsIdle, IsOpenAt}
 use Rattle.lu_horizon.specs.Sure.{HasOutlook}
 
 -- the outlooks of a call: before it is opened, and at each place of its operation
@@ -18,7 +18,7 @@ pub record CallOutlooks : Type 0 where
 
 -- those of a call of which nothing is known
 abbrev pub no_outlooks : CallOutlooks
-no_outlooks = record { before = nothing; places = [] }
+no_outlooks = record { before = nothing_known; places = [] }
 
 -- the outlooks of a thread, for each of its calls
 abbrev pub Outlooks : Type 0
@@ -26,11 +26,11 @@ Outlooks = List CallOutlooks
 
 -- the outlook at place of a call's operation
 abbrev pub outlook_of : List Outlook → ℕ → Outlook
-outlook_of places place = get_or places place nothing
+outlook_of places place = get_or places place nothing_known
 
 -- the outlook before call number k of thread t
-abbrev pub IsBefore : Declarations → Matrix → ℕ → ℕ → Outlook → Type 0
-IsBefore c matrix t k o = (s : State) → IsIdle c matrix t k s → HasOutlook s t o
+abbrev pub IsOutlookBefore : Declarations → Matrix → ℕ → ℕ → Outlook → Type 0
+IsOutlookBefore c matrix t k o = (s : State) → IsIdle c matrix t k s → HasOutlook s t o
 
 -- call number k of thread t runs this code, and behind it there is `rest`
 pub record IsCall (c : Declarations) (matrix : Matrix) (t k : ℕ) (code : List Instr)
@@ -38,17 +38,18 @@ pub record IsCall (c : Declarations) (matrix : Matrix) (t k : ℕ) (code : List 
   pub call : Call
   pub called : slice_get (calls_of matrix t) k ≡ Some call
   pub code_is : (place : ℕ) → instr_at c call.op place ≡ slice_get code place
-  pub after : IsBefore c matrix t (k + 1) rest
+  pub after : IsOutlookBefore c matrix t (k + 1) rest
 
 -- the outlooks at the places of call number k of thread t
 abbrev pub ArePlaces : Declarations → Matrix → ℕ → ℕ → List Outlook → Type 0
 ArePlaces c matrix t k places =
-    (place : ℕ) (s : State) → IsAt c matrix t k place s → HasOutlook s t (outlook_of places place)
+    (place : ℕ) (s : State) → IsOpenAt c matrix t k place s
+    → HasOutlook s t (outlook_of places place)
 
 -- the outlooks of call number k of thread t
 pub record AreOfCall (c : Declarations) (matrix : Matrix) (t k : ℕ)
     (outlooks : CallOutlooks) : Type 0 where
-  pub before : IsBefore c matrix t k outlooks.before
+  pub before : IsOutlookBefore c matrix t k outlooks.before
   pub places : ArePlaces c matrix t k outlooks.places
 
 -- the outlooks of each call that runs this code
@@ -71,15 +72,15 @@ abbrev pub outlook_within : Outlooks → ℕ → ℕ → Outlook
 outlook_within calls k place = outlook_of (get_or calls k no_outlooks).places place
 
 -- those of the calls of thread t, from number k on
-abbrev pub AreCalls : Declarations → Matrix → ℕ → ℕ → Outlooks → Type 0
-AreCalls c matrix t k [] = Unit {0}
-AreCalls c matrix t k (outlooks ∷ calls) =
-    AreOfCall c matrix t k outlooks × AreCalls c matrix t (k + 1) calls
+abbrev pub AreOutlooksOfCalls : Declarations → Matrix → ℕ → ℕ → Outlooks → Type 0
+AreOutlooksOfCalls c matrix t k [] = Unit {0}
+AreOutlooksOfCalls c matrix t k (outlooks ∷ calls) =
+    AreOfCall c matrix t k outlooks × AreOutlooksOfCalls c matrix t (k + 1) calls
 
 -- those of all calls of thread t
 pub record IsThread (c : Declarations) (matrix : Matrix) (t : ℕ) (calls : Outlooks) : Type 0 where
   pub many : length calls ≡ length (calls_of matrix t)
-  pub each : AreCalls c matrix t 0 calls
+  pub each : AreOutlooksOfCalls c matrix t 0 calls
 
 -- the table's outlooks are those of the component and the matrix
 abbrev pub IsTable : Declarations → Matrix → List Outlooks → Type 0

@@ -1,7 +1,7 @@
 //! What is ahead at one operation's places.
 
 ghost use Rattle.std.specs.Prelude.{◌≡◌, ◌<◌};
-ghost use Rattle.lu_horizon.specs.Code.{ahead_at, ahead_of_call, is_there, more_behind, run_on, unless_there};
+ghost use Rattle.lu_horizon.specs.Code.{ahead_at, ahead_of_call, is_certain_cell, more_behind, run_on, unless_there};
 ghost use Rattle.lu_horizon.specs.Outlooks.{IsWeaker};
 ghost use Rattle.lu_horizon.specs.Tables.{outlook_of};
 
@@ -15,8 +15,8 @@ const BRANCHES: u8 = 4;
 
 /// Whether the index is that of a cell of the array, whatever the registers hold.
 #[tactic(auto, unfolding(lu_machine::specs::States::cell_of))]
-fn is_there(component: &Component, array: u8, index: Operand) -> bool
-    ensures { result ≡ is_there component.now array index }
+fn is_certain_cell(component: &Component, array: u8, index: Operand) -> bool
+    ensures { result ≡ is_certain_cell component.now array index }
 {
     match (index, component.arrays().get(usize::from(array))) {
         (Operand::Num(number), Some(array)) => number < u32::from(array.len),
@@ -33,9 +33,9 @@ pub(crate) fn outlook_of(known: &[Outlook], place: usize) -> Outlook
 
 /// The outlook behind an instruction that traps unless its cell is there.
 fn behind(component: &Component, array: u8, index: Operand, next: Outlook, rest: Outlook) -> Outlook
-    ensures { result ≡ unless_there (is_there component.now array index) next rest }
+    ensures { result ≡ unless_there (is_certain_cell component.now array index) next rest }
 {
-    if is_there(component, array, index) {
+    if is_certain_cell(component, array, index) {
         next
     } else {
         next.either(rest)

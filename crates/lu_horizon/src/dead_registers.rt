@@ -1,7 +1,7 @@
 //! Registers that don't matter any more.
 //!
-//! A register is dead at a place of an operation where it is written before it is read again, or not
-//! read again, whichever way the operation goes on from there.
+//! A register is dead at a place of an operation where it is written before it is read again, or
+//! not read again, whichever way the operation goes on from there.
 
 ghost use Rattle.std.specs.Prelude.{◌≡◌, ◌<◌, ◌≤◌, ℕ, true, false, IfOk, get_or, length};
 ghost use Rattle.lu_horizon.specs.Dead as spec;
@@ -22,8 +22,8 @@ const MOST_ROUNDS: usize = 64 * 8 + 1;
 type Dead = [bool; 8];
 
 /// Whether the operand is the register.
-fn is_register(register: u8, operand: Operand) -> bool
-    ensures { result ≡ spec.is_register register operand }
+fn names_register(register: u8, operand: Operand) -> bool
+    ensures { result ≡ spec.names_register register operand }
 {
     match operand {
         Operand::Reg(other) => other == register,
@@ -37,16 +37,16 @@ fn reads(instr: &Instr, register: u8) -> bool
 {
     match *instr {
         Instr::Set { value, .. } | Instr::JumpIfZero { value, .. } | Instr::Return(value) => {
-            is_register(register, value)
+            names_register(register, value)
         }
         Instr::Compute { left, right, .. } => {
-            is_register(register, left) || is_register(register, right)
+            names_register(register, left) || names_register(register, right)
         }
-        Instr::Load { index, .. } => is_register(register, index),
+        Instr::Load { index, .. } => names_register(register, index),
         Instr::Store { index, value, .. }
         | Instr::Await { index, value, .. }
         | Instr::AwaitNot { index, value, .. } => {
-            is_register(register, index) || is_register(register, value)
+            names_register(register, index) || names_register(register, value)
         }
         Instr::Cas {
             index,
@@ -54,9 +54,9 @@ fn reads(instr: &Instr, register: u8) -> bool
             desired,
             ..
         } => {
-            is_register(register, index)
-                || is_register(register, expected)
-                || is_register(register, desired)
+            names_register(register, index)
+                || names_register(register, expected)
+                || names_register(register, desired)
         }
         Instr::Lock(_) | Instr::Unlock(_) | Instr::Pick { .. } | Instr::Jump(_) => false,
     }

@@ -8,7 +8,7 @@ ghost use Rattle.lu_horizon.specs.Tables.{AreOutlooks, IsThread, Serves, ServesR
 
 use crate::certain::{before_call, certain, outlook_of};
 use crate::outlook::Outlook;
-use crate::sharers::{Known, Quiet, Reach, Sharers, reach_at, reaches};
+use crate::sharers::{Quiet, Reach, Sharers, SharersSeen, reach_at, reaches};
 use crate::stand::{jumps_to, stand_at};
 use arrayvec::ArrayVec;
 use lu_component::{Component, Instr};
@@ -78,14 +78,14 @@ impl Places {
 
 /// The outlooks of all calls of one thread.
 #[derive(Debug, Drop)]
-struct Calls {
+struct ThreadOutlooks {
     calls: Vec<Places>,
 
     /// From which calls on the thread leaves alone what is shared.
     quiet: Quiet,
 }
 
-impl Model for Calls {
+impl Model for ThreadOutlooks {
     ghost use Rattle.lu_horizon.specs.Tables.{Outlooks};
 
     ghost Value = { Outlooks };
@@ -93,7 +93,7 @@ impl Model for Calls {
     ghost view = { λ n. n.calls.items };
 }
 
-impl Calls {
+impl ThreadOutlooks {
     /// The outlook at this place of call `k`.
     fn open(&self, k: u8, place: u8) -> Outlook
         ensures { result ≡ outlook_within self.now k place }
@@ -129,7 +129,7 @@ impl Calls {
 /// What is certain before each call, and from each place of its operation.
 #[derive(Debug, Drop)]
 pub struct Horizon {
-    threads: Vec<Calls>,
+    threads: Vec<ThreadOutlooks>,
 
     /// Where more moves are left than this, the table need not be read.
     greatest: u16,
@@ -213,7 +213,7 @@ fn of_thread(
     matrix: &Matrix,
     t: u8,
     most: u16,
-) -> Result<Calls, AllocError>
+) -> Result<ThreadOutlooks, AllocError>
     ensures { IfOk result (IsThread component.now matrix.now t) }
 {
     let mut calls = Vec::new(alloc);
@@ -225,7 +225,7 @@ fn of_thread(
         rest = places.before();
         calls.insert(0, places)?;
     }
-    Ok(Calls {
+    Ok(ThreadOutlooks {
         calls,
         quiet: Quiet::of_thread(component, matrix, t),
     })
@@ -282,7 +282,7 @@ impl Horizon {
     /// Who touches what is shared in the last moves: none where a call is left, the threads can't
     /// end within `left` moves, or a look at these moves serves nothing. No clause says so.
     pub fn last_sharers(&self, machine: &Machine, left: usize) -> Option<Sharers> {
-        let mut known = Known::NOTHING;
+        let mut known = SharersSeen::NOTHING;
         let mut room = left;
         for t in 0..machine.threads() {
             let stand = stand_at(machine, t)?;
@@ -312,7 +312,7 @@ impl Horizon {
     /// the walk begins, or no operation is open, and two threads have calls left. A look that fails
     /// mostly fails behind the next move too, so it is not made at each node. No clause says so.
     pub fn sharers(&self, machine: &Machine, begins: bool) -> Option<Sharers> {
-        let mut known = Known::NOTHING;
+        let mut known = SharersSeen::NOTHING;
         let mut callers: u8 = 0;
         for t in 0..machine.threads() {
             let stand = stand_at(machine, t)?;

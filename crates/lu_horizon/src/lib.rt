@@ -19,4 +19,4 @@ mod stand;
 pub use dead_registers::DeadRegisters;
 pub use horizon::Horizon;
 pub use sharers::Sharers;
-pub use stand::{Stand, is_unseen_at, only_reads_at, stand_at};
+pub use stand::{CallPlace, is_unseen_at, only_reads_at, stand_at};

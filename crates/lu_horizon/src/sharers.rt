@@ -142,7 +142,7 @@ impl Quiet {
 
 /// What is known of the threads that were looked at.
 #[derive(Clone, Copy, Debug)]
-pub(crate) struct Known {
+pub(crate) struct SharersSeen {
     /// How many of them share something.
     sharers: u8,
 
@@ -153,9 +153,9 @@ pub(crate) struct Known {
     readers: bool,
 }
 
-impl Known {
+impl SharersSeen {
     /// Of no thread.
-    pub(crate) const NOTHING: Known = Known {
+    pub(crate) const NOTHING: SharersSeen = SharersSeen {
         sharers: 0,
         last: 0,
         readers: true,
@@ -163,8 +163,8 @@ impl Known {
 
     /// With thread `t`, which shares something, or only reads it.
     #[inline(always)]
-    pub(crate) fn and(self, t: u8, shares: bool, reads: bool) -> Known {
-        Known {
+    pub(crate) fn and(self, t: u8, shares: bool, reads: bool) -> SharersSeen {
+        SharersSeen {
             sharers: self.sharers.saturating_add(u8::from(shares)),
             last: if shares { t } else { self.last },
             readers: self.readers && reads,

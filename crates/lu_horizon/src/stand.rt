@@ -9,7 +9,7 @@ use lu_machine::{Activity, Machine};
 
 /// Where a thread stands among its calls.
 #[derive(Clone, Copy, Debug)]
-pub struct Stand {
+pub struct CallPlace {
     /// The number of its operations that have ended. While one more is open, that is its number.
     pub done: u8,
 
@@ -19,7 +19,7 @@ pub struct Stand {
 
 /// Where thread `t` stands among its calls: none where there is no such thread.
 #[inline(always)]
-pub fn stand_at(machine: &Machine, t: u8) -> Option<Stand>
+pub fn stand_at(machine: &Machine, t: u8) -> Option<CallPlace>
     ensures { result ≡ option_map stand_of (slice_get machine.now.threads t) }
 {
     let standing = machine.standing(t)?;
@@ -27,7 +27,7 @@ pub fn stand_at(machine: &Machine, t: u8) -> Option<Stand>
         Activity::Idle => None,
         Activity::Open(frame) => Some(frame.place),
     };
-    Some(Stand {
+    Some(CallPlace {
         done: standing.done,
         place,
     })

@@ -10,7 +10,7 @@ const BYTES: [u8; 14] = [0, 9, 10, 13, 32, 35, 45, 48, 58, 59, 61, 127, 128, 255
 
 /// What came of a text.
 #[derive(Clone, Copy)]
-pub(crate) enum Outcome {
+pub(crate) enum TextOutcome {
     /// It was read; what was written of it was read as the same.
     Read,
 
@@ -20,7 +20,7 @@ pub(crate) enum Outcome {
 
 /// How many texts were read, and how many refused.
 #[derive(Clone, Copy, Debug, PartialEq, Eq)]
-pub(crate) struct Tally {
+pub(crate) struct ReadCounts {
     pub(crate) read: u32,
     pub(crate) refused: u32,
 }
@@ -28,7 +28,7 @@ pub(crate) struct Tally {
 /// A reader of texts.
 pub(crate) trait Texts {
     /// What comes of the text.
-    fn outcome<X: AllocGlobal + Abort>(&self, rt: &X, text: &[u8]) -> Result<Outcome, Fail>;
+    fn outcome<X: AllocGlobal + Abort>(&self, rt: &X, text: &[u8]) -> Result<TextOutcome, Fail>;
 }
 
 /// The number of lines.
@@ -48,11 +48,11 @@ fn try_text<K: Texts, X: AllocGlobal + Abort>(
     texts: &K,
     text: &[u8],
     sound: usize,
-    tally: &mut Tally,
+    tally: &mut ReadCounts,
 ) -> Result<(), Fail> {
     match texts.outcome(rt, text)? {
-        Outcome::Read => tally.read = tally.read.saturating_add(1),
-        Outcome::Refused(line) => {
+        TextOutcome::Read => tally.read = tally.read.saturating_add(1),
+        TextOutcome::Refused(line) => {
             assert!(rt; line > sound, "{line}");
             assert!(rt; line <= line_count(text).saturating_add(1), "{line}");
             tally.refused = tally.refused.saturating_add(1);
@@ -67,7 +67,7 @@ pub(crate) fn try_beginnings<K: Texts, X: AllocGlobal + Abort>(
     rt: &X,
     texts: &K,
     text: &[u8],
-    tally: &mut Tally,
+    tally: &mut ReadCounts,
 ) -> Result<(), Fail> {
     for end in 0..text.len() {
         let beginning = &text[..end];
@@ -87,7 +87,7 @@ fn try_bytes<K: Texts, X: AllocGlobal + Abort>(
     rt: &X,
     texts: &K,
     text: &[u8],
-    tally: &mut Tally,
+    tally: &mut ReadCounts,
 ) -> Result<(), Fail> {
     let mut bent = Vec::from_slice(rt.alloc(), text)?;
     let mut sound: usize = 0;
@@ -110,7 +110,7 @@ fn try_lines<K: Texts, X: AllocGlobal + Abort>(
     rt: &X,
     texts: &K,
     text: &[u8],
-    tally: &mut Tally,
+    tally: &mut ReadCounts,
 ) -> Result<(), Fail> {
     let mut front = 0;
     for sound in 0..line_count(text) {
@@ -138,8 +138,8 @@ pub(crate) fn try_all<K: Texts, X: AllocGlobal + Abort>(
     rt: &X,
     texts: &K,
     text: &[u8],
-) -> Result<Tally, Fail> {
-    let mut tally = Tally {
+) -> Result<ReadCounts, Fail> {
+    let mut tally = ReadCounts {
         read: 0,
         refused: 0,
     };

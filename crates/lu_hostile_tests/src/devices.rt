@@ -12,7 +12,7 @@ use std::thread::Threads;
 
 /// How a call of a device fails.
 #[derive(Clone, Copy)]
-enum Failure {
+enum DeviceFailure {
     /// By an error.
     Breaks,
 
@@ -23,15 +23,15 @@ enum Failure {
     TakesNone,
 }
 
-impl Failure {
+impl DeviceFailure {
     /// What the call answers.
     fn count(self) -> io::Result<usize>
         ensures { IfOk result (λ count. count ≡ 0) }
     {
         match self {
-            Failure::Breaks => Err(io::Error::from(io::ErrorKind::Other)),
-            Failure::IsInterrupted => Err(io::Error::from(io::ErrorKind::Interrupted)),
-            Failure::TakesNone => Ok(0),
+            DeviceFailure::Breaks => Err(io::Error::from(io::ErrorKind::Other)),
+            DeviceFailure::IsInterrupted => Err(io::Error::from(io::ErrorKind::Interrupted)),
+            DeviceFailure::TakesNone => Ok(0),
         }
     }
 }
@@ -41,7 +41,7 @@ impl Failure {
 struct FailingReader<'a> {
     left: &'a [u8],
     until: u32,
-    failure: Failure,
+    failure: DeviceFailure,
 }
 
 impl Read for FailingReader<'_> {
@@ -63,7 +63,7 @@ impl Read for FailingReader<'_> {
 struct FailingWriter {
     taken: Vec<u8>,
     until: u32,
-    failure: Failure,
+    failure: DeviceFailure,
 }
 
 impl Write for FailingWriter {
@@ -83,70 +83,70 @@ impl Write for FailingWriter {
 }
 
 /// A command with its input, and what it writes where nothing fails.
-struct Command<'a> {
+struct ExpectedRun<'a> {
     words: &'a [&'a str],
     input: &'a [u8],
     output: &'a [u8],
     status: u8,
 }
 
-const COMMANDS: [Command<'static>; 10] = [
-    Command {
+const COMMANDS: [ExpectedRun<'static>; 10] = [
+    ExpectedRun {
         words: &["replay"],
         input: b"component c\nop f 0\nreturn 7\nend\n---\nthread f\n---\nschedule 0 0\n",
         output: b"replay complete\ncall 0 0\nreturn 0 0 ret 7\n",
         status: 0,
     },
-    Command {
+    ExpectedRun {
         words: &["trace"],
         input: b"component c\nop f 0\nreturn 7\nend\n---\nthread f\n---\nschedule 0 0\n",
         output: b"trace complete\n   0 T0 call f\n   1 T0 return 7  # ret 7\n",
         status: 0,
     },
-    Command {
+    ExpectedRun {
         words: &["check"],
         input: b"component c\nlock m\nop f 0\nlock m\nreturn 0\nend\n---\nthread f;f\n",
         output: b"lineup report 1\nbound 40\nserial 40\npass\ncomplete 0\nstuck 1\ncut 0\n",
         status: 0,
     },
-    Command {
+    ExpectedRun {
         words: &["check", "--workers", "2"],
         input: b"component c\nop f 0\npick r0 2\nreturn r0\nend\n---\nthread f\n",
         output: b"lineup report 1\nbound 40\nserial 40\nnondeterministic\nschedule 0 0:1 0\nbefore 0\nearlier ret 0\n",
         status: 1,
     },
-    Command {
+    ExpectedRun {
         words: &["check", "--spec"],
         input: b"component c\nop f 0\npick r0 2\nreturn r0\nend\n---\nthread f\n---\nlineup spec 1\nhistory 0=0\n",
         output: b"lineup report 3\nbound 40\nlocal 0\nfail complete\nschedule 0 0:1 0\n",
         status: 1,
     },
-    Command {
+    ExpectedRun {
         words: &["serial"],
         input: b"component c\nop f 0\nreturn 7\nend\n---\nthread f\n",
         output: b"lineup spec 1\nhistory 0=7\n",
         status: 0,
     },
-    Command {
+    ExpectedRun {
         words: &["serial", "--serial", "1"],
         input: b"component c\nop f 0\na: jump a\nend\n---\nthread f\n",
         output: b"lineup report 1\nbound 40\nserial 1\nserial-cut\nschedule 0 0\n",
         status: 3,
     },
-    Command {
+    ExpectedRun {
         words: &["shrink"],
         input: b"component c\nop f 0\npick r0 2\nreturn r0\nend\n---\nthread f;f\n",
         output: b"thread f\n---\nlineup report 1\nbound 40\nserial 40\nnondeterministic\nschedule 0 0:1 0\nbefore 0\nearlier ret 0\n",
         status: 1,
     },
-    Command {
+    ExpectedRun {
         words: &["refute"],
         input: b"component c\nop f 0\npick r0 2\nreturn r0\nend\n---\nthread f\n---\nlineup report 1\nbound 40\nserial 40\n\
 nondeterministic\nschedule 0 0:1 0\nbefore 0\nearlier ret 0\n---\nlineup spec 1\nhistory 0=0\n",
         output: b"thread f\n---\nschedule 0 0:1 0\n",
         status: 1,
     },
-    Command {
+    ExpectedRun {
         words: &["campaign"],
         input: b"component c\nop f 0\nreturn 7\nend\n---\nthread f\n",
         output: b"campaign pass 1\n",
@@ -175,10 +175,10 @@ fn ran_with(status: u8, failed_reads: u64, output: Counted<FailingWriter>) -> Ra
 
 fn run_command<X: AllocGlobal + Abort + Threads + Wait>(
     rt: &X,
-    command: &Command<'_>,
+    command: &ExpectedRun<'_>,
     reads: u32,
     writes: u32,
-    failure: Failure,
+    failure: DeviceFailure,
 ) -> Ran {
     let mut input = Counted::new(FailingReader {
         left: command.input,
@@ -195,7 +195,7 @@ fn run_command<X: AllocGlobal + Abort + Threads + Wait>(
 }
 
 /// The run wrote the command's answer.
-fn assert_answered(rt: &impl Abort, command: &Command<'_>, ran: &Ran) {
+fn assert_answered(rt: &impl Abort, command: &ExpectedRun<'_>, ran: &Ran) {
     assert_eq!(rt; ran.taken.as_slice(), command.output);
     assert_eq!(rt; ran.status, command.status);
 }
@@ -207,7 +207,7 @@ fn assert_blamed(rt: &impl Abort, ran: &Ran) {
 }
 
 /// The run wrote the first bytes of the command's answer, so many.
-fn assert_begun(rt: &impl Abort, command: &Command<'_>, ran: &Ran, count: usize) {
+fn assert_begun(rt: &impl Abort, command: &ExpectedRun<'_>, ran: &Ran, count: usize) {
     assert_eq!(rt; ran.status, 4);
     assert_eq!(rt; ran.taken.len(), count);
     assert!(rt; command.output.starts_with(ran.taken.as_slice()));
@@ -219,8 +219,8 @@ const MANY: u32 = 10_000;
 /// How many reads a run makes before it meets no failure: the first, the second and so on fails.
 fn reads_before<X: AllocGlobal + Abort + Threads + Wait>(
     rt: &X,
-    command: &Command<'_>,
-    failure: Failure,
+    command: &ExpectedRun<'_>,
+    failure: DeviceFailure,
 ) -> usize {
     for reads in 0..MANY {
         let ran = run_command(rt, command, reads, MANY, failure);
@@ -236,14 +236,14 @@ fn reads_before<X: AllocGlobal + Abort + Threads + Wait>(
 /// Reads fail in turn. There is one for each byte, and one that sees the end.
 fn reads_of_command_fail<X: AllocGlobal + Abort + Threads + Wait>(
     rt: &X,
-    command: &Command<'_>,
-    failure: Failure,
+    command: &ExpectedRun<'_>,
+    failure: DeviceFailure,
 ) {
     let reads = reads_before(rt, command, failure);
     assert_eq!(rt; reads, command.input.len().saturating_add(1));
 }
 
-fn reads_fail<X: AllocGlobal + Abort + Threads + Wait>(rt: &X, failure: Failure) {
+fn reads_fail<X: AllocGlobal + Abort + Threads + Wait>(rt: &X, failure: DeviceFailure) {
     for command in &COMMANDS {
         reads_of_command_fail(rt, command, failure);
     }
@@ -252,8 +252,8 @@ fn reads_fail<X: AllocGlobal + Abort + Threads + Wait>(rt: &X, failure: Failure)
 /// The same of writes: what went out before is as much of the answer as was taken.
 fn writes_before<X: AllocGlobal + Abort + Threads + Wait>(
     rt: &X,
-    command: &Command<'_>,
-    failure: Failure,
+    command: &ExpectedRun<'_>,
+    failure: DeviceFailure,
 ) -> usize {
     for writes in 0..MANY {
         let ran = run_command(rt, command, MANY, writes, failure);
@@ -270,14 +270,14 @@ fn writes_before<X: AllocGlobal + Abort + Threads + Wait>(
 /// Writes fail in turn. There is one for each byte.
 fn writes_of_command_fail<X: AllocGlobal + Abort + Threads + Wait>(
     rt: &X,
-    command: &Command<'_>,
-    failure: Failure,
+    command: &ExpectedRun<'_>,
+    failure: DeviceFailure,
 ) {
     let writes = writes_before(rt, command, failure);
     assert_eq!(rt; writes, command.output.len());
 }
 
-fn writes_fail<X: AllocGlobal + Abort + Threads + Wait>(rt: &X, failure: Failure) {
+fn writes_fail<X: AllocGlobal + Abort + Threads + Wait>(rt: &X, failure: DeviceFailure) {
     for command in &COMMANDS {
         writes_of_command_fail(rt, command, failure);
     }
@@ -286,7 +286,7 @@ fn writes_fail<X: AllocGlobal + Abort + Threads + Wait>(rt: &X, failure: Failure
 /// An interrupted read is not tried again.
 #[test]
 fn a_read_that_fails_is_blamed_on_the_device(rt: HostRuntime) {
-    for failure in [Failure::Breaks, Failure::IsInterrupted] {
+    for failure in [DeviceFailure::Breaks, DeviceFailure::IsInterrupted] {
         reads_fail(&rt, failure);
     }
 }
@@ -294,7 +294,11 @@ fn a_read_that_fails_is_blamed_on_the_device(rt: HostRuntime) {
 /// Neither is an interrupted write, nor one that takes nothing.
 #[test]
 fn a_write_that_fails_shows_in_the_status(rt: HostRuntime) {
-    for failure in [Failure::Breaks, Failure::IsInterrupted, Failure::TakesNone] {
+    for failure in [
+        DeviceFailure::Breaks,
+        DeviceFailure::IsInterrupted,
+        DeviceFailure::TakesNone,
+    ] {
         writes_fail(&rt, failure);
     }
 }

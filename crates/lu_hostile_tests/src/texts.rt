@@ -1,6 +1,6 @@
 //! Each kind of text, bent in every way.
 
-use crate::bent::{Outcome, Tally, Texts, try_all, try_beginnings};
+use crate::bent::{ReadCounts, TextOutcome, Texts, try_all, try_beginnings};
 use lu_component::Component;
 use lu_fixtures::ROWS;
 use lu_lang::{read_component, write_component};
@@ -21,15 +21,15 @@ fn component_again(rt: &impl AllocGlobal, text: &[u8]) -> Result<String, Fail> {
 struct Components;
 
 impl Texts for Components {
-    fn outcome<X: AllocGlobal + Abort>(&self, rt: &X, text: &[u8]) -> Result<Outcome, Fail> {
+    fn outcome<X: AllocGlobal + Abort>(&self, rt: &X, text: &[u8]) -> Result<TextOutcome, Fail> {
         match read_component(rt.alloc(), text) {
             Ok(component) => {
                 let written = write_component(rt.alloc(), &component)?;
                 let again = component_again(rt, written.as_bytes())?;
                 assert_eq!(rt; again.as_str(), written.as_str());
-                Ok(Outcome::Read)
+                Ok(TextOutcome::Read)
             }
-            Err(Fault::At(_, line)) => Ok(Outcome::Refused(line)),
+            Err(Fault::At(_, line)) => Ok(TextOutcome::Refused(line)),
             Err(Fault::Memory) => panic!(rt; "memory"),
         }
     }
@@ -48,15 +48,15 @@ struct Matrices {
 }
 
 impl Texts for Matrices {
-    fn outcome<X: AllocGlobal + Abort>(&self, rt: &X, text: &[u8]) -> Result<Outcome, Fail> {
+    fn outcome<X: AllocGlobal + Abort>(&self, rt: &X, text: &[u8]) -> Result<TextOutcome, Fail> {
         match read_matrix(rt.alloc(), &self.component, text) {
             Ok(matrix) => {
                 let written = write_matrix(rt.alloc(), &self.component, &matrix)?;
                 let again = matrix_again(rt, &self.component, written.as_bytes())?;
                 assert_eq!(rt; again.as_str(), written.as_str());
-                Ok(Outcome::Read)
+                Ok(TextOutcome::Read)
             }
-            Err(Fault::At(_, line)) => Ok(Outcome::Refused(line)),
+            Err(Fault::At(_, line)) => Ok(TextOutcome::Refused(line)),
             Err(Fault::Memory) => panic!(rt; "memory"),
         }
     }
@@ -66,15 +66,15 @@ impl Texts for Matrices {
 struct Schedules;
 
 impl Texts for Schedules {
-    fn outcome<X: AllocGlobal + Abort>(&self, rt: &X, text: &[u8]) -> Result<Outcome, Fail> {
+    fn outcome<X: AllocGlobal + Abort>(&self, rt: &X, text: &[u8]) -> Result<TextOutcome, Fail> {
         match read_schedule(rt.alloc(), text) {
             Ok(schedule) => {
                 let written = write_schedule(rt.alloc(), &schedule)?;
                 assert_eq!(rt; written.as_bytes(), text);
-                Ok(Outcome::Read)
+                Ok(TextOutcome::Read)
             }
             Err(ScheduleFault::Memory) => panic!(rt; "memory"),
-            Err(_) => Ok(Outcome::Refused(1)),
+            Err(_) => Ok(TextOutcome::Refused(1)),
         }
     }
 }
@@ -83,14 +83,14 @@ impl Texts for Schedules {
 struct Reports;
 
 impl Texts for Reports {
-    fn outcome<X: AllocGlobal + Abort>(&self, rt: &X, text: &[u8]) -> Result<Outcome, Fail> {
+    fn outcome<X: AllocGlobal + Abort>(&self, rt: &X, text: &[u8]) -> Result<TextOutcome, Fail> {
         match read_report(rt.alloc(), text) {
             Ok(report) => {
                 let written = write_report(rt.alloc(), &report)?;
                 assert_eq!(rt; written.as_bytes(), text);
-                Ok(Outcome::Read)
+                Ok(TextOutcome::Read)
             }
-            Err(Fault::At(_, line)) => Ok(Outcome::Refused(line)),
+            Err(Fault::At(_, line)) => Ok(TextOutcome::Refused(line)),
             Err(Fault::Memory) => panic!(rt; "memory"),
         }
     }
@@ -103,14 +103,14 @@ struct Specs {
 }
 
 impl Texts for Specs {
-    fn outcome<X: AllocGlobal + Abort>(&self, rt: &X, text: &[u8]) -> Result<Outcome, Fail> {
+    fn outcome<X: AllocGlobal + Abort>(&self, rt: &X, text: &[u8]) -> Result<TextOutcome, Fail> {
         match read_spec(rt.alloc(), &self.matrix, text) {
             Ok(spec) => {
                 let written = write_spec(rt.alloc(), &spec)?;
                 assert_eq!(rt; written.as_bytes(), text);
-                Ok(Outcome::Read)
+                Ok(TextOutcome::Read)
             }
-            Err(Fault::At(_, line)) => Ok(Outcome::Refused(line)),
+            Err(Fault::At(_, line)) => Ok(TextOutcome::Refused(line)),
             Err(Fault::Memory) => panic!(rt; "memory"),
         }
     }
@@ -126,14 +126,14 @@ awaitne x r0 r1 # others\njz r0 again\nunlock m\nreturn r1\nend\n";
 /// with its LF or without, and the whole.
 #[test]
 fn beginnings_of_a_component_are_read_or_refused(rt: HostRuntime) -> Result<(), Fail> {
-    let mut tally = Tally {
+    let mut tally = ReadCounts {
         read: 0,
         refused: 0,
     };
     try_beginnings(&rt, &Components, ROWS.as_bytes(), &mut tally)?;
     assert_eq!(rt;
         tally,
-        Tally {
+        ReadCounts {
             read: 47,
             refused: 739
         }
@@ -146,7 +146,7 @@ fn components_are_read_or_refused(rt: HostRuntime) -> Result<(), Fail> {
     let rows = try_all(&rt, &Components, ROWS.as_bytes())?;
     assert_eq!(rt;
         rows,
-        Tally {
+        ReadCounts {
             read: 981,
             refused: 11056
         }
@@ -154,7 +154,7 @@ fn components_are_read_or_refused(rt: HostRuntime) -> Result<(), Fail> {
     let local = try_all(&rt, &Components, LOCAL)?;
     assert_eq!(rt;
         local,
-        Tally {
+        ReadCounts {
             read: 402,
             refused: 2041
         }
@@ -174,7 +174,7 @@ fn matrices_are_read_or_refused(rt: HostRuntime) -> Result<(), Fail> {
     )?;
     assert_eq!(rt;
         tally,
-        Tally {
+        ReadCounts {
             read: 213,
             refused: 688
         }
@@ -187,7 +187,7 @@ fn schedules_are_read_or_refused(rt: HostRuntime) -> Result<(), Fail> {
     let tally = try_all(&rt, &Schedules, b"schedule 0 1:1 0 7:2 3\n")?;
     assert_eq!(rt;
         tally,
-        Tally {
+        ReadCounts {
             read: 17,
             refused: 332
         }
@@ -197,7 +197,7 @@ fn schedules_are_read_or_refused(rt: HostRuntime) -> Result<(), Fail> {
 
 #[test]
 fn reports_are_read_or_refused(rt: HostRuntime) -> Result<(), Fail> {
-    let mut all = Tally {
+    let mut all = ReadCounts {
         read: 0,
         refused: 0,
     };
@@ -218,7 +218,7 @@ fn reports_are_read_or_refused(rt: HostRuntime) -> Result<(), Fail> {
     }
     assert_eq!(rt;
         all,
-        Tally {
+        ReadCounts {
             read: 286,
             refused: 10475
         }
@@ -237,7 +237,7 @@ fn specifications_are_read_or_refused(rt: HostRuntime) -> Result<(), Fail> {
     let tally = try_all(&rt, &texts, text)?;
     assert_eq!(rt;
         tally,
-        Tally {
+        ReadCounts {
             read: 40,
             refused: 1188
         }

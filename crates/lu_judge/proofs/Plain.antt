@@ -6,22 +6,22 @@ use Rattle.lu_history.specs.declared.serial.SerialOp.{SerialOp}
 use Rattle.lu_history.specs.Histories.{Fits, IsWellFormed}
 use Rattle.lu_history.proofs.Events.{pop_history, push_history}
 use Rattle.lu_judge.specs.declared.path.Path.{Path}
-use Rattle.lu_judge.specs.Paths.{IsPath, AreGood}
+use Rattle.lu_judge.specs.Paths.{IsPath, AreGoodAsMarked}
 use Rattle.lu_judge.specs.Trails.{IsTrail}
 use Rattle.lu_judge.proofs.Lengths.{few_events}
 
 -- among beginnings
-pub among : (members : List (List SerialOp)) (events : List Event) (path : Path) → IsPath path → AreGood members path → IsTrail members false events path
+pub among : (members : List (List SerialOp)) (events : List Event) (path : Path) → IsPath path → AreGoodAsMarked members path → IsTrail members false events path
 among members events path is good = record { path_is = is; good = good; well_formed = is.well_formed }
 
 -- with its events alone
-pub alone : (members : List (List SerialOp)) (events : List Event) (path : Path) → IsPath path → AreGood members path → IsWellFormed events → IsTrail members true events path
+pub alone : (members : List (List SerialOp)) (events : List Event) (path : Path) → IsPath path → AreGoodAsMarked members path → IsWellFormed events → IsTrail members true events path
 alone members events path is good well = record { path_is = is; good = good; well_formed = well }
 
 empty_well : IsWellFormed []
 empty_well = λ i e at. cc
 
-pub cleared : (members : List (List SerialOp)) (plain : Bool) (events : List Event) (path : Path) → events ≡ [] → IsPath path → AreGood members path → IsTrail members plain events path
+pub cleared : (members : List (List SerialOp)) (plain : Bool) (events : List Event) (path : Path) → events ≡ [] → IsPath path → AreGoodAsMarked members path → IsTrail members plain events path
 cleared members true events path none is good = alone members events path is good (subst IsWellFormed (sym none) empty_well)
 cleared members false events path none is good = among members events path is good
 

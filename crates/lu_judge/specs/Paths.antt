@@ -56,27 +56,28 @@ pub record IsPath (path : Path) : Type 0 where
   pub well_formed : IsWellFormed (history_of path)
 
 -- what is said to be good is good
-abbrev pub AreGood : List (List SerialOp) → Path → Type 0
-AreGood members path =
+abbrev pub AreGoodAsMarked : List (List SerialOp) → Path → Type 0
+AreGoodAsMarked members path =
     (i : ℕ) (b : Beginning) → slice_get path.beginnings.items i ≡ Some b → IsTrue b.good
     → IsGood (IsMember members) (history_at path.beginnings.items i)
 
 -- what is said to be good stays so, for each set of serial histories
 abbrev pub KeepsGood : Path → Path → Type 0
-KeepsGood old new = (members : List (List SerialOp)) → AreGood members old → AreGood members new
+KeepsGood old new =
+    (members : List (List SerialOp)) → AreGoodAsMarked members old → AreGoodAsMarked members new
 
 -- where the history is known to be good, it is
 abbrev pub TellsGood : Path → Bool → Type 0
 TellsGood path known =
-    (members : List (List SerialOp)) → AreGood members path → IsTrue known
+    (members : List (List SerialOp)) → AreGoodAsMarked members path → IsTrue known
     → IsGood (IsMember members) (history_of path)
 
 -- what is said to be good stays so, and the history is good now, where it is for the set
 abbrev pub NotesGood : Path → Path → Type 0
 NotesGood old new =
-    (members : List (List SerialOp)) → AreGood members old
+    (members : List (List SerialOp)) → AreGoodAsMarked members old
     → IsGood (IsMember members) (history_of old)
-    → AreGood members new
+    → AreGoodAsMarked members new
 
 -- a beginning without an event, that nothing was noted of
 abbrev pub IsBlank : Beginning → Type 0

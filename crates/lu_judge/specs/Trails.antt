@@ -4,7 +4,7 @@ use Rattle.lu_machine.specs.declared.event.Event.{Event}
 use Rattle.lu_history.specs.declared.serial.SerialOp.{SerialOp}
 use Rattle.lu_history.specs.Histories.{IsWellFormed}
 use Rattle.lu_judge.specs.declared.path.Path.{Path}
-use Rattle.lu_judge.specs.Paths.{IsPath, AreGood, history_of}
+use Rattle.lu_judge.specs.Paths.{IsPath, AreGoodAsMarked, history_of}
 
 -- the tree that judges, and the history
 pub record Trailed (T : Type 0) : Type 0 where
@@ -19,5 +19,5 @@ history_in plain events path = if plain then events else history_of path
 pub record IsTrail (members : List (List SerialOp)) (plain : Bool) (events : List Event)
     (path : Path) : Type 0 where
   pub path_is : IsPath path
-  pub good : AreGood members path
+  pub good : AreGoodAsMarked members path
   pub well_formed : IsWellFormed (history_in plain events path)

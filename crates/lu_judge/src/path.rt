@@ -4,7 +4,7 @@ ghost use Rattle.std.specs.Prelude.{◌≡◌, ◌≢◌, ◌<◌, ◌≤◌, �
 ghost use Rattle.lu_history.specs.declared.serial.SerialOp.{SerialOp};
 ghost use Rattle.lu_history.specs.Histories.{Fits};
 ghost use Rattle.lu_witness.specs.Witnesses.{IsMember, IsGood};
-ghost use Rattle.lu_judge.specs.Paths.{IsPath, AreGood, IsBlank, IsLonger, KeepsGood, NotesGood, TellsGood, history_of, history_at};
+ghost use Rattle.lu_judge.specs.Paths.{IsPath, AreGoodAsMarked, IsBlank, IsLonger, KeepsGood, NotesGood, TellsGood, history_of, history_at};
 
 use crate::events::Events;
 use lu_machine::Event;
@@ -59,7 +59,7 @@ impl Path {
         ensures path { IfOk result (λ path. IsPath path) }
         ensures history { IfOk result (λ path. history_of path ≡ []) }
         ensures good { (members : List (List SerialOp)) →
-            IfOk result (λ path. AreGood members path) }
+            IfOk result (λ path. AreGoodAsMarked members path) }
     {
         let mut beginnings = Vec::with_capacity(alloc, ROOM)?;
         beginnings.push_reserved(empty());
@@ -149,7 +149,7 @@ impl Path {
         ensures path { IsPath self.new }
         ensures history { history_of self.new ≡ history_of self.old }
         ensures room { length self.new.beginnings.items < 262144 }
-        ensures good { (members : List (List SerialOp)) → AreGood members self.new }
+        ensures good { (members : List (List SerialOp)) → AreGoodAsMarked members self.new }
     {
         let mut events = Events::new();
         self.write(&mut events);

@@ -10,7 +10,7 @@ use Rattle.std.proofs.lemmas.Option.{slice_get-map}
 use Rattle.std.proofs.lemmas.List.Elements.{All-nil, All-map}
 use Rattle.lu_text.specs.Names.{has_name_form, is_long, IsName}
 use Rattle.lu_text.specs.Lines.{is_allowed, words_of}
-use Rattle.lu_text.specs.Words.{Word, one, two, three}
+use Rattle.lu_text.specs.Words.{Word, exactly_one, exactly_two, exactly_three}
 use Rattle.lu_text.specs.Faults.{Tests, says, or_else}
 use Rattle.lu_component.specs.declared.instr.Instr.{Instr}
 use Rattle.lu_component.specs.declared.instr.Instr.TheVariants as instr
@@ -252,10 +252,10 @@ keeps_if false x y p q = q
 
 declaration_keeps : (d : Drafted) → IsSoundDraft d → d.begun ≡ None → (word : Word) (words : List Word) → Keeps (declaration d word words)
 declaration_keeps d h none word words =
-    keeps_if (bytes_eq word (codes "word")) (array_line d (three words)) _ (array_keeps d h none (three words))
-    (keeps_if (bytes_eq word (codes "lock")) (lock_line d (one words)) _ (lock_keeps d h none (one words))
-    (keeps_if (bytes_eq word (codes "op")) (op_line d (two words)) _ (op_keeps d h (two words))
-    (keeps_if (bytes_eq word (codes "local")) (local_line d (one words)) (Err Form) (local_keeps d h none (one words)) (refused Form))))
+    keeps_if (bytes_eq word (codes "word")) (array_line d (exactly_three words)) _ (array_keeps d h none (exactly_three words))
+    (keeps_if (bytes_eq word (codes "lock")) (lock_line d (exactly_one words)) _ (lock_keeps d h none (exactly_one words))
+    (keeps_if (bytes_eq word (codes "op")) (op_line d (exactly_two words)) _ (op_keeps d h (exactly_two words))
+    (keeps_if (bytes_eq word (codes "local")) (local_line d (exactly_one words)) (Err Form) (local_keeps d h none (exactly_one words)) (refused Form))))
 
 -- ---- instructions
 
@@ -402,7 +402,7 @@ inside_keeps d h none b begun None word words =
 
 state_keeps : (d : Drafted) → IsSoundDraft d → d.begun ≡ None → (name : Option Word) (begun : Option Begun) → IfSome begun (IsBegun (length d.arrays) (length d.locks) d.operations) → (word : Word) (words : List Word) → Keeps (by_state d name begun word words)
 state_keeps d h none None begun is word words =
-    keeps_if (bytes_eq word (codes "component")) (component_line d (one words)) (Err Missing) (component_keeps d h (one words)) (refused Missing)
+    keeps_if (bytes_eq word (codes "component")) (component_line d (exactly_one words)) (Err Missing) (component_keeps d h (exactly_one words)) (refused Missing)
 state_keeps d h none (Some name) None is word words = declaration_keeps d h none word words
 state_keeps d h none (Some name) (Some b) is word words = inside_keeps d h none b is (label_in word) word words
 

@@ -12,7 +12,7 @@ use Rattle.lu_component.specs.declared.component.Op.{Op}
 use Rattle.lu_component.specs.Component.{Declarations, IsComponent, IsArray, IsOp, AreDistinct}
 use Rattle.lu_lang.specs.Draft.{Drafted, nothing}
 use Rattle.lu_lang.specs.Grammar.{component_grammar}
-use Rattle.lu_lang.specs.ComponentText.{line_text, local_text, array_text, lock_text, code_text, op_text, component_text}
+use Rattle.lu_lang.specs.ComponentText.{line_of_words, local_text, array_text, lock_text, code_text, op_text, component_text}
 use Rattle.lu_component.proofs.Named.{not_yet}
 use Rattle.lu_lang.proofs.WrittenLines.{so_far, said_local, component_reads, local_reads, local_said, arrays_read, locks_read, op_reads}
 use Rattle.lu_lang.proofs.WrittenInstrs.{same_locks}
@@ -30,10 +30,10 @@ op_read c is done rest op cut h =
     let few = is.operations_few in
     let here : length done < 16 = omega arith in
     let distinct : AreDistinct (map (λ o. o.name) (done ++ op ∷ rest)) = rw cut at is.operations_apart in
-    let first : List ℕ = line_text (codes "op" ∷ op.name ∷ decimal op.args ∷ []) in
+    let first : List ℕ = line_of_words (codes "op" ∷ op.name ∷ decimal op.args ∷ []) in
     let between : Drafted = so_far c.name (said_local c.local) c.arrays c.locks done (Some (record { name = op.name; args = op.args; statements = []; labels = [] })) in
-    rw (append_assoc first (code_text c op.code) (line_text (codes "end" ∷ [])))
-    (reads_on component_grammar (with_ops c done) between (with_ops c (done ++ op ∷ [])) first (code_text c op.code ++ line_text (codes "end" ∷ []))
+    rw (append_assoc first (code_text c op.code) (line_of_words (codes "end" ∷ [])))
+    (reads_on component_grammar (with_ops c done) between (with_ops c (done ++ op ∷ [])) first (code_text c op.code ++ line_of_words (codes "end" ∷ []))
     (op_reads c.name (said_local c.local) c.arrays c.locks done op.name op.args h.name h.args here (not_yet (λ o. o.name) done rest op distinct))
     (operation_read c is done op h))
 
@@ -49,7 +49,7 @@ ops_read c is done (op ∷ rest) cut each =
 
 pub component_again : (c : Declarations) → IsComponent c → meaning_of component_grammar (component_text c) ≡ Ok c
 component_again c is =
-    let first : List ℕ = line_text (codes "component" ∷ c.name ∷ []) in
+    let first : List ℕ = line_of_words (codes "component" ∷ c.name ∷ []) in
     let local : List ℕ = local_text c.local in
     let arrays : List ℕ = flat_map array_text c.arrays in
     let locks : List ℕ = flat_map lock_text c.locks in

@@ -6,7 +6,7 @@ use Rattle.std.specs.Option.{unwrap_or}
 use Rattle.std.proofs.lemmas.Bool.{or_parts, and_parts, leb-true, ltb-true, ltb-false, not-false}
 use Rattle.lu_text.specs.Names.{has_name_form, is_long}
 use Rattle.lu_text.specs.Numbers.{number_in, value_in, below}
-use Rattle.lu_text.specs.Words.{Word, one, two, three, five}
+use Rattle.lu_text.specs.Words.{Word, exactly_one, exactly_two, exactly_three, exactly_five}
 use Rattle.lu_text.specs.Faults.{Tests, says}
 use Rattle.lu_text.proofs.Says.{NoneHold, said}
 use Rattle.lu_component.specs.declared.instr.Operand.{Operand}
@@ -171,16 +171,16 @@ return_sound d (Some v) = sound d
 
 pub statement_sound : (d : Drafted) (k : Option Keyword) (words : List Word) (s : Statement) → statement d k words ≡ Ok s → IsStatement (length d.arrays) (length d.locks) s
 statement_sound d None words = none_said d _
-statement_sound d (Some keyword.Set) words = set_sound d (two words)
-statement_sound d (Some (keyword.Compute by)) words = compute_sound d by (three words)
-statement_sound d (Some keyword.Load) words = load_sound d (three words)
-statement_sound d (Some keyword.Store) words = cell_sound d (λ (array, i, v). instr.Store array i v) (λ a i v h x y places. (h, x, y)) (three words)
-statement_sound d (Some keyword.Cas) words = cas_sound d (five words)
-statement_sound d (Some keyword.Lock) words = locking_sound d (λ lock. instr.Lock lock) (λ lock h places. h) (one words)
-statement_sound d (Some keyword.Unlock) words = locking_sound d (λ lock. instr.Unlock lock) (λ lock h places. h) (one words)
-statement_sound d (Some keyword.Await) words = cell_sound d (λ (array, i, v). instr.Await array i v) (λ a i v h x y places. (h, x, y)) (three words)
-statement_sound d (Some keyword.AwaitNot) words = cell_sound d (λ (array, i, v). instr.AwaitNot array i v) (λ a i v h x y places. (h, x, y)) (three words)
-statement_sound d (Some keyword.Pick) words = pick_sound d (two words)
-statement_sound d (Some keyword.Jump) words = jump_sound d (one words)
-statement_sound d (Some keyword.JumpIfZero) words = jump_if_zero_sound d (two words)
-statement_sound d (Some keyword.Return) words = return_sound d (one words)
+statement_sound d (Some keyword.Set) words = set_sound d (exactly_two words)
+statement_sound d (Some (keyword.Compute by)) words = compute_sound d by (exactly_three words)
+statement_sound d (Some keyword.Load) words = load_sound d (exactly_three words)
+statement_sound d (Some keyword.Store) words = cell_sound d (λ (array, i, v). instr.Store array i v) (λ a i v h x y places. (h, x, y)) (exactly_three words)
+statement_sound d (Some keyword.Cas) words = cas_sound d (exactly_five words)
+statement_sound d (Some keyword.Lock) words = locking_sound d (λ lock. instr.Lock lock) (λ lock h places. h) (exactly_one words)
+statement_sound d (Some keyword.Unlock) words = locking_sound d (λ lock. instr.Unlock lock) (λ lock h places. h) (exactly_one words)
+statement_sound d (Some keyword.Await) words = cell_sound d (λ (array, i, v). instr.Await array i v) (λ a i v h x y places. (h, x, y)) (exactly_three words)
+statement_sound d (Some keyword.AwaitNot) words = cell_sound d (λ (array, i, v). instr.AwaitNot array i v) (λ a i v h x y places. (h, x, y)) (exactly_three words)
+statement_sound d (Some keyword.Pick) words = pick_sound d (exactly_two words)
+statement_sound d (Some keyword.Jump) words = jump_sound d (exactly_one words)
+statement_sound d (Some keyword.JumpIfZero) words = jump_if_zero_sound d (exactly_two words)
+statement_sound d (Some keyword.Return) words = return_sound d (exactly_one words)

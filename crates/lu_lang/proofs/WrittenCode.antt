@@ -22,7 +22,7 @@ use Rattle.lu_component.specs.Component.{Declarations, IsComponent, IsInstr, End
 use Rattle.lu_lang.specs.Draft.{Begun, Drafted}
 use Rattle.lu_lang.specs.Words.{keyword_word}
 use Rattle.lu_lang.specs.Grammar.{component_grammar, label_place, label_used, is_there, are_there, is_last, ends_well, target, resolved, op_of}
-use Rattle.lu_lang.specs.ComponentText.{label_word, leads_to, instr_words, instr_line, code_text, line_text}
+use Rattle.lu_lang.specs.ComponentText.{label_word, leads_to, instr_words, instr_line_text, code_text, line_of_words}
 use Rattle.lu_component.proofs.Named.{is_found, find_first, find_later}
 use Rattle.lu_lang.proofs.WrittenWords.{is_keyword_word, is_name_word, label_name, labels_apart, label_text_is, label_again}
 use Rattle.lu_lang.proofs.WrittenLines.{so_far, said_local, line_reads}
@@ -80,7 +80,7 @@ abbrev begun : Word → ℕ → List Statement → Labels → Begun
 begun name args statements labels = record { name = name; args = args; statements = statements; labels = labels }
 
 plain_reads : (c : Declarations) (operations : List Op) (name : Word) (args : ℕ) (statements : List Statement) (labels : Labels) (i : Instr) → IsSaid c operations i → length statements < 64
-    → Reads component_grammar (in_op c operations (begun name args statements labels)) (line_text (instr_words c i)) (in_op c operations (begun name args (statements ++ statement_of i ∷ []) labels))
+    → Reads component_grammar (in_op c operations (begun name args statements labels)) (line_of_words (instr_words c i)) (in_op c operations (begun name args (statements ++ statement_of i ∷ []) labels))
 plain_reads c operations name args statements labels i said room =
     let k = is_keyword_word (keyword_of i) in
     rw said.words
@@ -94,7 +94,7 @@ labelled_text label text =
     ∙ ap (λ (t : List ℕ). t ++ 10 ∷ []) (sym (append_assoc label (58 ∷ []) (32 ∷ text))))
 
 labelled_reads : (c : Declarations) (operations : List Op) (name : Word) (args n : ℕ) (statements : List Statement) (labels : Labels) (i : Instr) → IsSaid c operations i → n ≡ length statements → n < 64 → label_at labels n ≡ None
-    → Reads component_grammar (in_op c operations (begun name args statements labels)) ((label_word n ++ codes ": ") ++ line_text (instr_words c i)) (in_op c operations (begun name args (statements ++ statement_of i ∷ []) (labels ++ label_of n ∷ [])))
+    → Reads component_grammar (in_op c operations (begun name args statements labels)) ((label_word n ++ codes ": ") ++ line_of_words (instr_words c i)) (in_op c operations (begun name args (statements ++ statement_of i ∷ []) (labels ++ label_of n ∷ [])))
 labelled_reads c operations name args n statements labels i said is room fresh =
     let k = is_keyword_word (keyword_of i) in
     let l = is_name_word (label_word n) (label_name n (omega arith)) in
@@ -111,21 +111,21 @@ labelled_reads c operations name args n statements labels i said is room fresh =
 record IsRead (c : Declarations) (operations : List Op) (name : Word) (args : ℕ) (code done rest : List Instr) (labels : Labels) : Type 0 where
   to : Labels
   are : AreLabels code (length code) to
-  reads : Reads component_grammar (in_op c operations (begun name args (map statement_of done) labels)) (flat_map (instr_line c code) (enumerate_from (length done) rest)) (in_op c operations (begun name args (map statement_of code) to))
+  reads : Reads component_grammar (in_op c operations (begun name args (map statement_of done) labels)) (flat_map (instr_line_text c code) (enumerate_from (length done) rest)) (in_op c operations (begun name args (map statement_of code) to))
 
 more_read : (c : Declarations) (operations : List Op) (name : Word) (args : ℕ) (code done rest : List Instr) (i : Instr) (labels next : Labels)
-    → Reads component_grammar (in_op c operations (begun name args (map statement_of done) labels)) (instr_line c code (length done, i)) (in_op c operations (begun name args (map statement_of done ++ statement_of i ∷ []) next))
+    → Reads component_grammar (in_op c operations (begun name args (map statement_of done) labels)) (instr_line_text c code (length done, i)) (in_op c operations (begun name args (map statement_of done ++ statement_of i ∷ []) next))
     → IsRead c operations name args code (done ++ i ∷ []) rest next → IsRead c operations name args code done (i ∷ rest) labels
 more_read c operations name args code done rest i labels next line is =
     let before : Drafted = in_op c operations (begun name args (map statement_of done) labels) in
     let between : Drafted = in_op c operations (begun name args (map statement_of done ++ statement_of i ∷ []) next) in
     let after : Drafted = in_op c operations (begun name args (map statement_of code) is.to) in
-    let rest_text : List ℕ = flat_map (instr_line c code) (enumerate_from (length done + 1) rest) in
+    let rest_text : List ℕ = flat_map (instr_line_text c code) (enumerate_from (length done + 1) rest) in
     let others : Reads component_grammar between rest_text after = rw (map_push statement_of done i, length_push done i) at is.reads in
     record {
       to = is.to;
       are = is.are;
-      reads = reads_on component_grammar before between after (instr_line c code (length done, i)) rest_text line others;
+      reads = reads_on component_grammar before between after (instr_line_text c code (length done, i)) rest_text line others;
     }
 
 code_read : (c : Declarations) (operations : List Op) (name : Word) (args : ℕ) (code done rest : List Instr) (labels : Labels) → code ≡ done ++ rest → AllByRecursion (IsSaid c operations) rest → length code ≤ 64 → AreLabels code (length done) labels
@@ -230,7 +230,7 @@ last_again (Some (instr.JumpIfZero v t)) h = absurd h
 last_again (Some (instr.Return v)) h = refl
 
 end_reads : (c : Declarations) (operations : List Op) (op : Op) (labels : Labels) → AllByRecursion (IsResolved labels) op.code → EndsWell (slice_get op.code (length op.code - 1))
-    → Reads component_grammar (in_op c operations (begun op.name op.args (map statement_of op.code) labels)) (line_text (codes "end" ∷ [])) (so_far c.name (said_local c.local) c.arrays c.locks (operations ++ op ∷ []) None)
+    → Reads component_grammar (in_op c operations (begun op.name op.args (map statement_of op.code) labels)) (line_of_words (codes "end" ∷ [])) (so_far c.name (said_local c.local) c.arrays c.locks (operations ++ op ∷ []) None)
 end_reads c operations op labels each ends =
     let b : Begun = begun op.name op.args (map statement_of op.code) labels in
     let n : length (map statement_of op.code) ≡ length op.code = simp length-map in
@@ -243,11 +243,11 @@ end_reads c operations op labels each ends =
 -- ---- operations
 
 pub operation_read : (c : Declarations) → IsComponent c → (operations : List Op) (op : Op) → IsOp (length c.arrays) (length c.locks) op
-    → Reads component_grammar (so_far c.name (said_local c.local) c.arrays c.locks operations (Some (record { name = op.name; args = op.args; statements = []; labels = [] }))) (code_text c op.code ++ line_text (codes "end" ∷ [])) (so_far c.name (said_local c.local) c.arrays c.locks (operations ++ op ∷ []) None)
+    → Reads component_grammar (so_far c.name (said_local c.local) c.arrays c.locks operations (Some (record { name = op.name; args = op.args; statements = []; labels = [] }))) (code_text c op.code ++ line_of_words (codes "end" ∷ [])) (so_far c.name (said_local c.local) c.arrays c.locks (operations ++ op ∷ []) None)
 operation_read c is operations op h =
     let instrs = recursion_from_All (IsInstr (length c.arrays) (length c.locks) (length op.code)) op.code h.code.instrs in
     let said : AllByRecursion (IsSaid c operations) op.code = each_weaker (IsInstr (length c.arrays) (length c.locks) (length op.code)) (IsSaid c operations) (is_said c is operations (length op.code) h.code.few) op.code instrs in
     let read = code_read c operations op.name op.args op.code [] op.code [] refl said h.code.few (no_labels op.code) in
     let each = each_resolved (length c.arrays) (length c.locks) op.code read.to read.are h.code.few op.code instrs (each_target op.code op.code (λ t e. e)) in
-    reads_on component_grammar (in_op c operations (begun op.name op.args [] [])) (in_op c operations (begun op.name op.args (map statement_of op.code) read.to)) (so_far c.name (said_local c.local) c.arrays c.locks (operations ++ op ∷ []) None) (code_text c op.code) (line_text (codes "end" ∷ []))
+    reads_on component_grammar (in_op c operations (begun op.name op.args [] [])) (in_op c operations (begun op.name op.args (map statement_of op.code) read.to)) (so_far c.name (said_local c.local) c.arrays c.locks (operations ++ op ∷ []) None) (code_text c op.code) (line_of_words (codes "end" ∷ []))
     read.reads (end_reads c operations op read.to each h.code.ends)

@@ -17,14 +17,14 @@ use Rattle.lu_component.specs.declared.component.Op.{Op}
 use Rattle.lu_component.specs.Component.{AreDistinct, IsArray}
 use Rattle.lu_lang.specs.Draft.{Begun, Drafted, nothing}
 use Rattle.lu_lang.specs.Grammar.{by_words, line_of, local_line, array_line, lock_line, op_line, component_line, component_grammar}
-use Rattle.lu_lang.specs.ComponentText.{line_text, local_text, array_text, lock_text}
+use Rattle.lu_lang.specs.ComponentText.{line_of_words, local_text, array_text, lock_text}
 use Rattle.lu_component.proofs.Named.{not_yet}
 use Rattle.lu_lang.proofs.WrittenWords.{is_name_word}
 
 -- ---- one line
 
 -- words that are written with one space between them are read
-pub line_reads : (d to : Drafted) (words : List Word) → AreText words → by_words d words ≡ Ok to → Reads component_grammar d (line_text words) to
+pub line_reads : (d to : Drafted) (words : List Word) → AreText words → by_words d words ≡ Ok to → Reads component_grammar d (line_of_words words) to
 unfolding line_of
 line_reads d to words are e =
     let bytes = words_line words are in
@@ -39,7 +39,7 @@ so_far name local arrays locks operations begun = record { name = Some name; loc
 component_says : (d : Drafted) (name : Word) → has_name_form name ≡ true → is_long name ≡ false → component_line d (Some name) ≡ Ok (record d { name = Some name })
 component_says d name form short = rw (form, short) refl
 
-pub component_reads : (name : Word) → IsName name → Reads component_grammar nothing (line_text (codes "component" ∷ name ∷ [])) (so_far name None [] [] [] None)
+pub component_reads : (name : Word) → IsName name → Reads component_grammar nothing (line_of_words (codes "component" ∷ name ∷ [])) (so_far name None [] [] [] None)
 component_reads name is =
     let w = is_name_word name is in
     line_reads nothing (so_far name None [] [] [] None) (codes "component" ∷ name ∷ []) (literal_text (codes "component") (omega arith) refl, (w.text, tt))
@@ -57,7 +57,7 @@ local_says name most n value few = rw (value, le-ltb 16 n few) refl
 pub local_reads : (name : Word) (local : ℕ) → local ≤ 16 → Reads component_grammar (so_far name None [] [] [] None) (local_text local) (so_far name (said_local local) [] [] [] None)
 local_reads name local few = by_test (local == 0)
   where
-    by_test : (none : Bool) → Reads component_grammar (so_far name None [] [] [] None) (if none then [] else line_text (codes "local" ∷ decimal local ∷ [])) (so_far name (if none then None else Some local) [] [] [] None)
+    by_test : (none : Bool) → Reads component_grammar (so_far name None [] [] [] None) (if none then [] else line_of_words (codes "local" ∷ decimal local ∷ [])) (so_far name (if none then None else Some local) [] [] [] None)
     by_test true = reads_nothing component_grammar (so_far name None [] [] [] None)
     by_test false =
         line_reads (so_far name None [] [] [] None) (so_far name (Some local) [] [] [] None) (codes "local" ∷ decimal local ∷ [])
@@ -138,7 +138,7 @@ op_says d name args n form short value room few new =
     rw (form, short, value, lt-leb 16 (length d.operations) room, le-ltb 4 n few, new) refl
 
 pub op_reads : (name : Word) (local : Option ℕ) (arrays : List Array) (locks : List Word) (done : List Op) (op : Word) (args : ℕ) → IsName op → args ≤ 4 → length done < 16 → position (λ o. bytes_eq o.name op) done ≡ None
-    → Reads component_grammar (so_far name local arrays locks done None) (line_text (codes "op" ∷ op ∷ decimal args ∷ [])) (so_far name local arrays locks done (Some (record { name = op; args = args; statements = []; labels = [] })))
+    → Reads component_grammar (so_far name local arrays locks done None) (line_of_words (codes "op" ∷ op ∷ decimal args ∷ [])) (so_far name local arrays locks done (Some (record { name = op; args = args; statements = []; labels = [] })))
 op_reads name local arrays locks done op args is few room new =
     let w = is_name_word op is in
     line_reads (so_far name local arrays locks done None) (so_far name local arrays locks done (Some (record { name = op; args = args; statements = []; labels = [] })))

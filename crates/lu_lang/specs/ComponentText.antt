@@ -63,8 +63,8 @@ leads_to place _ = false
 -- ---- lines
 
 -- one space between words
-abbrev pub line_text : List Word → List ℕ
-line_text words = join_with_byte 32 words ++ 10 ∷ []
+abbrev pub line_of_words : List Word → List ℕ
+line_of_words words = join_with_byte 32 words ++ 10 ∷ []
 
 -- a label and a space, where some jump leads to the place
 abbrev pub label_text : List Instr → ℕ → List ℕ
@@ -73,34 +73,34 @@ label_text code place =
 
 -- where local instructions run with a move
 abbrev pub local_text : ℕ → List ℕ
-local_text local = if local == 0 then [] else line_text (codes "local" ∷ decimal local ∷ [])
+local_text local = if local == 0 then [] else line_of_words (codes "local" ∷ decimal local ∷ [])
 
 abbrev pub array_text : Array → List ℕ
 array_text array =
-    line_text (codes "word" ∷ array.name ∷ decimal array.len ∷ decimal array.init ∷ [])
+    line_of_words (codes "word" ∷ array.name ∷ decimal array.len ∷ decimal array.init ∷ [])
 
 abbrev pub lock_text : List ℕ → List ℕ
-lock_text name = line_text (codes "lock" ∷ name ∷ [])
+lock_text name = line_of_words (codes "lock" ∷ name ∷ [])
 
 -- the line of the instruction at a place, behind its label
-abbrev pub instr_line : Declarations → List Instr → ℕ × Instr → List ℕ
-instr_line c code (place, instr) = label_text code place ++ line_text (instr_words c instr)
+abbrev pub instr_line_text : Declarations → List Instr → ℕ × Instr → List ℕ
+instr_line_text c code (place, instr) = label_text code place ++ line_of_words (instr_words c instr)
 
 abbrev pub code_text : Declarations → List Instr → List ℕ
-code_text c code = flat_map (instr_line c code) (enumerate_from 0 code)
+code_text c code = flat_map (instr_line_text c code) (enumerate_from 0 code)
 
 abbrev pub op_text : Declarations → Op → List ℕ
 op_text c op =
-    line_text (codes "op" ∷ op.name ∷ decimal op.args ∷ [])
+    line_of_words (codes "op" ∷ op.name ∷ decimal op.args ∷ [])
     ++ code_text c op.code
-    ++ line_text (codes "end" ∷ [])
+    ++ line_of_words (codes "end" ∷ [])
 
 abbrev pub operations_text : Declarations → List ℕ
 operations_text c = flat_map (op_text c) c.operations
 
 abbrev pub component_text : Declarations → List ℕ
 component_text c =
-    line_text (codes "component" ∷ c.name ∷ [])
+    line_of_words (codes "component" ∷ c.name ∷ [])
     ++ local_text c.local
     ++ flat_map array_text c.arrays
     ++ flat_map lock_text c.locks

@@ -6,7 +6,7 @@ use Rattle.std.specs.Option.{unwrap_or, option_map}
 use Rattle.lu_text.specs.Names.{has_name_form, is_long}
 use Rattle.lu_text.specs.Numbers.{value_in}
 use Rattle.lu_text.specs.Lines.{words_of, is_allowed}
-use Rattle.lu_text.specs.Words.{Word, one, two, three, five}
+use Rattle.lu_text.specs.Words.{Word, exactly_one, exactly_two, exactly_three, exactly_five}
 use Rattle.lu_text.specs.Faults.{Grammar, says, or_else}
 use Rattle.lu_component.specs.declared.instr.Operand.{Operand}
 use Rattle.lu_component.specs.declared.instr.Operand.TheVariants.{Num}
@@ -119,10 +119,10 @@ op_line d (Some (name, args)) =
 
 abbrev pub declaration : Drafted → Word → List Word → Result Drafted LangFaultKind
 declaration d word words =
-    if bytes_eq word (codes "word") then array_line d (three words)
-    else (if bytes_eq word (codes "lock") then lock_line d (one words)
-    else (if bytes_eq word (codes "op") then op_line d (two words)
-    else (if bytes_eq word (codes "local") then local_line d (one words)
+    if bytes_eq word (codes "word") then array_line d (exactly_three words)
+    else (if bytes_eq word (codes "lock") then lock_line d (exactly_one words)
+    else (if bytes_eq word (codes "op") then op_line d (exactly_two words)
+    else (if bytes_eq word (codes "local") then local_line d (exactly_one words)
     else Err Form)))
 
 -- ---- instructions
@@ -226,23 +226,25 @@ return_line (Some v) = says ((not (is_operand v), Number) ∷ []) (Plain (instr.
 -- by the keyword; no word that is none begins an instruction
 abbrev pub statement : Drafted → Option Keyword → List Word → Result Statement LangFaultKind
 statement d None words = Err Form
-statement d (Some keyword.Set) words = set_line (two words)
-statement d (Some (keyword.Compute arithmetic)) words = compute_line arithmetic (three words)
-statement d (Some keyword.Load) words = load_line d (three words)
+statement d (Some keyword.Set) words = set_line (exactly_two words)
+statement d (Some (keyword.Compute arithmetic)) words =
+    compute_line arithmetic (exactly_three words)
+statement d (Some keyword.Load) words = load_line d (exactly_three words)
 statement d (Some keyword.Store) words =
-    as_plain (λ (array, i, v). instr.Store array i v) (cell_and_value d (three words))
-statement d (Some keyword.Cas) words = cas_line d (five words)
-statement d (Some keyword.Lock) words = as_plain (λ lock. instr.Lock lock) (locked d (one words))
+    as_plain (λ (array, i, v). instr.Store array i v) (cell_and_value d (exactly_three words))
+statement d (Some keyword.Cas) words = cas_line d (exactly_five words)
+statement d (Some keyword.Lock) words =
+    as_plain (λ lock. instr.Lock lock) (locked d (exactly_one words))
 statement d (Some keyword.Unlock) words =
-    as_plain (λ lock. instr.Unlock lock) (locked d (one words))
+    as_plain (λ lock. instr.Unlock lock) (locked d (exactly_one words))
 statement d (Some keyword.Await) words =
-    as_plain (λ (array, i, v). instr.Await array i v) (cell_and_value d (three words))
+    as_plain (λ (array, i, v). instr.Await array i v) (cell_and_value d (exactly_three words))
 statement d (Some keyword.AwaitNot) words =
-    as_plain (λ (array, i, v). instr.AwaitNot array i v) (cell_and_value d (three words))
-statement d (Some keyword.Pick) words = pick_line (two words)
-statement d (Some keyword.Jump) words = jump_line (one words)
-statement d (Some keyword.JumpIfZero) words = jump_if_zero_line (two words)
-statement d (Some keyword.Return) words = return_line (one words)
+    as_plain (λ (array, i, v). instr.AwaitNot array i v) (cell_and_value d (exactly_three words))
+statement d (Some keyword.Pick) words = pick_line (exactly_two words)
+statement d (Some keyword.Jump) words = jump_line (exactly_one words)
+statement d (Some keyword.JumpIfZero) words = jump_if_zero_line (exactly_two words)
+statement d (Some keyword.Return) words = return_line (exactly_one words)
 
 -- ---- a line of an operation: a label or none, and an instruction
 
@@ -349,7 +351,7 @@ inside d b (Some label) word words = labelled d b label words
 
 abbrev pub component_first : Drafted → Word → List Word → Result Drafted LangFaultKind
 component_first d word words =
-    if bytes_eq word (codes "component") then component_line d (one words) else Err Missing
+    if bytes_eq word (codes "component") then component_line d (exactly_one words) else Err Missing
 
 -- The first line with words is the `component` line. Then come declarations, and in an open
 -- operation instructions.

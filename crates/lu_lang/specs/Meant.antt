@@ -1,6 +1,6 @@
 -- A line is read as its writer meant it: a declaration with a fault was to declare a name, and the
 -- lines behind it may use that name.
-use Rattle.std.specs.Prelude.{ℕ, ◌+◌, Bool, true, false, List, [], ◌∷◌, ◌++◌, length, take, drop, Option, Some, None, is_some, option_and_then, slice_get, Result, Ok, Err, codes, ◌==◌, ◌&&◌, not, if◌then◌else◌}
+use Rattle.std.specs.Prelude.{ℕ, ◌+◌, Bool, true, false, List, [], ◌∷◌, ◌++◌, length, take, drop, Option, Some, None, is_some, option_and_then, slice_get, Result, Ok, Err, codes, ◌==◌, ◌&&◌, ◌||◌, not, nat_le, if◌then◌else◌}
 use Rattle.std.specs.List.{flat_map, list_all, list_any}
 use Rattle.std.specs.Str.{bytes_eq}
 use Rattle.std.specs.Option.{unwrap_or, option_map}
@@ -129,18 +129,21 @@ faulty_grammar = record {
 
 -- ---- what a line with a fault was to declare, where d is the draft that it leaves
 
--- this name, where it is not declared
+-- so many names are kept at most
+abbrev pub most_meant : ℕ
+most_meant = 256
+
+-- this name, where it is not declared and there is room
 abbrev pub with_name : Drafted → List Meant → Family → Word → List Meant
 with_name d meant family word =
-    if is_declared d family word then meant else meant ++ record { family = family; word = word } ∷ []
+    if is_declared d family word || nat_le most_meant (length meant) then meant
+    else meant ++ record { family = family; word = word } ∷ []
 
--- `word` declares an array, outside operations `lock` a lock, and `op` an operation: how many
--- arguments it takes is not known, though its name is declared
+-- `word` declares an array, and outside operations `lock` a lock
 abbrev pub declared_by : Drafted → Word → Option Family
 declared_by d first =
     if bytes_eq first (codes "word") then Some Array
-    else (if bytes_eq first (codes "lock") && not (is_some d.begun) then Some Lock
-    else (if bytes_eq first (codes "op") then Some Operation else None))
+    else (if bytes_eq first (codes "lock") && not (is_some d.begun) then Some Lock else None)
 
 abbrev pub with_declared : Drafted → List Meant → Option Family → List Word → List Meant
 with_declared d meant None words = meant
@@ -166,8 +169,24 @@ abbrev pub with_names : Drafted → List Meant → List Word → List Meant
 with_names d meant [] = meant
 with_names d meant (first ∷ words) = with_labelled d meant (label_in (bare first)) first words
 
+-- how many operations are begun, the open one too
+abbrev pub operations_begun : Drafted → ℕ
+operations_begun d =
+    if is_some d.begun then length d.operations + 1 else length d.operations
+
+abbrev pub with_open : Drafted → List Meant → Option Begun → List Meant
+with_open d meant None = meant
+with_open d meant (Some b) = with_name d meant Operation b.name
+
+-- The open operation, where it is more than so many, which were begun before the line: how many
+-- arguments it takes is not known, though its name is declared.
+abbrev pub with_operation : Drafted → List Meant → ℕ → List Meant
+with_operation d meant before =
+    if operations_begun d == before then meant else with_open d meant d.begun
+
 -- what a line with a fault leaves, before these lines
 abbrev pub mend_faulty : Faulty → List ℕ → List (List ℕ) → Faulty
 mend_faulty f line lines =
     let next = mend f.draft line lines in
-    record { draft = next; meant = with_names next f.meant (words_of line) }
+    let meant = with_names next f.meant (words_of line) in
+    record { draft = next; meant = with_operation next meant (operations_begun f.draft) }

@@ -1,13 +1,11 @@
 -- What a line with a fault leaves, so that the lines behind it are told for their own faults alone.
 use Rattle.std.specs.Prelude.{ℕ, ◌-◌, Bool, false, List, [], ◌∷◌, ◌++◌, length, take, slice_index, Option, Some, None, is_some, codes, ◌==◌, ◌&&◌, ◌||◌, not, nat_le, if◌then◌else◌}
 use Rattle.std.specs.Str.{bytes_eq}
-use Rattle.std.specs.Option.{option_map}
 use Rattle.lu_text.specs.Names.{has_name_form, is_long}
 use Rattle.lu_text.specs.Lines.{words_of}
 use Rattle.lu_text.specs.Words.{Word}
 use Rattle.lu_component.specs.declared.instr.Operand.TheVariants.{Num}
 use Rattle.lu_component.specs.declared.instr.Instr.TheVariants.{Return}
-use Rattle.lu_lang.specs.declared.draft.Label.{Label}
 use Rattle.lu_lang.specs.declared.draft.Statement.TheVariants.{Plain}
 use Rattle.lu_lang.specs.Draft.{Begun, Drafted}
 use Rattle.lu_lang.specs.Words.{keyword_in}
@@ -51,21 +49,18 @@ with_op d name = record d { begun = Some (op_begun name) }
 abbrev pub with_end : Drafted → Begun → Drafted
 with_end d b = record d { operations = d.operations ++ op_of b ∷ [] }
 
--- with this label, of which no more are kept than a thousand or so
-abbrev pub labels_with : List Label → Option Word → List Label
-labels_with labels None = labels
-labels_with labels (Some name) =
-    if nat_le 1024 (length labels) then labels
-    else labels ++ record { name = name; place = 0 } ∷ []
+-- the operation with a line's label, of which no more are kept than a thousand or so
+abbrev pub op_labelled : Begun → Option Word → Begun
+op_labelled b None = b
+op_labelled b (Some label) =
+    if nat_le 1024 (length b.labels) then b
+    else record b { labels = b.labels ++ record { name = name_or_blank label; place = 0 } ∷ [] }
 
--- `return 0` stands in this operation, behind this label
-abbrev pub with_return : Drafted → Begun → Option Word → Drafted
-with_return d b label =
+-- `return 0` stands in this operation
+abbrev pub with_return : Drafted → Begun → Drafted
+with_return d b =
     record d {
-      begun = Some (record b {
-        statements = b.statements ++ Plain (Return (Num 0)) ∷ [];
-        labels = labels_with b.labels label;
-      });
+      begun = Some (record b { statements = b.statements ++ Plain (Return (Num 0)) ∷ [] });
     }
 
 -- ---- what the words of the next line show
@@ -91,6 +86,12 @@ abbrev pub begins_outside : List Word → Bool
 begins_outside [] = false
 begins_outside (word ∷ words) = bytes_eq word (codes "op") || bytes_eq word (codes "word")
 
+-- a line of this first word, behind its label, closes the operation that is open before it
+abbrev pub closes : Word → List Word → Bool
+closes word next =
+    bytes_eq word (codes "op")
+    || (bytes_eq word (codes "end") || bytes_eq word (codes "word") && begins_outside next)
+
 -- ---- a line by its words, and by those of the next line
 
 -- A line that begins no declaration, before a line of an operation: `op` was meant, or, where it is
@@ -99,7 +100,7 @@ abbrev pub mend_other : Drafted → Word → List Word → List Word → Drafted
 mend_other d word words next =
     if not (begins_code next) || bytes_eq word (codes "end") then d
     else (if is_code word
-    then with_return d (op_begun (codes "_")) (option_map name_or_blank (label_in word))
+    then with_return d (op_labelled (op_begun (codes "_")) (label_in word))
     else with_op d (first_name words))
 
 -- outside an operation a declaration declares its name
@@ -112,26 +113,30 @@ mend_outside d word words next =
 
 -- `word` inside an operation declares an array; the operation lacks its `end` where the next line
 -- stands outside operations
-abbrev pub mend_array_inside : Drafted → Begun → Option Word → List Word → List Word → Drafted
-mend_array_inside d b label words next =
+abbrev pub mend_array_inside : Drafted → Begun → List Word → List Word → Drafted
+mend_array_inside d b words next =
     if begins_outside next then with_array (with_end d b) (first_name words)
-    else with_return (with_array d (first_name words)) b label
+    else with_return (with_array d (first_name words)) b
 
--- inside an operation `op` closes it and begins the next, and `end` closes it; each other line is an
--- instruction
-abbrev pub mend_inside : Drafted → Begun → Option Word → Word → List Word → List Word → Drafted
-mend_inside d b label word words next =
+-- inside an operation `op` closes it and begins the next, and `end` closes it; each other line is
+-- an instruction
+abbrev pub mend_inside : Drafted → Begun → Word → List Word → List Word → Drafted
+mend_inside d b word words next =
     if bytes_eq word (codes "op") then with_op (with_end d b) (first_name words)
     else (if bytes_eq word (codes "end") then with_end d b
-    else (if bytes_eq word (codes "word") then mend_array_inside d b label words next
-    else with_return d b label))
+    else (if bytes_eq word (codes "word") then mend_array_inside d b words next
+    else with_return d b))
 
--- behind a label, or without one
+-- behind a label
+abbrev pub mend_behind : Drafted → Begun → List Word → List Word → Drafted
+mend_behind d b [] next = with_return d b
+mend_behind d b (word ∷ words) next = mend_inside d b (bare word) words next
+
+-- with a label, or without one
 abbrev pub mend_labelled : Drafted → Begun → Option Word → Word → List Word → List Word → Drafted
-mend_labelled d b None word words next = mend_inside d b None word words next
-mend_labelled d b (Some label) word [] next = with_return d b (Some (name_or_blank label))
-mend_labelled d b (Some label) word (first ∷ words) next =
-    mend_inside d b (Some (name_or_blank label)) (bare first) words next
+mend_labelled d b None word words next = mend_inside d b word words next
+mend_labelled d b (Some label) word words next =
+    mend_behind d (op_labelled b (Some label)) words next
 
 -- where there is no `component` line yet, the component is called `_`
 abbrev pub mend_by_state : Drafted → Option Word → Option Begun → Word → List Word → List Word

@@ -3,7 +3,7 @@
 ghost use Rattle.std.specs.Prelude.{◌≡◌, IfOk, Some, is_some};
 ghost use Rattle.std.specs.Option.{option_copied, option_map};
 ghost use Rattle.lu_text.specs.Lines.{text_if, texts};
-ghost use Rattle.lu_text.specs.Words.{one};
+ghost use Rattle.lu_text.specs.Words.{exactly_one};
 ghost use Rattle.lu_lang.specs.Grammar as spec;
 ghost use Rattle.lu_lang.specs.Grammar.{component_grammar, fault_in, inside, instr_line};
 ghost use Rattle.lu_lang.specs.Going.{HadMemory, going_on, kind_if};

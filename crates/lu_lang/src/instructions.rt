@@ -4,14 +4,16 @@ ghost use Rattle.std.specs.Prelude.{◌≡◌, IfOk, Some};
 ghost use Rattle.std.specs.List.{position};
 ghost use Rattle.std.specs.Str.{bytes_eq};
 ghost use Rattle.lu_text.specs.Lines.{texts};
-ghost use Rattle.lu_text.specs.Words.{one, two, three, five};
+ghost use Rattle.lu_text.specs.Words.{exactly_one, exactly_two, exactly_three, exactly_five};
 ghost use Rattle.lu_lang.specs.Grammar as spec;
 
 use crate::draft::{Draft, Statement};
 use crate::fault::LangFaultKind;
 use crate::keyword::{Keyword, operand_in, register_in};
 use lu_component::{Arithmetic, Array, Instr, MOST_PICKS, Operand};
-use lu_text::{Name, five, has_name_form, is_long, one, three, two, value_in};
+use lu_text::{
+    Name, exactly_five, exactly_one, exactly_three, exactly_two, has_name_form, is_long, value_in,
+};
 use std::alloc::{AllocError, Global};
 
 fn place_among(arrays: &[Array], name: &[u8]) -> Option<usize>
@@ -55,9 +57,9 @@ fn declared_array(draft: &Draft, name: &[u8]) -> Result<u8, LangFaultKind>
 
 /// `set rD v`
 fn set_line(words: &[&[u8]]) -> Result<Statement, LangFaultKind>
-    ensures { result ≡ spec.set_line (two (texts words.now)) }
+    ensures { result ≡ spec.set_line (exactly_two (texts words.now)) }
 {
-    let Some((to, value)) = two(words) else {
+    let Some((to, value)) = exactly_two(words) else {
         return Err(LangFaultKind::Form);
     };
     let Some(to) = register_in(to) else {
@@ -71,9 +73,9 @@ fn set_line(words: &[&[u8]]) -> Result<Statement, LangFaultKind>
 
 /// `add rD a b`, `sub`, `mul`, `eq`, `lt`
 fn compute_line(arithmetic: Arithmetic, words: &[&[u8]]) -> Result<Statement, LangFaultKind>
-    ensures { result ≡ spec.compute_line arithmetic (three (texts words.now)) }
+    ensures { result ≡ spec.compute_line arithmetic (exactly_three (texts words.now)) }
 {
-    let Some((to, left, right)) = three(words) else {
+    let Some((to, left, right)) = exactly_three(words) else {
         return Err(LangFaultKind::Form);
     };
     let Some(to) = register_in(to) else {
@@ -92,9 +94,9 @@ fn compute_line(arithmetic: Arithmetic, words: &[&[u8]]) -> Result<Statement, La
 
 /// `load rD W i`
 fn load_line(draft: &Draft, words: &[&[u8]]) -> Result<Statement, LangFaultKind>
-    ensures { result ≡ spec.load_line draft.now (three (texts words.now)) }
+    ensures { result ≡ spec.load_line draft.now (exactly_three (texts words.now)) }
 {
-    let Some((to, array, index)) = three(words) else {
+    let Some((to, array, index)) = exactly_three(words) else {
         return Err(LangFaultKind::Form);
     };
     let Some(to) = register_in(to) else {
@@ -112,9 +114,9 @@ fn load_line(draft: &Draft, words: &[&[u8]]) -> Result<Statement, LangFaultKind>
 
 /// `cas rD W i old new`
 fn cas_line(draft: &Draft, words: &[&[u8]]) -> Result<Statement, LangFaultKind>
-    ensures { result ≡ spec.cas_line draft.now (five (texts words.now)) }
+    ensures { result ≡ spec.cas_line draft.now (exactly_five (texts words.now)) }
 {
-    let Some((to, array, index, expected, desired)) = five(words) else {
+    let Some((to, array, index, expected, desired)) = exactly_five(words) else {
         return Err(LangFaultKind::Form);
     };
     let Some(to) = register_in(to) else {
@@ -142,9 +144,9 @@ fn cas_line(draft: &Draft, words: &[&[u8]]) -> Result<Statement, LangFaultKind>
 
 /// The lock of `lock L` and `unlock L`.
 fn read_lock(draft: &Draft, words: &[&[u8]]) -> Result<u8, LangFaultKind>
-    ensures { result ≡ spec.locked draft.now (one (texts words.now)) }
+    ensures { result ≡ spec.locked draft.now (exactly_one (texts words.now)) }
 {
-    let Some(lock) = one(words) else {
+    let Some(lock) = exactly_one(words) else {
         return Err(LangFaultKind::Form);
     };
     if !has_name_form(lock) {
@@ -161,9 +163,9 @@ fn read_lock(draft: &Draft, words: &[&[u8]]) -> Result<u8, LangFaultKind>
 
 /// The array, the index and the value of `store W i v`, `await W i v` and `awaitne W i v`.
 fn cell_and_value(draft: &Draft, words: &[&[u8]]) -> Result<(u8, Operand, Operand), LangFaultKind>
-    ensures { result ≡ spec.cell_and_value draft.now (three (texts words.now)) }
+    ensures { result ≡ spec.cell_and_value draft.now (exactly_three (texts words.now)) }
 {
-    let Some((array, index, value)) = three(words) else {
+    let Some((array, index, value)) = exactly_three(words) else {
         return Err(LangFaultKind::Form);
     };
     if !has_name_form(array) {
@@ -177,9 +179,9 @@ fn cell_and_value(draft: &Draft, words: &[&[u8]]) -> Result<(u8, Operand, Operan
 
 /// `pick rD K`
 fn pick_line(words: &[&[u8]]) -> Result<Statement, LangFaultKind>
-    ensures { result ≡ spec.pick_line (two (texts words.now)) }
+    ensures { result ≡ spec.pick_line (exactly_two (texts words.now)) }
 {
-    let Some((to, count)) = two(words) else {
+    let Some((to, count)) = exactly_two(words) else {
         return Err(LangFaultKind::Form);
     };
     let Some(to) = register_in(to) else {
@@ -197,9 +199,9 @@ fn pick_line(words: &[&[u8]]) -> Result<Statement, LangFaultKind>
 
 /// `jump LABEL`
 fn jump_line(alloc: Global, words: &[&[u8]]) -> Result<Result<Statement, LangFaultKind>, AllocError>
-    ensures { IfOk result (λ own. own ≡ spec.jump_line (one (texts words.now))) }
+    ensures { IfOk result (λ own. own ≡ spec.jump_line (exactly_one (texts words.now))) }
 {
-    let Some(label) = one(words) else {
+    let Some(label) = exactly_one(words) else {
         return Ok(Err(LangFaultKind::Form));
     };
     if !has_name_form(label) {
@@ -216,9 +218,9 @@ fn jump_if_zero_line(
     alloc: Global,
     words: &[&[u8]],
 ) -> Result<Result<Statement, LangFaultKind>, AllocError>
-    ensures { IfOk result (λ own. own ≡ spec.jump_if_zero_line (two (texts words.now))) }
+    ensures { IfOk result (λ own. own ≡ spec.jump_if_zero_line (exactly_two (texts words.now))) }
 {
-    let Some((value, label)) = two(words) else {
+    let Some((value, label)) = exactly_two(words) else {
         return Ok(Err(LangFaultKind::Form));
     };
     if !has_name_form(label) {
@@ -235,9 +237,9 @@ fn jump_if_zero_line(
 
 /// `return v`
 fn return_line(words: &[&[u8]]) -> Result<Statement, LangFaultKind>
-    ensures { result ≡ spec.return_line (one (texts words.now)) }
+    ensures { result ≡ spec.return_line (exactly_one (texts words.now)) }
 {
-    let Some(value) = one(words) else {
+    let Some(value) = exactly_one(words) else {
         return Err(LangFaultKind::Form);
     };
     let Some(value) = operand_in(value) else {

@@ -21,7 +21,9 @@ pub use lu_component::{
     Arithmetic, Array, Code, Component, Instr, MOST_ARGUMENTS, MOST_ARRAYS, MOST_CELLS,
     MOST_INSTRS, MOST_LOCAL, MOST_LOCKS, MOST_OPS, MOST_PICKS, Op, Operand,
 };
-pub use meant::{Family, FaultyDraft, MeantName, meant_line, mended, read_or_fault};
-pub use place::message_backs;
+pub use meant::{
+    Family, FaultyDraft, MeantName, meant_line, mended, read_or_fault, with_spaced_words,
+};
+pub use place::{left_backs, message_backs, open_backs};
 pub use reading::read_component;
 pub use writing::{array_name, lock_name, write_component, write_instr, write_label};

@@ -1,7 +1,7 @@
-//! Lines as their writer meant them: a declaration with a fault was to declare a name, and the lines
-//! behind it may use that name.
+//! Lines as their writer meant them: a declaration with a fault was to declare a name, and the
+//! lines behind it may use that name.
 
-ghost use Rattle.std.specs.Prelude.{◌≡◌, ◌≤◌, ◌<◌, ◌++◌, IfOk, length, option_and_then, slice_get};
+ghost use Rattle.std.specs.Prelude.{◌≡◌, ◌≤◌, ◌<◌, ◌++◌, IfOk, length, nat_le, option_and_then, slice_get};
 ghost use Rattle.std.specs.Option.{option_map, unwrap_or};
 ghost use Rattle.lu_text.specs.Lines.{text_if, texts};
 ghost use Rattle.lu_lang.specs.Going.{going_on};
@@ -19,6 +19,9 @@ use crate::reading::{has_label, label_in};
 use lu_text::{are_allowed, words_of};
 use std::alloc::{AllocError, Global};
 use std::marker::Model;
+
+/// The most names that are kept of those that faulty declarations were to declare.
+const MOST_MEANT: usize = 256;
 
 /// What a name is a name of. Each stands once in its family.
 #[derive(Clone, Copy, Debug, Drop, PartialEq, Eq)]
@@ -153,8 +156,8 @@ fn first_of(draft: &Draft, family: Family) -> Option<&[u8]>
     }
 }
 
-/// What an instruction of this operation names, and the place of the name on its line, where so many
-/// words stand before it.
+/// What an instruction of this operation names, and the place of the name on its line, where so
+/// many words stand before it.
 fn named_by(operation: usize, before: usize, keyword: Keyword) -> Option<(Family, usize)>
     requires { before ≤ 1 }
     ensures { result ≡ spec.named_by operation before keyword }
@@ -199,7 +202,11 @@ fn name_of_line(operation: usize, words: &[&[u8]]) -> Option<(Family, usize)>
 }
 
 /// The text with these words, each with a space behind it.
-fn with_words(mut text: Vec<u8>, words: &[&[u8]]) -> Result<Vec<u8>, AllocError>
+///
+/// # Errors
+///
+/// There is no memory for the words.
+pub fn with_spaced_words(mut text: Vec<u8>, words: &[&[u8]]) -> Result<Vec<u8>, AllocError>
     ensures { IfOk result (λ next. next.items ≡ text.items ++ spec.spaced (texts words.now)) }
 {
     for word in words {
@@ -220,10 +227,10 @@ fn line_with(
     ensures { IfOk result (λ line.
         line.items ≡ spec.line_with (texts words.now) place other.now) }
 {
-    let mut text = with_words(Vec::new(alloc), &words[..place])?;
+    let mut text = with_spaced_words(Vec::new(alloc), &words[..place])?;
     text.extend_from_slice(other)?;
     text.push(b' ')?;
-    with_words(text, &words[place + 1..])
+    with_spaced_words(text, &words[place + 1..])
 }
 
 /// The line with a declared name in the place of one that was only meant.
@@ -235,8 +242,8 @@ fn renamed(
     family: Family,
     place: usize,
 ) -> Result<Option<Vec<u8>>, AllocError>
-    ensures { IfOk result (λ line.
-        option_map (λ l. l.items) line ≡ spec.renamed_at draft.now (texts words.now) (family, place)) }
+    ensures { IfOk result (λ line. option_map (λ l. l.items) line ≡
+        spec.renamed_at draft.now (texts words.now) (family, place)) }
 {
     let Some(word) = words.get(place) else {
         return Ok(None);
@@ -321,7 +328,13 @@ pub fn read_or_fault(
     Ok((FaultyDraft { draft, meant }, fault))
 }
 
-/// The names with this one, where it is not declared.
+fn has_most_meant(meant: &[MeantName]) -> bool
+    ensures { result ≡ nat_le spec.most_meant (length meant.now) }
+{
+    meant.len() >= MOST_MEANT
+}
+
+/// The names with this one, where it is not declared and there is room.
 fn with_name(
     alloc: Global,
     draft: &Draft,
@@ -332,10 +345,11 @@ fn with_name(
     ensures { IfOk result (λ next.
         next.items ≡ spec.with_name draft.now meant.items family word.now) }
 {
-    if !is_declared(draft, family, word) {
-        let word = Vec::from_slice(alloc, word)?;
-        meant.push(MeantName { family, word })?;
+    if is_declared(draft, family, word) || has_most_meant(&meant) {
+        return Ok(meant);
     }
+    let word = Vec::from_slice(alloc, word)?;
+    meant.push(MeantName { family, word })?;
     Ok(meant)
 }
 
@@ -347,8 +361,6 @@ fn declared_by(draft: &Draft, first: &[u8]) -> Option<Family>
         Some(Family::Array)
     } else if first == b"lock".as_slice() && draft.begun.is_none() {
         Some(Family::Lock)
-    } else if first == b"op".as_slice() {
-        Some(Family::Operation)
     } else {
         None
     }
@@ -429,6 +441,50 @@ fn with_names(
     }
 }
 
+/// How many operations are begun, the open one too.
+fn operations_begun(draft: &Draft) -> usize
+    ensures { result ≡ spec.operations_begun draft.now }
+{
+    if draft.begun.is_some() {
+        draft.operations.len() + 1
+    } else {
+        draft.operations.len()
+    }
+}
+
+/// The names with that of the open operation.
+fn with_open(
+    alloc: Global,
+    draft: &Draft,
+    meant: Vec<MeantName>,
+) -> Result<Vec<MeantName>, AllocError>
+    ensures { IfOk result (λ next.
+        next.items ≡ spec.with_open draft.now meant.items draft.now.begun) }
+{
+    match &draft.begun {
+        None => Ok(meant),
+        Some(op) => with_name(alloc, draft, meant, Family::Operation, op.name.as_bytes()),
+    }
+}
+
+/// The names with that of the open operation, where it is more than so many, which were begun
+/// before the line.
+fn with_operation(
+    alloc: Global,
+    draft: &Draft,
+    meant: Vec<MeantName>,
+    before: usize,
+) -> Result<Vec<MeantName>, AllocError>
+    ensures { IfOk result (λ next.
+        next.items ≡ spec.with_operation draft.now meant.items before) }
+{
+    if operations_begun(draft) == before {
+        Ok(meant)
+    } else {
+        with_open(alloc, draft, meant)
+    }
+}
+
 /// The draft from which the lines behind a line with a fault are read; `lines` are these.
 ///
 /// # Errors
@@ -443,8 +499,10 @@ pub fn mended(
     ensures { IfOk result (λ after. after ≡ mend_faulty draft text.now (texts lines.now)) }
 {
     let FaultyDraft { draft, meant } = draft;
+    let before = operations_begun(&draft);
     let draft = mended_draft(alloc, draft, text, lines)?;
     let words = words_of(alloc, text)?;
     let meant = with_names(alloc, &draft, meant, &words)?;
+    let meant = with_operation(alloc, &draft, meant, before)?;
     Ok(FaultyDraft { draft, meant })
 }

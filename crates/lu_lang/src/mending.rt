@@ -1,7 +1,7 @@
-//! What a line with a fault leaves, so that the lines behind it are told for their own faults alone.
+//! What a line with a fault leaves, so that the lines behind it are told for their own faults
+//! alone.
 
 ghost use Rattle.std.specs.Prelude.{◌≡◌, IfOk, Some, codes};
-ghost use Rattle.std.specs.Option.{option_map};
 ghost use Rattle.lu_text.specs.Lines.{texts};
 ghost use Rattle.lu_lang.specs.Mend as spec;
 ghost use Rattle.lu_lang.specs.Mend.{mend};
@@ -104,26 +104,21 @@ fn with_end(alloc: Global, mut draft: Draft, op: OpenOp) -> Result<Draft, AllocE
     Ok(draft)
 }
 
-/// The operation with a label, where there is one.
-fn with_label(mut op: OpenOp, label: Option<Name>) -> Result<OpenOp, AllocError>
-    ensures { IfOk result (λ next. next ≡ record op { labels = spec.labels_with op.labels label }) }
+/// The operation with a line's label.
+fn op_labelled(alloc: Global, mut op: OpenOp, label: &[u8]) -> Result<OpenOp, AllocError>
+    ensures { IfOk result (λ next. next ≡ spec.op_labelled op (Some label.now)) }
 {
-    match label {
-        None => Ok(op),
-        Some(name) => {
-            if op.labels.len() < MOST_LABELS {
-                op.labels.push(Label { name, place: 0 })?;
-            }
-            Ok(op)
-        }
+    if op.labels.len() < MOST_LABELS {
+        let name = name_or_blank(alloc, label)?;
+        op.labels.push(Label { name, place: 0 })?;
     }
+    Ok(op)
 }
 
 /// The draft with one more instruction of this operation.
-fn with_return(mut draft: Draft, op: OpenOp, label: Option<Name>) -> Result<Draft, AllocError>
-    ensures { IfOk result (λ next. next ≡ spec.with_return draft op label) }
+fn with_return(mut draft: Draft, mut op: OpenOp) -> Result<Draft, AllocError>
+    ensures { IfOk result (λ next. next ≡ spec.with_return draft op) }
 {
-    let mut op = with_label(op, label)?;
     op.statements
         .push(Statement::Plain(Instr::Return(Operand::Num(0))))?;
     draft.begun = Some(op);
@@ -131,7 +126,7 @@ fn with_return(mut draft: Draft, op: OpenOp, label: Option<Name>) -> Result<Draf
 }
 
 /// The words of the first of these lines that has any.
-fn next_words<'a>(alloc: Global, lines: &[&'a [u8]]) -> Result<Vec<&'a [u8]>, AllocError>
+pub(crate) fn next_words<'a>(alloc: Global, lines: &[&'a [u8]]) -> Result<Vec<&'a [u8]>, AllocError>
     ensures { IfOk result (λ words. texts words.items ≡ spec.next_words (texts lines.now)) }
 {
     for line in lines {
@@ -170,24 +165,29 @@ fn begins_outside(words: &[&[u8]]) -> bool
     }
 }
 
-/// The name that a label is to be, where the word is one.
-fn label_name(alloc: Global, word: &[u8]) -> Result<Option<Name>, AllocError>
-    ensures { IfOk result (λ name.
-        name ≡ option_map spec.name_or_blank (grammar.label_in word.now)) }
+/// Whether a line of this first word, behind its label, closes the operation that is open before
+/// it.
+pub(crate) fn closes(word: &[u8], next: &[&[u8]]) -> bool
+    ensures { result ≡ spec.closes word.now (texts next.now) }
 {
-    match label_in(word) {
-        None => Ok(None),
-        Some(label) => Ok(Some(name_or_blank(alloc, label)?)),
-    }
+    word == b"op".as_slice()
+        || word == b"end".as_slice()
+        || word == b"word".as_slice() && begins_outside(next)
 }
 
 /// The draft with an operation begun, which has one instruction.
 fn with_first(alloc: Global, draft: Draft, word: &[u8]) -> Result<Draft, AllocError>
-    ensures { IfOk result (λ next. next ≡ spec.with_return draft (spec.op_begun (codes "_"))
-        (option_map spec.name_or_blank (grammar.label_in word.now))) }
+    ensures { IfOk result (λ next. next ≡ spec.with_return draft
+        (spec.op_labelled (spec.op_begun (codes "_")) (grammar.label_in word.now))) }
 {
     let op = op_begun(alloc, Name::new(alloc, b"_")?);
-    with_return(draft, op, label_name(alloc, word)?)
+    match label_in(word) {
+        None => with_return(draft, op),
+        Some(label) => {
+            let op = op_labelled(alloc, op, label)?;
+            with_return(draft, op)
+        }
+    }
 }
 
 /// A line that begins no declaration.
@@ -236,12 +236,11 @@ fn mend_array_inside(
     alloc: Global,
     draft: Draft,
     op: OpenOp,
-    label: Option<Name>,
     words: &[&[u8]],
     next: &[&[u8]],
 ) -> Result<Draft, AllocError>
     ensures { IfOk result (λ after. after ≡
-        spec.mend_array_inside draft op label (texts words.now) (texts next.now)) }
+        spec.mend_array_inside draft op (texts words.now) (texts next.now)) }
 {
     let name = first_name(alloc, words)?;
     if begins_outside(next) {
@@ -249,20 +248,19 @@ fn mend_array_inside(
         return with_array(draft, name);
     }
     let draft = with_array(draft, name)?;
-    with_return(draft, op, label)
+    with_return(draft, op)
 }
 
 fn mend_inside(
     alloc: Global,
     draft: Draft,
     op: OpenOp,
-    label: Option<Name>,
     word: &[u8],
     words: &[&[u8]],
     next: &[&[u8]],
 ) -> Result<Draft, AllocError>
     ensures { IfOk result (λ after. after ≡
-        spec.mend_inside draft op label word.now (texts words.now) (texts next.now)) }
+        spec.mend_inside draft op word.now (texts words.now) (texts next.now)) }
 {
     if word == b"op".as_slice() {
         let draft = with_end(alloc, draft, op)?;
@@ -270,28 +268,26 @@ fn mend_inside(
     } else if word == b"end".as_slice() {
         with_end(alloc, draft, op)
     } else if word == b"word".as_slice() {
-        mend_array_inside(alloc, draft, op, label, words, next)
+        mend_array_inside(alloc, draft, op, words, next)
     } else {
-        with_return(draft, op, label)
+        with_return(draft, op)
     }
 }
 
+/// A line behind its label, which the operation has.
 fn mend_behind(
     alloc: Global,
     draft: Draft,
     op: OpenOp,
-    label: &[u8],
-    word: &[u8],
     words: &[&[u8]],
     next: &[&[u8]],
 ) -> Result<Draft, AllocError>
-    ensures { IfOk result (λ after. after ≡ spec.mend_labelled
-        draft op (Some label.now) word.now (texts words.now) (texts next.now)) }
+    ensures { IfOk result (λ after. after ≡
+        spec.mend_behind draft op (texts words.now) (texts next.now)) }
 {
-    let label = Some(name_or_blank(alloc, label)?);
     match words.split_first() {
-        None => with_return(draft, op, label),
-        Some((first, rest)) => mend_inside(alloc, draft, op, label, bare(first), rest, next),
+        None => with_return(draft, op),
+        Some((word, rest)) => mend_inside(alloc, draft, op, bare(word), rest, next),
     }
 }
 
@@ -306,10 +302,13 @@ fn mend_labelled(
     ensures { IfOk result (λ after. after ≡ spec.mend_labelled
         draft op (grammar.label_in word.now) word.now (texts words.now) (texts next.now)) }
 {
-    if let Some(label) = label_in(word) {
-        return mend_behind(alloc, draft, op, label, word, words, next);
+    match label_in(word) {
+        None => mend_inside(alloc, draft, op, word, words, next),
+        Some(label) => {
+            let op = op_labelled(alloc, op, label)?;
+            mend_behind(alloc, draft, op, words, next)
+        }
     }
-    mend_inside(alloc, draft, op, None, word, words, next)
 }
 
 /// Where there is no component line yet, the component is called `_`.

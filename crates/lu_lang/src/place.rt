@@ -1,27 +1,48 @@
 //! Where the messages of a fault stand, where that is not the fault's line.
 
-ghost use Rattle.std.specs.Prelude.{◌≡◌, ◌-◌, IfOk, length, map, filter, not};
+ghost use Rattle.std.specs.Prelude.{◌≡◌, ◌-◌, IfOk, length, map, filter, None};
 ghost use Rattle.std.specs.List.{enumerate_from};
-ghost use Rattle.lu_text.specs.Lines.{texts};
+ghost use Rattle.lu_text.specs.Lines.{text_if, texts};
 ghost use Rattle.lu_lang.specs.Grammar as grammar;
+ghost use Rattle.lu_lang.specs.Mend.{next_words};
 ghost use Rattle.lu_lang.specs.Place as spec;
 ghost use Rattle.lu_lang.specs.Place.{backs};
 
-use crate::draft::{Draft, OpenOp};
+use crate::draft::{Draft, OpenOp, Statement};
 use crate::fault::LangFaultKind;
-use crate::reading::is_there;
+use crate::mending::{bare, closes, next_words};
+use crate::reading::{is_there, label_in};
 use lu_text::words_of;
 use std::alloc::{AllocError, Global};
 
-/// For each jump to a label that is not there, how many instructions stand from it on.
-fn jump_backs(alloc: Global, op: &OpenOp) -> Result<Vec<usize>, AllocError>
-    ensures { IfOk result (λ ns. ns.items ≡ spec.jump_backs op.now) }
+/// Whether a statement jumps to this label.
+fn jumps_to(statement: &Statement, label: Option<&[u8]>) -> bool
+    ensures { result ≡ spec.is_used (text_if label.entry) (grammar.label_used statement.now) }
+{
+    match (statement, label) {
+        (Statement::Jump(used), Some(label)) => used.is(label),
+        (Statement::JumpIfZero(_, used), Some(label)) => used.is(label),
+        _ => false,
+    }
+}
+
+/// Whether a statement jumps to a label that the operation does not have, nor the line that closes
+/// it.
+fn leads_nowhere(op: &OpenOp, label: Option<&[u8]>, statement: &Statement) -> bool
+    ensures { result ≡ spec.leads_nowhere op.now (text_if label.entry) statement.now }
+{
+    !(is_there(&op.labels, statement) || jumps_to(statement, label))
+}
+
+/// For each such jump, how many instructions stand from it on.
+fn jump_backs(alloc: Global, op: &OpenOp, label: Option<&[u8]>) -> Result<Vec<usize>, AllocError>
+    ensures { IfOk result (λ ns. ns.items ≡ spec.jump_backs op.now (text_if label.entry)) }
 {
     let all = op.statements.len();
     op.statements
         .iter()
         .enumerate()
-        .filter(|(_, statement)| !is_there(&op.labels, statement))
+        .filter(|(_, statement)| leads_nowhere(op, label, statement))
         .map(|(place, _)| all.saturating_sub(place))
         .collect(alloc)
 }
@@ -39,7 +60,7 @@ fn end_backs(
             None => Ok(Vec::new(alloc)),
             Some((word, _)) => {
                 if *word == b"end".as_slice() {
-                    jump_backs(alloc, op)
+                    jump_backs(alloc, op, None)
                 } else {
                     Ok(Vec::new(alloc))
                 }
@@ -69,5 +90,93 @@ pub fn message_backs(
             end_backs(alloc, &draft.begun, &words)
         }
         _ => Ok(Vec::new(alloc)),
+    }
+}
+
+/// Where a line of these words, which stand behind this label or none, closes the operation.
+fn closing_backs(
+    alloc: Global,
+    op: &OpenOp,
+    label: Option<&[u8]>,
+    words: &[&[u8]],
+    next: &[&[u8]],
+) -> Result<Vec<usize>, AllocError>
+    ensures { IfOk result (λ ns. ns.items ≡ spec.closing_backs
+        op.now (text_if label.entry) (texts words.now) (texts next.now)) }
+{
+    match words.split_first() {
+        None => Ok(Vec::new(alloc)),
+        Some((word, _)) => {
+            if closes(bare(word), next) {
+                jump_backs(alloc, op, label)
+            } else {
+                Ok(Vec::new(alloc))
+            }
+        }
+    }
+}
+
+fn closed_backs(
+    alloc: Global,
+    begun: &Option<OpenOp>,
+    words: &[&[u8]],
+    lines: &[&[u8]],
+) -> Result<Vec<usize>, AllocError>
+    ensures { IfOk result (λ ns. ns.items ≡
+        spec.closed_backs begun.now (texts words.now) (next_words (texts lines.now))) }
+{
+    match begun {
+        None => Ok(Vec::new(alloc)),
+        Some(op) => match words.split_first() {
+            None => Ok(Vec::new(alloc)),
+            Some((word, rest)) => {
+                let next = next_words(alloc, lines)?;
+                match label_in(bare(word)) {
+                    None => closing_backs(alloc, op, None, words, &next),
+                    Some(label) => closing_backs(alloc, op, Some(label), rest, &next),
+                }
+            }
+        },
+    }
+}
+
+/// By how many lines with words each jump to a label that is not there stands before a line that
+/// has a fault of this kind and closes the operation nevertheless; `lines` are those behind it.
+/// Where the fault is that a label is not there, [`message_backs`] has these numbers.
+///
+/// # Errors
+///
+/// There is no memory for the numbers.
+pub fn left_backs(
+    alloc: Global,
+    draft: &Draft,
+    text: &[u8],
+    lines: &[&[u8]],
+    kind: LangFaultKind,
+) -> Result<Vec<usize>, AllocError>
+    ensures { IfOk result (λ ns.
+        ns.items ≡ spec.left_backs draft.now text.now (texts lines.now) kind) }
+{
+    match kind {
+        LangFaultKind::Name => Ok(Vec::new(alloc)),
+        _ => {
+            let words = words_of(alloc, text)?;
+            closed_backs(alloc, &draft.begun, &words, lines)
+        }
+    }
+}
+
+/// By how many lines with words each jump to a label that is not there stands before the end of the
+/// text, where an operation is open there.
+///
+/// # Errors
+///
+/// There is no memory for the numbers.
+pub fn open_backs(alloc: Global, draft: &Draft) -> Result<Vec<usize>, AllocError>
+    ensures { IfOk result (λ ns. ns.items ≡ spec.open_backs draft.now.begun) }
+{
+    match &draft.begun {
+        None => Ok(Vec::new(alloc)),
+        Some(op) => jump_backs(alloc, op, None),
     }
 }

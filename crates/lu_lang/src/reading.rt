@@ -5,7 +5,7 @@ ghost use Rattle.std.specs.Option.{option_map};
 ghost use Rattle.std.specs.List.{position, list_all};
 ghost use Rattle.std.specs.Str.{bytes_eq};
 ghost use Rattle.lu_text.specs.Lines.{text_if, texts};
-ghost use Rattle.lu_text.specs.Words.{one, two, three};
+ghost use Rattle.lu_text.specs.Words.{exactly_one, exactly_two, exactly_three};
 ghost use Rattle.lu_text.specs.Faults.{Gives, OnLine, TellsFirst, meaning_of, meaning_of_lines};
 ghost use Rattle.lu_lang.specs.Draft.{Drafted};
 ghost use Rattle.lu_lang.specs.Parts.{PutsOnLine};
@@ -22,16 +22,17 @@ use lu_component::{
     MOST_LOCAL, MOST_LOCKS, MOST_OPS, Op, operation_place,
 };
 use lu_text::{
-    Fault, Name, are_allowed, has_name_form, is_long, lines_of, one, three, two, value_in, words_of,
+    Fault, Name, are_allowed, exactly_one, exactly_three, exactly_two, has_name_form, is_long,
+    lines_of, value_in, words_of,
 };
 use std::alloc::{AllocError, Global};
 
 /// The name of `component NAME`.
 pub(crate) fn name_in(alloc: Global, line: usize, words: &[&[u8]]) -> Result<Name, LangFault>
     ensures { (d : Drafted) → PutsOnLine (λ name. record d { name = Some name })
-        line result (spec.component_line d (one (texts words.now))) }
+        line result (spec.component_line d (exactly_one (texts words.now))) }
 {
-    let Some(name) = one(words) else {
+    let Some(name) = exactly_one(words) else {
         return Err(Fault::At(LangFaultKind::Form, line));
     };
     if !has_name_form(name) {
@@ -50,7 +51,7 @@ fn component_line(
     mut draft: Draft,
     words: &[&[u8]],
 ) -> Result<Draft, LangFault>
-    ensures { OnLine line result (spec.component_line draft (one (texts words.now))) }
+    ensures { OnLine line result (spec.component_line draft (exactly_one (texts words.now))) }
 {
     draft.name = Some(name_in(alloc, line, words)?);
     Ok(draft)
@@ -59,9 +60,9 @@ fn component_line(
 /// The number of `local L`.
 pub(crate) fn local_in(line: usize, draft: &Draft, words: &[&[u8]]) -> Result<u8, LangFault>
     ensures { PutsOnLine (λ most. record draft.now { local = Some most })
-        line result (spec.local_line draft.now (one (texts words.now))) }
+        line result (spec.local_line draft.now (exactly_one (texts words.now))) }
 {
-    let Some(most) = one(words) else {
+    let Some(most) = exactly_one(words) else {
         return Err(Fault::At(LangFaultKind::Form, line));
     };
     if draft.local.is_some() || !draft.operations.is_empty() {
@@ -78,7 +79,7 @@ pub(crate) fn local_in(line: usize, draft: &Draft, words: &[&[u8]]) -> Result<u8
 
 /// `local L`
 fn local_line(line: usize, mut draft: Draft, words: &[&[u8]]) -> Result<Draft, LangFault>
-    ensures { OnLine line result (spec.local_line draft (one (texts words.now))) }
+    ensures { OnLine line result (spec.local_line draft (exactly_one (texts words.now))) }
 {
     draft.local = Some(local_in(line, &draft, words)?);
     Ok(draft)
@@ -98,9 +99,9 @@ pub(crate) fn array_in(
     words: &[&[u8]],
 ) -> Result<Array, LangFault>
     ensures { PutsOnLine (λ array. record draft.now { arrays = draft.now.arrays ++ array ∷ [] })
-        line result (spec.array_line draft.now (three (texts words.now))) }
+        line result (spec.array_line draft.now (exactly_three (texts words.now))) }
 {
-    let Some((name, len, init)) = three(words) else {
+    let Some((name, len, init)) = exactly_three(words) else {
         return Err(Fault::At(LangFaultKind::Form, line));
     };
     if !has_name_form(name) {
@@ -129,7 +130,7 @@ fn array_line(
     mut draft: Draft,
     words: &[&[u8]],
 ) -> Result<Draft, LangFault>
-    ensures { OnLine line result (spec.array_line draft (three (texts words.now))) }
+    ensures { OnLine line result (spec.array_line draft (exactly_three (texts words.now))) }
 {
     let array = array_in(alloc, line, &draft, words)?;
     draft.arrays.push(array)?;
@@ -150,9 +151,9 @@ pub(crate) fn lock_in(
     words: &[&[u8]],
 ) -> Result<Name, LangFault>
     ensures { PutsOnLine (λ lock. record draft.now { locks = draft.now.locks ++ lock ∷ [] })
-        line result (spec.lock_line draft.now (one (texts words.now))) }
+        line result (spec.lock_line draft.now (exactly_one (texts words.now))) }
 {
-    let Some(name) = one(words) else {
+    let Some(name) = exactly_one(words) else {
         return Err(Fault::At(LangFaultKind::Form, line));
     };
     if !has_name_form(name) {
@@ -174,7 +175,7 @@ fn lock_line(
     mut draft: Draft,
     words: &[&[u8]],
 ) -> Result<Draft, LangFault>
-    ensures { OnLine line result (spec.lock_line draft (one (texts words.now))) }
+    ensures { OnLine line result (spec.lock_line draft (exactly_one (texts words.now))) }
 {
     let lock = lock_in(alloc, line, &draft, words)?;
     draft.locks.push(lock)?;
@@ -195,9 +196,9 @@ pub(crate) fn op_in(
     words: &[&[u8]],
 ) -> Result<OpenOp, LangFault>
     ensures { PutsOnLine (λ op. record draft.now { begun = Some op })
-        line result (spec.op_line draft.now (two (texts words.now))) }
+        line result (spec.op_line draft.now (exactly_two (texts words.now))) }
 {
-    let Some((name, args)) = two(words) else {
+    let Some((name, args)) = exactly_two(words) else {
         return Err(Fault::At(LangFaultKind::Form, line));
     };
     if !has_name_form(name) {
@@ -227,7 +228,7 @@ fn op_line(
     mut draft: Draft,
     words: &[&[u8]],
 ) -> Result<Draft, LangFault>
-    ensures { OnLine line result (spec.op_line draft (two (texts words.now))) }
+    ensures { OnLine line result (spec.op_line draft (exactly_two (texts words.now))) }
 {
     draft.begun = Some(op_in(alloc, line, &draft, words)?);
     Ok(draft)
@@ -346,25 +347,32 @@ fn with_statement(
     Ok(op)
 }
 
+/// A line of an operation: its label, where it has one, and the words of its instruction.
+#[derive(Clone, Copy, Drop)]
+struct CodeLine<'a> {
+    label: Option<&'a [u8]>,
+    word: &'a [u8],
+    rest: &'a [&'a [u8]],
+}
+
 /// The open operation with the label and the instruction of a line.
 fn with_instr(
     alloc: Global,
     line: usize,
     draft: &Draft,
     op: OpenOp,
-    label: Option<&[u8]>,
-    word: &[u8],
-    rest: &[&[u8]],
+    code: CodeLine<'_>,
 ) -> Result<OpenOp, LangFault>
-    ensures { PutsOnLine (λ next. record draft.now { begun = Some next })
-        line result (instr_line draft.now op (text_if label.entry) word.now (texts rest.now)) }
+    ensures { PutsOnLine (λ next. record draft.now { begun = Some next }) line result
+        (instr_line draft.now op (text_if code.entry.label) code.entry.word.now
+        (texts code.entry.rest.now)) }
 {
-    let fault = place_fault(&op, label);
-    match statement(alloc, draft, keyword_in(word), rest)? {
+    let fault = place_fault(&op, code.label);
+    match statement(alloc, draft, keyword_in(code.word), code.rest)? {
         Err(kind) => Err(Fault::At(sooner(fault, kind), line)),
         Ok(statement) => match fault {
             Some(kind) => Err(Fault::At(kind, line)),
-            None => Ok(with_statement(alloc, op, label, statement)?),
+            None => Ok(with_statement(alloc, op, code.label, statement)?),
         },
     }
 }
@@ -375,32 +383,36 @@ fn instr_line(
     line: usize,
     mut draft: Draft,
     op: OpenOp,
-    label: Option<&[u8]>,
-    word: &[u8],
-    rest: &[&[u8]],
+    code: CodeLine<'_>,
 ) -> Result<Draft, LangFault>
     ensures { OnLine line result
-        (instr_line draft op (text_if label.entry) word.now (texts rest.now)) }
+        (instr_line draft op (text_if code.entry.label) code.entry.word.now
+        (texts code.entry.rest.now)) }
 {
-    draft.begun = Some(with_instr(alloc, line, &draft, op, label, word, rest)?);
+    draft.begun = Some(with_instr(alloc, line, &draft, op, code)?);
     Ok(draft)
 }
 
 /// An instruction behind a label.
-fn read_labelled(
+fn read_labelled<'a>(
     alloc: Global,
     line: usize,
     draft: Draft,
     op: OpenOp,
-    label: &[u8],
-    words: &[&[u8]],
+    label: &'a [u8],
+    words: &'a [&'a [u8]],
 ) -> Result<Draft, LangFault>
     ensures { OnLine line result (spec.labelled draft op label.now (texts words.now)) }
 {
     let Some((word, rest)) = words.split_first() else {
         return Err(Fault::At(LangFaultKind::Form, line));
     };
-    instr_line(alloc, line, draft, op, Some(label), word, rest)
+    let code = CodeLine {
+        label: Some(label),
+        word,
+        rest,
+    };
+    instr_line(alloc, line, draft, op, code)
 }
 
 fn is_last(statement: &Statement) -> bool
@@ -531,13 +543,13 @@ fn end_line(
 }
 
 /// A line inside an operation.
-fn read_inside(
+fn read_inside<'a>(
     alloc: Global,
     line: usize,
     draft: Draft,
     op: OpenOp,
-    word: &[u8],
-    words: &[&[u8]],
+    word: &'a [u8],
+    words: &'a [&'a [u8]],
 ) -> Result<Draft, LangFault>
     requires { draft.begun ≡ None }
     ensures { OnLine line result
@@ -549,7 +561,12 @@ fn read_inside(
     if word == b"end".as_slice() {
         end_line(alloc, line, draft, op, words)
     } else {
-        instr_line(alloc, line, draft, op, None, word, words)
+        let code = CodeLine {
+            label: None,
+            word,
+            rest: words,
+        };
+        instr_line(alloc, line, draft, op, code)
     }
 }
 

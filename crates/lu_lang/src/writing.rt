@@ -150,7 +150,7 @@ fn write_line(
     instr: Instr,
 ) -> Result<(), AllocError>
     ensures { Writes result text.old text.new
-        (spec.instr_line component.now code.now (place, instr)) }
+        (spec.instr_line_text component.now code.now (place, instr)) }
 {
     write_label(text, code, place)?;
     write_instr(text, component, instr)?;

@@ -19,8 +19,12 @@ use Rattle.lu_lint.specs.declared.remark.Said.{Said}
 use Rattle.lu_lint.specs.declared.remark.Remark.{Remark}
 use Rattle.lu_lint.specs.declared.remark.FaultKind.{FaultKind}
 use Rattle.lu_lint.specs.Said.{said_of, said_told, said_faults}
-use Rattle.lu_lint.specs.Lint.{Lint, Told, with_words, told, told_here, told_at, told_on, left_by, end_told, end_faults, then_faults, faults_after, faults_in, Agree, draft_after, left_behind}
-use Rattle.lu_lint.specs.Component.{component_lint}
+use Rattle.lu_lint.specs.Lint.{Lint, Told, with_words, told, told_here, told_at, told_on, others_told, told_beside, left_by, end_told, end_faults, then_faults, faults_after, faults_in, AgreeOnText, draft_after, left_behind}
+use Rattle.lu_lint.specs.Component.{backs_beside, component_lint, faulty_end_others, jumps}
+use Rattle.lu_lint.specs.declared.remark.FaultKind.TheVariants as part
+use Rattle.lu_lang.specs.declared.fault.LangFaultKind.TheVariants.{Name}
+use Rattle.lu_lang.specs.Faulty.{Faulty}
+use Rattle.lu_lang.specs.Place.{left_backs, open_backs}
 use Rattle.lu_lint.specs.Matrix.{judged_line, matrix_lint}
 
 pub said_push : (all : List Remark) (r : Remark) → said_of (all ++ r ∷ []) ≡ said_of all ++ r.said ∷ []
@@ -50,57 +54,66 @@ pub is_each : {Kind : Type 0} (of : Kind → FaultKind) (above : ℕ) (before ne
     → next ≡ before ++ said_faults of above (map (told_at seen n kind) backs) → backs ≡ meant → m ≡ length backs → eqb m 0 ≡ false → next ≡ before ++ said_faults of above (told seen n kind meant)
 is_each of above before next seen n kind backs meant m more same len e = rw (more, ← same, told_each seen n kind backs m len e) refl
 
+-- what is said of three lists of faults
+three_said : {Kind : Type 0} (of : Kind → FaultKind) (above : ℕ) (before : List Said) (xs ys zs : List (Told Kind)) → ((before ++ said_faults of above xs) ++ said_faults of above ys) ++ said_faults of above zs ≡ before ++ said_faults of above (xs ++ (ys ++ zs))
+three_said of above before xs ys zs =
+    append_assoc (before ++ said_faults of above xs) (said_faults of above ys) (said_faults of above zs)
+    ∙ (append_assoc before (said_faults of above xs) (said_faults of above ys ++ said_faults of above zs)
+    ∙ (ap (λ (x : List Said). before ++ (said_faults of above xs ++ x)) (sym (said_more of above ys zs))
+    ∙ ap (λ (x : List Said). before ++ x) (sym (said_more of above xs (ys ++ zs)))))
+
 -- a line is told or not, and the rest is read from the draft that it leaves
 pub goes_on : {Kind Draft Value : Type 0} (l : Lint Kind Draft Value) (of : Kind → FaultKind) (above : ℕ) (seen : List ℕ) (n : ℕ) (d d1 next : Draft) (fault : Option Kind) (line : List ℕ) (rest behind : List (List ℕ)) (before total : List Said)
     → (d1, fault) ≡ going_on d (l.grammar.line d line) → next ≡ left_by l.mend d1 line behind fault → behind ≡ rest
-    → before ++ said_faults of above (faults_after l seen n d (line ∷ rest)) ≡ total → (before ++ said_faults of above (told_on l seen n d1 line fault)) ++ said_faults of above (faults_after l (with_words seen n line) (n + 1) next rest) ≡ total
+    → before ++ said_faults of above (faults_after l seen n d (line ∷ rest)) ≡ total → ((before ++ said_faults of above (told_on l seen n d1 line fault)) ++ said_faults of above (told_beside l seen n d1 line behind fault)) ++ said_faults of above (faults_after l (with_words seen n line) (n + 1) next rest) ≡ total
 unfolding faults_after
 goes_on {Kind = Kind} {Draft = Draft} l of above seen n d d1 next fault line rest behind before total e left is so_far = go (l.grammar.line d line) e so_far
   where
-    go : (r : Result Draft Kind) → (d1, fault) ≡ going_on d r → before ++ said_faults of above (then_faults l seen n d line rest r (λ x. faults_after l (with_words seen n line) (n + 1) x rest)) ≡ total → (before ++ said_faults of above (told_on l seen n d1 line fault)) ++ said_faults of above (faults_after l (with_words seen n line) (n + 1) next rest) ≡ total
+    go : (r : Result Draft Kind) → (d1, fault) ≡ going_on d r → before ++ said_faults of above (then_faults l seen n d line rest r (λ x. faults_after l (with_words seen n line) (n + 1) x rest)) ≡ total → ((before ++ said_faults of above (told_on l seen n d1 line fault)) ++ said_faults of above (told_beside l seen n d1 line behind fault)) ++ said_faults of above (faults_after l (with_words seen n line) (n + 1) next rest) ≡ total
     go (Ok y) f h =
         let same : d1 ≡ y = ap (λ (x : Draft × Option Kind). x.0) f in
         let none : fault ≡ None = ap (λ (x : Draft × Option Kind). x.1) f in
-        rw (left, is, same, none, append-nil before) h
+        rw (left, is, same, none, append-nil before, append-nil before) h
     go (Err k) f h =
         let same : d1 ≡ d = ap (λ (x : Draft × Option Kind). x.0) f in
         let some : fault ≡ Some k = ap (λ (x : Draft × Option Kind). x.1) f in
         let these = told seen n k (l.backs d line k) in
+        let beside = others_told seen n (l.others d line rest k) in
         let others = faults_after l (with_words seen n line) (n + 1) (l.mend d line rest) rest in
-        rw (left, is, same, some) (append_assoc before (said_faults of above these) (said_faults of above others) ∙ ap (λ (x : List Said). before ++ x) (sym (said_more of above these others)) ∙ h)
+        rw (left, is, same, some) (three_said of above before these beside others ∙ h)
 
 -- no line is left
 pub is_done : {Kind Draft Value : Type 0} (l : Lint Kind Draft Value) (of : Kind → FaultKind) (above : ℕ) (seen : List ℕ) (n m : ℕ) (d : Draft) (fault : Option Kind) (before total : List Said)
-    → n ≡ m → ((r : Result Value Kind) → l.grammar.finish d ≡ r → end_faults n r ≡ end_told n fault)
-    → before ++ said_faults of above (faults_after l seen n d []) ≡ total → before ++ said_faults of above (end_told m fault) ≡ total
+    → n ≡ m → ((r : Result Value Kind) → l.grammar.finish d ≡ r → end_faults seen n (l.end_others d) r ≡ end_told seen n (l.end_others d) fault)
+    → before ++ said_faults of above (faults_after l seen n d []) ≡ total → before ++ said_faults of above (end_told seen m (l.end_others d) fault) ≡ total
 unfolding faults_after
 is_done l of above seen n m d fault before total e end so_far = rw (← e, ← end (l.grammar.finish d) refl) so_far
 
 -- a text is read where there is no fault; else the reader's fault is the first
-first_told : {Kind : Type 0} (A : Type 0) (seen : List ℕ) (n : ℕ) (kind : Kind) (backs : List ℕ) (others : List (Told Kind)) → Agree {Kind = Kind} {A = A} (Err (At kind n)) (told seen n kind backs ++ others)
+first_told : {Kind : Type 0} (A : Type 0) (seen : List ℕ) (n : ℕ) (kind : Kind) (backs : List ℕ) (others : List (Told Kind)) → AgreeOnText {Kind = Kind} {A = A} (Err (At kind n)) (told seen n kind backs ++ others)
 first_told A seen n kind [] others = refl
 first_told A seen n kind (b ∷ bs) others = refl
 
-pub agree_after : {Kind Draft Value : Type 0} (l : Lint Kind Draft Value) (seen : List ℕ) (n : ℕ) (d : Draft) (lines : List (List ℕ)) → Agree (lines_after l.grammar n d lines) (faults_after l seen n d lines)
+pub agree_after : {Kind Draft Value : Type 0} (l : Lint Kind Draft Value) (seen : List ℕ) (n : ℕ) (d : Draft) (lines : List (List ℕ)) → AgreeOnText (lines_after l.grammar n d lines) (faults_after l seen n d lines)
 unfolding faults_after lines_after
 agree_after {Kind = Kind} {Value = Value} l seen n d [] = go (l.grammar.finish d)
   where
-    go : (r : Result Value Kind) → Agree (on_line n r) (end_faults n r)
+    go : (r : Result Value Kind) → AgreeOnText (on_line n r) (end_faults seen n (l.end_others d) r)
     go (Ok v) = tt
     go (Err k) = refl
 agree_after {Kind = Kind} {Draft = Draft} {Value = Value} l seen n d (line ∷ lines) = go (l.grammar.line d line) (λ x. agree_after l (with_words seen n line) (n + 1) x lines)
   where
-    go : (r : Result Draft Kind) → ((x : Draft) → Agree (lines_after l.grammar (n + 1) x lines) (faults_after l (with_words seen n line) (n + 1) x lines)) → Agree (then_lines (on_line n r) (λ x. lines_after l.grammar (n + 1) x lines)) (then_faults l seen n d line lines r (λ x. faults_after l (with_words seen n line) (n + 1) x lines))
+    go : (r : Result Draft Kind) → ((x : Draft) → AgreeOnText (lines_after l.grammar (n + 1) x lines) (faults_after l (with_words seen n line) (n + 1) x lines)) → AgreeOnText (then_lines (on_line n r) (λ x. lines_after l.grammar (n + 1) x lines)) (then_faults l seen n d line lines r (λ x. faults_after l (with_words seen n line) (n + 1) x lines))
     go (Ok x) again = again x
-    go (Err k) again = first_told Value seen n k (l.backs d line k) (faults_after l (with_words seen n line) (n + 1) (l.mend d line lines) lines)
+    go (Err k) again = first_told Value seen n k (l.backs d line k) (others_told seen n (l.others d line lines k) ++ faults_after l (with_words seen n line) (n + 1) (l.mend d line lines) lines)
 
-pub agrees : {Kind Draft Value : Type 0} (l : Lint Kind Draft Value) (text : List ℕ) → Agree (meaning_of l.grammar text) (faults_in l text)
+pub agrees : {Kind Draft Value : Type 0} (l : Lint Kind Draft Value) (text : List ℕ) → AgreeOnText (meaning_of l.grammar text) (faults_in l text)
 agrees l text = agree_after l [] 1 l.grammar.nothing (lines_of text)
 
-pub component_agrees : (text : List ℕ) → Agree (meaning_of component_grammar text) (faults_in component_lint text)
-component_agrees text = subst (λ (r : Result Declarations (Fault LangFaultKind)). Agree r (faults_in component_lint text)) (faulty_meaning text) (agrees component_lint text)
+pub component_agrees : (text : List ℕ) → AgreeOnText (meaning_of component_grammar text) (faults_in component_lint text)
+component_agrees text = subst (λ (r : Result Declarations (Fault LangFaultKind)). AgreeOnText r (faults_in component_lint text)) (faulty_meaning text) (agrees component_lint text)
 
-pub matrix_agrees : (c : Declarations) (text : List ℕ) → Agree (meaning_of (matrix_grammar c) text) (faults_in (matrix_lint c None) text)
+pub matrix_agrees : (c : Declarations) (text : List ℕ) → AgreeOnText (meaning_of (matrix_grammar c) text) (faults_in (matrix_lint c None) text)
 unfolding judged_line
 matrix_agrees c text = agrees (matrix_lint c None) text
 
@@ -109,14 +122,40 @@ pub texts_behind : (lines : List (Bor (List ℕ))) (i : ℕ) → texts (drop i l
 texts_behind lines i = sym (drop-map (λ w. w.now) i lines)
 
 -- what is wrong at the end of a component
-pub component_end : {Value : Type 0} (n : ℕ) (fault : Option LangFaultKind) (meant r : Result Value LangFaultKind) → fault ≡ component_fault meant → meant ≡ r → end_faults n r ≡ end_told n fault
-component_end n fault meant (Ok v) e is = rw (e, is) refl
-component_end n fault meant (Err k) e is = rw (e, is) refl
+pub component_end : {Value : Type 0} (seen : List ℕ) (n : ℕ) (others : List (LangFaultKind × ℕ)) (fault : Option LangFaultKind) (meant r : Result Value LangFaultKind) → fault ≡ component_fault meant → meant ≡ r → end_faults seen n others r ≡ end_told seen n others fault
+component_end seen n others fault meant (Ok v) e is = rw (e, is) refl
+component_end seen n others fault meant (Err k) e is = rw (e, is) refl
 
 -- and of a matrix
-pub matrix_end : {Value : Type 0} (n : ℕ) (fault : Option MatrixFaultKind) (meant r : Result Value MatrixFaultKind) → fault ≡ matrix_fault meant → meant ≡ r → end_faults n r ≡ end_told n fault
-matrix_end n fault meant (Ok v) e is = rw (e, is) refl
-matrix_end n fault meant (Err k) e is = rw (e, is) refl
+pub matrix_end : {Value : Type 0} (seen : List ℕ) (n : ℕ) (others : List (MatrixFaultKind × ℕ)) (fault : Option MatrixFaultKind) (meant r : Result Value MatrixFaultKind) → fault ≡ matrix_fault meant → meant ≡ r → end_faults seen n others r ≡ end_told seen n others fault
+matrix_end seen n others fault meant (Ok v) e is = rw (e, is) refl
+matrix_end seen n others fault meant (Err k) e is = rw (e, is) refl
+
+-- ---- jumps that are told beside another fault
+
+each_jump : (seen : List ℕ) (n : ℕ) (backs : List ℕ) → map (told_at seen n Name) backs ≡ others_told seen n (jumps backs)
+each_jump seen n [] = refl
+each_jump seen n (back ∷ backs) = ap (λ (x : List (Told LangFaultKind)). told_at seen n Name back ∷ x) (each_jump seen n backs)
+
+all_beside : (seen : List ℕ) (n : ℕ) (f : Faulty) (line : List ℕ) (lines : List (List ℕ)) (fault : Option LangFaultKind) → map (told_at seen n Name) (backs_beside f line lines fault) ≡ told_beside component_lint seen n f line lines fault
+all_beside seen n f line lines None = refl
+all_beside seen n f line lines (Some kind) = each_jump seen n (left_backs f.draft line lines kind)
+
+-- a line of a component is told or not, then the jumps beside its fault, and the rest is read
+pub component_goes_on : (above : ℕ) (seen : List ℕ) (n : ℕ) (d d1 next : Faulty) (fault : Option LangFaultKind) (line : List ℕ) (rest behind : List (List ℕ)) (backs : List ℕ) (before one two total : List Said)
+    → (d1, fault) ≡ going_on d (component_lint.grammar.line d line) → next ≡ left_by component_lint.mend d1 line behind fault → behind ≡ rest
+    → one ≡ before ++ said_faults part.Component above (told_on component_lint seen n d1 line fault) → two ≡ one ++ said_faults part.Component above (map (told_at seen n Name) backs) → backs ≡ backs_beside d1 line behind fault
+    → before ++ said_faults part.Component above (faults_after component_lint seen n d (line ∷ rest)) ≡ total → two ++ said_faults part.Component above (faults_after component_lint (with_words seen n line) (n + 1) next rest) ≡ total
+component_goes_on above seen n d d1 next fault line rest behind backs before one two total e left is first more jumps so_far =
+    let told = before ++ said_faults part.Component above (told_on component_lint seen n d1 line fault) in
+    let beside : two ≡ told ++ said_faults part.Component above (told_beside component_lint seen n d1 line behind fault) = rw (more, first, jumps, all_beside seen n d1 line behind fault) refl in
+    rw beside (goes_on component_lint part.Component above seen n d d1 next fault line rest behind before total e left is so_far)
+
+-- those beside the fault of the end
+pub are_at_end : (above : ℕ) (before one next : List Said) (said : Said) (seen : List ℕ) (n : ℕ) (kind : LangFaultKind) (f : Faulty) (fault : Option LangFaultKind) (backs : List ℕ)
+    → one ≡ before ++ said ∷ [] → said ≡ said_told part.Component above (told_here n kind) → next ≡ one ++ said_faults part.Component above (map (told_at seen n Name) backs) → backs ≡ open_backs f.draft.begun → Some kind ≡ fault → next ≡ before ++ said_faults part.Component above (end_told seen n (faulty_end_others f) fault)
+are_at_end above before one next said seen n kind f fault backs first is more same some =
+    rw (← some, more, first, is, same, each_jump seen n (open_backs f.draft.begun)) (append_assoc before (said_told part.Component above (told_here n kind) ∷ []) (said_faults part.Component above (others_told seen n (faulty_end_others f))))
 
 -- what is said first, and then
 pub two_more : (all one two x y : List Said) → one ≡ all ++ x → two ≡ one ++ y → two ≡ all ++ (x ++ y)

@@ -10,7 +10,7 @@ use Rattle.lu_test.specs.declared.schedule.Move.{Move}
 use Rattle.lu_test.specs.declared.schedule_fault.ScheduleFault.{ScheduleFault}
 use Rattle.lu_test.specs.declared.schedule_fault.ScheduleFault.TheVariants.{Form, Limit}
 use Rattle.lu_test.specs.ScheduleText.{◌>>=◌, move_of, moves_of, moves_by, moves_in, one_line, has_form, schedule_of}
-use Rattle.lu_test.specs.ScheduleGoing.{words_by, words_in, schedule_words, moves_said}
+use Rattle.lu_test.specs.ScheduleGoing.{words_by, schedule_line_words, schedule_words, moves_said}
 use Rattle.lu_lint.specs.declared.remark.Said.{Said}
 use Rattle.lu_lint.specs.declared.remark.FaultKind.TheVariants as part
 use Rattle.lu_lint.specs.Lint.{told_here}
@@ -112,7 +112,7 @@ agree_said None = refl
 agree_said (Some words) = agree_all words
 
 -- the moves of the words are those of the text
-same_moves : (line : Option (List ℕ)) → moves_in line ≡ moves_said (words_in line)
+same_moves : (line : Option (List ℕ)) → moves_in line ≡ moves_said (schedule_line_words line)
 same_moves None = refl
 same_moves (Some line) = go (slice_split (λ b. b == 32) line)
   where

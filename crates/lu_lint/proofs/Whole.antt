@@ -2,11 +2,11 @@
 use Rattle.std.proofs.Common.{◌≡◌, ℕ, List, ◌++◌, subst, ap, ◌∙◌}
 use Rattle.lu_text.specs.Lines.{kept_lines}
 use Rattle.lu_lint.specs.declared.remark.Said.{Said}
-use Rattle.lu_lint.specs.Bundle.{BundleSaid, RunsOfParts, ThirdOf, lines_said, parts_by}
-use Rattle.lu_lint.specs.Third.{Adds}
+use Rattle.lu_lint.specs.Bundle.{BundleSaid, RunsOfParts, ThirdOf, lines_said, parts_by_meant}
+use Rattle.lu_lint.specs.Third.{SaysFurther}
 
 -- what is said without the third part, of the third part, and by runs
-pub joined : (bound : ℕ) (bundle : List ℕ) (lines parts : List (List ℕ)) (first texts found : List Said) → lines ≡ kept_lines bundle → parts ≡ parts_by (kept_lines bundle) → first ≡ lines_said lines → Adds (ThirdOf parts) first texts → Adds (RunsOfParts bound parts) texts found → BundleSaid bound bundle found
+pub joined : (bound : ℕ) (bundle : List ℕ) (lines parts : List (List ℕ)) (first texts found : List Said) → lines ≡ kept_lines bundle → parts ≡ parts_by_meant (kept_lines bundle) → first ≡ lines_said lines → SaysFurther (ThirdOf parts) first texts → SaysFurther (RunsOfParts bound parts) texts found → BundleSaid bound bundle found
 joined bound bundle lines parts first texts found l p f h r =
     let third = h.0 in
     let runs = r.0 in

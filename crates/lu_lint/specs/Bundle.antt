@@ -13,7 +13,7 @@ use Rattle.lu_lint.specs.declared.remark.Cause.TheVariants.{Separator}
 use Rattle.lu_test.specs.Matrix.{Matrix}
 use Rattle.lu_test.specs.MatrixText.{matrix_grammar}
 use Rattle.lu_lint.specs.Lint.{faults_in}
-use Rattle.lu_lint.specs.Third.{Adds, ThirdSaid, third_of}
+use Rattle.lu_lint.specs.Third.{SaysFurther, ThirdSaid, third_of}
 use Rattle.lu_lint.specs.Component.{component_lint}
 use Rattle.lu_lang.specs.Faulty.{Faulty}
 use Rattle.lu_lint.specs.Matrix.{matrix_lint}
@@ -33,12 +33,12 @@ abbrev pub are_blank : List ℕ → Bool
 are_blank bytes = list_all (λ b. is_blank b || b == 10) bytes
 
 -- `---` and nothing but blanks behind it: meant to part
-abbrev pub is_meant : List ℕ → Bool
-is_meant line = bytes_eq (take 3 line) (codes "---") && are_blank (drop 3 line)
+abbrev pub is_meant_to_part : List ℕ → Bool
+is_meant_to_part line = bytes_eq (take 3 line) (codes "---") && are_blank (drop 3 line)
 
 -- meant to part, and parts nothing
 abbrev pub is_blurred : List ℕ → Bool
-is_blurred line = is_meant line && not (is_separator line)
+is_blurred line = is_meant_to_part line && not (is_separator line)
 
 -- what is said of such a line, which is line n
 abbrev pub separator_said : ℕ → List ℕ → List Said
@@ -53,8 +53,8 @@ separators_from n (line ∷ lines) = separator_said n line ++ separators_from (n
 -- ---- the parts
 
 -- what stands between the lines that part or are meant to
-abbrev pub parts_by : List (List ℕ) → List (List ℕ)
-parts_by lines = map concat (slice_split is_meant lines)
+abbrev pub parts_by_meant : List (List ℕ) → List (List ℕ)
+parts_by_meant lines = map concat (slice_split is_meant_to_part lines)
 
 -- the number of lines before the part behind this one
 abbrev pub above_next : ℕ → List ℕ → ℕ
@@ -111,7 +111,7 @@ parts_said (component ∷ parts) = component_said component ++ behind_component 
 
 -- what is said of the lines of a bundle, without its third part
 abbrev pub lines_said : List (List ℕ) → List Said
-lines_said lines = separators_from 1 lines ++ parts_said (parts_by lines)
+lines_said lines = separators_from 1 lines ++ parts_said (parts_by_meant lines)
 
 -- what is said of the third part
 abbrev pub ThirdOfParts : List ℕ → List ℕ → List ℕ → List Said → Type 0
@@ -141,12 +141,13 @@ RunsOfParts bound (component ∷ matrix ∷ parts) said = RunsOfTexts bound comp
 -- what is said of these parts, behind what was said first
 abbrev pub PartsSaid : ℕ → List (List ℕ) → List Said → List Said → Type 0
 PartsSaid bound parts first said =
-    (texts : List Said) × Adds (ThirdOf parts) first texts × Adds (RunsOfParts bound parts) texts said
+    (texts : List Said) × SaysFurther (ThirdOf parts) first texts
+    × SaysFurther (RunsOfParts bound parts) texts said
 
 -- what is said of a bundle, with this bound of serial runs
 abbrev pub BundleSaid : ℕ → List ℕ → List Said → Type 0
 BundleSaid bound bundle said =
-    PartsSaid bound (parts_by (kept_lines bundle)) (lines_said (kept_lines bundle)) said
+    PartsSaid bound (parts_by_meant (kept_lines bundle)) (lines_said (kept_lines bundle)) said
 
 -- this is said of a bundle, in any order
 abbrev pub IsSaidOf : ℕ → List ℕ → List Said → Type 0

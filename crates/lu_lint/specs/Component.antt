@@ -1,14 +1,39 @@
 -- The faults of a component's text, each line read as it was meant.
-use Rattle.std.specs.Prelude.{ℕ, List}
+use Rattle.std.specs.Prelude.{ℕ, List, [], map, Option, Some, None}
 use Rattle.lu_component.specs.Component.{Declarations}
 use Rattle.lu_lang.specs.declared.fault.LangFaultKind.{LangFaultKind}
+use Rattle.lu_lang.specs.declared.fault.LangFaultKind.TheVariants.{Name}
 use Rattle.lu_lang.specs.Faulty.{Faulty}
 use Rattle.lu_lang.specs.Meant.{faulty_grammar, mend_faulty}
-use Rattle.lu_lang.specs.Place.{backs}
+use Rattle.lu_lang.specs.Place.{backs, left_backs, open_backs}
 use Rattle.lu_lint.specs.Lint.{Lint}
 
 abbrev pub faulty_backs : Faulty → List ℕ → LangFaultKind → List ℕ
 faulty_backs f line kind = backs f.draft line kind
 
+-- jumps to labels that are not there, so many lines with words before a line
+abbrev pub jumps : List ℕ → List (LangFaultKind × ℕ)
+jumps backs = map (λ back. (Name, back)) backs
+
+-- the jumps of an operation that a line with another fault closes
+abbrev pub faulty_others : Faulty → List ℕ → List (List ℕ) → LangFaultKind
+    → List (LangFaultKind × ℕ)
+faulty_others f line lines kind = jumps (left_backs f.draft line lines kind)
+
+-- those of one that is open at the end
+abbrev pub faulty_end_others : Faulty → List (LangFaultKind × ℕ)
+faulty_end_others f = jumps (open_backs f.draft.begun)
+
 abbrev pub component_lint : Lint LangFaultKind Faulty Declarations
-component_lint = record { grammar = faulty_grammar; mend = mend_faulty; backs = faulty_backs }
+component_lint = record {
+  grammar = faulty_grammar;
+  mend = mend_faulty;
+  backs = faulty_backs;
+  others = faulty_others;
+  end_others = faulty_end_others;
+}
+
+-- by how many lines with words the jumps stand before a line that are told beside its fault
+abbrev pub backs_beside : Faulty → List ℕ → List (List ℕ) → Option LangFaultKind → List ℕ
+backs_beside f line lines None = []
+backs_beside f line lines (Some kind) = left_backs f.draft line lines kind

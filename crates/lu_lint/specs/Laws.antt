@@ -6,19 +6,20 @@ use Rattle.lu_lang.specs.Grammar.{component_grammar}
 use Rattle.lu_test.specs.MatrixText.{matrix_grammar}
 use Rattle.lu_test.specs.ScheduleText.{schedule_of}
 use Rattle.lu_lint.specs.Schedule.{AgreeOn, schedule_faults}
-use Rattle.lu_lint.specs.Lint.{Agree, faults_in}
+use Rattle.lu_lint.specs.Lint.{AgreeOnText, faults_in}
 use Rattle.lu_lint.specs.Component.{component_lint}
 use Rattle.lu_lint.specs.Matrix.{matrix_lint}
 
 -- a component's text has no fault exactly where the reader reads it; else the first is the reader's
 abbrev pub ComponentAgrees : Type 0
 ComponentAgrees =
-    (text : List ℕ) → Agree (meaning_of component_grammar text) (faults_in component_lint text)
+    (text : List ℕ)
+    → AgreeOnText (meaning_of component_grammar text) (faults_in component_lint text)
 
 -- the same for a matrix of any component
 abbrev pub MatrixAgrees : Type 0
 MatrixAgrees = (c : Declarations) (text : List ℕ)
-    → Agree (meaning_of (matrix_grammar c) text) (faults_in (matrix_lint c None) text)
+    → AgreeOnText (meaning_of (matrix_grammar c) text) (faults_in (matrix_lint c None) text)
 
 -- the same for a schedule
 abbrev pub ScheduleAgrees : Type 0

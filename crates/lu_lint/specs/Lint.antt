@@ -14,22 +14,26 @@ pub record Told (Kind : Type 0) : Type 0 where
 
 -- How a text is read behind its first fault. A line that has a fault leaves `mend` of the draft
 -- before it, of the line, and of the lines behind it. Each message stands one of `backs` lines with
--- words before the line; one stands on the line itself where that is empty.
+-- words before the line; one stands on the line itself where that is empty. Beside the fault
+-- `others` are told, each a kind, and by how many lines with words its message stands before the
+-- line; and `end_others` beside a fault of the end.
 pub record Lint (Kind Draft Value : Type 0) : Type 0 where
   pub grammar : Grammar Kind Draft Value
   pub mend : Draft → List ℕ → List (List ℕ) → Draft
   pub backs : Draft → List ℕ → Kind → List ℕ
+  pub others : Draft → List ℕ → List (List ℕ) → Kind → List (Kind × ℕ)
+  pub end_others : Draft → List (Kind × ℕ)
 
 -- the lines with words so far, with line n
 abbrev pub with_words : List ℕ → ℕ → List ℕ → List ℕ
 with_words seen n line = if length (words_of line) == 0 then seen else seen ++ n ∷ []
 
 -- the line so many lines with words before line n
-abbrev pub place_of : List ℕ → ℕ → ℕ → ℕ
-place_of seen n back = unwrap_or (slice_get seen (length seen - back)) n
+abbrev pub line_before : List ℕ → ℕ → ℕ → ℕ
+line_before seen n back = unwrap_or (slice_get seen (length seen - back)) n
 
 abbrev pub told_at : {Kind : Type 0} → List ℕ → ℕ → Kind → ℕ → Told Kind
-told_at seen n kind back = record { kind = kind; line = n; place = place_of seen n back }
+told_at seen n kind back = record { kind = kind; line = n; place = line_before seen n back }
 
 -- a fault of line n that is told on its line
 abbrev pub told_here : {Kind : Type 0} → ℕ → Kind → Told Kind
@@ -48,14 +52,29 @@ abbrev pub told_on : {Kind Draft Value : Type 0} → Lint Kind Draft Value → L
 told_on l seen n d line None = []
 told_on l seen n d line (Some kind) = told seen n kind (l.backs d line kind)
 
--- the fault of the end, on line n, where there is one
-abbrev pub end_told : {Kind : Type 0} → ℕ → Option Kind → List (Told Kind)
-end_told n None = []
-end_told n (Some kind) = told_here n kind ∷ []
+-- what is told of others beside a fault of line n
+abbrev pub others_told : {Kind : Type 0} → List ℕ → ℕ → List (Kind × ℕ) → List (Told Kind)
+others_told seen n others = map (λ other. told_at seen n other.0 other.1) others
 
-abbrev pub end_faults : {Kind A : Type 0} → ℕ → Result A Kind → List (Told Kind)
-end_faults n (Ok x) = []
-end_faults n (Err kind) = told_here n kind ∷ []
+-- the same of a line, before these lines, where it has a fault
+abbrev pub told_beside : {Kind Draft Value : Type 0} → Lint Kind Draft Value → List ℕ → ℕ → Draft
+    → List ℕ
+    → List (List ℕ)
+    → Option Kind
+    → List (Told Kind)
+told_beside l seen n d line lines None = []
+told_beside l seen n d line lines (Some kind) = others_told seen n (l.others d line lines kind)
+
+-- the fault of the end, on line n, where there is one, and others beside it
+abbrev pub end_told : {Kind : Type 0} → List ℕ → ℕ → List (Kind × ℕ) → Option Kind
+    → List (Told Kind)
+end_told seen n others None = []
+end_told seen n others (Some kind) = told_here n kind ∷ others_told seen n others
+
+abbrev pub end_faults : {Kind A : Type 0} → List ℕ → ℕ → List (Kind × ℕ) → Result A Kind
+    → List (Told Kind)
+end_faults seen n others (Ok x) = []
+end_faults seen n others (Err kind) = told_here n kind ∷ others_told seen n others
 
 -- the draft from which the lines behind a line are read, where the line left this or has a fault
 abbrev pub left_by : {Kind Draft : Type 0} → (Draft → List ℕ → List (List ℕ) → Draft) → Draft
@@ -67,7 +86,7 @@ left_by mend d line lines None = d
 left_by mend d line lines (Some kind) = mend d line lines
 
 -- what a line gives, which is line n, and then the lines behind it: from the next draft, or, where
--- the line has a fault, that fault and then the lines from what it leaves
+-- the line has a fault, that fault, the others beside it, and then the lines from what it leaves
 abbrev pub then_faults : {Kind Draft Value : Type 0} → Lint Kind Draft Value → List ℕ → ℕ → Draft
     → List ℕ
     → List (List ℕ)
@@ -76,14 +95,15 @@ abbrev pub then_faults : {Kind Draft Value : Type 0} → Lint Kind Draft Value �
     → List (Told Kind)
 then_faults l seen n d line lines (Ok next) rest = rest next
 then_faults l seen n d line lines (Err kind) rest =
-    told seen n kind (l.backs d line kind) ++ rest (l.mend d line lines)
+    told seen n kind (l.backs d line kind)
+    ++ (others_told seen n (l.others d line lines kind) ++ rest (l.mend d line lines))
 
 -- the faults of these lines, which begin with line n, behind this draft
 unfoldable pub faults_after : {Kind Draft Value : Type 0} → Lint Kind Draft Value → List ℕ → ℕ
     → Draft
     → List (List ℕ)
     → List (Told Kind)
-faults_after l seen n d [] = end_faults n (l.grammar.finish d)
+faults_after l seen n d [] = end_faults seen n (l.end_others d) (l.grammar.finish d)
 faults_after l seen n d (line ∷ lines) =
     then_faults l seen n d line lines (l.grammar.line d line)
     (λ next. faults_after l (with_words seen n line) (n + 1) next lines)
@@ -100,11 +120,11 @@ faults_in l text = faults_of_lines l (lines_of text)
 
 -- what a reader and lint say of one text: it is read where there is no fault, and else the first
 -- fault is the reader's
-abbrev pub Agree : {Kind A : Type 0} → Result A (Fault Kind) → List (Told Kind) → Type 0
-Agree (Ok x) [] = Unit {0}
-Agree (Ok x) (first ∷ others) = ⊥
-Agree (Err e) [] = ⊥
-Agree (Err e) (first ∷ others) = e ≡ At first.kind first.line
+abbrev pub AgreeOnText : {Kind A : Type 0} → Result A (Fault Kind) → List (Told Kind) → Type 0
+AgreeOnText (Ok x) [] = Unit {0}
+AgreeOnText (Ok x) (first ∷ others) = ⊥
+AgreeOnText (Err e) [] = ⊥
+AgreeOnText (Err e) (first ∷ others) = e ≡ At first.kind first.line
 
 -- the draft that these lines leave, with faults or without
 abbrev pub left_behind : {Kind Draft Value : Type 0} → Lint Kind Draft Value → Draft → List ℕ

@@ -25,4 +25,10 @@ judged_grammar c faulty =
 
 abbrev pub matrix_lint : Declarations → Option Faulty → Lint MatrixFaultKind Drafted Matrix
 matrix_lint c faulty =
-    record { grammar = judged_grammar c faulty; mend = matrix_mend; backs = λ d line kind. [] }
+    record {
+      grammar = judged_grammar c faulty;
+      mend = matrix_mend;
+      backs = λ d line kind. [];
+      others = λ d line lines kind. [];
+      end_others = λ d. [];
+    }

@@ -13,12 +13,12 @@ use Rattle.lu_lint.specs.declared.remark.Cause.{Cause}
 use Rattle.lu_lint.specs.declared.remark.Cause.TheVariants.{Fault, Separator, Warning, Run}
 
 -- the code of the refusal
-abbrev pub fault_code : FaultKind → List ℕ
-fault_code (part.Component kind) = code_of kind
-fault_code (part.Matrix kind) = matrix_code_of kind
-fault_code (part.Schedule kind) = schedule_code_of kind
-fault_code (part.Report kind) = report_code_of kind
-fault_code (part.Specification kind) = spec_code_of kind
+abbrev pub refusal_code : FaultKind → List ℕ
+refusal_code (part.Component kind) = code_of kind
+refusal_code (part.Matrix kind) = matrix_code_of kind
+refusal_code (part.Schedule kind) = schedule_code_of kind
+refusal_code (part.Report kind) = report_code_of kind
+refusal_code (part.Specification kind) = spec_code_of kind
 
 -- the part that it is a fault of
 abbrev pub fault_part : FaultKind → List ℕ
@@ -43,7 +43,7 @@ remark_head place word words =
 -- the code of a fault and its line in the part, as the other commands name them
 abbrev pub fault_tail : FaultKind → ℕ → List ℕ
 fault_tail kind n =
-    codes " (" ++ fault_code kind ++ codes ", line " ++ decimal n ++ codes " of the "
+    codes " (" ++ refusal_code kind ++ codes ", line " ++ decimal n ++ codes " of the "
     ++ fault_part kind
     ++ codes ")\n"
 

@@ -27,8 +27,8 @@ faulty_end text = draft_after component_lint component_lint.grammar.nothing (lin
 abbrev pub head_text : List ℕ → ℕ → List ℕ
 head_text name args = codes "op " ++ name ++ codes " " ++ decimal args ++ codes "\nreturn 0\nend\n"
 
-abbrev pub is_open : Option Begun → Word → Bool
-is_open begun name = option_map_or (λ b. bytes_eq b.name name) begun false
+abbrev pub is_open_operation : Option Begun → Word → Bool
+is_open_operation begun name = option_map_or (λ b. bytes_eq b.name name) begun false
 
 -- that of the open operation
 abbrev pub open_text : Option Begun → List ℕ
@@ -37,7 +37,7 @@ open_text begun = option_map_or (λ b. head_text b.name b.args) begun []
 -- that of an operation, unless one behind it has its name
 abbrev pub head_once : Option Begun → Op → List Op → List ℕ
 head_once begun op behind =
-    if is_some (operation_place behind op.name) || is_open begun op.name then []
+    if is_some (operation_place behind op.name) || is_open_operation begun op.name then []
     else head_text op.name op.args
 
 -- those of these operations and of the open one: of each name the last

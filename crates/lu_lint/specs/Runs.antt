@@ -61,8 +61,8 @@ ShownBySetup c matrix hints =
 -- ---- serial histories
 
 -- the number of operations of thread t
-abbrev pub count_of : ℕ → List SerialOp → ℕ
-count_of t ops = length (filter (λ op. op.thread == t) ops)
+abbrev pub operation_count : ℕ → List SerialOp → ℕ
+operation_count t ops = length (filter (λ op. op.thread == t) ops)
 
 -- an operation that traps, and one that is stuck, are told
 abbrev pub ending_of : SerialOutcome → Option Ending
@@ -73,7 +73,7 @@ ending_of Stuck = Some Blocked
 -- the next operation of thread t behind these ends so
 abbrev pub hint_of : List SerialOp → ℕ → Ending → SerialHint
 hint_of before t ending =
-    record { thread = t; call = count_of t before; ending = ending; behind = before }
+    record { thread = t; call = operation_count t before; ending = ending; behind = before }
 
 abbrev pub hint_if : List SerialOp → ℕ → Option Ending → List SerialHint
 hint_if before t None = []
@@ -116,8 +116,9 @@ abbrev pub set_hints : List (List SerialOp) → List SerialHint
 set_hints histories = with_firsts [] (flat_map history_hints histories)
 
 -- these hints with those of the histories, each behind the path
-abbrev pub with_behind : List SerialHint → List SerialOp → List (List SerialOp) → List SerialHint
-with_behind told path histories =
+abbrev pub with_histories_behind : List SerialHint → List SerialOp → List (List SerialOp)
+    → List SerialHint
+with_histories_behind told path histories =
     with_firsts told (flat_map (λ h. history_hints (path ++ h)) histories)
 
 -- ---- a schedule that is cut
@@ -137,8 +138,8 @@ abbrev pub CanPlay : List Move → State → Type 0
 CanPlay u s = (end : State) × (history : List Event) × Leads s u end history
 
 -- this is its history
-abbrev pub Plays : List Move → List Event → State → Type 0
-Plays u history s = (end : State) × Leads s u end history
+abbrev pub ShowsHistory : List Move → List Event → State → Type 0
+ShowsHistory u history s = (end : State) × Leads s u end history
 
 -- these are the hints of its history
 abbrev pub HintsOfCut : List Move → List SerialHint → State → Type 0
@@ -170,7 +171,8 @@ ShownSerially bound hints s =
 -- ---- a component and a matrix
 
 -- the setup settles: its run, and the serial runs, show these
-pub record AreShown (c : Declarations) (matrix : Matrix) (bound : ℕ) (hints : List RunHint) : Type 0 where
+pub record AreShownHints (c : Declarations) (matrix : Matrix) (bound : ℕ) (hints : List RunHint)
+    : Type 0 where
   pub first : List RunHint
   pub serial : List SerialHint
   pub setup : ShownBySetup c matrix first
@@ -183,7 +185,7 @@ IsSetupHint c matrix hints = (k : ℕ) × IsUnsettledAt c matrix k × (hints ≡
 
 -- what runs of a component and a matrix show
 abbrev pub Show : Declarations → Matrix → ℕ → List RunHint → Type 0
-Show c matrix bound hints = IsSetupHint c matrix hints ⊎ AreShown c matrix bound hints
+Show c matrix bound hints = IsSetupHint c matrix hints ⊎ AreShownHints c matrix bound hints
 
 -- ---- lines
 
@@ -216,14 +218,15 @@ hint_line setup threads (SetupTraps k) = number_at setup 0
 hint_line setup threads (Serial hint) = number_at threads hint.thread
 
 -- what is said of a hint of a matrix with these lines, before which so many of the bundle stand
-abbrev pub shown : ℕ → List ℕ → List ℕ → RunHint → Said
-shown above setup threads hint =
+abbrev pub said_of_hint : ℕ → List ℕ → List ℕ → RunHint → Said
+said_of_hint above setup threads hint =
     record { place = line_below above (hint_line setup threads hint); cause = Run hint }
 
 -- what is said of these hints of a matrix with this text
 abbrev pub all_shown : ℕ → List ℕ → List RunHint → List Said
 all_shown above text hints =
-    map (shown above (lines_with (codes "setup") text) (lines_with (codes "thread") text)) hints
+    map (said_of_hint above (lines_with (codes "setup") text) (lines_with (codes "thread") text))
+    hints
 
 -- what runs of the component and the matrix of this text show is said
 abbrev pub RunsOf : ℕ → Declarations → Matrix → ℕ → List ℕ → List Said → Type 0

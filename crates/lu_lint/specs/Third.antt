@@ -23,8 +23,8 @@ third_of text =
     else (if bytes_eq (take 6 text) (codes "lineup") then Report else Schedule)
 
 -- These are said behind what was said before.
-abbrev pub Adds : (List Said → Type 0) → List Said → List Said → Type 0
-Adds P before after = (said : List Said) × P said × (after ≡ before ++ said)
+abbrev pub SaysFurther : (List Said → Type 0) → List Said → List Said → Type 0
+SaysFurther P before after = (said : List Said) × P said × (after ≡ before ++ said)
 
 -- a fault of a report is said of its own line
 abbrev pub report_said : ℕ → ReportLineFault → Said

@@ -19,8 +19,8 @@ use Rattle.lu_lint.specs.declared.remark.Said.{Said}
 use Rattle.lu_lint.specs.declared.remark.Cause.TheVariants.{Warning}
 use Rattle.lu_lint.specs.declared.remark.Hint.{Hint}
 use Rattle.lu_lint.specs.declared.remark.Hint.TheVariants.{UnnamedArray, UnnamedLock, UnusedLabel, NoReturn, Spin}
-use Rattle.lu_lint.specs.declared.warning.Found.{Found}
-use Rattle.lu_lint.specs.Lint.{place_of, with_words}
+use Rattle.lu_lint.specs.declared.warning.FoundHint.{FoundHint}
+use Rattle.lu_lint.specs.Lint.{line_before, with_words}
 
 -- ---- an array or a lock that no instruction names
 
@@ -47,7 +47,7 @@ is_lock_named c k = list_any (λ op. list_any (names_lock k) op.code) c.operatio
 -- ---- an operation, at its `end`
 
 -- a hint, which stands so many lines with words before the line
-abbrev pub found : ℕ → Hint → Found
+abbrev pub found : ℕ → Hint → FoundHint
 found back hint = record { back = back; hint = hint }
 
 -- the place of a label
@@ -77,32 +77,32 @@ returns_by b row place (Jump label) = holds_where row (place_named b.labels labe
 returns_by b row place (JumpIfZero v label) =
     holds_where row (place_named b.labels label) || holds_behind row place
 
-abbrev pub next_row : Begun → List Bool → List Bool
-next_row b row = map (λ s. returns_by b row s.0 s.1) (enumerate_from 0 b.statements)
+abbrev pub next_returns : Begun → List Bool → List Bool
+next_returns b row = map (λ s. returns_by b row s.0 s.1) (enumerate_from 0 b.statements)
 
 -- from which places a return is reached by at most so many instructions
 unfoldable pub returns_within : Begun → ℕ → List Bool
 returns_within b zero = map (λ s. false) b.statements
-returns_within b (suc n) = next_row b (returns_within b n)
+returns_within b (suc n) = next_returns b (returns_within b n)
 
 -- a return is reached from the first instruction, by one way or another
 abbrev pub can_return : Begun → Bool
 can_return b = holds_at (returns_within b (length b.statements)) 0
 
 -- no return is reached; the hint stands on the `op` line
-abbrev pub return_hints : Begun → List Found
+abbrev pub return_hints : Begun → List FoundHint
 return_hints b = if can_return b then [] else found (length b.statements + 1) NoReturn ∷ []
 
-abbrev pub leads_to : Word → Option Word → Bool
-leads_to name None = false
-leads_to name (Some label) = bytes_eq label name
+abbrev pub jumps_to_label : Word → Option Word → Bool
+jumps_to_label name None = false
+jumps_to_label name (Some label) = bytes_eq label name
 
 -- no jump of the operation leads to the label
 abbrev pub is_unused : List Statement → Label → Bool
 is_unused statements label =
-    not (list_any (λ s. leads_to label.name (label_used s)) statements)
+    not (list_any (λ s. jumps_to_label label.name (label_used s)) statements)
 
-abbrev pub label_hints : Begun → List Found
+abbrev pub label_hints : Begun → List FoundHint
 label_hints b =
     map (λ label. found (length b.statements - label.place) UnusedLabel)
     (filter (is_unused b.statements) b.labels)
@@ -158,21 +158,21 @@ spins_at b i None = false
 spins_at b i (Some name) = spins_where b.statements i (place_named b.labels name)
 
 -- a jump back without waiting
-abbrev pub spin_hints : Begun → List Found
+abbrev pub spin_hints : Begun → List FoundHint
 spin_hints b =
     map (λ s. found (length b.statements - s.0) Spin)
     (filter (λ s. spins_at b s.0 (label_used s.1)) (enumerate_from 0 b.statements))
 
-abbrev pub end_hints : Begun → List Found
+abbrev pub end_hints : Begun → List FoundHint
 end_hints b = return_hints b ++ (label_hints b ++ spin_hints b)
 
 -- ---- lines
 
-abbrev pub unless : Bool → Hint → List Found
+abbrev pub unless : Bool → Hint → List FoundHint
 unless named hint = if named then [] else found 0 hint ∷ []
 
 -- by the first word of a line, where an operation is open or none
-abbrev pub state_hints : Declarations → Drafted → Option Begun → Word → List Found
+abbrev pub state_hints : Declarations → Drafted → Option Begun → Word → List FoundHint
 state_hints c d None word =
     if bytes_eq word (codes "word") then unless (is_array_named c (length d.arrays)) UnnamedArray
     else (if bytes_eq word (codes "lock")
@@ -180,17 +180,17 @@ state_hints c d None word =
     else [])
 state_hints c d (Some b) word = if bytes_eq word (codes "end") then end_hints b else []
 
-abbrev pub words_hints : Declarations → Drafted → List Word → List Found
+abbrev pub words_hints : Declarations → Drafted → List Word → List FoundHint
 words_hints c d [] = []
 words_hints c d (word ∷ words) = state_hints c d d.begun word
 
 -- the hints at a line behind this draft
-abbrev pub line_hints : Declarations → Drafted → List ℕ → List Found
+abbrev pub line_hints : Declarations → Drafted → List ℕ → List FoundHint
 line_hints c d line = words_hints c d (words_of line)
 
 -- what is said of a hint at line n
-abbrev pub warned : List ℕ → ℕ → Found → Said
-warned seen n f = record { place = place_of seen n f.back; cause = Warning f.hint }
+abbrev pub warned : List ℕ → ℕ → FoundHint → Said
+warned seen n f = record { place = line_before seen n f.back; cause = Warning f.hint }
 
 -- the warnings of these lines, of which the first is line n
 unfoldable pub warnings_after : Declarations → List ℕ → ℕ → Drafted → List (List ℕ) → List Said

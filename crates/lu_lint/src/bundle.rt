@@ -4,7 +4,7 @@ ghost use Rattle.std.specs.Prelude.{◌≡◌, ◌==◌, ◌||◌, ◌++◌, IfO
 ghost use Rattle.lu_text.specs.Lines as lines;
 ghost use Rattle.lu_text.specs.Lines.{kept_lines, texts};
 ghost use Rattle.lu_lint.specs.Bundle as spec;
-ghost use Rattle.lu_lint.specs.Bundle.{parts_by, separators_from};
+ghost use Rattle.lu_lint.specs.Bundle.{parts_by_meant, separators_from};
 ghost use Rattle.lu_lint.specs.Said.{said_of};
 
 use crate::remark::{Cause, Remark, Said, line_below, with_remark};
@@ -30,8 +30,8 @@ fn are_blank(bytes: &[u8]) -> bool
 }
 
 /// Whether a line is `---` with nothing but blanks behind it.
-fn is_meant(line: &[u8]) -> bool
-    ensures { result ≡ spec.is_meant line.now }
+fn is_meant_to_part(line: &[u8]) -> bool
+    ensures { result ≡ spec.is_meant_to_part line.now }
 {
     match line.strip_prefix(b"---") {
         None => false,
@@ -43,7 +43,7 @@ fn is_meant(line: &[u8]) -> bool
 fn is_blurred(line: &[u8]) -> bool
     ensures { result ≡ spec.is_blurred line.now }
 {
-    is_meant(line) && !is_separator(line)
+    is_meant_to_part(line) && !is_separator(line)
 }
 
 /// The lines of a text, each with its LF.
@@ -62,7 +62,7 @@ pub(crate) fn kept_in(alloc: Global, text: &[u8]) -> Result<Vec<&[u8]>, AllocErr
 
 /// The parts between the lines that part or are meant to.
 pub(crate) fn parts_in(alloc: Global, text: &[u8]) -> Result<Vec<&[u8]>, AllocError>
-    ensures { IfOk result (λ parts. texts parts.items ≡ parts_by (kept_lines text.now)) }
+    ensures { IfOk result (λ parts. texts parts.items ≡ parts_by_meant (kept_lines text.now)) }
 {
     let mut parts = Vec::new(alloc);
     let mut part = text;
@@ -70,7 +70,7 @@ pub(crate) fn parts_in(alloc: Global, text: &[u8]) -> Result<Vec<&[u8]>, AllocEr
     let mut rest = text;
     while !rest.is_empty() {
         let (line, after) = cut_line(rest);
-        if is_meant(line) {
+        if is_meant_to_part(line) {
             parts.push(&part[..size])?;
             part = after;
             size = 0;

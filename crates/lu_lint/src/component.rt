@@ -3,7 +3,7 @@
 ghost use Rattle.std.specs.Prelude.{◌≡◌, ◌++◌, IfOk, map};
 ghost use Rattle.lu_lang.specs.Grammar.{fault_in};
 ghost use Rattle.lu_lang.specs.Meant.{faulty_grammar, mend_faulty};
-ghost use Rattle.lu_lint.specs.Component.{component_lint};
+ghost use Rattle.lu_lint.specs.Component.{backs_beside, component_lint, faulty_end_others};
 ghost use Rattle.lu_lint.specs.Lint as spec;
 ghost use Rattle.lu_lint.specs.Outline as outline;
 ghost use Rattle.lu_lint.specs.Lint.{end_told, faults_in, faults_of_lines, told_on};
@@ -12,11 +12,12 @@ ghost use Rattle.lu_lint.specs.declared.remark.FaultKind.TheVariants as part;
 ghost use Rattle.lu_text.specs.Lines.{texts};
 
 use crate::remark::{
-    Cause, FaultKind, Position, Remark, Said, line_below, place_of, with_remark, with_words,
+    Cause, FaultKind, Position, Remark, Said, line_before, line_below, with_remark, with_words,
 };
 use crate::wording::{end_wording, jump_wording, wording};
 use lu_lang::{
-    Draft, FaultyDraft, LangFaultKind, end_fault, meant_line, mended, message_backs, read_or_fault,
+    Draft, FaultyDraft, LangFaultKind, end_fault, left_backs, meant_line, mended, message_backs,
+    open_backs, read_or_fault,
 };
 use lu_text::lines_of;
 use std::alloc::{AllocError, Global};
@@ -47,7 +48,7 @@ fn with_jumps(
 {
     for back in backs {
         let words = jump_wording(alloc, draft, *back)?;
-        let place = place_of(&at.seen, at.line, *back);
+        let place = line_before(&at.seen, at.line, *back);
         all = with_remark(all, said(at, kind, place), words)?;
     }
     Ok(all)
@@ -108,6 +109,24 @@ fn with_line(
     }
 }
 
+/// By how many lines with words the jumps to labels that are not there stand before a line that are
+/// told beside its fault; `lines` are those behind it.
+fn backs_beside(
+    alloc: Global,
+    draft: &FaultyDraft,
+    fault: Option<LangFaultKind>,
+    text: &[u8],
+    lines: &[&[u8]],
+) -> Result<Vec<usize>, AllocError>
+    ensures { IfOk result (λ ns.
+        ns.items ≡ backs_beside draft.now text.now (texts lines.now) fault) }
+{
+    match fault {
+        None => Ok(Vec::new(alloc)),
+        Some(kind) => left_backs(alloc, &draft.draft, text, lines, kind),
+    }
+}
+
 /// The draft from which the lines behind a line are read.
 fn left_by(
     alloc: Global,
@@ -125,7 +144,8 @@ fn left_by(
     }
 }
 
-/// The remarks with that on the end of the text, where it has a fault.
+/// The remarks with those on the end of the text, where it has a fault: on that, and on jumps to
+/// labels that are not there, of an operation that is open.
 fn with_end(
     alloc: Global,
     all: Vec<Remark>,
@@ -134,13 +154,17 @@ fn with_end(
 ) -> Result<Vec<Remark>, AllocError>
     ensures { IfOk result (λ next. said_of next.items ≡ said_of all.items
         ++ said_faults part.Component at.now.above
-        (end_told at.now.line (fault_in (faulty_grammar.finish draft.now)))) }
+        (end_told at.now.seen.items at.now.line (faulty_end_others draft.now)
+        (fault_in (faulty_grammar.finish draft.now)))) }
 {
     match end_fault(&draft.draft) {
         None => Ok(all),
         Some(kind) => {
             let words = end_wording(alloc, &draft.draft)?;
-            with_remark(all, said(at, kind, at.line), words)
+            let all = with_remark(all, said(at, kind, at.line), words)?;
+            let backs = open_backs(alloc, &draft.draft)?;
+            let all = with_jumps(alloc, all, at, &draft.draft, LangFaultKind::Name, &backs)?;
+            Ok(all)
         }
     }
 }
@@ -163,8 +187,10 @@ fn faults_of_lines(
             seen,
         };
         let (next, fault) = read_or_fault(alloc, draft, text)?;
-        all = with_line(alloc, all, &at, &next, fault, text)?;
         let (_, behind) = lines.split_at(before + 1);
+        all = with_line(alloc, all, &at, &next, fault, text)?;
+        let backs = backs_beside(alloc, &next, fault, text, behind)?;
+        all = with_jumps(alloc, all, &at, &next.draft, LangFaultKind::Name, &backs)?;
         draft = left_by(alloc, next, fault, text, behind)?;
         seen = with_words(alloc, at.seen, before + 1, text)?;
     }

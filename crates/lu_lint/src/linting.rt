@@ -5,8 +5,8 @@ ghost use Rattle.std.specs.List.{list_any};
 ghost use Rattle.std.specs.List.Sorted.{IsNonDecreasingBy};
 ghost use Rattle.lu_text.specs.Lines.{texts};
 ghost use Rattle.lu_lint.specs.Bundle as spec;
-ghost use Rattle.lu_lint.specs.Bundle.{BundleSaid, IsSaidOf, RunsOfParts, RunsOfTexts, ThirdOf, ThirdOfParts, parts_by, parts_said};
-ghost use Rattle.lu_lint.specs.Third.{Adds};
+ghost use Rattle.lu_lint.specs.Bundle.{BundleSaid, IsSaidOf, RunsOfParts, RunsOfTexts, ThirdOf, ThirdOfParts, parts_by_meant, parts_said};
+ghost use Rattle.lu_lint.specs.Third.{SaysFurther};
 ghost use Rattle.lu_lint.specs.Runs.{RunsSaid};
 ghost use Rattle.lu_lint.specs.Messages.{remarks_text};
 ghost use Rattle.lu_lint.specs.Outline.{faulty_end};
@@ -17,7 +17,7 @@ use crate::component::{faulty_end, with_component};
 use crate::matrix::{Basis, with_matrix};
 use crate::outline::outline_text;
 use crate::remark::Remark;
-use crate::runs::with_runs_of;
+use crate::runs::{Test, with_runs_of};
 use crate::third::with_third;
 use crate::warning::with_warnings;
 use crate::writing::write_remarks;
@@ -80,8 +80,8 @@ fn matrix_read(
     }
 }
 
-/// The remarks with those on a matrix, by the operations of a component with faults, where these can
-/// be told apart.
+/// The remarks with those on a matrix, by the operations of a component with faults, where these
+/// can be told apart.
 fn with_matrix_by(
     alloc: Global,
     all: Vec<Remark>,
@@ -227,7 +227,7 @@ fn with_third_part(
     matrix: &[u8],
     text: &[u8],
 ) -> Result<Vec<Remark>, AllocError>
-    ensures { IfOk result (λ next. Adds (ThirdOfParts component.now matrix.now text.now)
+    ensures { IfOk result (λ next. SaysFurther (ThirdOfParts component.now matrix.now text.now)
         (said_of all.items) (said_of next.items)) }
 {
     let read = component_read(alloc, component)?;
@@ -247,7 +247,7 @@ fn third_behind(
     parts: &[&[u8]],
 ) -> Result<Vec<Remark>, AllocError>
     ensures { IfOk result (λ next.
-        Adds (ThirdOf (component.now ∷ matrix.now ∷ texts parts.now))
+        SaysFurther (ThirdOf (component.now ∷ matrix.now ∷ texts parts.now))
         (said_of all.items) (said_of next.items)) }
 {
     match parts.split_first() {
@@ -263,7 +263,7 @@ fn second_behind(
     component: &[u8],
     parts: &[&[u8]],
 ) -> Result<Vec<Remark>, AllocError>
-    ensures { IfOk result (λ next. Adds (ThirdOf (component.now ∷ texts parts.now))
+    ensures { IfOk result (λ next. SaysFurther (ThirdOf (component.now ∷ texts parts.now))
         (said_of all.items) (said_of next.items)) }
 {
     match parts.split_first() {
@@ -274,7 +274,7 @@ fn second_behind(
 
 /// The remarks with those on the third part, where there is one.
 fn with_last(alloc: Global, all: Vec<Remark>, parts: &[&[u8]]) -> Result<Vec<Remark>, AllocError>
-    ensures { IfOk result (λ next. Adds (ThirdOf (texts parts.now))
+    ensures { IfOk result (λ next. SaysFurther (ThirdOf (texts parts.now))
         (said_of all.items) (said_of next.items)) }
 {
     match parts.split_first() {
@@ -295,12 +295,19 @@ fn with_matrix_runs(
     requires some { 1 ≤ bound }
     requires few { bound ≤ 256 }
     ensures { IfOk result (λ next.
-        Adds (RunsSaid bound (Some component.now)
+        SaysFurther (RunsSaid bound (Some component.now)
         (spec.matrix_read (Some component.now) text.now) above text.now)
         (said_of all.items) (said_of next.items)) }
 {
     match read_matrix(alloc, component, text) {
-        Ok(matrix) => with_runs_of(alloc, all, component, &matrix, bound, above, text),
+        Ok(matrix) => {
+            let test = Test {
+                component,
+                matrix: &matrix,
+                bound,
+            };
+            with_runs_of(alloc, all, test, above, text)
+        }
         Err(Fault::At(_, _)) => Ok(all),
         Err(Fault::Memory) => Err(AllocError),
     }
@@ -318,7 +325,7 @@ fn with_runs_where(
     requires some { 1 ≤ bound }
     requires few { bound ≤ 256 }
     ensures { IfOk result (λ next.
-        Adds (RunsSaid bound component.now
+        SaysFurther (RunsSaid bound component.now
         (spec.matrix_read component.now text.now) above text.now)
         (said_of all.items) (said_of next.items)) }
 {
@@ -339,7 +346,7 @@ fn with_runs_of_texts(
     requires some { 1 ≤ bound }
     requires few { bound ≤ 256 }
     ensures { IfOk result (λ next.
-        Adds (RunsOfTexts bound component.now matrix.now)
+        SaysFurther (RunsOfTexts bound component.now matrix.now)
         (said_of all.items) (said_of next.items)) }
 {
     let read = component_read(alloc, component)?;
@@ -359,7 +366,7 @@ fn runs_behind(
     requires some { 1 ≤ bound }
     requires few { bound ≤ 256 }
     ensures { IfOk result (λ next.
-        Adds (RunsOfParts bound (component.now ∷ texts parts.now))
+        SaysFurther (RunsOfParts bound (component.now ∷ texts parts.now))
         (said_of all.items) (said_of next.items)) }
 {
     match parts.split_first() {
@@ -378,7 +385,7 @@ fn with_runs(
     requires some { 1 ≤ bound }
     requires few { bound ≤ 256 }
     ensures { IfOk result (λ next.
-        Adds (RunsOfParts bound (texts parts.now))
+        SaysFurther (RunsOfParts bound (texts parts.now))
         (said_of all.items) (said_of next.items)) }
 {
     match parts.split_first() {
@@ -393,7 +400,7 @@ fn remarks_on_lines(
     lines: &[&[u8]],
     parts: &[&[u8]],
 ) -> Result<Vec<Remark>, AllocError>
-    requires { texts parts.now ≡ parts_by (texts lines.now) }
+    requires { texts parts.now ≡ parts_by_meant (texts lines.now) }
     ensures { IfOk result (λ all. said_of all.items ≡ spec.lines_said (texts lines.now)) }
 {
     let all = with_separators(alloc, Vec::new(alloc), lines)?;

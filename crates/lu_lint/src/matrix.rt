@@ -1,6 +1,6 @@
 //! The faults of a matrix's text.
 
-ghost use Rattle.std.specs.Prelude.{◌≡◌, ◌++◌, ℕ, List, IfOk, OnOk, Option};
+ghost use Rattle.std.specs.Prelude.{◌≡◌, ◌++◌, ℕ, List, [], IfOk, OnOk, Option};
 ghost use Rattle.std.specs.Option.{option_copied};
 ghost use Rattle.lu_component.specs.Component.{Declarations, IsComponent};
 ghost use Rattle.lu_lang.specs.Faulty.{Faulty};
@@ -54,25 +54,31 @@ pub(crate) struct Basis<'a> {
     pub faulty: Option<&'a FaultyDraft>,
 }
 
+/// A line, and the draft before it.
+#[derive(Clone, Copy, Drop)]
+struct Next<'a> {
+    draft: &'a Draft,
+    text: &'a [u8],
+}
+
 /// The words for a fault of a line, as it is judged.
 fn words_of_fault(
     alloc: Global,
     basis: &Basis<'_>,
-    draft: &Draft,
+    next: Next<'_>,
     kind: MatrixFaultKind,
-    text: &[u8],
 ) -> Result<String, AllocError> {
     match basis.faulty {
-        None => matrix_wording(alloc, basis.component, draft, kind, text),
+        None => matrix_wording(alloc, basis.component, next.draft, kind, next.text),
         Some(faulty) => {
-            let line = sure_line(alloc, faulty, text)?;
-            matrix_wording(alloc, basis.component, draft, kind, &line)
+            let line = sure_line(alloc, faulty, next.text)?;
+            matrix_wording(alloc, basis.component, next.draft, kind, &line)
         }
     }
 }
 
-/// The draft after one more line, as it is judged, and no fault; or the draft before it, and what is
-/// wrong with the line.
+/// The draft after one more line, as it is judged, and no fault; or the draft before it, and what
+/// is wrong with the line.
 #[tactic(auto, unfolding(crate::specs::Matrix::judged_line))]
 fn judged(
     alloc: Global,
@@ -102,18 +108,18 @@ fn with_line(
     basis: &Basis<'_>,
     all: Vec<Remark>,
     at: &Position,
-    draft: &Draft,
+    next: Next<'_>,
     fault: Option<MatrixFaultKind>,
-    text: &[u8],
 ) -> Result<Vec<Remark>, AllocError>
-    ensures { (of : Declarations) (faulty : Option Faulty) → IfOk result (λ next.
-        said_of next.items ≡ said_of all.items ++ said_faults part.Matrix at.now.above
-        (told_on (matrix_lint of faulty) at.now.seen.items at.now.line draft.now text.now fault)) }
+    ensures { (of : Declarations) (faulty : Option Faulty) → IfOk result (λ more.
+        said_of more.items ≡ said_of all.items ++ said_faults part.Matrix at.now.above
+        (told_on (matrix_lint of faulty) at.now.seen.items at.now.line
+        next.entry.draft.now next.entry.text.now fault)) }
 {
     match fault {
         None => Ok(all),
         Some(kind) => {
-            let words = words_of_fault(alloc, basis, draft, kind, text)?;
+            let words = words_of_fault(alloc, basis, next, kind)?;
             with_remark(all, said(at.above, kind, at.line), words)
         }
     }
@@ -144,7 +150,7 @@ fn with_end(
 ) -> Result<Vec<Remark>, AllocError>
     ensures { IfOk result (λ next. said_of next.items ≡ said_of all.items
         ++ said_faults part.Matrix at.now.above
-        (end_told at.now.line (fault_in (finished draft.now)))) }
+        (end_told at.now.seen.items at.now.line [] (fault_in (finished draft.now)))) }
 {
     match end_fault(draft) {
         None => Ok(all),
@@ -175,9 +181,10 @@ fn faults_of_lines(
             line: before + 1,
             seen,
         };
-        let (next, fault) = judged(alloc, basis, draft, text)?;
-        all = with_line(alloc, basis, all, &at, &next, fault, text)?;
-        draft = left_by(alloc, next, fault, text)?;
+        let (read, fault) = judged(alloc, basis, draft, text)?;
+        let next = Next { draft: &read, text };
+        all = with_line(alloc, basis, all, &at, next, fault)?;
+        draft = left_by(alloc, read, fault, text)?;
         seen = with_words(alloc, at.seen, before + 1, text)?;
     }
     let at = Position {

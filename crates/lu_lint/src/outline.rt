@@ -9,13 +9,13 @@ ghost use Rattle.lu_text.specs.Writing.{Writes};
 ghost use Rattle.lu_lint.specs.Outline as spec;
 
 use lu_component::{MOST_OPS, Op, operation_place};
-use lu_lang::{Draft, FaultyDraft, OpenOp};
+use lu_lang::{Draft, FaultyDraft, OpenOp, with_spaced_words};
 use lu_text::{are_allowed, before_comment, parts_of, words_of};
 use std::alloc::{AllocError, Global};
 use std::fmt::Write;
 
-fn is_open(begun: &Option<OpenOp>, name: &[u8]) -> bool
-    ensures { result ≡ spec.is_open begun.now name.now }
+fn is_open_operation(begun: &Option<OpenOp>, name: &[u8]) -> bool
+    ensures { result ≡ spec.is_open_operation begun.now name.now }
 {
     match begun {
         None => false,
@@ -50,7 +50,7 @@ fn write_once(
     ensures { Writes result text.old text.new (spec.head_once begun.now op.now behind.now) }
 {
     let name = op.name.as_bytes();
-    if operation_place(behind, name).is_some() || is_open(begun, name) {
+    if operation_place(behind, name).is_some() || is_open_operation(begun, name) {
         return Ok(());
     }
     write_head(text, op.name.as_str(), op.args)
@@ -102,17 +102,6 @@ pub(crate) fn outline_text(alloc: Global, draft: &Draft) -> Result<String, Alloc
     outline_of(alloc, &draft.begun, &draft.operations)
 }
 
-/// The text with these words, each with a space behind it.
-fn with_spaced(mut text: Vec<u8>, words: &[&[u8]]) -> Result<Vec<u8>, AllocError>
-    ensures { IfOk result (λ next. next.items ≡ text.items ++ spaced (texts words.now)) }
-{
-    for word in words {
-        text.extend_from_slice(word)?;
-        text.push(b' ')?;
-    }
-    Ok(text)
-}
-
 /// The text with a call, without its arguments where these are not looked at.
 fn with_call(text: Vec<u8>, faulty: &FaultyDraft, words: &[&[u8]]) -> Result<Vec<u8>, AllocError>
     ensures { IfOk result (λ next.
@@ -122,9 +111,9 @@ fn with_call(text: Vec<u8>, faulty: &FaultyDraft, words: &[&[u8]]) -> Result<Vec
         None => Ok(text),
         Some((name, _)) => {
             if faulty.is_unsure(name) {
-                with_spaced(text, &words[..1])
+                with_spaced_words(text, &words[..1])
             } else {
-                with_spaced(text, words)
+                with_spaced_words(text, words)
             }
         }
     }

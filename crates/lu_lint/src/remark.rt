@@ -2,7 +2,7 @@
 
 ghost use Rattle.std.specs.Prelude.{◌≡◌, ◌++◌, ◌∷◌, [], IfOk};
 ghost use Rattle.lu_lint.specs.Lint as spec;
-ghost use Rattle.lu_lint.specs.Messages.{fault_code, fault_part};
+ghost use Rattle.lu_lint.specs.Messages.{refusal_code, fault_part};
 ghost use Rattle.lu_lint.specs.Said as said;
 ghost use Rattle.lu_lint.specs.Said.{said_of};
 
@@ -37,7 +37,7 @@ pub enum FaultKind {
 impl FaultKind {
     /// The code of the refusal, as `L1`.
     pub fn code(self) -> &'static str
-        ensures { result.now ≡ fault_code self }
+        ensures { result.now ≡ refusal_code self }
     {
         match self {
             FaultKind::Component(kind) => kind.code(),
@@ -249,8 +249,8 @@ pub(crate) fn with_words(
 }
 
 /// The line so many lines with words before a line.
-pub(crate) fn place_of(seen: &[usize], line: usize, back: usize) -> usize
-    ensures { result ≡ spec.place_of seen.now line back }
+pub(crate) fn line_before(seen: &[usize], line: usize, back: usize) -> usize
+    ensures { result ≡ spec.line_before seen.now line back }
 {
     let place = seen.len().saturating_sub(back);
     match seen.get(place) {

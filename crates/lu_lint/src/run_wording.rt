@@ -1,7 +1,7 @@
 //! The words of a warning by runs.
 
 use crate::remark::{Ending, RunHint, SerialHint};
-use crate::runs::{Test, count_of};
+use crate::runs::{Test, operation_count};
 use lu_history::SerialOp;
 use lu_test::Call;
 use std::alloc::{AllocError, Global};
@@ -51,7 +51,7 @@ fn write_behind(text: &mut String, test: Test<'_>, ops: &[SerialOp]) -> Result<(
         if place > 0 {
             text.push_str(", ")?;
         }
-        write_call_of(text, test, op.thread, count_of(op.thread, before))?;
+        write_call_of(text, test, op.thread, operation_count(op.thread, before))?;
     }
     Ok(())
 }

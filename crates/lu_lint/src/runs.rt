@@ -9,10 +9,10 @@ ghost use Rattle.lu_machine.specs.Starts.{CanRun, FromEachStart};
 ghost use Rattle.lu_trie.specs.Members.{empty_if, history_cmp};
 ghost use Rattle.lu_serial.specs.Serial as serial;
 ghost use Rattle.lu_lint.specs.Runs as spec;
-ghost use Rattle.lu_lint.specs.Runs.{AreShown, CanPlay, HintsOfCut, Plays, RunsOf, Show, ShownBySetup, ShownSerially, history_hints, set_hints, with_firsts};
+ghost use Rattle.lu_lint.specs.Runs.{AreShownHints, CanPlay, HintsOfCut, ShowsHistory, RunsOf, Show, ShownBySetup, ShownSerially, history_hints, set_hints, with_firsts};
 ghost use Rattle.lu_lint.specs.declared.remark.RunHint.TheVariants.{Serial, SetupGoesOn};
 ghost use Rattle.lu_lint.specs.Said.{said_of};
-ghost use Rattle.lu_lint.specs.Third.{Adds};
+ghost use Rattle.lu_lint.specs.Third.{SaysFurther};
 ghost use Rattle.lu_text.specs.Lines.{texts};
 
 use crate::remark::{
@@ -78,8 +78,8 @@ fn setup_hints(
 }
 
 /// The number of operations of this thread.
-pub(crate) fn count_of(thread: u8, ops: &[SerialOp]) -> usize
-    ensures { result ≡ spec.count_of thread ops.now }
+pub(crate) fn operation_count(thread: u8, ops: &[SerialOp]) -> usize
+    ensures { result ≡ spec.operation_count thread ops.now }
 {
     ops.iter().filter(|op| op.thread == thread).count()
 }
@@ -130,7 +130,7 @@ fn hint_of(
 {
     Ok(SerialHint {
         thread,
-        call: count_of(thread, before),
+        call: operation_count(thread, before),
         ending,
         behind: Operations::new(Vec::from_slice(alloc, before)?),
     })
@@ -187,7 +187,7 @@ fn with_end(
     path: &[SerialOp],
 ) -> Result<Vec<SerialHint>, AllocError>
     ensures { IfOk result (λ next.
-        next.items ≡ spec.with_behind told.items path.now (empty_if ends)) }
+        next.items ≡ spec.with_histories_behind told.items path.now (empty_if ends)) }
 {
     if ends {
         with_history(alloc, told, path)
@@ -206,7 +206,8 @@ fn with_below<T: SerialTree>(
 ) -> Result<Vec<SerialHint>, AllocError>
     requires { T.is_place tree.now place }
     ensures hints { IfOk result (λ next.
-        next.items ≡ spec.with_behind told.items path.old.items (T.below tree.now place)) }
+        next.items
+        ≡ spec.with_histories_behind told.items path.old.items (T.below tree.now place)) }
     ensures path { IfOk result (λ next. path.new.items ≡ path.old.items) }
 {
     told = with_end(alloc, told, tree.ends(place), path)?;
@@ -252,7 +253,7 @@ fn played(
     requires run { CanRun component.now matrix.now }
     requires feasible { FromEachStart component.now matrix.now (CanPlay schedule.now) }
     ensures { IfOk result (λ history.
-        FromEachStart component.now matrix.now (Plays schedule.now history.items)) }
+        FromEachStart component.now matrix.now (ShowsHistory schedule.now history.items)) }
 {
     let mut machine = Machine::start(alloc, component, matrix)?;
     let mut history = Vec::new(alloc);
@@ -368,7 +369,7 @@ fn settled_hints(
     requires of { CanRun component.now matrix.now }
     requires some { 1 ≤ bound }
     requires few { bound ≤ 256 }
-    ensures { IfOk result (λ hints. AreShown component.now matrix.now bound hints.items) }
+    ensures { IfOk result (λ hints. AreShownHints component.now matrix.now bound hints.items) }
 {
     let setup = setup_hints(alloc, component, matrix)?;
     let serial = serial_hints(alloc, component, matrix, bound)?;
@@ -470,8 +471,8 @@ fn hint_line(setup: &[usize], threads: &[usize], hint: &RunHint) -> usize
 }
 
 /// What is said of a hint.
-fn shown(above: usize, setup: &[usize], threads: &[usize], hint: RunHint) -> Said
-    ensures { result ≡ spec.shown above setup.now threads.now hint }
+fn said_of_hint(above: usize, setup: &[usize], threads: &[usize], hint: RunHint) -> Said
+    ensures { result ≡ spec.said_of_hint above setup.now threads.now hint }
 {
     Said {
         place: line_below(above, hint_line(setup, threads, &hint)),
@@ -503,7 +504,7 @@ fn with_hints(
     let threads = lines_with(alloc, b"thread", text)?;
     for hint in hints {
         let words = run_wording(alloc, test, &hint)?;
-        all = with_remark(all, shown(above, &setup, &threads, hint), words)?;
+        all = with_remark(all, said_of_hint(above, &setup, &threads, hint), words)?;
     }
     Ok(all)
 }
@@ -512,24 +513,18 @@ fn with_hints(
 pub(crate) fn with_runs_of(
     alloc: Global,
     all: Vec<Remark>,
-    component: &Component,
-    matrix: &Matrix,
-    bound: u16,
+    test: Test<'_>,
     above: usize,
     text: &[u8],
 ) -> Result<Vec<Remark>, AllocError>
-    requires of { IsOf matrix.now component.now }
-    requires some { 1 ≤ bound }
-    requires few { bound ≤ 256 }
+    requires of { IsOf test.matrix.now test.component.now }
+    requires some { 1 ≤ test.bound }
+    requires few { test.bound ≤ 256 }
     ensures { IfOk result (λ next.
-        Adds (RunsOf bound component.now matrix.now above text.now)
+        SaysFurther (RunsOf test.entry.bound test.entry.component.now test.entry.matrix.now
+        above text.now)
         (said_of all.items) (said_of next.items)) }
 {
-    let hints = hints_of(alloc, component, matrix, bound)?;
-    let test = Test {
-        component,
-        matrix,
-        bound,
-    };
+    let hints = hints_of(alloc, test.component, test.matrix, test.bound)?;
     with_hints(alloc, all, test, above, text, hints)
 }

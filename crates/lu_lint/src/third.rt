@@ -4,7 +4,7 @@ ghost use Rattle.std.specs.Prelude.{◌≡◌, ◌++◌, IfOk, codes, map, take}
 ghost use Rattle.std.specs.Str.{bytes_eq};
 ghost use Rattle.lu_lint.specs.Said.{said_of};
 ghost use Rattle.lu_lint.specs.Third as spec;
-ghost use Rattle.lu_lint.specs.Third.{Adds, ReportSaid, SpecificationSaid, ThirdSaid};
+ghost use Rattle.lu_lint.specs.Third.{SaysFurther, ReportSaid, SpecificationSaid, ThirdSaid};
 
 use crate::bundle::kept_in;
 use crate::remark::{Cause, FaultKind, Remark, Said, line_below, with_remark};
@@ -89,7 +89,7 @@ fn with_report(
     text: &[u8],
 ) -> Result<Vec<Remark>, AllocError>
     ensures { IfOk result (λ next.
-        Adds (ReportSaid above text.now) (said_of all.items) (said_of next.items)) }
+        SaysFurther (ReportSaid above text.now) (said_of all.items) (said_of next.items)) }
 {
     let lines = kept_in(alloc, text)?;
     let faults = report_faults(alloc, &lines)?;
@@ -134,7 +134,7 @@ fn with_specification(
     above: usize,
     text: &[u8],
 ) -> Result<Vec<Remark>, AllocError>
-    ensures { IfOk result (λ next. Adds (SpecificationSaid matrix.now above text.now)
+    ensures { IfOk result (λ next. SaysFurther (SpecificationSaid matrix.now above text.now)
         (said_of all.items) (said_of next.items)) }
 {
     let lines = kept_in(alloc, text)?;
@@ -151,7 +151,7 @@ fn with_specification_of(
     above: usize,
     text: &[u8],
 ) -> Result<Vec<Remark>, AllocError>
-    ensures { IfOk result (λ next. Adds (spec.SaidOfSome matrix.now above text.now)
+    ensures { IfOk result (λ next. SaysFurther (spec.SaidOfSome matrix.now above text.now)
         (said_of all.items) (said_of next.items)) }
 {
     match matrix {
@@ -167,7 +167,7 @@ fn with_third_schedule(
     above: usize,
     text: &[u8],
 ) -> Result<Vec<Remark>, AllocError>
-    ensures { IfOk result (λ next. Adds (spec.ScheduleSaid above text.now)
+    ensures { IfOk result (λ next. SaysFurther (spec.ScheduleSaid above text.now)
         (said_of all.items) (said_of next.items)) }
 {
     let all = with_schedule(alloc, all, above, text)?;
@@ -183,7 +183,7 @@ pub(crate) fn with_third(
     text: &[u8],
 ) -> Result<Vec<Remark>, AllocError>
     ensures { IfOk result (λ next.
-        Adds (ThirdSaid (spec.third_of text.now) matrix.now above text.now)
+        SaysFurther (ThirdSaid (spec.third_of text.now) matrix.now above text.now)
         (said_of all.items) (said_of next.items)) }
 {
     match third_of(text) {

@@ -10,7 +10,7 @@ ghost use Rattle.lu_lint.specs.Warnings as spec;
 ghost use Rattle.lu_lint.specs.Warnings.{warnings_in, warnings_of_lines};
 ghost use Rattle.lu_text.specs.Lines.{texts};
 
-use crate::remark::{Cause, Hint, Position, Remark, Said, place_of, with_remark, with_words};
+use crate::remark::{Cause, Hint, Position, Remark, Said, line_before, with_remark, with_words};
 use crate::warning_wording::warning_wording;
 use lu_component::{Arithmetic, Component, Instr};
 use lu_lang::{Draft, Label, OpenOp, Statement, line_or_fault};
@@ -19,7 +19,7 @@ use std::alloc::{AllocError, Global};
 
 /// A hint, which stands so many lines with words before a line.
 #[derive(Clone, Copy, Debug, Drop)]
-pub(crate) struct Found {
+pub(crate) struct FoundHint {
     pub back: usize,
     pub hint: Hint,
 }
@@ -149,8 +149,8 @@ fn returns_by(op: &OpenOp, row: &[bool], place: usize, statement: &Statement) ->
     }
 }
 
-fn next_row(alloc: Global, op: &OpenOp, row: &[bool]) -> Result<Vec<bool>, AllocError>
-    ensures { IfOk result (λ next. next.items ≡ spec.next_row op.now row.now) }
+fn next_returns(alloc: Global, op: &OpenOp, row: &[bool]) -> Result<Vec<bool>, AllocError>
+    ensures { IfOk result (λ next. next.items ≡ spec.next_returns op.now row.now) }
 {
     op.statements
         .iter()
@@ -172,19 +172,19 @@ fn returns_from(alloc: Global, op: &OpenOp) -> Result<Vec<bool>, AllocError>
 {
     let mut row = no_row(alloc, op)?;
     for _round in 0..op.statements.len() {
-        row = next_row(alloc, op, &row)?;
+        row = next_returns(alloc, op, &row)?;
     }
     Ok(row)
 }
 
 /// That no return is reached, on the operation's `op` line.
-fn return_hints(alloc: Global, op: &OpenOp) -> Result<Vec<Found>, AllocError>
+fn return_hints(alloc: Global, op: &OpenOp) -> Result<Vec<FoundHint>, AllocError>
     ensures { IfOk result (λ hints. hints.items ≡ spec.return_hints op.now) }
 {
     let row = returns_from(alloc, op)?;
     let mut hints = Vec::new(alloc);
     if !holds_at(&row, 0) {
-        hints.push(Found {
+        hints.push(FoundHint {
             back: op.statements.len() + 1,
             hint: Hint::NoReturn,
         })?;
@@ -192,8 +192,8 @@ fn return_hints(alloc: Global, op: &OpenOp) -> Result<Vec<Found>, AllocError>
     Ok(hints)
 }
 
-fn leads_to(name: &[u8], statement: &Statement) -> bool
-    ensures { result ≡ spec.leads_to name.now (label_used statement.now) }
+fn jumps_to_label(name: &[u8], statement: &Statement) -> bool
+    ensures { result ≡ spec.jumps_to_label name.now (label_used statement.now) }
 {
     match statement {
         Statement::Plain(_) => false,
@@ -203,9 +203,11 @@ fn leads_to(name: &[u8], statement: &Statement) -> bool
 }
 
 fn is_used(statements: &[Statement], name: &[u8]) -> bool
-    ensures { result ≡ list_any (λ s. spec.leads_to name.now (label_used s)) statements.now }
+    ensures { result ≡ list_any (λ s. spec.jumps_to_label name.now (label_used s)) statements.now }
 {
-    statements.iter().any(|statement| leads_to(name, statement))
+    statements
+        .iter()
+        .any(|statement| jumps_to_label(name, statement))
 }
 
 /// Whether no jump of the operation leads to the label.
@@ -216,14 +218,14 @@ fn is_unused(statements: &[Statement], label: &Label) -> bool
 }
 
 /// The labels to which no jump of the operation leads.
-fn label_hints(alloc: Global, op: &OpenOp) -> Result<Vec<Found>, AllocError>
+fn label_hints(alloc: Global, op: &OpenOp) -> Result<Vec<FoundHint>, AllocError>
     ensures { IfOk result (λ hints. hints.items ≡ spec.label_hints op.now) }
 {
     let all = op.statements.len();
     op.labels
         .iter()
         .filter(|label| is_unused(&op.statements, label))
-        .map(|label| Found {
+        .map(|label| FoundHint {
             back: all.saturating_sub(usize::from(label.place)),
             hint: Hint::UnusedLabel,
         })
@@ -355,7 +357,7 @@ fn spins_at(op: &OpenOp, place: usize, statement: &Statement) -> bool
 }
 
 /// The jumps back without waiting.
-fn spin_hints(alloc: Global, op: &OpenOp) -> Result<Vec<Found>, AllocError>
+fn spin_hints(alloc: Global, op: &OpenOp) -> Result<Vec<FoundHint>, AllocError>
     ensures { IfOk result (λ hints. hints.items ≡ spec.spin_hints op.now) }
 {
     let all = op.statements.len();
@@ -363,7 +365,7 @@ fn spin_hints(alloc: Global, op: &OpenOp) -> Result<Vec<Found>, AllocError>
         .iter()
         .enumerate()
         .filter(|(place, statement)| spins_at(op, *place, statement))
-        .map(|(place, _)| Found {
+        .map(|(place, _)| FoundHint {
             back: all.saturating_sub(place),
             hint: Hint::Spin,
         })
@@ -371,7 +373,7 @@ fn spin_hints(alloc: Global, op: &OpenOp) -> Result<Vec<Found>, AllocError>
 }
 
 /// The hints at the `end` of an operation.
-fn end_hints(alloc: Global, op: &OpenOp) -> Result<Vec<Found>, AllocError>
+fn end_hints(alloc: Global, op: &OpenOp) -> Result<Vec<FoundHint>, AllocError>
     ensures { IfOk result (λ hints. hints.items ≡ spec.end_hints op.now) }
 {
     let mut labels = label_hints(alloc, op)?;
@@ -383,12 +385,12 @@ fn end_hints(alloc: Global, op: &OpenOp) -> Result<Vec<Found>, AllocError>
 }
 
 /// The hint, unless what it is about is named.
-fn unless(alloc: Global, named: bool, hint: Hint) -> Result<Vec<Found>, AllocError>
+fn unless(alloc: Global, named: bool, hint: Hint) -> Result<Vec<FoundHint>, AllocError>
     ensures { IfOk result (λ hints. hints.items ≡ spec.unless named hint) }
 {
     let mut hints = Vec::new(alloc);
     if !named {
-        hints.push(Found { back: 0, hint })?;
+        hints.push(FoundHint { back: 0, hint })?;
     }
     Ok(hints)
 }
@@ -399,7 +401,7 @@ fn outside_hints(
     component: &Component,
     draft: &Draft,
     word: &[u8],
-) -> Result<Vec<Found>, AllocError>
+) -> Result<Vec<FoundHint>, AllocError>
     ensures { IfOk result (λ hints.
         hints.items ≡ spec.state_hints component.now draft.now None word.now) }
 {
@@ -420,7 +422,7 @@ fn state_hints(
     component: &Component,
     draft: &Draft,
     word: &[u8],
-) -> Result<Vec<Found>, AllocError>
+) -> Result<Vec<FoundHint>, AllocError>
     ensures { IfOk result (λ hints.
         hints.items ≡ spec.state_hints component.now draft.now draft.now.begun word.now) }
 {
@@ -441,7 +443,7 @@ fn words_hints(
     component: &Component,
     draft: &Draft,
     words: &[&[u8]],
-) -> Result<Vec<Found>, AllocError>
+) -> Result<Vec<FoundHint>, AllocError>
     ensures { IfOk result (λ hints.
         hints.items ≡ spec.words_hints component.now draft.now (texts words.now)) }
 {
@@ -457,7 +459,7 @@ fn line_hints(
     component: &Component,
     draft: &Draft,
     text: &[u8],
-) -> Result<Vec<Found>, AllocError>
+) -> Result<Vec<FoundHint>, AllocError>
     ensures { IfOk result (λ hints.
         hints.items ≡ spec.line_hints component.now draft.now text.now) }
 {
@@ -472,7 +474,7 @@ fn with_found(
     at: &Position,
     draft: &Draft,
     text: &[u8],
-    hints: &[Found],
+    hints: &[FoundHint],
 ) -> Result<Vec<Remark>, AllocError>
     ensures { IfOk result (λ next. said_of next.items ≡
         said_of all.items ++ map (spec.warned at.now.seen.items at.now.line) hints.now) }
@@ -480,7 +482,7 @@ fn with_found(
     for found in hints {
         let words = warning_wording(alloc, draft, text, found.hint, found.back)?;
         let said = Said {
-            place: place_of(&at.seen, at.line, found.back),
+            place: line_before(&at.seen, at.line, found.back),
             cause: Cause::Warning(found.hint),
         };
         all = with_remark(all, said, words)?;

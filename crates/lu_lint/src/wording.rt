@@ -224,7 +224,10 @@ fn form_instruction(
                 shape.form
             )
         }
-        [] => String::from_str(alloc, "a word here is no name"),
+        [] => String::from_str(
+            alloc,
+            "a label stands before an instruction, and `end` is none",
+        ),
     }
 }
 

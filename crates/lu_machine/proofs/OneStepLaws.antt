@@ -19,7 +19,7 @@ use Rattle.lu_machine.specs.Effects.{Effect}
 use Rattle.lu_machine.specs.Effects.Effect.{Ends}
 use Rattle.lu_machine.specs.declared.thread.Thread.{Thread}
 use Rattle.lu_machine.specs.Effects.{value_of, computed, onward, onward_at, onward_with}
-use Rattle.lu_machine.specs.States.{State, cell_at, instr_at, call_count, value_at, owner_of, with_cell, with_owner, with_thread}
+use Rattle.lu_machine.specs.States.{State, cell_at, instr_at, call_count, value_at, owner_of, with_cell, with_owner, with_standing}
 use Rattle.lu_machine.specs.Steps.{Carries, ByActivity, OneStep, IsFeasible, activity_picks, choices, event_after, instr_picks, is_blocked, opened, owns, thread_after}
 
 match_same : {A : Type 0} (o : Option ℕ) (x : A) (g : ℕ → A) (e f : A) → MatchOption o (e ≡ x) (λ p. e ≡ g p) → MatchOption o (f ≡ x) (λ p. f ≡ g p) → e ≡ f
@@ -80,13 +80,13 @@ carries_same s m f (Return v) a b d e h k = pair_same _ a b _ d e h k
 activity_same : (s : State) (m : Move) (done : ℕ) (activity : Activity) (a b : State) (e f : Option Event) → ByActivity s m done activity a e → ByActivity s m done activity b f → (a ≡ b) × (e ≡ f)
 activity_same s m done Idle a b e f h k =
     let same : h.0 ≡ k.0 = same_Some h.0 k.0 (sym h.1 ∙ k.1) in
-    let after : Call → State = λ call. with_thread s m.thread (record { done = done; activity = Open (opened call) }) in
+    let after : Call → State = λ call. with_standing s m.thread (record { done = done; activity = Open (opened call) }) in
     (h.3 ∙ ap after same ∙ sym k.3, h.4 ∙ sym k.4)
 activity_same s m done (Open frame) a b e f h k =
     let same : k.0 ≡ h.0 = same_Some k.0 h.0 (sym k.3 ∙ h.3) in
     let by : Carries s m frame h.0 k.1 k.2 = rw same at k.5 in
     let one = carries_same s m frame h.0 h.1 k.1 h.2 k.2 h.5 by in
-    let after : State → Effect → State = λ mid effect. with_thread mid m.thread (thread_after done effect) in (
+    let after : State → Effect → State = λ mid effect. with_standing mid m.thread (thread_after done effect) in (
       h.6 ∙ ap (λ (mid : State). after mid h.2) one.0 ∙ ap (after k.1) one.1 ∙ sym k.6,
       h.7 ∙ ap (event_after m.thread done) one.1 ∙ sym k.7,
     )
@@ -211,13 +211,13 @@ instr_exists s m done f None at h = absurd (omega arith)
 instr_exists s m done f (Some instr) at h =
     let free = picks_free (is_blocked s f instr) (choices instr) m.pick h in
     let by = carries_exists s m f instr free.0 in
-    (with_thread by.0 m.thread (thread_after done by.1), event_after m.thread done by.1, (instr, by.0, by.1, at, free.1, by.2, refl, refl))
+    (with_standing by.0 m.thread (thread_after done by.1), event_after m.thread done by.1, (instr, by.0, by.1, at, free.1, by.2, refl, refl))
 
 activity_exists : (s : State) (m : Move) (done : ℕ) (activity : Activity) → m.pick < activity_picks s m.thread done activity → (new : State) × (event : Option Event) × ByActivity s m done activity new event
 activity_exists s m done Idle h =
     let p = some_left done (call_count s m.thread) m.pick h in
     let at = some_call (calls_of s.matrix m.thread) done p.0 in
-    (with_thread s m.thread (record { done = done; activity = Open (opened at.0) }), Some (Called m.thread done), (at.0, at.1, p.1, refl, refl))
+    (with_standing s m.thread (record { done = done; activity = Open (opened at.0) }), Some (Called m.thread done), (at.0, at.1, p.1, refl, refl))
   where
     some_left : (done many pick : ℕ) → pick < (if nat_lt done many then 1 else 0) → (done < many) × (pick ≡ 0)
     some_left done many pick h = grind (arith, nat_tests)

@@ -15,7 +15,7 @@ use Rattle.lu_machine.specs.declared.program.Task.{Task}
 use Rattle.lu_machine.specs.declared.thread.Frame.{Frame}
 use Rattle.lu_test.specs.declared.schedule.Move.{Move}
 use Rattle.lu_machine.specs.Layout.{IsSound}
-use Rattle.lu_machine.specs.States.{State, instr_at, with_thread}
+use Rattle.lu_machine.specs.States.{State, instr_at, with_standing}
 use Rattle.lu_machine.specs.Changes.{at_work, effect_of}
 use Rattle.lu_machine.specs.Undoes.{with_shared}
 use Rattle.lu_machine.specs.declared.event.Event.{Event}
@@ -25,7 +25,7 @@ use Rattle.lu_machine.specs.declared.thread.Activity.TheVariants.{Open}
 use Rattle.lu_machine.specs.declared.thread.Change.{Change}
 use Rattle.lu_machine.specs.declared.thread.Thread.{Thread}
 use Rattle.lu_machine.specs.Steps.{Carries, IsFeasible, OneStep, activity_picks, choices, event_after, instr_picks, is_blocked, opened, thread_after}
-use Rattle.lu_machine.specs.Tasks.{IsAwaitable, agenda_of, no_frame, no_task, row_of, rows_of, task_at, task_of, task_picks, wait_of, waits}
+use Rattle.lu_machine.specs.Tasks.{IsAwaitable, agenda_of, no_frame, no_task, task_row, rows_of, task_at, task_of, task_picks, wait_of, has_to_wait}
 use Rattle.lu_machine.proofs.Moves.{all_at, calls_few}
 
 -- the next place of a list that is filled from its front
@@ -44,7 +44,7 @@ row_more f n d xs i x e below room read =
 
 -- an instruction waits where it is blocked
 
-blocked_waits : (s : State) (f : Frame) (instr : Instr) → option_map_or (waits s f) (wait_of instr) false ≡ is_blocked s f instr
+blocked_waits : (s : State) (f : Frame) (instr : Instr) → option_map_or (has_to_wait s f) (wait_of instr) false ≡ is_blocked s f instr
 blocked_waits s f (Set to v) = refl
 blocked_waits s f (Compute by to a b) = refl
 blocked_waits s f (Load to w i) = refl
@@ -120,8 +120,8 @@ task_is c op place row task d within inside row_is is =
   where
     by_op : (o : Op) → slice_get c.operations op ≡ Some o → task ≡ option_map_or task_of (instr_at c op place) no_task
     by_op o at =
-        let same : row ≡ row_of o.code = row_is ∙ map_at (λ (x : Op). row_of x.code) c.operations op o row at in
-        let there : get_or (row_of o.code) place d ≡ option_map_or task_of (slice_get o.code place) no_task = row_get task_of no_task o.code (65 - length o.code) place d (omega (arith, inside)) in
+        let same : row ≡ task_row o.code = row_is ∙ map_at (λ (x : Op). task_row x.code) c.operations op o row at in
+        let there : get_or (task_row o.code) place d ≡ option_map_or task_of (slice_get o.code place) no_task = row_get task_of no_task o.code (65 - length o.code) place d (omega (arith, inside)) in
         rw at (is ∙ ap (λ (x : List Task). get_or x place d) same ∙ there)
 
 -- a call of a thread stands as it is opened among those of all, and its operation is one of the component's
@@ -245,7 +245,7 @@ unblocked false pick n h = h
 
 -- what it carries out so is a step
 pub steps_so : (s new : State) (m : Move) (standing : Thread) (f : Frame) (instr : Instr) (change : Change) (shared : Shared) (event : Option Event) → slice_get s.threads m.thread ≡ Some standing → standing.activity ≡ Open f → CanAct s m f instr → Carries s m f instr (with_shared s shared) (effect_of f change)
-    → ((g : Frame) → slice_get s.threads m.thread ≡ Some (at_work standing.done g) → new ≡ with_thread (with_shared s shared) m.thread (thread_after standing.done (effect_of g change))) → ((g : Frame) → event ≡ event_after m.thread standing.done (effect_of g change)) → OneStep s m new event
+    → ((g : Frame) → slice_get s.threads m.thread ≡ Some (at_work standing.done g) → new ≡ with_standing (with_shared s shared) m.thread (thread_after standing.done (effect_of g change))) → ((g : Frame) → event ≡ event_after m.thread standing.done (effect_of g change)) → OneStep s m new event
 steps_so s new m standing f instr change shared event stands is can carries after shown =
     let here : slice_get s.threads m.thread ≡ Some (at_work standing.done f) = stands ∙ ap (λ (a : Activity). Some (let x : Thread = record { done = standing.done; activity = a } in x)) is in
     (standing, stands, rw is (instr, with_shared s shared, effect_of f change, can.at, unblocked (is_blocked s f instr) m.pick (choices instr) can.feasible, carries, after f here, shown f))

@@ -13,11 +13,11 @@ use Rattle.lu_machine.specs.declared.thread.Frame.{Frame}
 use Rattle.lu_machine.specs.declared.thread.Activity.{Activity}
 use Rattle.lu_machine.specs.declared.thread.Activity.TheVariants.{Idle, Open}
 use Rattle.lu_machine.specs.declared.thread.Thread.{Thread}
-use Rattle.lu_machine.specs.declared.thread.Was.{Was}
+use Rattle.lu_machine.specs.declared.thread.OperationBefore.{OperationBefore}
 use Rattle.lu_machine.specs.declared.undo.Undo.{Undo}
 use Rattle.lu_machine.specs.Effects.{computed, value_of}
 use Rattle.lu_machine.specs.Effects.Effect.{GoesOn}
-use Rattle.lu_machine.specs.States.{State, instr_at, with_thread}
+use Rattle.lu_machine.specs.States.{State, instr_at, with_standing}
 use Rattle.lu_machine.specs.Changes.{before}
 use Rattle.lu_machine.specs.Undoes.{CanTake, has_local, restored, with_shared, with_thread_back}
 use Rattle.lu_machine.specs.Steps.{Carries, IsFeasible, OneStep, RunsOn, activity_is_local, choices, is_at_local, is_local}
@@ -56,7 +56,7 @@ pub record GoesOnce (s : State) (t : ℕ) : Type 0 where
   pub before : Frame
   pub is_open : standing.activity ≡ Open before
   pub after : Frame
-  pub step : OneStep s (record { thread = t; pick = 0 }) (with_thread s t (record { done = standing.done; activity = Open after })) None
+  pub step : OneStep s (record { thread = t; pick = 0 }) (with_standing s t (record { done = standing.done; activity = Open after })) None
 
 instr_once : (s : State) (t : ℕ) (standing : Thread) → slice_get s.threads t ≡ Some standing → (f : Frame) → standing.activity ≡ Open f → (o : Option Instr) → instr_at s.component f.op f.place ≡ o → option_map_or is_local o false ≡ true → GoesOnce s t
 instr_once s t standing stands f is None at h = cc
@@ -88,7 +88,7 @@ local_once s t h = thread_once s t (slice_get s.threads t) refl h
 pub local_feasible : (s : State) (t : ℕ) → is_at_local s t ≡ true → IsFeasible s (record { thread = t; pick = 0 })
 local_feasible s t h =
     let once = local_once s t h in
-    one_feasible s (record { thread = t; pick = 0 }) (with_thread s t (record { done = once.standing.done; activity = Open once.after })) None once.step
+    one_feasible s (record { thread = t; pick = 0 }) (with_standing s t (record { done = once.standing.done; activity = Open once.after })) None once.step
 
 -- a thread runs on to one state
 pub runs_same : (n : ℕ) (s : State) (t : ℕ) (a b : State) → RunsOn n s t a → RunsOn n s t b → a ≡ b
@@ -109,7 +109,7 @@ runs_somewhere (suc n) s t = by_test (λ x. runs_somewhere n x t) (is_at_local s
     by_test : ((x : State) → (end : State) × RunsOn n x t end) → (test : Bool) → is_at_local s t ≡ test → (end : State) × MatchBool test ((next : State) × OneStep s (record { thread = t; pick = 0 }) next None × RunsOn n next t end) (end ≡ s)
     by_test go true is =
         let once = local_once s t is in
-        let next = with_thread s t (record { done = once.standing.done; activity = Open once.after }) in
+        let next = with_standing s t (record { done = once.standing.done; activity = Open once.after }) in
         let rest = go next in
         (rest.0, (next, once.step, rest.1))
     by_test go false is = (s, refl)
@@ -126,7 +126,7 @@ goes_nowhere done (Open f) = (f, refl)
 -- thread t, which stood so, runs on in its operation, and nothing else changes
 pub record Ran (s : State) (t : ℕ) (standing : Thread) (end : State) : Type 0 where
   pub now : Thread
-  pub moved : end ≡ with_thread s t now
+  pub moved : end ≡ with_standing s t now
   pub goes : GoesOnTo standing.done standing.activity now
 
 ran_nowhere : (s : State) (t : ℕ) (end : State) (standing : Thread) → slice_get s.threads t ≡ Some standing → end ≡ s → Ran s t standing end
@@ -145,9 +145,9 @@ ran (suc n) s t end standing stands h = by_test (ran n) (is_at_local s t) refl h
         let once = local_once s t is in
         let same : standing ≡ once.standing = same_Some standing once.standing (sym stands ∙ once.stands) in
         let now : Thread = record { done = once.standing.done; activity = Open once.after } in
-        let next = one_same s (record { thread = t; pick = 0 }) h.0 (with_thread s t now) None None h.1 once.step in
-        let there : slice_get (with_thread s t now).threads t ≡ Some now = moved_there s t now standing stands in
-        let rest = go (with_thread s t now) t end now there (subst (λ x. RunsOn n x t end) next.0 h.2) in
+        let next = one_same s (record { thread = t; pick = 0 }) h.0 (with_standing s t now) None None h.1 once.step in
+        let there : slice_get (with_standing s t now).threads t ≡ Some now = moved_there s t now standing stands in
+        let rest = go (with_standing s t now) t end now there (subst (λ x. RunsOn n x t end) next.0 h.2) in
         let goes : GoesOnTo once.standing.done once.standing.activity rest.now = rw once.is_open rest.goes in
         record {
           now = rest.now;
@@ -167,7 +167,7 @@ there_is s t d within = slice_get-get_or s.threads t d within
 
 -- what puts a whole operation back does so wherever the thread has gone on to
 
-same_activity : (event : Option Event) (was : Was) (done : ℕ) (activity : Activity) (on : Thread) → GoesOnTo done activity on → before true event was on ≡ before true event was (record { done = done; activity = activity })
+same_activity : (event : Option Event) (was : OperationBefore) (done : ℕ) (activity : Activity) (on : Thread) → GoesOnTo done activity on → before true event was on ≡ before true event was (record { done = done; activity = activity })
 same_activity (Some (Called t k)) was done Idle on is = rw is refl
 same_activity (Some (Called t k)) was done (Open f) on is = rw is.1 refl
 same_activity (Some (Returned t k outcome)) was done activity on is = refl
@@ -184,7 +184,7 @@ run_back s mid undo t n end same some back fits runs =
     let on = ran n mid t end now there runs in
     let whole : Thread → Thread = before (has_local mid) undo.event undo.was in
     let alike : whole on.now ≡ whole now = rw some (same_activity undo.event undo.was now.done now.activity on.now on.goes) in
-    let still : with_thread_back (with_shared (with_thread mid t on.now) undo.overwritten) t whole ≡ with_thread_back (with_shared mid undo.overwritten) t whole = still_back mid undo.overwritten t now on.now whole there alike in
+    let still : with_thread_back (with_shared (with_standing mid t on.now) undo.overwritten) t whole ≡ with_thread_back (with_shared mid undo.overwritten) t whole = still_back mid undo.overwritten t now on.now whole there alike in
     rw (on.moved, same) (still ∙ subst (λ i. with_thread_back (with_shared mid undo.overwritten) i whole ≡ s) same back)
 
 -- and the state after it has all that this puts back

@@ -13,7 +13,7 @@ use Rattle.lu_machine.specs.declared.thread.Frame.{Frame}
 use Rattle.lu_machine.specs.Changes.{at_work, effect_of}
 use Rattle.lu_machine.specs.Effects.{onward}
 use Rattle.lu_machine.specs.Effects.Effect.{Ends}
-use Rattle.lu_machine.specs.States.{State, cell_at, with_thread}
+use Rattle.lu_machine.specs.States.{State, cell_at, with_standing}
 use Rattle.lu_machine.specs.Steps.{Carries, OneStep, opened, thread_after}
 use Rattle.lu_machine.specs.Undoes.{with_shared}
 
@@ -52,9 +52,9 @@ Opens s t new event = (m : Move) → m.thread ≡ t → m.pick ≡ 0 → OneStep
 -- s with what the act does in the operation f, which is number `done` of thread t
 abbrev pub after_act : State → ℕ → ℕ → Frame → Act → State
 after_act s t done f act =
-    with_thread (with_shared s act.shared) t (thread_after done (effect_of f act.change))
+    with_standing (with_shared s act.shared) t (thread_after done (effect_of f act.change))
 
 -- the act is done in the open operation of thread t, which is number `done`
-abbrev pub GoesOn : State → ℕ → ℕ → Act → State → Type 0
-GoesOn s t done act new =
+abbrev pub IsDoneInOpen : State → ℕ → ℕ → Act → State → Type 0
+IsDoneInOpen s t done act new =
     (f : Frame) → slice_get s.threads t ≡ Some (at_work done f) → new ≡ after_act s t done f act

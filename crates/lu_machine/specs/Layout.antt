@@ -9,7 +9,7 @@ use Rattle.lu_machine.specs.declared.thread.Activity.{Activity}
 use Rattle.lu_machine.specs.declared.thread.Activity.TheVariants.{Idle, Open}
 use Rattle.lu_machine.specs.declared.thread.Frame.{Frame}
 use Rattle.lu_machine.specs.declared.thread.Thread.{Thread}
-use Rattle.lu_machine.specs.declared.thread.Was.{Was}
+use Rattle.lu_machine.specs.declared.thread.OperationBefore.{OperationBefore}
 use Rattle.lu_machine.specs.declared.program.Agenda.{Agenda}
 use Rattle.lu_machine.specs.declared.program.Task.{Task}
 use Rattle.lu_machine.specs.States.{State, first_cell, instr_at}
@@ -40,16 +40,16 @@ abbrev pub StandsIn : Declarations → Thread → Type 0
 StandsIn c thread = IsInCode c thread.activity
 
 -- so was the operation of which this was kept
-abbrev pub WasIn : Declarations → Was → Type 0
+abbrev pub WasIn : Declarations → OperationBefore → Type 0
 WasIn c was = (was.op < length c.operations) × (was.place ≤ 64)
 
 -- the operation of a thread that stood so, if one was open, is one of the component's
-abbrev pub StoodIn : Declarations → Thread → Was → Type 0
+abbrev pub StoodIn : Declarations → Thread → OperationBefore → Type 0
 StoodIn c standing was =
     (f : Frame) → standing.activity ≡ Open f → StandsIn c standing → WasIn c was
 
 -- the operation of thread t of s, if one was open, is one of the component's
-abbrev pub ThreadStoodIn : State → ℕ → Was → Type 0
+abbrev pub ThreadStoodIn : State → ℕ → OperationBefore → Type 0
 ThreadStoodIn s t was =
     (standing : Thread) (f : Frame) → slice_get s.threads t ≡ Some standing
     → standing.activity ≡ Open f → WasIn s.component was

@@ -60,8 +60,8 @@ abbrev pub with_owner : State → ℕ → Option ℕ → State
 with_owner s l owner = record s { locks = slice_set s.locks l owner }
 
 -- s with thread t standing so
-abbrev pub with_thread : State → ℕ → Thread → State
-with_thread s t thread = record s { threads = slice_set s.threads t thread }
+abbrev pub with_standing : State → ℕ → Thread → State
+with_standing s t thread = record s { threads = slice_set s.threads t thread }
 
 -- whether an operation is open
 abbrev pub is_open : Activity → Bool

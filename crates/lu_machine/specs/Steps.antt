@@ -15,7 +15,7 @@ use Rattle.lu_machine.specs.declared.thread.Activity.TheVariants.{Idle, Open}
 use Rattle.lu_machine.specs.declared.thread.Thread.{Thread}
 use Rattle.lu_machine.specs.Effects.{Effect, value_of, computed, onward, onward_at, onward_with}
 use Rattle.lu_machine.specs.Effects.Effect.{GoesOn, Ends}
-use Rattle.lu_machine.specs.States.{State, cell_at, instr_at, call_count, value_at, owner_of, with_cell, with_owner, with_thread}
+use Rattle.lu_machine.specs.States.{State, cell_at, instr_at, call_count, value_at, owner_of, with_cell, with_owner, with_standing}
 
 -- whether thread t owns lock l
 abbrev pub owns : State → ℕ → ℕ → Bool
@@ -98,13 +98,13 @@ opened call =
 abbrev pub ByActivity : State → Move → ℕ → Activity → State → Option Event → Type 0
 ByActivity s m done Idle new event =
     (call : Call) × (slice_get (calls_of s.matrix m.thread) done ≡ Some call) × (m.pick ≡ 0)
-    × (new ≡ with_thread s m.thread (record { done = done; activity = Open (opened call) }))
+    × (new ≡ with_standing s m.thread (record { done = done; activity = Open (opened call) }))
     × (event ≡ Some (Called m.thread done))
 ByActivity s m done (Open f) new event =
     (instr : Instr) × (mid : State) × (effect : Effect)
     × (instr_at s.component f.op f.place ≡ Some instr) × (m.pick < choices instr)
     × Carries s m f instr mid effect
-    × (new ≡ with_thread mid m.thread (thread_after done effect))
+    × (new ≡ with_standing mid m.thread (thread_after done effect))
     × (event ≡ event_after m.thread done effect)
 
 -- By the move m the state s becomes `new`, with this event or none: the thread of m makes one call

@@ -31,12 +31,12 @@ abbrev pub no_task : Task
 no_task = record { picks = 0; wait = None; instr = Jump 0 }
 
 -- a task for each instruction, and behind them no tasks, up to 65 in all
-abbrev pub row_of : List Instr → List Task
-row_of code = map task_of code ++ replicate (65 - length code) no_task
+abbrev pub task_row : List Instr → List Task
+task_row code = map task_of code ++ replicate (65 - length code) no_task
 
 -- the tasks of each operation
 abbrev pub rows_of : Declarations → List (List Task)
-rows_of c = map (λ o. row_of o.code) c.operations
+rows_of c = map (λ o. task_row o.code) c.operations
 
 -- the task at the place of the operation f
 abbrev pub task_at : Declarations → Frame → Task
@@ -48,16 +48,16 @@ equals s f array index value =
     option_map (λ p. value_at s p == value_of f value) (cell_at s f array index)
 
 -- whether the operation f has to wait
-abbrev pub waits : State → Frame → Wait → Bool
-waits s f (Unowned l) = is_some (owner_of s l)
-waits s f (Equal w i v) =
+abbrev pub has_to_wait : State → Frame → Wait → Bool
+has_to_wait s f (Unowned l) = is_some (owner_of s l)
+has_to_wait s f (Equal w i v) =
     option_map_or (λ p. not (value_at s p == value_of f v)) (cell_at s f w i) false
-waits s f (Differs w i v) =
+has_to_wait s f (Differs w i v) =
     option_map_or (λ p. value_at s p == value_of f v) (cell_at s f w i) false
 
 -- how many picks a task of the operation f has: none where it waits
 abbrev pub task_picks : State → Frame → Task → ℕ
-task_picks s f task = if option_map_or (waits s f) task.wait false then 0 else task.picks
+task_picks s f task = if option_map_or (has_to_wait s f) task.wait false then 0 else task.picks
 
 -- s has the lock or the array that is waited for
 abbrev pub IsAwaitable : State → Wait → Type 0

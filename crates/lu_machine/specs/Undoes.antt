@@ -9,7 +9,7 @@ use Rattle.lu_machine.specs.declared.thread.Thread.{Thread}
 use Rattle.lu_machine.specs.Changes.{before}
 use Rattle.lu_machine.specs.Events.{IsEventInRange}
 use Rattle.lu_machine.specs.Layout.{WasIn}
-use Rattle.lu_machine.specs.States.{State, with_cell, with_owner, with_thread}
+use Rattle.lu_machine.specs.States.{State, with_cell, with_owner, with_standing}
 
 -- s with this value in its cell, or this owner of its lock
 abbrev pub with_shared : State → Shared → State
@@ -24,7 +24,7 @@ has_local s = nat_lt 0 s.component.local
 -- s with thread t put back so, where there is such a thread
 abbrev pub with_thread_back : State → ℕ → (Thread → Thread) → State
 with_thread_back s t back =
-    option_map_or (λ thread. with_thread s t (back thread)) (slice_get s.threads t) s
+    option_map_or (λ thread. with_standing s t (back thread)) (slice_get s.threads t) s
 
 -- The state before the move, from the state after it. Of an operation that went on all is put back
 -- where local instructions run with moves, and else its place and one register.

@@ -8,7 +8,7 @@ ghost use Rattle.lu_machine.specs.Effects.{value_of};
 ghost use Rattle.lu_machine.specs.Layout.{IsSound};
 ghost use Rattle.lu_machine.specs.States.{value_at};
 ghost use Rattle.lu_machine.specs.Steps.{instr_picks, is_blocked, is_local};
-ghost use Rattle.lu_machine.specs.Tasks.{IsAwaitable, equals, task_picks, waits};
+ghost use Rattle.lu_machine.specs.Tasks.{IsAwaitable, equals, task_picks, has_to_wait};
 ghost use Rattle.lu_machine.specs.Undoes.{IsThere};
 
 use crate::event::Outcome;
@@ -58,7 +58,7 @@ impl Machine<'_> {
         match &task.wait {
             None => task.picks,
             Some(wait) => {
-                if self.waits(frame, wait) {
+                if self.has_to_wait(frame, wait) {
                     0
                 } else {
                     task.picks
@@ -69,9 +69,9 @@ impl Machine<'_> {
 
     /// Whether the open operation has to wait for that.
     #[inline(always)]
-    fn waits(&self, frame: &Frame, wait: &Wait) -> bool
+    fn has_to_wait(&self, frame: &Frame, wait: &Wait) -> bool
         requires { IsAwaitable self.now wait.now }
-        ensures { result ≡ waits self.now frame.now wait.now }
+        ensures { result ≡ has_to_wait self.now frame.now wait.now }
     {
         match *wait {
             Wait::Unowned(lock) => self.owner(lock).is_some(),
@@ -96,7 +96,7 @@ impl Machine<'_> {
     {
         match wait_of(instr) {
             None => false,
-            Some(wait) => self.waits(frame, &wait),
+            Some(wait) => self.has_to_wait(frame, &wait),
         }
     }
 

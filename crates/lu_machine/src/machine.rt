@@ -7,9 +7,9 @@ ghost use Rattle.lu_machine.specs.declared.thread.Activity.TheVariants.{Open};
 ghost use Rattle.lu_machine.specs.declared.thread.Frame.{Frame as AFrame};
 ghost use Rattle.lu_component.specs.Component.{IsComponent, IsRegister};
 ghost use Rattle.lu_machine.specs.Changes.{ChangesThread, IsChange, at_work, before, effect_of, idle};
-ghost use Rattle.lu_machine.specs.States.{State as AState, call_count, cell_of, instr_at, owner_of, progress, value_at, with_cell, with_owner, with_thread};
+ghost use Rattle.lu_machine.specs.States.{State as AState, call_count, cell_of, instr_at, owner_of, progress, value_at, with_cell, with_owner, with_standing};
 ghost use Rattle.lu_machine.specs.Steps.{IsEnabled, IsFeasible, OneStep, RunsOn, Step, event_after, is_at_local, more_local, picks_of};
-ghost use Rattle.lu_machine.specs.Acts.{GoesOn, IsOpening, Opens};
+ghost use Rattle.lu_machine.specs.Acts.{IsDoneInOpen, IsOpening, Opens};
 ghost use Rattle.lu_machine.specs.Layout.{IsInCode, IsSound, IsSoundNext, IsStanding, StandsIn, ThreadStoodIn, WasIn};
 ghost use Rattle.lu_machine.specs.Events.{IsEventInRange};
 ghost use Rattle.lu_machine.specs.Ends.{HasStatus, IsFinished};
@@ -21,7 +21,7 @@ use crate::event::{Event, Status};
 use crate::instructions::{Act, is_local};
 use crate::program::{Agenda, Task, agendas, rows};
 use crate::span::{Span, lay_out};
-use crate::thread::{Activity, Change, Frame, Thread, Was, event_after};
+use crate::thread::{Activity, Change, Frame, OperationBefore, Thread, event_after};
 use crate::undo::{Shared, Undo};
 use lu_component::{Component, Instr};
 use lu_test::{Matrix, Move, setup_alone};
@@ -315,7 +315,7 @@ impl<'a> Machine<'a> {
         requires there { thread < length self.old.threads }
         requires stands { IsStanding standing }
         requires in_code { StandsIn self.old.component standing }
-        ensures { self.new ≡ with_thread self.old thread standing }
+        ensures { self.new ≡ with_standing self.old thread standing }
     {
         self.threads[usize::from(thread)] = standing;
     }
@@ -323,7 +323,7 @@ impl<'a> Machine<'a> {
     /// Changes the open operation of the thread, and says what that overwrote. With `WHOLE` true
     /// all registers are kept.
     #[inline(always)]
-    fn change<const WHOLE: bool>(&mut self, thread: u8, change: Change) -> Was
+    fn change<const WHOLE: bool>(&mut self, thread: u8, change: Change) -> OperationBefore
         requires there { thread < length self.old.threads }
         requires sound { IsChange change }
         ensures changed { ChangesThread self.old thread change WHOLE self.new result }
@@ -334,7 +334,7 @@ impl<'a> Machine<'a> {
 
     /// Puts back where the thread stood before a move with this event, or none.
     #[inline(always)]
-    fn put_back(&mut self, thread: u8, event: Option<Event>, was: Was)
+    fn put_back(&mut self, thread: u8, event: Option<Event>, was: OperationBefore)
         requires there { thread < length self.old.threads }
         requires register { IsRegister was.register }
         requires code { WasIn self.old.component was }
@@ -432,19 +432,19 @@ impl<'a> Machine<'a> {
         self.apply_as::<true>(next)
     }
 
-    /// Makes the move as [`Machine::apply`] does. With `LONG` false the component is asked to have
-    /// no local instructions run with a move: who makes many moves asks that once, and each of them
-    /// is the faster.
+    /// Makes the move as [`Machine::apply`] does. With `RUNS_LOCAL` false the component is asked to
+    /// have no local instructions run with a move: who makes many moves asks that once, and each of
+    /// them is the faster.
     #[inline(always)]
-    pub fn apply_as<const LONG: bool>(&mut self, next: Move) -> Undo
+    pub fn apply_as<const RUNS_LOCAL: bool>(&mut self, next: Move) -> Undo
         requires feasible { IsFeasible self.old next }
-        requires one { LONG ≡ false → self.old.component.local ≡ 0 }
+        requires one { RUNS_LOCAL ≡ false → self.old.component.local ≡ 0 }
         ensures step { Step self.old next self.new result.event }
         ensures range { IfSome result.event IsEventInRange }
         ensures back { restored result self.new ≡ self.old }
         ensures fits { CanTake self.new result }
     {
-        if !LONG {
+        if !RUNS_LOCAL {
             return self.one_step::<false>(next);
         }
         let more = self.more_local(next.thread);
@@ -543,9 +543,9 @@ impl<'a> Machine<'a> {
         );
         Undo {
             thread,
-            was: Was {
+            was: OperationBefore {
                 op: frame.op,
-                ..Was::NOTHING
+                ..OperationBefore::NOTHING
             },
             overwritten: Shared::Nothing,
             event: Some(Event::Call { t: thread, k: done }),
@@ -562,7 +562,7 @@ impl<'a> Machine<'a> {
             (slice_get self.old.threads thread ≡ Some (at_work done f)) }
         requires there { IsThere self.old act.shared }
         requires sound { IsChange act.change }
-        ensures after { GoesOn self.old thread done act self.new }
+        ensures after { IsDoneInOpen self.old thread done act self.new }
         ensures thread { result.thread ≡ thread }
         ensures event { (f : AFrame) →
             result.event ≡ event_after thread done (effect_of f act.change) }

@@ -116,9 +116,9 @@ fn task_of(instr: &Instr) -> Task
 }
 
 /// The tasks of the instructions.
-fn row_of(instrs: &[Instr]) -> [Task; 65]
+fn task_row(instrs: &[Instr]) -> [Task; 65]
     requires { length instrs.now ≤ 64 }
-    ensures { result ≡ spec.row_of instrs.now }
+    ensures { result ≡ spec.task_row instrs.now }
 {
     let mut row = [NO_TASK; PLACES];
     for place in 0..instrs.len() {
@@ -133,7 +133,7 @@ pub(crate) fn rows(alloc: Global, component: &Component) -> Result<Vec<[Task; 65
 {
     let mut rows = Vec::new(alloc);
     for op in component.operations() {
-        rows.push(row_of(op.code.instrs()))?;
+        rows.push(task_row(op.code.instrs()))?;
     }
     Ok(rows)
 }

@@ -63,7 +63,7 @@ pub(crate) enum Change {
 /// What a move overwrote of the operation that was open, or is. All parts are small values, and
 /// none an enum of large ones: so they stay in registers from the move to its undo.
 #[derive(Clone, Copy, Debug)]
-pub(crate) struct Was {
+pub(crate) struct OperationBefore {
     /// The number of the operation in its component, and the place of its next instruction.
     pub(crate) op: u8,
     pub(crate) place: u8,
@@ -77,9 +77,9 @@ pub(crate) struct Was {
     pub(crate) registers: Registers,
 }
 
-impl Was {
+impl OperationBefore {
     /// What is kept where no operation was open.
-    pub(crate) const NOTHING: Was = Was {
+    pub(crate) const NOTHING: OperationBefore = OperationBefore {
         op: 0,
         place: 0,
         register: 0,
@@ -144,7 +144,7 @@ impl Thread {
     /// Changes its open operation, and says what that overwrote. With `WHOLE` true all registers
     /// are kept.
     #[inline(always)]
-    pub(crate) fn change<const WHOLE: bool>(&mut self, change: Change) -> Was
+    pub(crate) fn change<const WHOLE: bool>(&mut self, change: Change) -> OperationBefore
         requires stands { IsStanding self.old }
         requires sound { IsChange change }
         ensures after { IsThreadAfter self.old change self.new }
@@ -155,13 +155,13 @@ impl Thread {
         ensures was_in { (c : Declarations) → StoodIn c self.old result }
     {
         let Activity::Open(frame) = &mut self.activity else {
-            return Was::NOTHING;
+            return OperationBefore::NOTHING;
         };
         let registers = frame.registers;
-        let mut was = Was {
+        let mut was = OperationBefore {
             op: frame.op,
             place: frame.place,
-            ..Was::NOTHING
+            ..OperationBefore::NOTHING
         };
         if WHOLE {
             was.registers = registers;
@@ -193,7 +193,7 @@ impl Thread {
     /// Puts back where it stood before a move with this event, or none. With `whole` true all
     /// registers were kept.
     #[inline(always)]
-    pub(crate) fn put_back(&mut self, event: Option<Event>, was: Was, whole: bool)
+    pub(crate) fn put_back(&mut self, event: Option<Event>, was: OperationBefore, whole: bool)
         requires register { IsRegister was.register }
         requires event { IfSome event IsEventInRange }
         ensures before { self.new ≡ before whole event was self.old }

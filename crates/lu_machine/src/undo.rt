@@ -3,7 +3,7 @@
 ghost use Rattle.std.specs.Prelude.{◌≡◌};
 
 use crate::event::Event;
-use crate::thread::Was;
+use crate::thread::OperationBefore;
 
 /// What a move writes of what all threads share, or overwrote of it.
 #[derive(Clone, Copy, Debug)]
@@ -24,7 +24,7 @@ pub struct Undo {
     pub(crate) thread: u8,
 
     /// What that overwrote of the operation that was open.
-    pub(crate) was: Was,
+    pub(crate) was: OperationBefore,
 
     /// What that overwrote of what all threads share.
     pub(crate) overwritten: Shared,

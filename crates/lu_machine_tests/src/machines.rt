@@ -32,7 +32,8 @@ return r2
 end
 ";
 
-/// Takes back each move of the machine's only thread and makes it again, and answers the last event.
+/// Takes back each move of the machine's only thread and makes it again, and answers the last
+/// event.
 fn take_back(rt: &impl Abort, machine: &mut Machine<'_>, moves: u8) -> Option<Event> {
     let next = Move { thread: 0, pick: 0 };
     let mut last = None;

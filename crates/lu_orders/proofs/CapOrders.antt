@@ -3,7 +3,7 @@ use Rattle.std.proofs.Common.{◌≡◌, ℕ, zero, suc, ◌+◌, ◌-◌, ◌*�
 use Rattle.std.proofs.Math.Nat.{one-mul}
 use Rattle.std.proofs.lemmas.Bool.{cases_lt}
 use Rattle.lu_machine.specs.Sums.{capped}
-use Rattle.lu_orders.specs.Orders.{AreNumbers, first_below, first_of, orders, orders_within, with_one}
+use Rattle.lu_orders.specs.Orders.{AreOrderNumbers, first_below, orders_with_first, orders, orders_within, with_one}
 use Rattle.lu_orders.proofs.OrderLaws.{add-mul', capped_product, orders_zero}
 
 -- sums, zeros and equals of rows
@@ -36,11 +36,11 @@ with_no_move f zero = refl
 with_no_move f (suc left) = refl
 
 -- the first thread, and the others
-first_past : (rest : List ℕ → ℕ) (n : ℕ) (caps : List ℕ) (t m : ℕ) → first_of rest (n ∷ caps) (suc t) m ≡ first_of (λ c. rest (n ∷ c)) caps t m
+first_past : (rest : List ℕ → ℕ) (n : ℕ) (caps : List ℕ) (t m : ℕ) → orders_with_first rest (n ∷ caps) (suc t) m ≡ orders_with_first (λ c. rest (n ∷ c)) caps t m
 first_past rest n caps t zero = refl
 first_past rest n caps t (suc m) = refl
 
-below_past : (rest : List ℕ → ℕ) (n : ℕ) (caps : List ℕ) (k : ℕ) → first_below rest (n ∷ caps) (suc k) ≡ first_of rest (n ∷ caps) zero n + first_below (λ c. rest (n ∷ c)) caps k
+below_past : (rest : List ℕ → ℕ) (n : ℕ) (caps : List ℕ) (k : ℕ) → first_below rest (n ∷ caps) (suc k) ≡ orders_with_first rest (n ∷ caps) zero n + first_below (λ c. rest (n ∷ c)) caps k
 below_past rest n caps zero = omega arith
 below_past rest n caps (suc k) =
     let a = below_past rest n caps k in
@@ -48,7 +48,7 @@ below_past rest n caps (suc k) =
     omega arith
 
 -- what is led by another thread
-of_with : (rest : List ℕ → ℕ) (n left : ℕ) → ((c : List ℕ) → rest c ≡ with_one (λ i. orders_within i c) n left) → (caps : List ℕ) (t m : ℕ) → first_of rest caps t m ≡ with_one (λ i. first_of (orders_within i) caps t m) n left
+of_with : (rest : List ℕ → ℕ) (n left : ℕ) → ((c : List ℕ) → rest c ≡ with_one (λ i. orders_within i c) n left) → (caps : List ℕ) (t m : ℕ) → orders_with_first rest caps t m ≡ with_one (λ i. orders_with_first (orders_within i) caps t m) n left
 of_with rest n left is caps t zero = sym (with_none (λ i. 0) (λ i. refl) n left)
 of_with rest n left is caps t (suc m) = is (slice_set caps t m)
 
@@ -57,7 +57,7 @@ below_with rest n left is caps zero = sym (with_none (λ i. 0) (λ i. refl) n le
 below_with rest n left is caps (suc k) =
     let a = below_with rest n left is caps k in
     let b = of_with rest n left is caps k (get_or caps k 0) in
-    let c = with_sum (λ i. first_below (orders_within i) caps k) (λ i. first_of (orders_within i) caps k (get_or caps k 0)) (λ i. first_below (orders_within i) caps (suc k)) (λ i. refl) n left in
+    let c = with_sum (λ i. first_below (orders_within i) caps k) (λ i. orders_with_first (orders_within i) caps k (get_or caps k 0)) (λ i. first_below (orders_within i) caps (suc k)) (λ i. refl) n left in
     omega arith
 
 -- one thread more
@@ -67,7 +67,7 @@ within_one (suc left) zero caps =
     let past = below_past (orders_within left) zero caps (length caps) in
     let others = below_with (λ c. orders_within left (zero ∷ c)) zero left (λ c. within_one left zero c) caps (length caps) in
     let whole = with_no_move (λ i. orders_within (suc i) caps) left in
-    let none : first_of (orders_within left) (zero ∷ caps) zero zero + first_below (λ c. orders_within left (zero ∷ c)) caps (length caps) ≡ first_below (λ c. orders_within left (zero ∷ c)) caps (length caps) = omega arith in
+    let none : orders_with_first (orders_within left) (zero ∷ caps) zero zero + first_below (λ c. orders_within left (zero ∷ c)) caps (length caps) ≡ first_below (λ c. orders_within left (zero ∷ c)) caps (length caps) = omega arith in
     past ∙ (none ∙ (others ∙ whole))
 within_one (suc left) (suc n) caps =
     let past = below_past (orders_within left) (suc n) caps (length caps) in
@@ -182,7 +182,7 @@ no_thread : (n : ℕ) (i : ℕ) → get_or (slice_set (zeros_of (suc n)) 0 1) i 
 no_thread n zero = omega arith
 no_thread n (suc i) = let e = no_move n i in omega arith
 
-pub numbers_first : (n left : ℕ) (caps row : List ℕ) → row ≡ slice_set (zeros_of (suc n)) 0 1 → AreNumbers (λ i. orders_within i (drop (length caps - 0) caps)) left row
+pub numbers_first : (n left : ℕ) (caps row : List ℕ) → row ≡ slice_set (zeros_of (suc n)) 0 1 → AreOrderNumbers (λ i. orders_within i (drop (length caps - 0) caps)) left row
 numbers_first n left caps row is i le =
     let whole : length caps - 0 ≡ length caps = omega arith in
     rw (is, whole, drop_all caps) (no_thread n i)
@@ -192,11 +192,11 @@ drop_at [] k within = absurd (omega arith)
 drop_at (x ∷ xs) zero within = refl
 drop_at (x ∷ xs) (suc k) within = drop_at xs k (omega arith)
 
-pub numbers_same : (f g : ℕ → ℕ) → ((i : ℕ) → f i ≡ g i) → (left : ℕ) (numbers : List ℕ) → AreNumbers f left numbers → AreNumbers g left numbers
+pub numbers_same : (f g : ℕ → ℕ) → ((i : ℕ) → f i ≡ g i) → (left : ℕ) (numbers : List ℕ) → AreOrderNumbers f left numbers → AreOrderNumbers g left numbers
 numbers_same f g is left numbers are i le = are i le ∙ ap capped (is i)
 
 -- one thread more, from the last to the first
-pub numbers_more : (caps : List ℕ) (b left : ℕ) (new : List ℕ) → b < length caps → AreNumbers (with_one (λ i. orders_within i (drop (length caps - b) caps)) (get_or caps (length caps - 1 - b) 0)) left new → AreNumbers (λ i. orders_within i (drop (length caps - (b + 1)) caps)) left new
+pub numbers_more : (caps : List ℕ) (b left : ℕ) (new : List ℕ) → b < length caps → AreOrderNumbers (with_one (λ i. orders_within i (drop (length caps - b) caps)) (get_or caps (length caps - 1 - b) 0)) left new → AreOrderNumbers (λ i. orders_within i (drop (length caps - (b + 1)) caps)) left new
 numbers_more caps b left new within are i le =
     let k = length caps - (b + 1) in
     let here : length caps - 1 - b ≡ k = omega arith in

@@ -17,12 +17,12 @@ use Rattle.lu_machine.specs.Changes.{at_work, idle}
 use Rattle.lu_machine.specs.Effects.{Effect, onward, onward_with, value_of}
 use Rattle.lu_machine.specs.Effects.Effect.{Ends}
 use Rattle.lu_horizon.specs.Stands.{is_unseen, only_reads}
-use Rattle.lu_machine.specs.States.{State, cell_at, instr_at, value_at, with_cell, with_owner, with_thread}
+use Rattle.lu_machine.specs.States.{State, cell_at, instr_at, value_at, with_cell, with_owner, with_standing}
 use Rattle.lu_machine.specs.Steps.{Carries, ByActivity, OneStep, RunsOn, Step, activity_is_local, instr_picks, is_at_local, is_local, more_local, opened, owns, picks_of, thread_after}
 use Rattle.lu_machine.proofs.Keeping.{carries_alike}
 use Rattle.lu_machine.proofs.Running.{local_once}
 use Rattle.lu_horizon.proofs.OwnLaws.{get_set_same, one_step_by}
-use Rattle.lu_orders.specs.Solo.{IsSame, IsShared, LastEvents, Solo, move_of}
+use Rattle.lu_orders.specs.Solo.{IsSame, IsShared, LastEvents, Solo, only_move}
 
 -- s with these threads
 abbrev pub with_threads : State → List Thread → State
@@ -103,7 +103,7 @@ state_is s r c m a l =
 -- what a step gives in a state that is the same for its thread
 pub record Framed (sees keeps : Bool) (t : ℕ) (r next : State) (event : Option Event) : Type 0 where
   pub there : State
-  pub step : Step r (move_of t) there event
+  pub step : Step r (only_move t) there event
   pub one : picks_of r t ≡ 1
   pub quiet : keeps ≡ true → IsShared r there
   pub same : IsSame sees t next there
@@ -118,7 +118,7 @@ pub record Works (sees keeps : Bool) (t k : ℕ) (activity : Activity) (s next :
   pub stands : slice_get s.threads t ≡ Some (record { done = k; activity = activity })
   pub touches : (f : Frame) → activity ≡ Open f → Touches sees keeps s f
   pub one : picks_of s t ≡ 1
-  pub step : Step s (move_of t) next event
+  pub step : Step s (only_move t) next event
 
 unseen_picks : (r : State) (f : Frame) (instr : Instr) → is_unseen instr ≡ true → instr_picks r f instr ≡ 1
 unseen_picks r f (Set to v) is = refl
@@ -159,20 +159,20 @@ picks_at s t k f instr stands at = rw (stands, at) refl
 -- what one call or instruction gives in a state that is the same for its thread
 record FramedOnce (sees keeps : Bool) (t : ℕ) (r next : State) (event : Option Event) : Type 0 where
   pub there : State
-  pub step : OneStep r (move_of t) there event
+  pub step : OneStep r (only_move t) there event
   pub one : picks_of r t ≡ 1
   pub quiet : keeps ≡ true → IsShared r there
   pub same : IsSame sees t next there
 
 -- an instruction that is unseen, whether or not its thread sees what is shared
-once_unseen : (sees keeps : Bool) (t k : ℕ) (f : Frame) (s next : State) (event : Option Event) → slice_get s.threads t ≡ Some (at_work k f) → (h : ByActivity s (move_of t) k (Open f) next event) → is_unseen h.0 ≡ true → (r : State) → IsSame sees t s r → FramedOnce sees keeps t r next event
+once_unseen : (sees keeps : Bool) (t k : ℕ) (f : Frame) (s next : State) (event : Option Event) → slice_get s.threads t ≡ Some (at_work k f) → (h : ByActivity s (only_move t) k (Open f) next event) → is_unseen h.0 ≡ true → (r : State) → IsSame sees t s r → FramedOnce sees keeps t r next event
 once_unseen sees keeps t k f s next event was h is r same =
-    let by = carries_unseen s r (move_of t) f h.0 h.1 h.2 is h.5 in
+    let by = carries_unseen s r (only_move t) f h.0 h.1 h.2 is h.5 in
     let now = thread_after k h.2 in
     let stands : slice_get r.threads t ≡ Some (at_work k f) = same.stands ∙ was in
     let at : instr_at r.component f.op f.place ≡ Some h.0 = rw same.component h.3 in
-    let mid = carries_alike s (move_of t) f h.0 h.1 h.2 h.5 in
-    let there = with_thread r t now in
+    let mid = carries_alike s (only_move t) f h.0 h.1 h.2 h.5 in
+    let there = with_standing r t now in
     record {
       there = there;
       step = (at_work k f, stands, (h.0, r, h.2, at, h.4, by.1, refl, h.7));
@@ -193,23 +193,23 @@ once_unseen sees keeps t k f s next event was h is r same =
     }
 
 -- any other, of a thread that sees what is shared
-once_seen : (keeps : Bool) (t k : ℕ) (f : Frame) (s next : State) (event : Option Event) → slice_get s.threads t ≡ Some (at_work k f) → Touches true keeps s f → picks_of s t ≡ 1 → ByActivity s (move_of t) k (Open f) next event → (r : State) → IsSame true t s r → FramedOnce true keeps t r next event
+once_seen : (keeps : Bool) (t k : ℕ) (f : Frame) (s next : State) (event : Option Event) → slice_get s.threads t ≡ Some (at_work k f) → Touches true keeps s f → picks_of s t ≡ 1 → ByActivity s (only_move t) k (Open f) next event → (r : State) → IsSame true t s r → FramedOnce true keeps t r next event
 once_seen keeps t k f s next event was touches only h r same =
     let shared = same.shared refl in
     let is : with_threads s r.threads ≡ r = state_is s r same.component same.matrix_is shared.0 shared.1 in
     let now = thread_after k h.2 in
     let stands : slice_get r.threads t ≡ Some (at_work k f) = same.stands ∙ was in
     let at : instr_at r.component f.op f.place ≡ Some h.0 = rw same.component h.3 in
-    let mid = carries_alike s (move_of t) f h.0 h.1 h.2 h.5 in
-    let carries : Carries r (move_of t) f h.0 (with_threads h.1 r.threads) h.2 = subst (λ x. Carries x (move_of t) f h.0 (with_threads h.1 r.threads) h.2) is (carries_threads s (move_of t) f h.0 h.1 r.threads h.2 h.5) in
-    let there = with_thread (with_threads h.1 r.threads) t now in
+    let mid = carries_alike s (only_move t) f h.0 h.1 h.2 h.5 in
+    let carries : Carries r (only_move t) f h.0 (with_threads h.1 r.threads) h.2 = subst (λ x. Carries x (only_move t) f h.0 (with_threads h.1 r.threads) h.2) is (carries_threads s (only_move t) f h.0 h.1 r.threads h.2 h.5) in
+    let there = with_standing (with_threads h.1 r.threads) t now in
     let picks : instr_picks r f h.0 ≡ instr_picks s f h.0 = subst (λ x. instr_picks x f h.0 ≡ instr_picks s f h.0) is (same_picks s r.threads f h.0) in
     record {
       there = there;
       step = (at_work k f, stands, (h.0, with_threads h.1 r.threads, h.2, at, h.4, carries, refl, h.7));
       one = picks_at r t k f h.0 stands at ∙ (picks ∙ (sym (picks_at s t k f h.0 was h.3) ∙ only));
       quiet = λ e.
-          (let left : h.1 ≡ s = carries_reads s (move_of t) f h.0 h.1 h.2 (touches.reads_is h.0 e h.3) h.5 in
+          (let left : h.1 ≡ s = carries_reads s (only_move t) f h.0 h.1 h.2 (touches.reads_is h.0 e h.3) h.5 in
           (ap (λ (x : State). x.cells) left ∙ sym shared.0, ap (λ (x : State). x.locks) left ∙ sym shared.1));
       same = record {
         component = sym (ap (λ (x : State). x.component) h.6);
@@ -222,11 +222,11 @@ once_seen keeps t k f s next event was touches only h r same =
     }
 
 -- an idle thread opens its next call
-once_called : (sees keeps : Bool) (t k : ℕ) (s next : State) (event : Option Event) → slice_get s.threads t ≡ Some (idle k) → picks_of s t ≡ 1 → ByActivity s (move_of t) k Idle next event → (r : State) → IsSame sees t s r → FramedOnce sees keeps t r next event
+once_called : (sees keeps : Bool) (t k : ℕ) (s next : State) (event : Option Event) → slice_get s.threads t ≡ Some (idle k) → picks_of s t ≡ 1 → ByActivity s (only_move t) k Idle next event → (r : State) → IsSame sees t s r → FramedOnce sees keeps t r next event
 once_called sees keeps t k s next event was only h r same =
     let now = at_work k (opened h.0) in
     let stands : slice_get r.threads t ≡ Some (idle k) = same.stands ∙ was in
-    let there = with_thread r t now in
+    let there = with_standing r t now in
     record {
       there = there;
       step = (idle k, stands, (h.0, rw same.matrix_is h.1, refl, refl, h.4));
@@ -245,7 +245,7 @@ once_called sees keeps t k s next event was only h r same =
     }
 
 -- one call or instruction of a thread is one in each state that is the same for it
-frame_once : (sees keeps : Bool) (t k : ℕ) (activity : Activity) (s next : State) (event : Option Event) → slice_get s.threads t ≡ Some (record { done = k; activity = activity }) → ((f : Frame) → activity ≡ Open f → Touches sees keeps s f) → picks_of s t ≡ 1 → ByActivity s (move_of t) k activity next event → (r : State) → IsSame sees t s r → FramedOnce sees keeps t r next event
+frame_once : (sees keeps : Bool) (t k : ℕ) (activity : Activity) (s next : State) (event : Option Event) → slice_get s.threads t ≡ Some (record { done = k; activity = activity }) → ((f : Frame) → activity ≡ Open f → Touches sees keeps s f) → picks_of s t ≡ 1 → ByActivity s (only_move t) k activity next event → (r : State) → IsSame sees t s r → FramedOnce sees keeps t r next event
 frame_once sees keeps t k Idle s next event was touches only h r same = once_called sees keeps t k s next event was only h r same
 frame_once false keeps t k (Open f) s next event was touches only h r same =
     once_unseen false keeps t k f s next event was h ((touches f refl).unseen_is h.0 refl h.3) r same
@@ -305,13 +305,13 @@ runs_nowhere sees t n s end r is stays same =
     }
 
 -- a thread at a local instruction carries it out
-runs_once : (sees : Bool) (t : ℕ) (s next r : State) → is_at_local s t ≡ true → OneStep s (move_of t) next None → IsSame sees t s r → FramedOnce sees true t r next None
+runs_once : (sees : Bool) (t : ℕ) (s next r : State) → is_at_local s t ≡ true → OneStep s (only_move t) next None → IsSame sees t s r → FramedOnce sees true t r next None
 runs_once sees t s next r is step same =
     let once = local_once s t is in
     let k = once.standing.done in
     let f = once.before in
     let stands : slice_get s.threads t ≡ Some (at_work k f) = once.stands ∙ ap (λ (a : Activity). let x : Thread = record { done = k; activity = a } in Some x) once.is_open in
-    let h : ByActivity s (move_of t) k (Open f) next None = one_step_by s (move_of t) next None (at_work k f) stands step in
+    let h : ByActivity s (only_move t) k (Open f) next None = one_step_by s (only_move t) next None (at_work k f) stands step in
     let local : is_local h.0 ≡ true = rw (stands, h.3) at is in
     once_unseen sees true t k f s next None stands h (local_is_unseen h.0 local) r same
 
@@ -343,7 +343,7 @@ frame_runs sees t (suc n) s end r runs same = by_test (λ x y. frame_runs sees t
 pub frame : (sees keeps : Bool) (t k : ℕ) (activity : Activity) (s next : State) (event : Option Event) → Works sees keeps t k activity s next event → (r : State) → IsSame sees t s r → Framed sees keeps t r next event
 frame sees keeps t k activity s next event w r same =
     let mid = w.step.0 in
-    let by : ByActivity s (move_of t) k activity mid event = one_step_by s (move_of t) mid event (record { done = k; activity = activity }) w.stands w.step.1 in
+    let by : ByActivity s (only_move t) k activity mid event = one_step_by s (only_move t) mid event (record { done = k; activity = activity }) w.stands w.step.1 in
     let once = frame_once sees keeps t k activity s mid event w.stands w.touches w.one by r same in
     let on = frame_runs sees t (more_local s t) mid next once.there w.step.2 once.same in
     record {
@@ -374,4 +374,4 @@ solo_same sees keeps t event_of (suc n) s r same solo = λ x after. solo x (same
 pub solo_more : (sees keeps : Bool) (t k : ℕ) (event_of : LastEvents) (n : ℕ) (activity : Activity) (s next : State) (event : Option Event) → Works sees keeps t k activity s next event → event ≡ event_of n → Solo sees keeps t event_of n next → Solo sees keeps t event_of (suc n) s
 solo_more sees keeps t k event_of n activity s next event works is solo = λ r same.
     (let fr = frame sees keeps t k activity s next event works r same in
-    (fr.there, subst (Step r (move_of t) fr.there) is fr.step, fr.one, fr.quiet, solo_same sees keeps t event_of n next fr.there fr.same solo))
+    (fr.there, subst (Step r (only_move t) fr.there) is fr.step, fr.one, fr.quiet, solo_same sees keeps t event_of n next fr.there fr.same solo))

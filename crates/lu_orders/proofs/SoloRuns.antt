@@ -5,7 +5,7 @@ use Rattle.lu_machine.specs.declared.event.Event.{Event}
 use Rattle.lu_machine.specs.declared.thread.Activity.{Activity}
 use Rattle.lu_machine.specs.States.{State}
 use Rattle.lu_machine.specs.Steps.{Step}
-use Rattle.lu_orders.specs.Solo.{HasSolo, LastEvents, Solo, move_of}
+use Rattle.lu_orders.specs.Solo.{HasSolo, LastEvents, Solo, only_move}
 use Rattle.lu_orders.proofs.Frames.{Works, solo_more}
 
 -- events that are the same for the moves that are left
@@ -13,7 +13,7 @@ solo_alike : (sees keeps : Bool) (t : ℕ) (f g : LastEvents) (n : ℕ) (s : Sta
 solo_alike sees keeps t f g zero s same solo = solo
 solo_alike sees keeps t f g (suc n) s same solo = λ r like.
     (let h = solo r like in
-    (h.0, subst (Step r (move_of t) h.0) (same n (omega arith)) h.1, h.2, h.3, solo_alike sees keeps t f g n h.0 (λ i lt. same i (omega arith)) h.4))
+    (h.0, subst (Step r (only_move t) h.0) (same n (omega arith)) h.1, h.2, h.3, solo_alike sees keeps t f g n h.0 (λ i lt. same i (omega arith)) h.4))
 
 -- with this event before the last n
 before_last : Option Event → ℕ → LastEvents → LastEvents

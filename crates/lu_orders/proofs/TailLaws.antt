@@ -15,7 +15,7 @@ use Rattle.lu_machine.proofs.Orders.{same_move}
 use Rattle.lu_machine.proofs.StepLaws.{step_feasible, step_same}
 use Rattle.lu_horizon.proofs.OwnLaws.{other_stands}
 use Rattle.lu_orders.specs.Orders.{all_moves, interleavings}
-use Rattle.lu_orders.specs.Solo.{IsShared, IsTail, LastEvents, Sharing, Solo, move_of}
+use Rattle.lu_orders.specs.Solo.{IsShared, IsTail, LastEvents, Sharing, Solo, only_move}
 use Rattle.lu_orders.proofs.Frames.{same_itself, solo_same}
 
 pub over_picks : (s : State) (t done : ℕ) → slice_get s.threads t ≡ Some (idle done) → call_count s t ≤ done → picks_of s t ≡ 0
@@ -47,9 +47,9 @@ module _ (s : State) (ns : List ℕ) (sharing : Sharing) (events_of : ℕ → La
         let one = h.2 in
         let f = step_feasible s m next event step in
         let first : m.pick ≡ 0 = omega arith in
-        let is : m ≡ move_of t = same_move m (move_of t) refl first in
-        let step' : Step s (move_of t) next event = subst (λ (x : Move). Step s x next event) is step in
-        let same = step_same s (move_of t) next h.0 event (events_of t n) step' h.1 in
+        let is : m ≡ only_move t = same_move m (only_move t) refl first in
+        let step' : Step s (only_move t) next event = subst (λ (x : Move). Step s x next event) is step in
+        let same = step_same s (only_move t) next h.0 event (events_of t n) step' h.1 in
         let moved = step_moved s m next event step in
         let within = feasible_within s m f in
         let threads = step_keeps_threads s m next event step in

@@ -20,8 +20,8 @@ pub record IsSame (sees : Bool) (t : ℕ) (s r : State) : Type 0 where
   pub shared : sees ≡ true → IsShared s r
 
 -- the only move of thread t
-abbrev pub move_of : ℕ → Move
-move_of t = record { thread = t; pick = 0 }
+abbrev pub only_move : ℕ → Move
+only_move t = record { thread = t; pick = 0 }
 
 -- The events of a thread's last moves: for each number of moves, that of the move after which so
 -- many are left.
@@ -41,7 +41,7 @@ Solo sees keeps t event_of zero s =
     (done : ℕ) × (slice_get s.threads t ≡ Some (idle done)) × (call_count s t ≤ done)
 Solo sees keeps t event_of (suc n) s =
     (r : State) → IsSame sees t s r →
-    (next : State) × Step r (move_of t) next (event_of n) × (picks_of r t ≡ 1)
+    (next : State) × Step r (only_move t) next (event_of n) × (picks_of r t ≡ 1)
     × (keeps ≡ true → IsShared r next) × Solo sees keeps t event_of n next
 
 -- which threads see cells and locks, and which keep them as they are

@@ -153,7 +153,7 @@ impl Orders {
 
     /// Puts one thread more to the numbers for up to `left` moves, that makes at most `cap` of
     /// them: none where the table is too small.
-    fn add(&self, cap: usize, left: usize, row: &mut [u64]) -> Option<()>
+    fn add_thread(&self, cap: usize, left: usize, row: &mut [u64]) -> Option<()>
         requires { left < length row.old }
         ensures many { length row.new ≡ length row.old }
         ensures numbers { IsSome result → AreWithOne row.old cap left row.new }
@@ -180,7 +180,7 @@ impl Orders {
         start(&mut row);
         for behind in 0..caps.len() {
             let cap = usize::from(caps[caps.len() - 1 - behind]);
-            self.add(cap, left, &mut row)?;
+            self.add_thread(cap, left, &mut row)?;
         }
         Some(row[left])
     }

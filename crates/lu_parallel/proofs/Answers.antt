@@ -12,11 +12,11 @@ use Rattle.lu_witness.specs.Goodness.{Any}
 use Rattle.lu_witness.specs.Witnesses.{IsMember}
 use Rattle.lu_tree.specs.declared.found.Found.{Found}
 use Rattle.lu_tree.specs.declared.found.Found.TheVariants.{Clean, Bad, Abandoned}
-use Rattle.lu_tree.specs.Trees.{Below, IsFound}
+use Rattle.lu_tree.specs.Trees.{Below, IsFound, IsFoundWatched}
 use Rattle.lu_replay.specs.Reports.{IsFinding, IsFindingAgainst}
 use Rattle.lu_replay.proofs.Sets.{first_bad_alike, all_good_alike}
 use Rattle.lu_parallel.specs.declared.works.Work.{Work}
-use Rattle.lu_parallel.specs.Conclusions.{IsAnswer}
+use Rattle.lu_parallel.specs.Conclusions.{IsJointResult}
 use Rattle.lu_parallel.specs.Findings.{finding_of}
 
 -- the empty schedule leads nowhere else
@@ -80,7 +80,13 @@ all_below Set s bound (Bad schedule why) is = record {
 all_below Set s bound Abandoned is = elim is [ ]
 
 -- what works conclude was not abandoned
-pub concluded_finding : (works : List Work) (found : Found) → IsAnswer works found → IsSome (finding_of found)
+pub concluded_finding : (works : List Work) (found : Found) → IsJointResult works found → IsSome (finding_of found)
 concluded_finding works (Clean counts) is = refl
 concluded_finding works (Bad schedule why) is = refl
 concluded_finding works Abandoned is = elim is [ ]
+
+-- what a search found that has a finding is what one finds that no watch stops
+pub found_kept : (Set : List SerialOp → Type 0) (s : State) (bound : ℕ) (Part : List Move → Type 0) (found : Found) (finding : Finding) → finding_of found ≡ Some finding → IsFoundWatched Set s bound Part found → IsFound Set s bound Part found
+found_kept Set s bound Part (Clean counts) finding some is = is
+found_kept Set s bound Part (Bad schedule why) finding some is = is
+found_kept Set s bound Part Abandoned finding some is = absurd cc

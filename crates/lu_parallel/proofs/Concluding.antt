@@ -25,28 +25,28 @@ use Rattle.lu_tree.specs.declared.found.Found.TheVariants.{Clean, Bad, Abandoned
 use Rattle.lu_tree.specs.Trees.{Below}
 use Rattle.lu_tree.proofs.Covers.{first_of_cover, sums_of_cover}
 use Rattle.lu_board.specs.Close.{clean_by, found_by, skipped_by, given_by, SharesOut}
-use Rattle.lu_board.specs.Pieces.{count_of, without, once_below, HasEachOnce}
+use Rattle.lu_board.specs.Pieces.{count_of, without_first, once_below, HasEachOnce}
 use Rattle.lu_board.specs.Seats.{SeatModel}
-use Rattle.lu_board.proofs.Counts.{Has, one_at, one_at-same, count_of-without, count_of-append, count_of-empty, contains-has, has-contains, once_below-suc, once_below-zero, once_below-lt}
+use Rattle.lu_board.proofs.Counts.{Has, one_at, one_at-same, count_of-without_first, count_of-append, count_of-empty, contains-has, has-contains, once_below-suc, once_below-zero, once_below-lt}
 use Rattle.lu_parallel.specs.declared.works.FoundPiece.{FoundPiece}
 use Rattle.lu_parallel.specs.declared.works.Work.{Work}
 use Rattle.lu_parallel.specs.Works.{piece_at, IsClean, IsWork}
 use Rattle.lu_parallel.specs.Works.{IsFoundPiece as IsFoundPiece}
-use Rattle.lu_parallel.specs.Conclusions.{seats_of, counts_of, founds_of, SkipsAbove}
+use Rattle.lu_parallel.specs.Conclusions.{seats_of, counts_of_works, founds_of, SkipsAbove}
 use Rattle.lu_parallel.specs.Laws.{Concludes}
 
 -- ---- sums over lists that have each number once
 
-sum_without : (h : ℕ → ℕ) (i : ℕ) (xs : List ℕ) → Has xs i → sum_by h (without i xs) + h i ≡ sum_by h xs
+sum_without : (h : ℕ → ℕ) (i : ℕ) (xs : List ℕ) → Has xs i → sum_by h (without_first i xs) + h i ≡ sum_by h xs
 sum_without h i [] has = absurd (omega arith)
 sum_without h i (y ∷ ys) has = at (eqb i y) refl (sum_without h i ys)
   where
-    at : (b : Bool) → eqb i y ≡ b → (Has ys i → sum_by h (without i ys) + h i ≡ sum_by h ys) → sum_by h (cond b ys (y ∷ without i ys)) + h i ≡ sum_by h (y ∷ ys)
+    at : (b : Bool) → eqb i y ≡ b → (Has ys i → sum_by h (without_first i ys) + h i ≡ sum_by h ys) → sum_by h (cond b ys (y ∷ without_first i ys)) + h i ≡ sum_by h (y ∷ ys)
     at true e more = let same = ap h (eqb-true i y e) in let c = sum_by-cons h y ys in omega arith
     at false e more =
         let none : one_at i y ≡ 0 = ap (λ b. cond b 1 0) e in
         let deeper = more (omega arith) in
-        let c = sum_by-cons h y ys in let d = sum_by-cons h y (without i ys) in
+        let c = sum_by-cons h y ys in let d = sum_by-cons h y (without_first i ys) in
         omega arith
 
 none_left : (h : ℕ → ℕ) (xs : List ℕ) → ((x : ℕ) → count_of x xs ≡ 0) → sum_by h xs ≡ 0
@@ -69,7 +69,7 @@ sum_once h (suc n) xs each =
     let at = λ (x : ℕ). let a = each x in let b = once_below-suc x n in let p : n + 1 ≡ suc n = omega arith in let q = ap (once_below x) p in
     let r : count_of x xs ≡ once_below x n + one_at x n = omega arith in r in
     let there : Has xs n = (let a = at n in let b = one_at-same n in omega arith) in
-    let rest = sum_once h n (without n xs) (λ x. let a = at x in let t = count_of-without n x xs there in omega arith) in
+    let rest = sum_once h n (without_first n xs) (λ x. let a = at x in let t = count_of-without_first n x xs there in omega arith) in
     let w = sum_without h n xs there in omega arith
 
 -- ---- lists of counts
@@ -180,9 +180,9 @@ module _ (c : Declarations) (matrix : Matrix) (members : List (List SerialOp)) (
   record Numbered (works : List Work) : Type 0 where
     numbers : List Counts
     zip : AllZip (IsClean (IsMember members) s bound pieces) (clean_by (seats_of works)) numbers
-    complete : capped (sum_by (λ (x : Counts). x.complete) (counts_of works)) ≡ capped (sum_by (λ (x : Counts). x.complete) numbers)
-    stuck : capped (sum_by (λ (x : Counts). x.stuck) (counts_of works)) ≡ capped (sum_by (λ (x : Counts). x.stuck) numbers)
-    cut : capped (sum_by (λ (x : Counts). x.cut) (counts_of works)) ≡ capped (sum_by (λ (x : Counts). x.cut) numbers)
+    complete : capped (sum_by (λ (x : Counts). x.complete) (counts_of_works works)) ≡ capped (sum_by (λ (x : Counts). x.complete) numbers)
+    stuck : capped (sum_by (λ (x : Counts). x.stuck) (counts_of_works works)) ≡ capped (sum_by (λ (x : Counts). x.stuck) numbers)
+    cut : capped (sum_by (λ (x : Counts). x.cut) (counts_of_works works)) ≡ capped (sum_by (λ (x : Counts). x.cut) numbers)
 
   numbered : (works : List Work) → All (IsWork c matrix members bound pieces board) works → Numbered works
   numbered [] all = record { numbers = []; zip = tt; complete = refl; stuck = refl; cut = refl }
@@ -192,9 +192,9 @@ module _ (c : Declarations) (matrix : Matrix) (members : List (List SerialOp)) (
       record {
         numbers = first.numbers ++ rest.numbers;
         zip = rw (flat_map-cons (λ (x : SeatModel). x.view.clean) w.seat (seats_of ws)) (zip_append (IsClean (IsMember members) s bound pieces) w.seat.view.clean first.numbers (clean_by (seats_of ws)) rest.numbers first.clean rest.zip);
-        complete = sums_join (λ (x : Counts). x.complete) w.counts (counts_of ws) first.numbers rest.numbers (ap (λ (x : Counts). x.complete) first.sums) rest.complete;
-        stuck = sums_join (λ (x : Counts). x.stuck) w.counts (counts_of ws) first.numbers rest.numbers (ap (λ (x : Counts). x.stuck) first.sums) rest.stuck;
-        cut = sums_join (λ (x : Counts). x.cut) w.counts (counts_of ws) first.numbers rest.numbers (ap (λ (x : Counts). x.cut) first.sums) rest.cut;
+        complete = sums_join (λ (x : Counts). x.complete) w.counts (counts_of_works ws) first.numbers rest.numbers (ap (λ (x : Counts). x.complete) first.sums) rest.complete;
+        stuck = sums_join (λ (x : Counts). x.stuck) w.counts (counts_of_works ws) first.numbers rest.numbers (ap (λ (x : Counts). x.stuck) first.sums) rest.stuck;
+        cut = sums_join (λ (x : Counts). x.cut) w.counts (counts_of_works ws) first.numbers rest.numbers (ap (λ (x : Counts). x.cut) first.sums) rest.cut;
       }
 
   -- each found entry is right
@@ -219,7 +219,7 @@ module _ (c : Declarations) (matrix : Matrix) (members : List (List SerialOp)) (
         let g = count_of-empty (given_by (seats_of works)) none_given x in
         omega arith
 
-    clean_found : (counts : Counts) → found_by (seats_of works) ≡ [] → counts ≡ total (counts_of works) → AreAllGood (IsMember members) s bound Any counts
+    clean_found : (counts : Counts) → found_by (seats_of works) ≡ [] → counts ≡ total (counts_of_works works) → AreAllGood (IsMember members) s bound Any counts
     clean_found counts none sum =
         let n = numbered works all in
         let xs = clean_by (seats_of works) in
@@ -236,7 +236,7 @@ module _ (c : Declarations) (matrix : Matrix) (members : List (List SerialOp)) (
         let e : 0 + length pieces ≡ length pieces = omega arith in
         let g = ap (sum_below (λ i. get (f i))) e in
         let r : sum_by get n.numbers ≡ sum_by get given = omega arith in r) in
-        let same : total (counts_of works) ≡ total given =
+        let same : total (counts_of_works works) ≡ total given =
         rw (n.complete ∙ ap capped (add (λ (x : Counts). x.complete)), n.stuck ∙ ap capped (add (λ (x : Counts). x.stuck)), n.cut ∙ ap capped (add (λ (x : Counts). x.cut))) refl in
         let zip : AllZip (λ p k. AreAllGood (IsMember members) s bound (Below p) k) pieces given =
         given_zip (λ p k. AreAllGood (IsMember members) s bound (Below p) k) f 0 pieces

@@ -11,7 +11,7 @@ use Rattle.lu_board.specs.Seats.{SeatModel, IsSeatOf, IsDone}
 use Rattle.lu_parallel.specs.declared.works.FoundPiece.{FoundPiece}
 use Rattle.lu_parallel.specs.declared.works.Work.{Work}
 use Rattle.lu_parallel.specs.Works.{found_pieces, IsSpentWork}
-use Rattle.lu_parallel.specs.Conclusions.{seats_of, counts_of, founds_of}
+use Rattle.lu_parallel.specs.Conclusions.{seats_of, counts_of_works, founds_of}
 use Rattle.lu_parallel.proofs.Tallies.{total_push}
 
 -- ---- lists, one element after another
@@ -35,11 +35,11 @@ has_tail x y xs has other = at has.0 has.1 has.2
 pub seats_step : (seats new all : List SeatModel) (rest more : List Work) (w : Work) → rest ≡ w ∷ more → new ≡ seats ++ w.seat ∷ [] → seats ++ seats_of rest ≡ all → new ++ seats_of more ≡ all
 seats_step seats new all rest more w is pushed was = rw pushed (one_then seats (seats_of more) w.seat ∙ (ap (λ (x : List Work). seats ++ seats_of x) (sym is) ∙ was))
 
-pub counts_step : (counts after : Counts) (all : List Counts) (rest more : List Work) (w : Work) → rest ≡ w ∷ more → after ≡ plus counts w.counts → (done : List Counts) × (counts ≡ total done) × (done ++ counts_of rest ≡ all) → (done : List Counts) × (after ≡ total done) × (done ++ counts_of more ≡ all)
+pub counts_step : (counts after : Counts) (all : List Counts) (rest more : List Work) (w : Work) → rest ≡ w ∷ more → after ≡ plus counts w.counts → (done : List Counts) × (counts ≡ total done) × (done ++ counts_of_works rest ≡ all) → (done : List Counts) × (after ≡ total done) × (done ++ counts_of_works more ≡ all)
 counts_step counts after all rest more w is sum was = (
   was.0 ++ w.counts ∷ [],
   sum ∙ (ap (λ (x : Counts). plus x w.counts) was.1 ∙ total_push was.0 w.counts),
-  one_then was.0 (counts_of more) w.counts ∙ (ap (λ (x : List Work). was.0 ++ counts_of x) (sym is) ∙ was.2),
+  one_then was.0 (counts_of_works more) w.counts ∙ (ap (λ (x : List Work). was.0 ++ counts_of_works x) (sym is) ∙ was.2),
 )
 
 pub founds_step : (found new all : List FoundPiece) (rest more : List Work) (w : Work) → rest ≡ w ∷ more → new ≡ found ++ w.found.items → found ++ founds_of rest ≡ all → new ++ founds_of more ≡ all

@@ -15,7 +15,7 @@ use Rattle.lu_tree.specs.Trees.{Below}
 use Rattle.lu_board.specs.declared.view.View.{View}
 use Rattle.lu_board.specs.declared.view.Kind.TheVariants.{Clean}
 use Rattle.lu_board.specs.Events.{with_settled, with_found}
-use Rattle.lu_board.specs.Pieces.{without}
+use Rattle.lu_board.specs.Pieces.{without_first}
 use Rattle.lu_board.specs.Views.{pieces_of as seat_pieces}
 use Rattle.lu_parallel.specs.declared.works.FoundPiece.{FoundPiece}
 use Rattle.lu_parallel.specs.Works.{piece_at, IsClean, IsFoundPiece, IsTally}
@@ -118,5 +118,5 @@ holds_same Set s bound pieces v w counts found clean same holds = record {
   right = holds.right;
 }
 
-pub without_one : (i : ℕ) (held : List ℕ) → held ≡ [] → without i (held ++ i ∷ []) ≡ []
+pub without_one : (i : ℕ) (held : List ℕ) → held ≡ [] → without_first i (held ++ i ∷ []) ≡ []
 without_one i held none = rw none (ap (λ (b : Bool). if b then [] else i ∷ []) (eq-eqb i i refl))

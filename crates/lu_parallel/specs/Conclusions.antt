@@ -14,8 +14,8 @@ use Rattle.lu_parallel.specs.declared.works.Work.{Work}
 abbrev pub seats_of : List Work → List SeatModel
 seats_of works = map (λ w. w.seat) works
 
-abbrev pub counts_of : List Work → List Counts
-counts_of works = map (λ w. w.counts) works
+abbrev pub counts_of_works : List Work → List Counts
+counts_of_works works = map (λ w. w.counts) works
 
 -- the bad pieces of all works
 abbrev pub founds_of : List Work → List FoundPiece
@@ -23,18 +23,18 @@ founds_of works = flat_map (λ w. w.found.items) works
 
 -- the sums of the numbers, where no piece is found; else the schedule of the least found piece, and
 -- why it is bad
-abbrev pub IsAnswer : List Work → Found → Type 0
-IsAnswer works (Clean counts) =
-    IsLeastPiece (found_by (seats_of works)) None × (counts ≡ total (counts_of works))
-IsAnswer works (Bad schedule why) =
+abbrev pub IsJointResult : List Work → Found → Type 0
+IsJointResult works (Clean counts) =
+    IsLeastPiece (found_by (seats_of works)) None × (counts ≡ total (counts_of_works works))
+IsJointResult works (Bad schedule why) =
     (i : ℕ) × IsLeastPiece (found_by (seats_of works)) (Some i)
     × Contains (founds_of works) (record { piece = i; schedule = schedule; why = why })
-IsAnswer works Abandoned = ⊥
+IsJointResult works Abandoned = ⊥
 
 -- nothing, where a piece was given up
 abbrev pub IsConclusion : List Work → Option Found → Type 0
 IsConclusion works None = 0 < length (given_by (seats_of works))
-IsConclusion works (Some found) = (given_by (seats_of works) ≡ []) × IsAnswer works found
+IsConclusion works (Some found) = (given_by (seats_of works) ≡ []) × IsJointResult works found
 
 -- for each skipped piece a lesser one is found
 abbrev pub SkipsAbove : List Work → Type 0

@@ -1,5 +1,5 @@
 -- What a search of all schedules finds.
-use Rattle.std.specs.Prelude.{ℕ, List, Option, Some, None, Result, IfOk}
+use Rattle.std.specs.Prelude.{ℕ, List, Option, Some, None, Result, IfOk, IfSome}
 use Rattle.lu_component.specs.Component.{Declarations}
 use Rattle.lu_test.specs.Matrix.{Matrix}
 use Rattle.lu_history.specs.declared.serial.SerialOp.{SerialOp}
@@ -11,6 +11,7 @@ use Rattle.lu_report.specs.declared.report.Finding.{Finding}
 use Rattle.lu_report.specs.declared.report.Finding.TheVariants.{Pass, Fail}
 use Rattle.lu_tree.specs.declared.found.Found.{Found}
 use Rattle.lu_tree.specs.declared.found.Found.TheVariants.{Clean, Bad, Abandoned}
+use Rattle.lu_tree.specs.declared.space.SearchSpace.{SearchSpace}
 
 -- the finding of a check in which no serial run offends or none is made; none of a search that was
 -- abandoned
@@ -21,16 +22,25 @@ finding_of Abandoned = None
 
 -- ---- what is answered
 
--- what is found with these bounds, from each start
-abbrev pub Finds : {E : Type 0} → Declarations → Matrix → ℕ → ℕ → Result Finding E → Type 0
-Finds c matrix bound serial result =
-    FromEachStart c matrix (λ s. IfOk result (IsFinding s bound serial))
+-- what is found in the space with this bound of serial runs, from each start
+abbrev pub FindsFromStarts : {E : Type 0} → SearchSpace → ℕ → Result Finding E → Type 0
+FindsFromStarts space serial result =
+    FromEachStart space.component.now space.matrix.now
+    (λ s. IfOk result (IsFinding s space.bound serial))
 
--- what is found against the set with these members
-abbrev pub FindsAgainst : {E : Type 0} → Declarations → Matrix → List (List SerialOp) → ℕ
-    → Result Finding E → Type 0
-FindsAgainst c matrix members bound result =
-    FromEachStart c matrix (λ s. IfOk result (IsFindingAgainst (IsMember members) s bound))
+-- what is found in the space against the set with these members
+abbrev pub FindsAgainst : {E : Type 0} → SearchSpace → List (List SerialOp) → Result Finding E
+    → Type 0
+FindsAgainst space members result =
+    FromEachStart space.component.now space.matrix.now
+    (λ s. IfOk result (IsFindingAgainst (IsMember members) s space.bound))
+
+-- the same, where the search came to its end
+abbrev pub MayFindAgainst : {E : Type 0} → SearchSpace → List (List SerialOp)
+    → Result (Option Finding) E → Type 0
+MayFindAgainst space members result =
+    FromEachStart space.component.now space.matrix.now
+    (λ s. IfOk result (λ found. IfSome found (IsFindingAgainst (IsMember members) s space.bound)))
 
 -- the report against the set with these members
 abbrev pub ReportsAgainst : {E : Type 0} → Declarations → Matrix → List (List SerialOp) → ℕ

@@ -8,12 +8,23 @@ pub record Choice : Type 0 where
   pub serial : ℕ
   pub workers : ℕ
   pub depth : ℕ
+  pub head_start : ℕ
 
+-- these numbers, and no head start
 abbrev pub choice : ℕ → ℕ → ℕ → ℕ → Choice
-choice bound serial workers depth =
-    record { bound = bound; serial = serial; workers = workers; depth = depth }
+choice bound serial workers depth = record {
+  bound = bound;
+  serial = serial;
+  workers = workers;
+  depth = depth;
+  head_start = 0;
+}
 
--- each number is within its range
+-- the same with so many looks of a head start
+abbrev pub with_head_start : ℕ → Choice → Choice
+with_head_start looks c = record c { head_start = looks }
+
+-- each number is within its range, and a head start has any
 pub record IsInRange (c : Choice) : Type 0 where
   pub bound : c.bound ≤ most_moves
   pub serial : IsSerialBound c.serial

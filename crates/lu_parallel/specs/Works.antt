@@ -13,19 +13,19 @@ use Rattle.lu_machine.specs.Sums.{total}
 use Rattle.lu_history.specs.declared.serial.SerialOp.{SerialOp}
 use Rattle.lu_witness.specs.Goodness.{IsFirstBad, AreAllGood}
 use Rattle.lu_witness.specs.Witnesses.{IsMember}
-use Rattle.lu_tree.specs.Tables.{AreTables}
+use Rattle.lu_tree.specs.Tables.{AreRunTables}
 use Rattle.lu_tree.specs.Trees.{Below, IsFoundWatched}
 use Rattle.lu_tree.specs.declared.tables.Tables.{Tables}
 use Rattle.lu_tree.specs.declared.found.Found.{Found}
 use Rattle.lu_board.specs.declared.view.View.{View}
-use Rattle.lu_board.specs.Pieces.{without}
+use Rattle.lu_board.specs.Pieces.{without_first}
 use Rattle.lu_board.specs.Seats.{BoardModel, SeatModel, IsDone, IsSeatOf}
 use Rattle.lu_board.specs.Views.{pieces_of as seat_pieces}
 use Rattle.lu_report.specs.Limits.{most_moves}
 use Rattle.lu_parallel.specs.declared.works.FoundPiece.{FoundPiece}
 use Rattle.lu_parallel.specs.declared.works.Work.{Work}
 use Rattle.lu_parallel.specs.declared.worker.Job.{Job}
-use Rattle.lu_parallel.specs.declared.worker.Tally.{Tally}
+use Rattle.lu_parallel.specs.declared.worker.Worker.{Worker}
 
 -- piece i of the list
 abbrev pub piece_at : List (List Move) → ℕ → List Move
@@ -96,38 +96,42 @@ IsWorkOn c matrix members bound pieces board w = IsWork c matrix members bound p
 
 -- ---- what a worker is lent
 
-abbrev pub IsLent : Job → Type 0
-IsLent job = IsJob job.component.now job.matrix.now job.bound job.pieces.now job.board.now
+abbrev pub IsLent : {T G : Type 0} → Job T G → Type 0
+IsLent job =
+    IsJob job.space.component.now job.space.matrix.now job.space.bound job.pieces.now job.board.now
 
 -- the tables are those of what is lent
-abbrev pub AreTablesFor : Job → Tables → Type 0
-AreTablesFor job tables = AreTables job.component.now job.matrix.now tables
+abbrev pub AreTablesFor : {T G : Type 0} → Job T G → Tables → Type 0
+AreTablesFor job tables = AreRunTables job.space.component.now job.space.matrix.now tables
 
 -- a work for what is lent, with the set of these members
-abbrev pub IsWorkFor : Job → List (List SerialOp) → Work → Type 0
+abbrev pub IsWorkFor : {T G : Type 0} → Job T G → List (List SerialOp) → Work → Type 0
 IsWorkFor job members w =
-    IsWorkOn job.component.now job.matrix.now members job.bound job.pieces.now job.board.now w
+    IsWorkOn job.space.component.now job.space.matrix.now members job.space.bound
+    job.pieces.now job.board.now w
 
-abbrev pub AreWorksFor : {E Z : Type 0} → Job → List (List SerialOp) → Result (Vec Work Z) E
-    → Type 0
+abbrev pub AreWorksFor : {T G E Z : Type 0} → Job T G → List (List SerialOp)
+    → Result (Vec Work Z) E → Type 0
 AreWorksFor job members result = IfOk result (λ works. All (IsWorkFor job members) works.items)
 
 -- what was found in this piece, unless it was abandoned
-abbrev pub IsFoundIn : {E : Type 0} → Job → List (List SerialOp) → ℕ → Result Found E → Type 0
+abbrev pub IsFoundIn : {T G E : Type 0} → Job T G → List (List SerialOp) → ℕ → Result Found E
+    → Type 0
 IsFoundIn job members piece result =
-    FromEachStart job.component.now job.matrix.now
+    FromEachStart job.space.component.now job.space.matrix.now
     (λ s. IfOk result
-    (IsFoundWatched (IsMember members) s job.bound (Below (piece_at job.pieces.now piece))))
+    (IsFoundWatched (IsMember members) s job.space.bound (Below (piece_at job.pieces.now piece))))
 
 -- what is a tally of the one view and is kept on is one of the other
-abbrev pub Tallied : Job → List (List SerialOp) → View → Tally → View → Tally → Type 0
+abbrev pub Tallied : {T G : Type 0} → Job T G → List (List SerialOp) → View → Worker → View
+    → Worker → Type 0
 Tallied job members v old w new =
-    FromEachStart job.component.now job.matrix.now
-    (λ s. IsTally (IsMember members) s job.bound job.pieces.now v old.counts old.found.items
-    → IsTally (IsMember members) s job.bound job.pieces.now w new.counts new.found.items)
+    FromEachStart job.space.component.now job.space.matrix.now
+    (λ s. IsTally (IsMember members) s job.space.bound job.pieces.now v old.counts old.found.items
+    → IsTally (IsMember members) s job.space.bound job.pieces.now w new.counts new.found.items)
 
 -- piece i, which was held, is put into another set
 pub record PutsAway (i : ℕ) (old new : View) : Type 0 where
   pub pieces : new.pieces ≡ old.pieces
   pub past : new.past ≡ old.past
-  pub held : new.held ≡ without i old.held
+  pub held : new.held ≡ without_first i old.held

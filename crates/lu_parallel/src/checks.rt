@@ -1,40 +1,41 @@
 //! A check by many workers.
 
-ghost use Rattle.std.specs.Prelude.{◌≡◌, ◌≤◌, ◌<◌, IfOk, IfErr, OnOk};
+ghost use Rattle.std.specs.Prelude.{◌≡◌, ◌≤◌, ◌<◌, IfOk, IfErr, IfSome, OnOk};
 ghost use Rattle.lu_test.specs.Matrix.{IsMatrix};
 ghost use Rattle.lu_machine.specs.Starts.{CanRun};
+ghost use Rattle.lu_report.specs.Limits.{most_moves};
 ghost use Rattle.lu_replay.specs.Reports.{IsReport};
-ghost use Rattle.lu_parallel.specs.Findings.{Finds, FindsAgainst, ReportsAgainst};
+ghost use Rattle.lu_parallel.specs.Findings.{FindsFromStarts, FindsAgainst, MayFindAgainst, ReportsAgainst};
 ghost use Rattle.lu_parallel.specs.declared.fault.CheckFault.TheVariants.{Memory};
 
 use crate::conclusion::conclude;
 use crate::fault::CheckFault;
 use crate::gate::Gate;
+use crate::head_start::HeadStart;
 use crate::one_thread::{finding_of, search_all};
 use crate::options::Options;
 use crate::threads::run_workers;
-use crate::worker::Job;
+use crate::worker::{Job, REMEMBERED};
 use lu_board::board::Board;
 use lu_component::Component;
 use lu_replay::set_or_offence;
 use lu_report::{Finding, Report};
 use lu_serial::learn;
-use lu_test::Matrix;
-use lu_tree::frontier;
+use lu_test::{Matrix, Schedule};
+use lu_tree::{SearchSpace, Tables, Watch, frontier, search_with};
 use lu_trie::{PackedTrie, SerialTree};
-use std::alloc::Global;
+use lu_witness::Cache;
+use std::alloc::{AllocError, Global};
 use std::sync::Wait;
 use std::thread::Threads;
 
-/// A check of a matrix of a component, and with what it is made.
+/// What is checked, how, and with what.
 #[derive_where(Clone, Copy)]
 #[derive(Drop)]
 struct Checking<'a, R, G> {
     rt: &'a R,
-    alloc: Global,
     gate: &'a G,
-    component: &'a Component,
-    matrix: &'a Matrix,
+    space: SearchSpace<'a>,
     options: Options,
 }
 
@@ -45,72 +46,108 @@ fn search_by_workers<R: Threads + Wait, G: Gate, T: SerialTree + Sync>(
 ) -> Result<Finding, CheckFault>
 where
     T::Place: Send + Sync,
-    requires of { CanRun check.now.component.now check.now.matrix.now }
-    ensures found { FindsAgainst check.now.component.now check.now.matrix.now (T.members tree.now)
-        check.now.options.bound result }
-    ensures limits { OnOk result (IsMatrix check.now.matrix.now) }
+    requires of { CanRun check.now.space.component.now check.now.space.matrix.now }
+    requires few { check.now.space.bound ≤ most_moves }
+    ensures found { FindsAgainst check.now.space (T.members tree.now) result }
+    ensures limits { OnOk result (IsMatrix check.now.space.matrix.now) }
 {
-    let (alloc, component, matrix) = (check.alloc, check.component, check.matrix);
-    let bound = check.options.bound();
-    let pieces = frontier(alloc, component, matrix, bound, check.options.depth())?;
+    let space = check.space;
+    let depth = check.options.depth();
+    let pieces = frontier(
+        space.alloc,
+        space.component,
+        space.matrix,
+        space.bound,
+        depth,
+    )?;
     let workers = u64::from(check.options.workers());
-    let (board, seats) = Board::new(alloc, pieces.len() as u64, workers)?;
+    let (board, seats) = Board::new(space.alloc, pieces.len() as u64, workers)?;
     let job = Job {
-        alloc,
-        component,
-        matrix,
+        space,
+        tree,
         pieces: &pieces,
-        bound,
         board: &board,
+        gate: check.gate,
     };
-    let works = run_workers(check.rt, job, tree, seats, check.gate)?;
-    match conclude(alloc, board, works)? {
+    let works = run_workers(check.rt, job, seats)?;
+    match conclude(space.alloc, board, works)? {
         Some(found) => Ok(finding_of(found)),
         None => Err(CheckFault::Memory),
     }
 }
 
+/// What the calling thread finds alone against the set of a tree, with the head start: none where
+/// that is over before the search.
+fn search_ahead<R, G, T: SerialTree>(
+    check: &Checking<'_, R, G>,
+    tree: &T,
+) -> Result<Option<Finding>, AllocError>
+    requires of { CanRun check.now.space.component.now check.now.space.matrix.now }
+    requires few { check.now.space.bound ≤ most_moves }
+    ensures found { MayFindAgainst check.now.space (T.members tree.now) result }
+    ensures limits { IfOk result (λ found. IfSome found (λ _.
+        IsMatrix check.now.space.matrix.now)) }
+{
+    let looks = check.options.head_start();
+    if looks == 0 {
+        return Ok(None);
+    }
+    let space = &check.space;
+    let whole = Schedule::new(Vec::new(space.alloc));
+    let tables = Tables::new(space.alloc, space.component, space.matrix, space.bound)?;
+    let mut cache = Cache::new(space.alloc, tree, REMEMBERED)?;
+    let mut watch = HeadStart::new(looks);
+    let found = search_with(space, &tables, &mut cache, &whole, &mut watch)?;
+    if watch.stopped() {
+        return Ok(None);
+    }
+    Ok(Some(finding_of(found)))
+}
+
 /// What is found against the set of a tree. One worker searches all schedules on the calling
-/// thread.
+/// thread, which does so for several too, as far as their head start goes.
 fn search_tree<R: Threads + Wait, G: Gate, T: SerialTree + Sync>(
     check: &Checking<'_, R, G>,
     tree: &T,
 ) -> Result<Finding, CheckFault>
 where
     T::Place: Send + Sync,
-    requires of { CanRun check.now.component.now check.now.matrix.now }
-    ensures found { FindsAgainst check.now.component.now check.now.matrix.now (T.members tree.now)
-        check.now.options.bound result }
-    ensures limits { OnOk result (IsMatrix check.now.matrix.now) }
+    requires of { CanRun check.now.space.component.now check.now.space.matrix.now }
+    requires few { check.now.space.bound ≤ most_moves }
+    ensures found { FindsAgainst check.now.space (T.members tree.now) result }
+    ensures limits { OnOk result (IsMatrix check.now.space.matrix.now) }
     ensures alone { IfErr result (λ fault. check.now.options.workers ≡ 1 → fault ≡ Memory) }
 {
     if check.options.workers() == 1 {
-        let bound = check.options.bound();
-        let finding = search_all(check.alloc, check.component, check.matrix, tree, bound)?;
+        let finding = search_all(&check.space, tree)?;
         return Ok(finding);
     }
-    search_by_workers(check, tree)
+    match search_ahead(check, tree)? {
+        Some(finding) => Ok(finding),
+        None => search_by_workers(check, tree),
+    }
 }
 
 /// The least serial offence, or what is found among all schedules. The set of serial histories is
 /// packed once for all workers.
 fn find<R: Threads + Wait, G: Gate>(check: &Checking<'_, R, G>) -> Result<Finding, CheckFault>
-    requires of { CanRun check.now.component.now check.now.matrix.now }
-    ensures found { Finds check.now.component.now check.now.matrix.now check.now.options.bound
-        check.now.options.serial result }
-    ensures limits { OnOk result (IsMatrix check.now.matrix.now) }
+    requires of { CanRun check.now.space.component.now check.now.space.matrix.now }
+    requires few { check.now.space.bound ≤ most_moves }
+    ensures found { FindsFromStarts check.now.space check.now.options.serial result }
+    ensures limits { OnOk result (IsMatrix check.now.space.matrix.now) }
     ensures alone { IfErr result (λ fault. check.now.options.workers ≡ 1 → fault ≡ Memory) }
 {
+    let space = check.space;
     let serial = check.options.serial();
     match set_or_offence(learn(
-        check.alloc,
-        check.alloc,
-        check.component,
-        check.matrix,
+        space.alloc,
+        space.alloc,
+        space.component,
+        space.matrix,
         serial,
     )?) {
         Ok(set) => {
-            let packed = PackedTrie::pack(check.alloc, &set)?;
+            let packed = PackedTrie::pack(space.alloc, &set)?;
             drop(set);
             search_tree(check, &&packed)
         }
@@ -119,10 +156,12 @@ fn find<R: Threads + Wait, G: Gate>(check: &Checking<'_, R, G>) -> Result<Findin
 }
 
 /// The report of a component and a matrix (Burckhardt, Dern, Musuvathi and Tan, 2010), by as many
-/// workers as the options say. It is the same for any number of workers and any depth. One worker
-/// searches on the calling thread, and no thread is started and the gate is not called. More of
-/// them each have a thread, where they claim pieces: the schedules of `depth` moves, and the ended
-/// ones of fewer. The calling thread waits until they are done.
+/// workers as the options say. It is the same for any number of workers, any depth and any head
+/// start. One worker searches on the calling thread, and no thread is started and the gate is not
+/// called. Before there are more of them, the calling thread searches alone while the head start
+/// lasts, and where it comes to the end, all is as with one. Else each of them has a thread, where
+/// they claim pieces: the schedules of `depth` moves, and the ended ones of fewer. The calling
+/// thread waits until they are done.
 ///
 /// # Errors
 ///
@@ -140,26 +179,26 @@ pub fn check<R: Threads + Wait, G: Gate>(
     ensures report { IfOk result (IsReport component.now matrix.now options.bound options.serial) }
     ensures alone { IfErr result (λ fault. options.workers ≡ 1 → fault ≡ Memory) }
 {
-    let finding = find(&Checking {
-        rt,
+    let bound = options.bound();
+    let space = SearchSpace {
         alloc,
-        gate,
         component,
         matrix,
+        bound,
+    };
+    let finding = find(&Checking {
+        rt,
+        gate,
+        space,
         options,
     })?;
-    Ok(Report::new(
-        options.bound(),
-        options.serial(),
-        component.local(),
-        finding,
-    ))
+    Ok(Report::new(bound, options.serial(), component.local(), finding))
 }
 
 /// The report of a component and a matrix against the set of a tree, as a specification lends it,
 /// by as many workers as the options say. No serial run is made, and the options' bound of serial
-/// runs has no effect. Else it is as [`check`]: the report is the same for any number of workers
-/// and any depth. The calling thread waits until the workers are done.
+/// runs has no effect. Else it is as [`check`]: the report is the same for any number of workers,
+/// any depth and any head start. The calling thread waits until the workers are done.
 ///
 /// # Errors
 ///
@@ -180,14 +219,19 @@ where
         options.bound result }
     ensures alone { IfErr result (λ fault. options.workers ≡ 1 → fault ≡ Memory) }
 {
-    let check = Checking {
-        rt,
+    let bound = options.bound();
+    let space = SearchSpace {
         alloc,
-        gate,
         component,
         matrix,
+        bound,
+    };
+    let check = Checking {
+        rt,
+        gate,
+        space,
         options,
     };
     let finding = search_tree(&check, tree)?;
-    Ok(Report::against(options.bound(), component.local(), finding))
+    Ok(Report::against(bound, component.local(), finding))
 }

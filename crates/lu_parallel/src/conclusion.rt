@@ -4,7 +4,7 @@ ghost use Rattle.std.specs.Prelude.{◌≡◌, IfOk, OnOk, All, Contains, length
 ghost use Rattle.lu_machine.specs.Sums.{total};
 ghost use Rattle.lu_board.specs.Close.{SharesOut};
 ghost use Rattle.lu_parallel.specs.Works.{IsSpentWork, found_pieces};
-ghost use Rattle.lu_parallel.specs.Conclusions.{IsConclusion, SkipsAbove, seats_of, counts_of, founds_of};
+ghost use Rattle.lu_parallel.specs.Conclusions.{IsConclusion, SkipsAbove, seats_of, counts_of_works, founds_of};
 
 use crate::works::{FoundPiece, Work};
 use lu_board::board::{Board, Seat};
@@ -22,7 +22,7 @@ struct Gathered {
 
 fn gather(alloc: Global, works: Vec<Work>) -> Result<Gathered, AllocError>
     ensures seats { IfOk result (λ r. r.seats.items ≡ seats_of works.items) }
-    ensures counts { IfOk result (λ r. r.counts ≡ total (counts_of works.items)) }
+    ensures counts { IfOk result (λ r. r.counts ≡ total (counts_of_works works.items)) }
     ensures found { IfOk result (λ r. r.found.items ≡ founds_of works.items) }
 {
     let mut seats = Vec::with_capacity(alloc, works.len())?;

@@ -21,6 +21,7 @@ mod checks;
 mod conclusion;
 mod fault;
 mod gate;
+mod head_start;
 pub mod laws;
 mod one_thread;
 mod options;

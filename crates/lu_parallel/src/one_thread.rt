@@ -5,15 +5,17 @@ ghost use Rattle.lu_test.specs.Matrix.{IsMatrix};
 ghost use Rattle.lu_machine.specs.Starts.{CanRun};
 ghost use Rattle.lu_report.specs.Limits.{IsSerialBound, most_moves};
 ghost use Rattle.lu_replay.specs.Reports.{IsReport};
-ghost use Rattle.lu_parallel.specs.Findings.{Finds, FindsAgainst, ReportsAgainst, finding_of};
+ghost use Rattle.lu_parallel.specs.Findings.{FindsFromStarts, FindsAgainst, ReportsAgainst, finding_of};
 
+use crate::worker::REMEMBERED;
 use lu_component::Component;
 use lu_replay::set_or_offence;
 use lu_report::{Finding, Report};
 use lu_serial::learn;
 use lu_test::{Matrix, Schedule};
-use lu_tree::{Found, search};
+use lu_tree::{Found, SearchSpace, Tables, Unwatched, search_with};
 use lu_trie::SerialTree;
+use lu_witness::Cache;
 use std::alloc::{AllocError, Allocator, Global};
 
 /// What a search of all schedules finds that was not abandoned.
@@ -30,39 +32,42 @@ pub(crate) fn finding_of(found: Found) -> Finding
 
 /// What a search of all schedules finds against the set of a tree.
 pub(crate) fn search_all<T: SerialTree>(
-    alloc: Global,
-    component: &Component,
-    matrix: &Matrix,
+    space: &SearchSpace<'_>,
     tree: &T,
-    bound: u16,
 ) -> Result<Finding, AllocError>
-    requires of { CanRun component.now matrix.now }
-    requires bound { bound ≤ most_moves }
-    ensures found { FindsAgainst component.now matrix.now (T.members tree.now) bound result }
-    ensures limits { OnOk result (IsMatrix matrix.now) }
+    requires of { CanRun space.now.component.now space.now.matrix.now }
+    requires few { space.now.bound ≤ most_moves }
+    ensures found { FindsAgainst space.now (T.members tree.now) result }
+    ensures limits { OnOk result (IsMatrix space.now.matrix.now) }
 {
-    let whole = Schedule::new(Vec::new(alloc));
-    let found = search(alloc, component, matrix, tree, &whole, bound)?;
+    let whole = Schedule::new(Vec::new(space.alloc));
+    let tables = Tables::new(space.alloc, space.component, space.matrix, space.bound)?;
+    let mut cache = Cache::new(space.alloc, tree, REMEMBERED)?;
+    let found = search_with(space, &tables, &mut cache, &whole, &mut Unwatched)?;
     Ok(finding_of(found))
 }
 
 /// The least serial offence, or what a search of all schedules finds.
 fn find<A: Allocator + Clone>(
-    alloc: Global,
+    space: &SearchSpace<'_>,
     set_alloc: A,
-    component: &Component,
-    matrix: &Matrix,
-    bound: u16,
     serial: u16,
 ) -> Result<Finding, AllocError>
-    requires of { CanRun component.now matrix.now }
-    requires bound { bound ≤ most_moves }
+    requires of { CanRun space.now.component.now space.now.matrix.now }
+    requires few { space.now.bound ≤ most_moves }
     requires serial { IsSerialBound serial }
-    ensures found { Finds component.now matrix.now bound serial result }
-    ensures limits { OnOk result (IsMatrix matrix.now) }
+    ensures found { FindsFromStarts space.now serial result }
+    ensures limits { OnOk result (IsMatrix space.now.matrix.now) }
 {
-    match set_or_offence(learn(alloc, set_alloc, component, matrix, serial)?) {
-        Ok(set) => search_all(alloc, component, matrix, &&set, bound),
+    let learnt = learn(
+        space.alloc,
+        set_alloc,
+        space.component,
+        space.matrix,
+        serial,
+    )?;
+    match set_or_offence(learnt) {
+        Ok(set) => search_all(space, &&set),
         Err(offence) => Ok(offence),
     }
 }
@@ -88,7 +93,13 @@ pub fn check_one<A: Allocator + Clone>(
     requires serial { IsSerialBound serial }
     ensures { IfOk result (IsReport component.now matrix.now bound serial) }
 {
-    let finding = find(alloc, set_alloc, component, matrix, bound, serial)?;
+    let space = SearchSpace {
+        alloc,
+        component,
+        matrix,
+        bound,
+    };
+    let finding = find(&space, set_alloc, serial)?;
     Ok(Report::new(bound, serial, component.local(), finding))
 }
 
@@ -110,6 +121,12 @@ pub fn check_one_against<T: SerialTree>(
     requires bound { bound ≤ most_moves }
     ensures { ReportsAgainst component.now matrix.now (T.members tree.now) bound result }
 {
-    let finding = search_all(alloc, component, matrix, tree, bound)?;
+    let space = SearchSpace {
+        alloc,
+        component,
+        matrix,
+        bound,
+    };
+    let finding = search_all(&space, tree)?;
     Ok(Report::against(bound, component.local(), finding))
 }

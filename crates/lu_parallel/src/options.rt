@@ -2,7 +2,7 @@
 
 ghost use Rattle.std.specs.Prelude.{◌≡◌, ◌≤◌, ◌↔◌, IsSome, IfSome};
 ghost use Rattle.lu_report.specs.Limits.{IsSerialBound, most_moves};
-ghost use Rattle.lu_parallel.specs.Ranges.{IsInRange, choice};
+ghost use Rattle.lu_parallel.specs.Ranges.{IsInRange, choice, with_head_start};
 
 use lu_report::Bounds;
 use std::marker::Model;
@@ -17,19 +17,24 @@ pub struct Options {
 
     /// The most moves of a piece, 0 to 8.
     depth: u8,
+
+    /// How many looks of its watch a search by the calling thread alone lasts.
+    head_start: u64,
 }
 
 impl Model for Options {
-    ghost use Rattle.lu_parallel.specs.Ranges.{Choice, IsInRange, choice};
+    ghost use Rattle.lu_parallel.specs.Ranges.{Choice, IsInRange, choice, with_head_start};
 
     ghost Value = { Choice };
 
-    ghost view = { λ o. choice o.bounds.bound o.bounds.serial o.workers o.depth };
+    ghost view = { λ o. with_head_start o.head_start
+        (choice o.bounds.bound o.bounds.serial o.workers o.depth) };
 
     ghost inverse = { λ c. record {
       bounds = record { bound = c.bound; serial = c.serial };
       workers = c.workers;
       depth = c.depth;
+      head_start = c.head_start;
     } };
 
     ghost invariant = { λ o. IsInRange (choice o.bounds.bound o.bounds.serial o.workers o.depth) };
@@ -38,7 +43,7 @@ impl Model for Options {
 impl Options {
     /// These options: the most moves of a schedule, 0 to 256; the most moves of an operation after
     /// its call in a serial run, 1 to 256; the number of workers, 1 to 16; and the most moves of a
-    /// piece, 0 to 8. `None` where one is outside.
+    /// piece, 0 to 8. There is no head start. `None` where a number is outside.
     pub fn new(bound: u16, serial: u16, workers: u8, depth: u8) -> Option<Options>
         ensures range { IsSome result ↔ IsInRange (choice bound serial workers depth) }
         ensures choice { IfSome result (λ o. o ≡ choice bound serial workers depth) }
@@ -51,7 +56,25 @@ impl Options {
             bounds,
             workers,
             depth,
+            head_start: 0,
         })
+    }
+
+    /// These options, where the calling thread first searches alone, in order, and workers are
+    /// started only where that search has not come to its end after so many looks of its watch.
+    /// There is one look for each 64 further schedules, or for more of them that were counted
+    /// together. With 0 the workers start at once, and one worker needs no head start.
+    ///
+    /// A walk in order knows of all that was walked before which moves commute, and counts most
+    /// schedules by that. A worker knows nothing of other pieces. So a search that is short in
+    /// order takes workers many times as long, all of them together.
+    pub fn with_head_start(self, looks: u64) -> Options
+        ensures { result ≡ with_head_start looks self }
+    {
+        Options {
+            head_start: looks,
+            ..self
+        }
     }
 
     /// The most moves of a schedule, 0 to 256.
@@ -84,5 +107,12 @@ impl Options {
         ensures range { result ≤ 8 }
     {
         self.depth
+    }
+
+    /// How many looks of its watch a search by the calling thread alone lasts.
+    pub fn head_start(&self) -> u64
+        ensures { result ≡ self.now.head_start }
+    {
+        self.head_start
     }
 }

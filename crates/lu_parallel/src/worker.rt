@@ -6,8 +6,8 @@ ghost use Rattle.lu_history.specs.declared.serial.SerialOp.{SerialOp};
 ghost use Rattle.lu_witness.specs.Caches.{SameButEntries};
 ghost use Rattle.lu_report.specs.Limits.{most_moves};
 ghost use Rattle.lu_tree.specs.Trees.{is_abandoned};
-ghost use Rattle.lu_parallel.specs.Watches.{held_piece, rest_of};
-ghost use Rattle.lu_parallel.specs.Works.{ArePieces, AreTablesFor, IsFoundIn, IsFresh, IsLent, IsWorkFor, IsWorkOn, Tallied, PutsAway};
+ghost use Rattle.lu_parallel.specs.Watches.{held_piece};
+ghost use Rattle.lu_parallel.specs.Works.{ArePieces, AreTablesFor, IsFoundIn, IsFresh, IsLent, IsWorkFor, IsWorkOn, PutsAway, Tallied};
 
 use crate::gate::Gate;
 use crate::seat_watch::SeatWatch;
@@ -17,112 +17,72 @@ use lu_board::view::{Kind, Look};
 use lu_component::Component;
 use lu_machine::Counts;
 use lu_test::{Matrix, Schedule};
-use lu_tree::{Found, Tables, search_with};
+use lu_tree::{Found, SearchSpace, Tables, search_with};
 use lu_trie::SerialTree;
 use lu_witness::Cache;
 use std::alloc::{AllocError, Global};
 
 /// How many verdicts a worker remembers.
-const REMEMBERED: usize = 1024;
+pub(crate) const REMEMBERED: usize = 1024;
 
-/// What a worker is lent.
-#[derive(Clone, Copy, Drop)]
-pub(crate) struct Job<'a> {
-    pub(crate) alloc: Global,
-    pub(crate) component: &'a Component,
-    pub(crate) matrix: &'a Matrix,
+/// What all workers are lent.
+#[derive(Drop)]
+#[derive_where(Clone, Copy)]
+pub(crate) struct Job<'a, T, G> {
+    pub(crate) space: SearchSpace<'a>,
+    pub(crate) tree: &'a T,
     pub(crate) pieces: &'a [Schedule],
-    pub(crate) bound: u16,
     pub(crate) board: &'a Board,
+    pub(crate) gate: &'a G,
 }
 
-/// What a worker has done so far.
+/// A worker, and what it has done so far.
 #[derive(Drop)]
-struct Tally {
+struct Worker {
+    /// Its number, from 0.
+    number: u8,
+
+    /// How many schedules of its clean pieces are complete, stuck and cut.
     counts: Counts,
+
+    /// Its bad pieces.
     found: Vec<FoundPiece>,
 
     /// Whether memory was refused. The worker then gives up all that it claims.
     starved: bool,
 }
 
-/// What the search of a piece came to, and the seat.
-#[derive(Drop)]
-struct Searched {
-    found: Result<Found, AllocError>,
-    seat: Seat,
-}
-
-/// Searches a piece that the seat holds, until a lesser piece was found bad, and then the piece is
-/// skipped.
-fn search_held<'t, T: SerialTree>(
-    job: &Job<'_>,
-    tables: &Tables,
-    cache: &mut Cache<'t, T>,
-    seat: Seat,
-    piece: u64,
-) -> Searched
-    requires job { IsLent job.now }
-    requires tables { AreTablesFor job.now tables.now }
-    requires board { seat.board ≡ job.now.board.now.board }
-    requires piece { piece < length job.now.pieces.now }
-    requires held { seat.view.held ≡ piece ∷ [] }
-    ensures cache { SameButEntries cache.old cache.new }
-    ensures found { IsFoundIn job.now (T.members cache.old.tree) piece result.found }
-    ensures board { result.seat.board ≡ seat.board }
-    ensures rest { rest_of piece result.seat.view ≡ rest_of piece seat.view }
-    ensures held { result.seat.view.held ≡ held_piece (is_abandoned result.found) piece }
-{
-    let mut watch = SeatWatch::new(job.board, seat, piece);
-    let found = search_with(
-        job.alloc,
-        job.component,
-        job.matrix,
-        tables,
-        cache,
-        &job.pieces[piece as usize],
-        job.bound,
-        &mut watch,
-    );
-    Searched {
-        found,
-        seat: watch.into_seat(),
-    }
-}
-
-impl Tally {
-    fn new(alloc: Global) -> Tally
+impl Worker {
+    fn new(alloc: Global, number: u8) -> Worker
         ensures counts { result.counts ≡ record { complete = 0; stuck = 0; cut = 0 } }
         ensures found { result.found.items ≡ [] }
     {
-        Tally {
+        Worker {
+            number,
             counts: Counts::NONE,
             found: Vec::new(alloc),
             starved: false,
         }
     }
 
-    /// Searches a piece that the seat holds, and tells the board what came of it.
-    fn search<'t, T: SerialTree>(
+    /// Takes down what the search of a piece came to, and tells the board.
+    fn note<T, G>(
         &mut self,
-        job: &Job<'_>,
-        tables: &Tables,
-        cache: &mut Cache<'t, T>,
+        job: &Job<'_, T, G>,
+        found: Result<Found, AllocError>,
         seat: Seat,
         piece: u64,
     ) -> Seat
-        requires job { IsLent job.now }
-        requires tables { AreTablesFor job.now tables.now }
         requires board { seat.board ≡ job.now.board.now.board }
-        requires piece { piece < length job.now.pieces.now }
-        requires held { seat.view.held ≡ piece ∷ [] }
-        ensures cache { SameButEntries cache.old cache.new }
+        requires held { seat.view.held ≡ held_piece (is_abandoned found) piece }
         ensures board { result.board ≡ seat.board }
-        ensures away { PutsAway piece seat.view result.view }
-        ensures holds { Tallied job.now (T.members cache.old.tree) seat.view self.old
-            result.view self.new }
+        ensures pieces { result.view.pieces ≡ seat.view.pieces }
+        ensures past { result.view.past ≡ seat.view.past }
+        ensures held { result.view.held ≡ [] }
+        ensures holds { (members : List (List SerialOp)) → IsFoundIn job.now members piece found →
+            Tallied job.now members seat.view self.old result.view self.new }
     {
-        let Searched { found, mut seat } = search_held(job, tables, cache, seat, piece);
+        let mut seat = seat;
         match found {
             Ok(Found::Clean(counts)) => {
                 self.counts = self.counts.plus(counts);
@@ -152,16 +112,14 @@ impl Tally {
         }
     }
 
-    /// Goes with a piece that the seat holds from the gate to the end: it is skipped, found bad,
-    /// found clean or given up.
+    /// Goes with a piece that the seat holds from the gate to the end: it is searched until a
+    /// lesser piece was found bad, and is then skipped, or found bad, found clean or given up.
     fn serve<'t, T: SerialTree, G: Gate>(
         &mut self,
-        job: &Job<'_>,
+        job: &Job<'_, T, G>,
         tables: &Tables,
         cache: &mut Cache<'t, T>,
         seat: Seat,
-        gate: &G,
-        worker: u8,
         piece: u64,
     ) -> Seat
         requires job { IsLent job.now }
@@ -180,48 +138,26 @@ impl Tally {
             job.board.settle(&mut seat, piece, Kind::GivenUp);
             return seat;
         }
-        gate.pass(worker, piece);
+        job.gate.pass(self.number, piece);
         match job.board.look(&mut seat, piece) {
             Look::Skip(_) => {
-                gate.done(worker, piece);
+                job.gate.done(self.number, piece);
                 seat
             }
             Look::Go(_) => {
-                let seat = self.search(job, tables, cache, seat, piece);
-                gate.done(worker, piece);
+                let from = &job.pieces[piece as usize];
+                let mut watch = SeatWatch::new(job.board, seat, piece);
+                let found = search_with(&job.space, tables, cache, from, &mut watch);
+                let seat = self.note(job, found, watch.into_seat(), piece);
+                job.gate.done(self.number, piece);
                 seat
             }
         }
     }
 }
 
-/// The life of a worker that has its tables and remembers verdicts.
-fn serve_all<'t, T: SerialTree, G: Gate>(
-    job: &Job<'_>,
-    tables: &Tables,
-    mut cache: Cache<'t, T>,
-    mut seat: Seat,
-    gate: &G,
-    worker: u8,
-) -> Work
-    requires job { IsLent job.now }
-    requires tables { AreTablesFor job.now tables.now }
-    requires fresh { IsFresh job.now.board.now.board seat }
-    ensures { IsWorkFor job.now (T.members cache.entry.tree) result }
-{
-    let mut tally = Tally::new(job.alloc);
-    while let Some(piece) = job.board.claim(&mut seat) {
-        seat = tally.serve(job, tables, &mut cache, seat, gate, worker, piece);
-    }
-    Work {
-        seat,
-        counts: tally.counts,
-        found: tally.found,
-    }
-}
-
 /// The life of a worker that found no memory before its first claim.
-fn give_up_all(job: &Job<'_>, mut seat: Seat) -> Work
+fn give_up_all<T, G>(job: &Job<'_, T, G>, mut seat: Seat) -> Work
     requires job { IsLent job.now }
     requires fresh { IsFresh job.now.board.now.board seat }
     ensures { (members : List (List SerialOp)) → IsWorkFor job.now members result }
@@ -232,7 +168,7 @@ fn give_up_all(job: &Job<'_>, mut seat: Seat) -> Work
     Work {
         seat,
         counts: Counts::NONE,
-        found: Vec::new(job.alloc),
+        found: Vec::new(job.space.alloc),
     }
 }
 
@@ -251,7 +187,7 @@ pub fn work<T: SerialTree, G: Gate>(
     pieces: &[Schedule],
     bound: u16,
     board: &Board,
-    seat: Seat,
+    mut seat: Seat,
     gate: &G,
     worker: u8,
 ) -> Work
@@ -263,18 +199,32 @@ pub fn work<T: SerialTree, G: Gate>(
     ensures { IsWorkOn component.now matrix.now (T.members tree.now) bound
         pieces.now board.now result }
 {
-    let job = Job {
+    let space = SearchSpace {
         alloc,
         component,
         matrix,
-        pieces,
         bound,
-        board,
     };
-    let cache = Cache::new(alloc, tree, REMEMBERED);
-    let tables = Tables::new(alloc, component, matrix, bound);
-    match (cache, tables) {
-        (Ok(cache), Ok(tables)) => serve_all(&job, &tables, cache, seat, gate, worker),
-        _ => give_up_all(&job, seat),
+    let job = Job {
+        space,
+        tree,
+        pieces,
+        board,
+        gate,
+    };
+    let (Ok(mut cache), Ok(tables)) = (
+        Cache::new(alloc, tree, REMEMBERED),
+        Tables::new(alloc, component, matrix, bound),
+    ) else {
+        return give_up_all(&job, seat);
+    };
+    let mut worker = Worker::new(alloc, worker);
+    while let Some(piece) = board.claim(&mut seat) {
+        seat = worker.serve(&job, &tables, &mut cache, seat, piece);
+    }
+    Work {
+        seat,
+        counts: worker.counts,
+        found: worker.found,
     }
 }

@@ -6,7 +6,7 @@ use Rattle.std.proofs.lemmas.Option.{slice_get_within}
 use Rattle.lu_history.specs.declared.serial.SerialOp.{SerialOp}
 use Rattle.lu_witness.specs.Witnesses.{IsEntryAt, entries}
 use Rattle.lu_explain.specs.Explanations.{IsIn}
-use Rattle.lu_picture.specs.Reasons.{is_entry, number_in}
+use Rattle.lu_picture.specs.Reasons.{is_entry, number_in_order}
 
 and_left : (x y : Bool) → (x && y) ≡ true → x ≡ true
 and_left true y h = refl
@@ -36,10 +36,10 @@ Tells order t k n number =
     MatchOption number ((i : ℕ) → i < n → is_entry order t k i ≡ true → ⊥)
     (λ m. (i : ℕ) × (m ≡ i + 1) × (is_entry order t k i ≡ true))
 
-tells : (order : List SerialOp) (t k n : ℕ) → Tells order t k n (number_in order t k n)
+tells : (order : List SerialOp) (t k n : ℕ) → Tells order t k n (number_in_order order t k n)
 tells order t k zero = λ i less entry. absurd (omega (arith, less))
 tells order t k (suc n) =
-    one_more (number_in order t k n) (tells order t k n) (is_entry order t k n) refl
+    one_more (number_in_order order t k n) (tells order t k n) (is_entry order t k n) refl
   where
     one_more : (number : Option ℕ) → Tells order t k n number → (here : Bool) → is_entry order t k n ≡ here → Tells order t k (suc n) (option_or number (if here then Some (n + 1) else None))
     one_more (Some m) before here is = before
@@ -49,9 +49,9 @@ tells order t k (suc n) =
       | inr past ↦ (let same : i ≡ n = omega (arith, less, past) in let never : true ≡ false = sym entry ∙ (ap (λ j. is_entry order t k j) same ∙ is) in absurd cc)
     ]
 
-pub numbers_tell : (order : List SerialOp) (t k : ℕ) → MatchOption (number_in order t k (length order)) (IsIn order (record { t = t; k = k }) → ⊥) (λ n. (i : ℕ) × (n ≡ i + 1) × IsEntryAt order i (record { t = t; k = k }))
+pub numbers_tell : (order : List SerialOp) (t k : ℕ) → MatchOption (number_in_order order t k (length order)) (IsIn order (record { t = t; k = k }) → ⊥) (λ n. (i : ℕ) × (n ≡ i + 1) × IsEntryAt order i (record { t = t; k = k }))
 numbers_tell order t k =
-    all (number_in order t k (length order)) (tells order t k (length order))
+    all (number_in_order order t k (length order)) (tells order t k (length order))
   where
     all : (number : Option ℕ) → Tells order t k (length order) number → MatchOption number (IsIn order (record { t = t; k = k }) → ⊥) (λ n. (i : ℕ) × (n ≡ i + 1) × IsEntryAt order i (record { t = t; k = k }))
     all None none = λ there. none there.0 (slice_get_within order there.0 there.1.0 there.1.1) (is_entry_at order t k there.0 there.1)

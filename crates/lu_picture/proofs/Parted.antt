@@ -14,8 +14,8 @@ use Rattle.lu_machine.proofs.Keeping.{step_moved}
 use Rattle.lu_history.proofs.Events.{at_push}
 use Rattle.lu_picture.specs.declared.mark.Mark.{Mark}
 use Rattle.lu_picture.specs.Shapes.{pitch}
-use Rattle.lu_picture.specs.Pictures.{Drawn, Draws, IsRun, nothing, with_move}
-use Rattle.lu_picture.specs.Laws.{IsCallAt, RowTextsPart, texts_width}
+use Rattle.lu_picture.specs.Pictures.{Drawn, Draws, IsRun, nothing_drawn, with_move}
+use Rattle.lu_picture.specs.Laws.{IsMarkOfCall, RowTextsPart, texts_width}
 use Rattle.lu_picture.proofs.Drawn.{move_steps}
 
 pub none_part : (s : State) (d : Drawn) → d.marks ≡ [] → RowTextsPart s d
@@ -50,7 +50,7 @@ mark_on s d e event is more wide part = record {
     last : Mark
     last = record { left = d.edge; event = event }
 
-    apart_at : (i j t k : ℕ) (call later : Mark) → i < j → IsCallAt (d.marks ++ last ∷ []) i t k call → slice_get (d.marks ++ last ∷ []) j ≡ Some later → call.left + texts_width s t k + 8 ≤ later.left
+    apart_at : (i j t k : ℕ) (call later : Mark) → i < j → IsMarkOfCall (d.marks ++ last ∷ []) i t k call → slice_get (d.marks ++ last ∷ []) j ≡ Some later → call.left + texts_width s t k + 8 ≤ later.left
     apart_at i j t k call later less at there = elim (at_push d.marks last call i at.0) as (λ _. call.left + texts_width s t k + 8 ≤ later.left) [
       | inl first ↦ (elim (at_push d.marks last later j there) as (λ _. call.left + texts_width s t k + 8 ≤ later.left) [
         | inl second ↦ (part.apart i j t k call later less (first.1, at.1) second.1)
@@ -62,7 +62,7 @@ mark_on s d e event is more wide part = record {
       ])
     ]
 
-    inside_at : (i t k : ℕ) (call : Mark) → IsCallAt (d.marks ++ last ∷ []) i t k call → call.left + texts_width s t k + 8 ≤ e.edge
+    inside_at : (i t k : ℕ) (call : Mark) → IsMarkOfCall (d.marks ++ last ∷ []) i t k call → call.left + texts_width s t k + 8 ≤ e.edge
     inside_at i t k call at = elim (at_push d.marks last call i at.0) as (λ _. call.left + texts_width s t k + 8 ≤ e.edge) [
       | inl first ↦ (let before = part.inside i t k call (first.1, at.1) in omega (arith, before, more))
       | inr first ↦ (let there = ap (λ (x : Mark). x.left) first.1 in let enough = wide t k (ap (λ (x : Mark). x.event) (sym first.1) ∙ at.1) in omega (arith, there, enough))
@@ -100,4 +100,4 @@ draws_part n d s (m ∷ u) end e h part =
 
 pub texts_part : (c : Declarations) (matrix : Matrix) (u : List Move) (end : State) (status : Status) (d : Drawn) → IsRun c matrix u end status d → RowTextsPart end d
 texts_part c matrix u end status d run =
-    draws_part (length u) nothing run.start u end d run.draws (none_part run.start nothing refl)
+    draws_part (length u) nothing_drawn run.start u end d run.draws (none_part run.start nothing_drawn refl)

@@ -42,11 +42,11 @@ use Rattle.lu_explain.specs.declared.explanation.Reason.TheVariants.{After, Outc
 use Rattle.lu_explain.specs.Explanations.{Explained, reason_of}
 use Rattle.lu_explain.specs.Lines.{call_words as call_behind, operation_words, outcome_words as ended_words, reason_words}
 use Rattle.lu_replay.specs.Text.{replay_text, status_text}
-use Rattle.lu_trace.specs.Deeds.{awaited, cell_becomes, cell_is, cell_is_not, cell_word, deed, goes_on_at, jump_deed, look_deed, or_trap, owned_by, present, register_becomes, seen, swap_deed}
-use Rattle.lu_trace.specs.Lines.{call_words as call_said, code_of, instr_text, next_call, next_instr, next_words}
+use Rattle.lu_trace.specs.Deeds.{awaited, cell_becomes, cell_is, cell_is_not, cell_word, deed, goes_on_at, jump_deed, look_deed, or_trap, owned_by, present, register_becomes, seen, swap_deed, swap_of}
+use Rattle.lu_trace.specs.Lines.{call_words as call_said, code_of_operation, instr_text, next_call, next_instr, next_move_words}
 use Rattle.lu_picture.specs.declared.mark.End.{End}
 use Rattle.lu_picture.specs.Reasons.{outcome_of, why_words}
-use Rattle.lu_picture.specs.Shapes.{activity_waits, call_words, heading, instr_waits, outcome_words, status_words, step_words, wait_words}
+use Rattle.lu_picture.specs.Shapes.{activity_waits, call_words, heading, instr_waits, status_words, step_words, wait_words}
 use Rattle.lu_picture.specs.Escapes.{IsPlain, SaysPlain}
 use Rattle.lu_picture.proofs.Plain.{ArePlain, plain_append, plain_decimal, plain_each, plain_five, plain_four, plain_if, plain_joined, plain_name, plain_three}
 
@@ -90,7 +90,7 @@ calls_plain c matrix t k limits = by_call (slice_get (calls_of matrix t) k)
     by_call None = refl
     by_call (Some call) = call_plain c call limits
 
-outcome_plain : (outcome : AnOutcome) → IsPlain (outcome_words outcome)
+outcome_plain : (outcome : AnOutcome) → IsPlain (outcome_text outcome)
 outcome_plain (Returns n) = plain_append (codes "ret ") (decimal n) refl (plain_decimal n)
 outcome_plain Traps = refl
 
@@ -140,7 +140,7 @@ label_text_plain code place =
 
 instr_plain : (c : Declarations) (f : Frame) (instr : Instr) → IsComponent c → IsPlain (instr_text c f instr)
 instr_plain c f instr limits =
-    plain_three (label_text (code_of c f.op) f.place) (join_with_byte 32 (instr_words c instr)) (codes "  # ") (label_text_plain (code_of c f.op) f.place) (plain_joined (instr_words c instr) (words_plain c instr limits)) refl
+    plain_three (label_text (code_of_operation c f.op) f.place) (join_with_byte 32 (instr_words c instr)) (codes "  # ") (label_text_plain (code_of_operation c f.op) f.place) (plain_joined (instr_words c instr) (words_plain c instr limits)) refl
 
 -- ---- what instructions do
 
@@ -165,9 +165,12 @@ look_plain : (s : State) (f : Frame) (w : ℕ) (i : Operand) → IsComponent s.c
 look_plain s f w i limits =
     or_trap_plain (λ n. cell_is s.component w (value_of f i) n) (λ n. cell_said s.component w (value_of f i) n (codes " is ") limits refl) (seen s f w i)
 
-swap_plain : (c : Declarations) (to w i expected desired n : ℕ) → IsComponent c → IsPlain (swap_deed c to w i expected desired n)
-swap_plain c to w i expected desired n limits =
-    plain_if (n == expected) (cell_becomes c w i desired ++ codes ", " ++ register_becomes to 1) (cell_is c w i n ++ codes ", " ++ register_becomes to 0) (two (cell_becomes c w i desired) (register_becomes to 1) (cell_said c w i desired (codes " = ") limits refl) (becomes_plain to 1)) (two (cell_is c w i n) (register_becomes to 0) (cell_said c w i n (codes " is ") limits refl) (becomes_plain to 0))
+swap_plain : (c : Declarations) (f : Frame) (to w : ℕ) (i expected desired : Operand) (n : ℕ) → IsComponent c → IsPlain (swap_deed c (swap_of f to w i expected desired) n)
+swap_plain c f to w i expected desired n limits =
+    let swap = swap_of f to w i expected desired in
+    let becomes = cell_becomes c swap.array swap.index swap.desired in
+    let is = cell_is c swap.array swap.index n in
+    plain_if (n == swap.expected) (becomes ++ codes ", " ++ register_becomes swap.to 1) (is ++ codes ", " ++ register_becomes swap.to 0) (two becomes (register_becomes swap.to 1) (cell_said c swap.array swap.index swap.desired (codes " = ") limits refl) (becomes_plain swap.to 1)) (two is (register_becomes swap.to 0) (cell_said c swap.array swap.index n (codes " is ") limits refl) (becomes_plain swap.to 0))
   where
     two : (a b : List ℕ) → IsPlain a → IsPlain b → IsPlain (a ++ codes ", " ++ b)
     two a b p q = plain_three a (codes ", ") b p refl q
@@ -189,7 +192,7 @@ deed_plain s m f (Load to w i) limits =
 deed_plain s m f (Store w i v) limits =
     or_trap_plain (λ n. cell_becomes s.component w (value_of f i) (value_of f v)) (λ n. cell_said s.component w (value_of f i) (value_of f v) (codes " = ") limits refl) (seen s f w i)
 deed_plain s m f (Cas to w i expected desired) limits =
-    or_trap_plain (λ n. swap_deed s.component to w (value_of f i) (value_of f expected) (value_of f desired) n) (λ n. swap_plain s.component to w (value_of f i) (value_of f expected) (value_of f desired) n limits) (seen s f w i)
+    or_trap_plain (swap_deed s.component (swap_of f to w i expected desired)) (λ n. swap_plain s.component f to w i expected desired n limits) (seen s f w i)
 deed_plain s m f (Lock l) limits =
     plain_append (lock_word s.component l) (codes " is taken") (lock_plain s.component l limits) refl
 deed_plain s m f (Unlock l) limits =
@@ -220,14 +223,14 @@ next_instr_plain s m f limits = by_instr (instr_at s.component f.op f.place)
     by_instr (Some instr) =
         plain_append (instr_text s.component f instr) (deed s m f instr) (instr_plain s.component f instr limits) (deed_plain s m f instr limits)
 
-next_plain : (s : State) (m : Move) (done : ℕ) (activity : Activity) → IsComponent s.component → IsPlain (next_words s m done activity)
+next_plain : (s : State) (m : Move) (done : ℕ) (activity : Activity) → IsComponent s.component → IsPlain (next_move_words s m done activity)
 next_plain s m done Idle limits = next_call_plain s m.thread done limits
 next_plain s m done (Open f) limits = next_instr_plain s m f limits
 
 steps_plain : (s : State) (m : Move) → IsComponent s.component → IsPlain (step_words s m)
 steps_plain s m limits = by_thread (slice_get s.threads m.thread)
   where
-    by_thread : (o : Option Thread) → IsPlain (option_map_or (λ thread. next_words s m thread.done thread.activity) o [])
+    by_thread : (o : Option Thread) → IsPlain (option_map_or (λ thread. next_move_words s m thread.done thread.activity) o [])
     by_thread None = refl
     by_thread (Some thread) = next_plain s m thread.done thread.activity limits
 
@@ -287,11 +290,7 @@ event_plain : (event : Event) → IsPlain (event_text event)
 event_plain (Called t k) =
     plain_three (codes "call ") (operation_text t k) (codes "\n") refl (numbers_plain t k) refl
 event_plain (Returned t k outcome) =
-    plain_five (codes "return ") (operation_text t k) (codes " ") (outcome_text outcome) (codes "\n") refl (numbers_plain t k) refl (ended outcome) refl
-  where
-    ended : (outcome : AnOutcome) → IsPlain (outcome_text outcome)
-    ended (Returns n) = plain_append (codes "ret ") (decimal n) refl (plain_decimal n)
-    ended Traps = refl
+    plain_five (codes "return ") (operation_text t k) (codes " ") (outcome_text outcome) (codes "\n") refl (numbers_plain t k) refl (outcome_plain outcome) refl
 
 replay_plain : (history : List Event) (status : Status) → IsPlain (replay_text history status)
 replay_plain history status =

@@ -7,11 +7,12 @@ use Rattle.lu_machine.specs.declared.event.Event.{Event}
 use Rattle.lu_machine.specs.declared.event.Outcome.{Outcome}
 use Rattle.lu_machine.specs.declared.event.Status.{Status}
 use Rattle.lu_machine.specs.States.{State}
+use Rattle.lu_history.specs.Text.{outcome_text}
 use Rattle.lu_explain.specs.Explanations.{Explained}
 use Rattle.lu_replay.specs.Text.{replay_text}
 use Rattle.lu_picture.specs.declared.mark.End.{End}
 use Rattle.lu_picture.specs.Reasons.{why_words}
-use Rattle.lu_picture.specs.Shapes.{call_words, heading, outcome_words, step_words, wait_words}
+use Rattle.lu_picture.specs.Shapes.{call_words, heading, step_words, wait_words}
 
 -- none of `<`, `>`, `&`, `'` and `"`
 abbrev pub is_plain : ℕ → Bool
@@ -25,7 +26,7 @@ pub record SaysPlain (s : State) : Type 0 where
   pub heading : (n : ℕ) (status : Status) → IsPlain (heading s.component n status)
   pub replay : (history : List Event) (status : Status) → IsPlain (replay_text history status)
   pub calls : (t k : ℕ) → IsPlain (call_words s.component s.matrix t k)
-  pub outcomes : (outcome : Outcome) → IsPlain (outcome_words outcome)
+  pub outcomes : (outcome : Outcome) → IsPlain (outcome_text outcome)
   pub steps : (m : Move) → IsPlain (step_words s m)
   pub waits : (t : ℕ) → IsPlain (wait_words s t)
   pub why : (why : Option Explained) (t k : ℕ) (end : Option End)

@@ -26,18 +26,18 @@ abbrev pub number_at_place : List SerialOp → ℕ → ℕ → ℕ → Option �
 number_at_place order t k i = if is_entry order t k i then Some (i + 1) else None
 
 -- the number of call k of thread t, if it is among the first n operations of the order
-abbrev pub number_in : List SerialOp → ℕ → ℕ → ℕ → Option ℕ
-number_in order t k zero = None
-number_in order t k (suc n) =
-    option_or (number_in order t k n) (number_at_place order t k n)
+abbrev pub number_in_order : List SerialOp → ℕ → ℕ → ℕ → Option ℕ
+number_in_order order t k zero = None
+number_in_order order t k (suc n) =
+    option_or (number_in_order order t k n) (number_at_place order t k n)
 
 -- the number of call k of thread t in the order of an explanation
 abbrev pub order_number : Explained → ℕ → ℕ → Option ℕ
-order_number e t k = number_in e.order t k (length e.order)
+order_number e t k = number_in_order e.order t k (length e.order)
 
 -- where there is an explanation
-abbrev pub number_of : Option Explained → ℕ → ℕ → Option ℕ
-number_of why t k = option_and_then (λ e. order_number e t k) why
+abbrev pub explained_number : Option Explained → ℕ → ℕ → Option ℕ
+explained_number why t k = option_and_then (λ e. order_number e t k) why
 
 -- there is one, and call k of thread t is left
 abbrev pub is_left : Option Explained → ℕ → ℕ → Bool

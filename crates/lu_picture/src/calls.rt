@@ -2,6 +2,7 @@
 
 ghost use Rattle.std.specs.Prelude.{◌≡◌, ◌+◌, ◌≤◌, IfOk};
 ghost use Rattle.lu_text.specs.Writing.{Writes};
+ghost use Rattle.lu_history.specs.Text.{outcome_text};
 ghost use Rattle.lu_picture.specs.Shapes as spec;
 
 use crate::places::pitch;
@@ -14,7 +15,7 @@ const OUTCOME_LETTERS: usize = 14;
 
 /// Adds how an operation ended.
 pub(crate) fn write_outcome(text: &mut String, outcome: Outcome) -> Result<(), AllocError>
-    ensures { Writes result text.old text.new (spec.outcome_words outcome) }
+    ensures { Writes result text.old text.new (outcome_text outcome) }
 {
     match outcome {
         Outcome::Ret(value) => write!(text, "ret {value}"),
@@ -48,14 +49,14 @@ fn words_width(words: &str) -> u128
 }
 
 /// The width of the column of a move with this event, or none.
-pub(crate) fn column(
+pub(crate) fn column_width(
     alloc: Global,
     machine: &Machine<'_>,
     moves: usize,
     event: Option<Event>,
 ) -> Result<u128, AllocError>
     requires { spec.HasLimits machine.now }
-    ensures value { IfOk result (λ wide. wide ≡ spec.column moves machine.now event) }
+    ensures value { IfOk result (λ wide. wide ≡ spec.column_width moves machine.now event) }
     ensures few { IfOk result (λ wide. wide ≤ 616) }
 {
     match event {

@@ -24,8 +24,8 @@ fn number_at_place(order: &[SerialOp], t: u8, k: u8, i: usize) -> Option<usize>
 }
 
 /// The number of call `k` of thread `t` in the order, if it is there.
-fn number_in(order: &[SerialOp], t: u8, k: u8) -> Option<usize>
-    ensures { result ≡ spec.number_in order.now t k (length order.now) }
+fn number_in_order(order: &[SerialOp], t: u8, k: u8) -> Option<usize>
+    ensures { result ≡ spec.number_in_order order.now t k (length order.now) }
 {
     let mut found = None;
     for i in 0..order.len() {
@@ -36,12 +36,12 @@ fn number_in(order: &[SerialOp], t: u8, k: u8) -> Option<usize>
 
 /// The number of call `k` of thread `t` in the explanation's order, from 1: `None` where it is not
 /// there, and where there is no explanation.
-pub(crate) fn number_of(explanation: Option<&Explanation>, t: u8, k: u8) -> Option<usize>
-    ensures { result ≡ spec.number_of (option_copied explanation.entry) t k }
+pub(crate) fn explained_number(explanation: Option<&Explanation>, t: u8, k: u8) -> Option<usize>
+    ensures { result ≡ spec.explained_number (option_copied explanation.entry) t k }
 {
     match explanation {
         None => None,
-        Some(explanation) => number_in(explanation.order(), t, k),
+        Some(explanation) => number_in_order(explanation.order(), t, k),
     }
 }
 
@@ -51,7 +51,7 @@ pub(crate) fn is_left(explanation: Option<&Explanation>, t: u8, k: u8) -> bool
 {
     match explanation {
         None => false,
-        Some(explanation) => number_in(explanation.order(), t, k).is_none(),
+        Some(explanation) => number_in_order(explanation.order(), t, k).is_none(),
     }
 }
 

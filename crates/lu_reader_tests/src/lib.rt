@@ -1,5 +1,5 @@
-//! Tests of what only a call of the readers and writers of texts shows: lines and words, components,
-//! matrices and schedules.
+//! Tests of what only a call of the readers and writers of texts shows: lines and words,
+//! components, matrices and schedules.
 #![tactic(auto)]
 
 #[cfg(test)]

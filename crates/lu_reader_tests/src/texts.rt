@@ -1,8 +1,9 @@
 //! One use of each public function, and texts at the edges.
 
 use lu_text::{
-    Fault, Name, are_allowed, before_comment, cut_line, five, four, has_name_form, is_long,
-    is_number, lines_of, number_up_to, one, parts_of, place_of, three, two, value_in, words_of,
+    Fault, Name, are_allowed, before_comment, cut_line, exactly_five, exactly_four, exactly_one,
+    exactly_three, exactly_two, has_name_form, is_long, is_number, lines_of, number_up_to,
+    parts_of, place_of, value_in, words_of,
 };
 use std::alloc::{AllocError, Global};
 use std::process::Abort;
@@ -67,9 +68,9 @@ fn lines(rt: HostRuntime) -> Result<(), Fail> {
 
 /// The three words are these.
 fn assert_three(rt: &impl Abort, words: &[&[u8]], expected: (&[u8], &[u8], &[u8])) {
-    assert_eq!(rt; three(words), Some(expected));
-    assert!(rt; two(words).is_none());
-    assert!(rt; four(words).is_none());
+    assert_eq!(rt; exactly_three(words), Some(expected));
+    assert!(rt; exactly_two(words).is_none());
+    assert!(rt; exactly_four(words).is_none());
 }
 
 #[test]
@@ -86,7 +87,7 @@ const WORD: &[u8] = b"w";
 /// Four words are four.
 fn assert_four(rt: &impl Abort) {
     assert_eq!(rt;
-        four(&[WORD, WORD, WORD, WORD]),
+        exactly_four(&[WORD, WORD, WORD, WORD]),
         Some((WORD, WORD, WORD, WORD))
     );
 }
@@ -94,18 +95,18 @@ fn assert_four(rt: &impl Abort) {
 /// Five words are five.
 fn assert_five(rt: &impl Abort) {
     assert_eq!(rt;
-        five(&[WORD, WORD, WORD, WORD, WORD]),
+        exactly_five(&[WORD, WORD, WORD, WORD, WORD]),
         Some((WORD, WORD, WORD, WORD, WORD))
     );
 }
 
 #[test]
 fn so_many_words(rt: HostRuntime) {
-    assert_eq!(rt; one(&[WORD]), Some(WORD));
-    assert_eq!(rt; two(&[WORD, WORD]), Some((WORD, WORD)));
+    assert_eq!(rt; exactly_one(&[WORD]), Some(WORD));
+    assert_eq!(rt; exactly_two(&[WORD, WORD]), Some((WORD, WORD)));
     assert_four(&rt);
     assert_five(&rt);
-    assert_eq!(rt; one(&[WORD, WORD]), None);
+    assert_eq!(rt; exactly_one(&[WORD, WORD]), None);
 }
 
 /// The name is `cinc`.

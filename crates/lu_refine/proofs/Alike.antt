@@ -1,6 +1,6 @@
 -- Threads that all have the same candidates.
 use Rattle.std.proofs.Common.{◌≡◌, ℕ, zero, suc, ◌+◌, ◌*◌, ◌^◌, ◌<◌, ◌≤◌, List, [], ◌∷◌, ◌++◌, length, map, take, drop, replicate, refl, sym, ap, subst, ◌∙◌, arith}
-use Rattle.std.specs.Prelude.{Result, IfErr}
+use Rattle.std.specs.Prelude.{Result, IfErr, IfOk}
 use Rattle.std.proofs.lemmas.Result.{IfErr-weaker, IfOk-weaker}
 use Rattle.std.proofs.Math.Nat.{pow-succ', pow-zero, suc-mul, zero-mul}
 use Rattle.std.proofs.lemmas.List.{get_or-replicate, length-replicate, replicate-append-replicate}
@@ -15,15 +15,15 @@ use Rattle.lu_refine.specs.declared.campaigns.Campaign.TheVariants.{AllPass, Fir
 use Rattle.lu_refine.specs.declared.campaigns.CampaignFault.{CampaignFault}
 use Rattle.lu_refine.specs.declared.campaigns.CampaignFault.TheVariants.{Candidates, Limit, Memory}
 use Rattle.lu_refine.specs.Choices.{AreEnough, IsChoice, IsChoiceIn, candidate_at, choice_count, filled}
-use Rattle.lu_refine.specs.Campaigns.{Campaigned, Chooses, IsCampaign, IsCampaignAnswer, IsChoiceOf, IsGrid, IsLimitFault, IsReportAt, PassesAt, campaigned, matrix_of}
-use Rattle.lu_refine.specs.Roles.{AreWithinLimits, bases, rows, width}
-use Rattle.lu_refine.specs.ByThread.{Asked, ChoosesByThread, IsFoundByThread, IsRoleChoice, IsRoleReport, IsRolesFault, IsThreadsAnswer, RolePasses, asked_for, bases_of, role_matrix}
+use Rattle.lu_refine.specs.Campaigns.{Campaigned, Chooses, IsCampaign, IsCampaignAnswer, IsChoiceOf, IsGrid, IsLimitFault, IsReportAt, PassesAt, campaigned, matrix_of_choice}
+use Rattle.lu_refine.specs.Roles.{AreWithinLimits, bases, chosen_calls, calls_per_thread}
+use Rattle.lu_refine.specs.ByThread.{Asked, IsFoundByThread, IsRoleChoice, IsRoleReport, IsRolesFault, IsThreadsAnswer, RolePasses, asked_for, bases_of, role_matrix}
 
 -- the same asked by thread
 abbrev pub by_thread : Campaigned → Asked
 by_thread asked = asked_for asked.component asked.setup (replicate asked.threads asked.candidates) asked.calls asked.bound asked.serial
 
-width_whole : (calls : ℕ) (candidates : List Call) → 1 ≤ length candidates → width calls candidates ≡ calls
+width_whole : (calls : ℕ) (candidates : List Call) → 1 ≤ length candidates → calls_per_thread calls candidates ≡ calls
 width_whole calls [] some = absurd (omega arith)
 width_whole calls (candidate ∷ others) some = refl
 
@@ -32,7 +32,7 @@ pub bases_alike : (threads calls : ℕ) (candidates : List Call) → 1 ≤ lengt
 bases_alike zero calls candidates some = ap (λ (k : ℕ). replicate k (length candidates)) (sym (zero-mul calls))
 bases_alike (suc threads) calls candidates some =
     let n = length candidates in
-    let here : replicate (width calls candidates) n ≡ replicate calls n = ap (λ (k : ℕ). replicate k n) (width_whole calls candidates some) in
+    let here : replicate (calls_per_thread calls candidates) n ≡ replicate calls n = ap (λ (k : ℕ). replicate k n) (width_whole calls candidates some) in
     let size : calls + threads * calls ≡ suc threads * calls = omega (arith, suc-mul threads calls) in
     ap (λ (xs : List ℕ). xs ++ bases calls (replicate threads candidates)) here
     ∙ (ap (λ (xs : List ℕ). replicate calls n ++ xs) (bases_alike threads calls candidates some)
@@ -58,12 +58,12 @@ alike_choice (suc positions) n (m ∷ choice) chosen =
     (chosen.1 0 0 (omega arith), alike_choice positions n choice (omega (arith, chosen.0), λ k d h. chosen.1 (suc k) d (omega arith)))
 
 -- the rows that a choice fills are the same
-rows_alike : (threads calls : ℕ) (candidates : List Call) (choice : List ℕ) → 1 ≤ length candidates → rows calls (replicate threads candidates) choice ≡ filled candidates threads calls choice
+rows_alike : (threads calls : ℕ) (candidates : List Call) (choice : List ℕ) → 1 ≤ length candidates → chosen_calls calls (replicate threads candidates) choice ≡ filled candidates threads calls choice
 rows_alike zero calls candidates choice some = refl
 rows_alike (suc threads) calls candidates choice some =
     let whole = width_whole calls candidates some in
     let rest = rows_alike threads calls candidates (drop calls choice) some in
-    ap (λ (k : ℕ). map (candidate_at candidates) (take k choice) ∷ rows calls (replicate threads candidates) (drop k choice)) whole
+    ap (λ (k : ℕ). map (candidate_at candidates) (take k choice) ∷ chosen_calls calls (replicate threads candidates) (drop k choice)) whole
     ∙ ap (λ (xs : List (List Call)). map (candidate_at candidates) (take calls choice) ∷ xs) rest
 
 -- ---- limits
@@ -96,7 +96,7 @@ of_choice : (asked : Campaigned) (choice : List ℕ) → 1 ≤ length asked.cand
 of_choice asked choice some chosen =
     subst (λ (bs : List ℕ). IsChoiceIn bs choice) (sym (bases_alike asked.threads asked.calls asked.candidates some)) (alike_choice (asked.threads * asked.calls) (length asked.candidates) choice chosen)
 
-matrix_alike : (asked : Campaigned) (choice : List ℕ) → 1 ≤ length asked.candidates → role_matrix (by_thread asked) choice ≡ matrix_of asked choice
+matrix_alike : (asked : Campaigned) (choice : List ℕ) → 1 ≤ length asked.candidates → role_matrix (by_thread asked) choice ≡ matrix_of_choice asked choice
 matrix_alike asked choice some = ap (matrix_with asked.setup) (rows_alike asked.threads asked.calls asked.candidates choice some)
 
 report_alike : (asked : Campaigned) (choice : List ℕ) (r : Report) → 1 ≤ length asked.candidates → IsRoleReport (by_thread asked) choice r → IsReportAt asked choice r
@@ -118,7 +118,7 @@ alike_found asked (First matrix r) some is = record {
   before = λ other chosen earlier. passes_alike asked other some (is.before other (of_choice asked other some chosen) earlier);
 }
 
-pub alike_chosen : (c : Declarations) (setup candidates : List Call) (threads calls bound serial : ℕ) (result : Result Campaign CampaignFault) → AreEnough (length candidates) → IsGrid threads calls → ChoosesByThread c setup (replicate threads candidates) calls bound serial result → Chooses c setup candidates threads calls bound serial result
+pub alike_chosen : (c : Declarations) (setup candidates : List Call) (threads calls bound serial : ℕ) (result : Result Campaign CampaignFault) → AreEnough (length candidates) → IsGrid threads calls → IfOk result (IsThreadsAnswer (asked_for c setup (replicate threads candidates) calls bound serial)) → Chooses c setup candidates threads calls bound serial result
 alike_chosen c setup candidates threads calls bound serial result enough grid is =
     let asked = campaigned c setup candidates threads calls bound serial in
     IfOk-weaker result (IsThreadsAnswer (by_thread asked)) (IsCampaignAnswer asked) (λ found answer. (enough, grid, alike_found asked found enough.0 answer.1)) is

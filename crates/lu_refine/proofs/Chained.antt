@@ -16,7 +16,7 @@ use Rattle.lu_machine.proofs.Starting.{can_run_too}
 use Rattle.lu_report.specs.declared.report.Report.{Report}
 use Rattle.lu_replay.specs.Reports.{IsReport}
 use Rattle.lu_replay.proofs.Determined.{one_report}
-use Rattle.lu_refine.specs.Removals.{IsFailure, IsFailing, HasCall, ComesBefore, IsLeastRemoval, IsMinimal, IsChain, ShrinksTo}
+use Rattle.lu_refine.specs.Removals.{IsFailure, IsFailing, HasCallNumber, ComesBefore, IsLeastRemoval, IsMinimal, IsChain, ShrinksTo}
 
 -- what the next matrix shrinks to, the matrix does
 pub shrinks_more : (Fails : Matrix → Type 0) (matrix next last : Matrix) → Fails matrix → IsLeastRemoval Fails matrix next → ShrinksTo Fails next last → ShrinksTo Fails matrix last
@@ -27,7 +27,7 @@ pub shrinks_here : (Fails : Matrix → Type 0) (matrix : Matrix) → Fails matri
 shrinks_here Fails matrix fails minimal = ([], (refl, fails, minimal))
 
 -- the calls are still calls of the component
-pub of_without : (c : Declarations) (matrix : Matrix) (t k : ℕ) → HasCall matrix t k → IsOf matrix c → IsOf (without matrix t k) c
+pub of_without : (c : Declarations) (matrix : Matrix) (t k : ℕ) → HasCallNumber matrix t k → IsOf matrix c → IsOf (without matrix t k) c
 of_without c matrix t k there of =
     let within = is_thread matrix t k there in
     let old : calls_of matrix t ≡ get_or matrix.threads t [] = ap (λ (o : Option (List Call)). unwrap_or o []) (slice_get-get_or matrix.threads t [] within) in
@@ -40,11 +40,11 @@ of_without c matrix t k there of =
     )
 
 -- and it can run still
-pub runs_without : (c : Declarations) (matrix : Matrix) (t k : ℕ) → HasCall matrix t k → CanRun c matrix → CanRun c (without matrix t k)
+pub runs_without : (c : Declarations) (matrix : Matrix) (t k : ℕ) → HasCallNumber matrix t k → CanRun c matrix → CanRun c (without matrix t k)
 runs_without c matrix t k there runs = can_run_too c matrix (without matrix t k) runs (of_without c matrix t k there runs.of) refl
 
 -- there is one call fewer
-pub fewer : (matrix : Matrix) (t k : ℕ) → HasCall matrix t k → total_calls (without matrix t k) < total_calls matrix
+pub fewer : (matrix : Matrix) (t k : ℕ) → HasCallNumber matrix t k → total_calls (without matrix t k) < total_calls matrix
 fewer matrix t k there =
     let within = is_thread matrix t k there in
     let old : calls_of matrix t ≡ get_or matrix.threads t [] = ap (λ (o : Option (List Call)). unwrap_or o []) (slice_get-get_or matrix.threads t [] within) in
@@ -92,11 +92,11 @@ one_end Fails matrix a b (next ∷ p) (other ∷ q) x y =
 
 -- ---- in the loops' words
 
-pub none_before : (matrix : Matrix) (u : ℕ) (Fails : Matrix → Type 0) → ((t k : ℕ) → t < u → HasCall matrix t k → Fails (without matrix t k) → ⊥) → (t k : ℕ) → ComesBefore t k u 0 → HasCall matrix t k → Fails (without matrix t k) → ⊥
+pub none_before : (matrix : Matrix) (u : ℕ) (Fails : Matrix → Type 0) → ((t k : ℕ) → t < u → HasCallNumber matrix t k → Fails (without matrix t k) → ⊥) → (t k : ℕ) → ComesBefore t k u 0 → HasCallNumber matrix t k → Fails (without matrix t k) → ⊥
 none_before matrix u Fails none t k (inl less) there failing = none t k less there failing
 none_before matrix u Fails none t k (inr (same, less)) there failing = absurd (omega arith)
 
-pub none_more : (matrix : Matrix) (u l : ℕ) (Fails : Matrix → Type 0) → ((t k : ℕ) → ComesBefore t k u l → HasCall matrix t k → Fails (without matrix t k) → ⊥) → (Fails (without matrix u l) → ⊥) → (t k : ℕ) → ComesBefore t k u (l + 1) → HasCall matrix t k → Fails (without matrix t k) → ⊥
+pub none_more : (matrix : Matrix) (u l : ℕ) (Fails : Matrix → Type 0) → ((t k : ℕ) → ComesBefore t k u l → HasCallNumber matrix t k → Fails (without matrix t k) → ⊥) → (Fails (without matrix u l) → ⊥) → (t k : ℕ) → ComesBefore t k u (l + 1) → HasCallNumber matrix t k → Fails (without matrix t k) → ⊥
 none_more matrix u l Fails none here t k (inl less) there failing = none t k (inl less) there failing
 none_more matrix u l Fails none here t k (inr (same, le)) there failing = elim (cases_lt k l) [
   | inl less ↦ none t k (inr (same, less)) there failing
@@ -106,7 +106,7 @@ none_more matrix u l Fails none here t k (inr (same, le)) there failing = elim (
 ]
 
 -- all calls of thread u have been tried
-pub none_of_thread : (matrix : Matrix) (u l : ℕ) (Fails : Matrix → Type 0) → length (calls_of matrix u) ≤ l → ((t k : ℕ) → ComesBefore t k u l → HasCall matrix t k → Fails (without matrix t k) → ⊥) → (t k : ℕ) → t < u + 1 → HasCall matrix t k → Fails (without matrix t k) → ⊥
+pub none_of_thread : (matrix : Matrix) (u l : ℕ) (Fails : Matrix → Type 0) → length (calls_of matrix u) ≤ l → ((t k : ℕ) → ComesBefore t k u l → HasCallNumber matrix t k → Fails (without matrix t k) → ⊥) → (t k : ℕ) → t < u + 1 → HasCallNumber matrix t k → Fails (without matrix t k) → ⊥
 none_of_thread matrix u l Fails all none t k below there failing = elim (cases_lt t u) [
   | inl less ↦ none t k (inl less) there failing
   | inr least ↦

@@ -1,10 +1,8 @@
 -- What is known of the matrices of a slice up to a number, and of slices that follow one another.
 use Rattle.std.proofs.Common.{◌≡◌, ℕ, ◌+◌, ◌-◌, ◌^◌, ◌<◌, ◌≤◌, ◌∙◌, List, ap, sym, subst, inl, inr, arith}
-use Rattle.std.specs.Prelude.{min, Result}
+use Rattle.std.specs.Prelude.{IfOk, min, Result}
 use Rattle.std.proofs.lemmas.Bool.{cases_lt}
 use Rattle.std.proofs.lemmas.Result.{IfOk-weaker}
-use Rattle.lu_component.specs.Component.{Declarations}
-use Rattle.lu_test.specs.declared.matrix.Call.{Call}
 use Rattle.lu_test.specs.Matrix.{Matrix}
 use Rattle.lu_report.specs.declared.report.Report.{Report}
 use Rattle.lu_machine.specs.Starts.{AllEnd}
@@ -13,30 +11,30 @@ use Rattle.lu_replay.proofs.Determined.{one_report}
 use Rattle.lu_refine.specs.declared.campaigns.Campaign.{Campaign}
 use Rattle.lu_refine.specs.declared.campaigns.Campaign.TheVariants.{AllPass, First}
 use Rattle.lu_refine.specs.declared.campaigns.CampaignFault.{CampaignFault}
-use Rattle.lu_refine.specs.ByThread.{Asked, ChoosesByThread, ChoosesInSlice, IsFirstAmong, IsFoundByThread, IsFoundInSlice, IsRoleChoice, IsRoleReport, IsSliceAnswer, IsThreadsAnswer, IsWithin, RolePasses, asked_for, bases_of, matrix_count, number_of, role_matrix}
-use Rattle.lu_refine.specs.Laws.{joined}
+use Rattle.lu_refine.specs.ByThread.{Asked, IsFirstAmong, IsFoundByThread, IsFoundInSlice, IsRoleChoice, IsRoleReport, IsSliceAnswer, IsThreadsAnswer, IsWithinSlice, RolePasses, bases_of, matrix_count, choice_number, role_matrix}
+use Rattle.lu_refine.specs.Laws.{joined_answers}
 use Rattle.lu_refine.proofs.Numbered.{before_earlier, compare, choices_fit, place_below, place_same}
 use Rattle.lu_refine.proofs.Filling.{positions}
 
 -- the matrices with these numbers pass
 abbrev pub PassWithin : Asked → ℕ → ℕ → Type 0
-PassWithin asked from to = (choice : List ℕ) → IsWithin asked from to choice → RolePasses asked choice
+PassWithin asked from to = (choice : List ℕ) → IsWithinSlice asked from to choice → RolePasses asked choice
 
 pub passes_none : (asked : Asked) (start : ℕ) → PassWithin asked start start
 passes_none asked start other within = absurd (omega (arith, within.least, within.less))
 
-pub passes_more : (asked : Asked) (start place : ℕ) (choice : List ℕ) (r : Report) → PassWithin asked start place → IsRoleChoice asked choice → number_of asked choice ≡ place → IsRoleReport asked choice r → IsPass r.finding → PassWithin asked start (place + 1)
-passes_more asked start place choice r before chosen is report passes other within = elim (cases_lt (number_of asked other) place) [
+pub passes_more : (asked : Asked) (start place : ℕ) (choice : List ℕ) (r : Report) → PassWithin asked start place → IsRoleChoice asked choice → choice_number asked choice ≡ place → IsRoleReport asked choice r → IsPass r.finding → PassWithin asked start (place + 1)
+passes_more asked start place choice r before chosen is report passes other within = elim (cases_lt (choice_number asked other) place) [
   | inl less ↦ before other (record { chosen = within.chosen; least = within.least; less = less })
   | inr least ↦
-      let here : number_of asked other ≡ number_of asked choice = omega (arith, is, within.less, least) in
+      let here : choice_number asked other ≡ choice_number asked choice = omega (arith, is, within.less, least) in
       let same : other ≡ choice = place_same (bases_of asked) other choice within.chosen chosen here in
       subst (RolePasses asked) (sym same) (r, report, passes)
 ]
 
 -- the first that does not pass, in the slice that begins where the search did
-pub first_found : (asked : Asked) (from to start end place : ℕ) (choice : List ℕ) (matrix : Matrix) (r : Report) → end ≡ min to (matrix_count asked) → start ≡ min from end → start ≤ place → place < end → PassWithin asked start place → IsRoleChoice asked choice → number_of asked choice ≡ place
-    → matrix ≡ role_matrix asked choice → IsRoleReport asked choice r → (IsPass r.finding → ⊥) → IsFirstAmong asked (IsWithin asked from to) matrix r
+pub first_found : (asked : Asked) (from to start end place : ℕ) (choice : List ℕ) (matrix : Matrix) (r : Report) → end ≡ min to (matrix_count asked) → start ≡ min from end → start ≤ place → place < end → PassWithin asked start place → IsRoleChoice asked choice → choice_number asked choice ≡ place
+    → matrix ≡ role_matrix asked choice → IsRoleReport asked choice r → (IsPass r.finding → ⊥) → IsFirstAmong asked (IsWithinSlice asked from to) matrix r
 first_found asked from to start end place choice matrix r end_is start_is least less before chosen is same report fails = record {
   choice = choice;
   among = record { chosen = chosen; least = omega arith; less = omega arith };
@@ -64,7 +62,7 @@ pub whole_found : (asked : Asked) (to : ℕ) (found : Campaign) → matrix_count
 whole_found asked to (AllPass count) all is =
     (omega (arith, is.0, all), λ choice chosen. is.1 choice (in_all asked to choice all chosen))
   where
-    in_all : (asked : Asked) (to : ℕ) (choice : List ℕ) → matrix_count asked ≤ to → IsRoleChoice asked choice → IsWithin asked 0 to choice
+    in_all : (asked : Asked) (to : ℕ) (choice : List ℕ) → matrix_count asked ≤ to → IsRoleChoice asked choice → IsWithinSlice asked 0 to choice
     in_all asked to choice all chosen = record { chosen = chosen; least = omega arith; less = omega (arith, all, place_below (bases_of asked) choice chosen) }
 whole_found asked to (First matrix r) all is = record {
   choice = is.choice;
@@ -78,12 +76,12 @@ whole_found asked to (First matrix r) all is = record {
 -- ---- slices that follow one another
 
 passes_both : (asked : Asked) (from middle to : ℕ) → PassWithin asked from middle → PassWithin asked middle to → PassWithin asked from to
-passes_both asked from middle to earlier later choice within = elim (cases_lt (number_of asked choice) middle) [
+passes_both asked from middle to earlier later choice within = elim (cases_lt (choice_number asked choice) middle) [
   | inl less ↦ earlier choice (record { chosen = within.chosen; least = within.least; less = less })
   | inr least ↦ later choice (record { chosen = within.chosen; least = least; less = within.less })
 ]
 
-pub slices_joined : (asked : Asked) (from middle to : ℕ) (earlier later : Campaign) → from ≤ middle → middle ≤ to → IsFoundInSlice asked from middle earlier → IsFoundInSlice asked middle to later → IsFoundInSlice asked from to (joined earlier later)
+pub slices_joined : (asked : Asked) (from middle to : ℕ) (earlier later : Campaign) → from ≤ middle → middle ≤ to → IsFoundInSlice asked from middle earlier → IsFoundInSlice asked middle to later → IsFoundInSlice asked from to (joined_answers earlier later)
 slices_joined asked from middle to (First matrix r) later low high is then = record {
   choice = is.choice;
   among = record { chosen = is.among.chosen; least = is.among.least; less = omega (arith, is.among.less, high) };
@@ -100,7 +98,7 @@ slices_joined asked from middle to (AllPass count) (First matrix r) low high is 
   is = then.is;
   report = then.report;
   no_pass = then.no_pass;
-  before = λ other within earlier. elim (cases_lt (number_of asked other) middle) [
+  before = λ other within earlier. elim (cases_lt (choice_number asked other) middle) [
     | inl less ↦ is.1 other (record { chosen = within.chosen; least = within.least; less = less })
     | inr least ↦ then.before other (record { chosen = within.chosen; least = least; less = within.less }) earlier
   ];
@@ -109,11 +107,10 @@ slices_joined asked from middle to (AllPass count) (AllPass others) low high is 
     (omega (arith, is.0, then.0, low, high), passes_both asked from middle to is.1 then.1)
 
 -- what a slice of all is asked for and answers
-pub whole_chosen : (c : Declarations) (setup : List Call) (candidates : List (List Call)) (calls bound serial to : ℕ) (result : Result Campaign CampaignFault) → 2 ^ 64 ≤ to + 1 → ChoosesInSlice c setup candidates calls bound serial 0 to result → ChoosesByThread c setup candidates calls bound serial result
-whole_chosen c setup candidates calls bound serial to result past is =
-    let asked = asked_for c setup candidates calls bound serial in
+pub whole_chosen : (asked : Asked) (to : ℕ) (result : Result Campaign CampaignFault) → 2 ^ 64 ≤ to + 1 → IfOk result (IsSliceAnswer asked 0 to) → IfOk result (IsThreadsAnswer asked)
+whole_chosen asked to result past is =
     IfOk-weaker result (IsSliceAnswer asked 0 to) (IsThreadsAnswer asked) (λ found answer.
-    let fits = choices_fit (bases_of asked) (positions calls candidates answer.0) in
+    let fits = choices_fit (bases_of asked) (positions asked.calls asked.candidates answer.0) in
     (answer.0, whole_found asked to found (omega (arith, fits, past)) answer.1)) is
 
 -- ---- a slice has one answer
@@ -129,7 +126,7 @@ same_first asked matrix other r q choice ends is report same its =
     let one : r ≡ q = one_report asked.component (role_matrix asked choice) asked.bound asked.serial r q ends report its in
     ap (λ (m : Matrix). First m r) (is ∙ sym same) ∙ ap (First other) one
 
-one_first : (asked : Asked) (from to : ℕ) (matrix other : Matrix) (r q : Report) → AllEnd asked.component asked.setup → IsFirstAmong asked (IsWithin asked from to) matrix r → IsFirstAmong asked (IsWithin asked from to) other q → First matrix r ≡ First other q
+one_first : (asked : Asked) (from to : ℕ) (matrix other : Matrix) (r q : Report) → AllEnd asked.component asked.setup → IsFirstAmong asked (IsWithinSlice asked from to) matrix r → IsFirstAmong asked (IsWithinSlice asked from to) other q → First matrix r ≡ First other q
 one_first asked from to matrix other r q ends x y = elim (compare (bases_of asked) x.choice y.choice x.among.chosen y.among.chosen) [
   | inl before ↦ absurd (one_judged asked x.choice r ends (y.before x.choice x.among before) x.report x.no_pass)
   | inr others ↦ elim others [

@@ -1,8 +1,10 @@
 -- What campaigns answer in which each thread has candidates of its own, and slices of them.
-use Rattle.std.specs.Prelude.{◌≡◌, ℕ, ◌-◌, ◌<◌, ◌≤◌, min, List, Result, IfOk}
+use Rattle.std.specs.Prelude.{◌≡◌, ℕ, ◌-◌, ◌<◌, ◌≤◌, min, List}
 use Rattle.lu_component.specs.Component.{Declarations}
 use Rattle.lu_test.specs.declared.matrix.Call.{Call}
-use Rattle.lu_test.specs.Matrix.{Matrix}
+use Rattle.lu_test.specs.Matrix.{IsSetup, Matrix}
+use Rattle.lu_machine.specs.Starts.{AllEnd}
+use Rattle.lu_report.specs.Limits.{IsSerialBound, most_moves}
 use Rattle.lu_report.specs.declared.report.Report.{Report}
 use Rattle.lu_replay.specs.Reports.{IsReport}
 use Rattle.lu_replay.specs.Confirmed.{IsPass}
@@ -11,7 +13,9 @@ use Rattle.lu_refine.specs.declared.campaigns.Campaign.TheVariants.{AllPass, Fir
 use Rattle.lu_refine.specs.declared.campaigns.CampaignFault.{CampaignFault}
 use Rattle.lu_refine.specs.declared.campaigns.CampaignFault.TheVariants.{Candidates, Limit, Memory}
 use Rattle.lu_refine.specs.Choices.{IsBefore, IsChoiceIn, choice_count, place_in}
-use Rattle.lu_refine.specs.Roles.{AreRoles, AreRows, AreWithinLimits, bases, rows_matrix}
+use Rattle.lu_refine.specs.declared.roles.Roles.{Roles}
+use Rattle.lu_refine.specs.Campaigns.{AreCallsOf}
+use Rattle.lu_refine.specs.Roles.{AllCallsOf, AllHaveArguments, AreRoles, AreRowLimits, AreWithinLimits, bases, rows_matrix}
 
 -- what a campaign by thread is asked for: a list of candidates for each thread
 pub record Asked : Type 0 where
@@ -32,6 +36,20 @@ asked_for c setup candidates calls bound serial = record {
   serial = serial;
 }
 
+abbrev pub asked_of : Roles → Asked
+asked_of r = asked_for r.component.now r.setup.now r.candidates.now r.calls r.bound r.serial
+
+-- The setup and the candidates are calls of the component, with at most 4 arguments each; each call
+-- of the setup ends where they are made alone; and the bounds are in range.
+pub record CanAsk (asked : Asked) : Type 0 where
+  pub setup : IsSetup asked.setup
+  pub setup_of : AreCallsOf asked.component asked.setup
+  pub settles : AllEnd asked.component asked.setup
+  pub of : AllCallsOf asked.component asked.candidates
+  pub arguments : AllHaveArguments asked.candidates
+  pub few_moves : asked.bound ≤ most_moves
+  pub serial_bound : IsSerialBound asked.serial
+
 -- how many candidates each position has
 abbrev pub bases_of : Asked → List ℕ
 bases_of asked = bases asked.calls asked.candidates
@@ -45,8 +63,8 @@ abbrev pub IsRoleChoice : Asked → List ℕ → Type 0
 IsRoleChoice asked choice = IsChoiceIn (bases_of asked) choice
 
 -- the number of a choice in lexicographic order, from 0, and of the matrix that it fills
-abbrev pub number_of : Asked → List ℕ → ℕ
-number_of asked choice = place_in (bases_of asked) choice
+abbrev pub choice_number : Asked → List ℕ → ℕ
+choice_number asked choice = place_in (bases_of asked) choice
 
 -- the matrix that a choice fills, with the setup
 abbrev pub role_matrix : Asked → List ℕ → Matrix
@@ -64,10 +82,10 @@ RolePasses asked choice = (r : Report) × IsRoleReport asked choice r × IsPass 
 -- ---- what is found
 
 -- a choice whose number is at least `from` and less than `to`
-pub record IsWithin (asked : Asked) (from to : ℕ) (choice : List ℕ) : Type 0 where
+pub record IsWithinSlice (asked : Asked) (from to : ℕ) (choice : List ℕ) : Type 0 where
   pub chosen : IsRoleChoice asked choice
-  pub least : from ≤ number_of asked choice
-  pub less : number_of asked choice < to
+  pub least : from ≤ choice_number asked choice
+  pub less : choice_number asked choice < to
 
 -- Among these choices: the choice's matrix, with its report, which is no pass; the matrices of all
 -- choices before it pass.
@@ -93,7 +111,7 @@ IsFoundByThread asked found = IsFoundAmong asked (IsRoleChoice asked) (matrix_co
 -- of those from a number on, to the one before another number, or to the end
 abbrev pub IsFoundInSlice : Asked → ℕ → ℕ → Campaign → Type 0
 IsFoundInSlice asked from to found =
-    IsFoundAmong asked (IsWithin asked from to) (min to (matrix_count asked) - from) found
+    IsFoundAmong asked (IsWithinSlice asked from to) (min to (matrix_count asked) - from) found
 
 -- ---- answers
 
@@ -106,21 +124,9 @@ abbrev pub IsSliceAnswer : Asked → ℕ → ℕ → Campaign → Type 0
 IsSliceAnswer asked from to found =
     AreWithinLimits asked.calls asked.candidates × IsFoundInSlice asked from to found
 
--- what a campaign by thread answers that is asked for this, but for faults
-abbrev pub ChoosesByThread : Declarations → List Call → List (List Call) → ℕ → ℕ → ℕ
-    → Result Campaign CampaignFault → Type 0
-ChoosesByThread c setup candidates calls bound serial result =
-    IfOk result (IsThreadsAnswer (asked_for c setup candidates calls bound serial))
-
--- and a slice of it
-abbrev pub ChoosesInSlice : Declarations → List Call → List (List Call) → ℕ → ℕ → ℕ → ℕ → ℕ
-    → Result Campaign CampaignFault → Type 0
-ChoosesInSlice c setup candidates calls bound serial from to result =
-    IfOk result (IsSliceAnswer (asked_for c setup candidates calls bound serial) from to)
-
 -- the candidates are not those of 1 to 8 threads; else the calls are not within their limits; or
 -- memory was refused
 abbrev pub IsRolesFault : List (List Call) → ℕ → CampaignFault → Type 0
 IsRolesFault candidates calls Candidates = AreRoles candidates → ⊥
-IsRolesFault candidates calls Limit = AreRoles candidates × (AreRows calls candidates → ⊥)
+IsRolesFault candidates calls Limit = AreRoles candidates × (AreRowLimits calls candidates → ⊥)
 IsRolesFault candidates calls Memory = Unit {0}

@@ -54,13 +54,14 @@ abbrev pub IsChoiceOf : Campaigned → List ℕ → Type 0
 IsChoiceOf asked choice = IsChoice (length asked.candidates) (asked.threads * asked.calls) choice
 
 -- the matrix that a choice fills, with the setup
-abbrev pub matrix_of : Campaigned → List ℕ → Matrix
-matrix_of asked choice = filled_matrix asked.setup asked.candidates asked.threads asked.calls choice
+abbrev pub matrix_of_choice : Campaigned → List ℕ → Matrix
+matrix_of_choice asked choice =
+    filled_matrix asked.setup asked.candidates asked.threads asked.calls choice
 
 -- r is the report of the matrix that the choice fills
 abbrev pub IsReportAt : Campaigned → List ℕ → Report → Type 0
 IsReportAt asked choice r =
-    IsReport asked.component (matrix_of asked choice) asked.bound asked.serial r
+    IsReport asked.component (matrix_of_choice asked choice) asked.bound asked.serial r
 
 -- the matrix that the choice fills passes
 abbrev pub PassesAt : Campaigned → List ℕ → Type 0
@@ -68,10 +69,10 @@ PassesAt asked choice = (r : Report) × IsReportAt asked choice r × IsPass r.fi
 
 -- the choice's matrix, with its report, which is no pass; the matrices of all choices before it
 -- pass
-pub record IsFirst (asked : Campaigned) (matrix : Matrix) (r : Report) : Type 0 where
+pub record IsFirstMatrix (asked : Campaigned) (matrix : Matrix) (r : Report) : Type 0 where
   pub choice : List ℕ
   pub chosen : IsChoiceOf asked choice
-  pub is : matrix ≡ matrix_of asked choice
+  pub is : matrix ≡ matrix_of_choice asked choice
   pub report : IsReportAt asked choice r
   pub no_pass : IsPass r.finding → ⊥
   pub before : (other : List ℕ) → IsChoiceOf asked other → IsBefore other choice
@@ -82,7 +83,7 @@ abbrev pub IsCampaign : Campaigned → Campaign → Type 0
 IsCampaign asked (AllPass count) =
     (count ≡ length asked.candidates ^ (asked.threads * asked.calls))
     × ((choice : List ℕ) → IsChoiceOf asked choice → PassesAt asked choice)
-IsCampaign asked (First matrix r) = IsFirst asked matrix r
+IsCampaign asked (First matrix r) = IsFirstMatrix asked matrix r
 
 -- the limits hold, and this is found
 abbrev pub IsCampaignAnswer : Campaigned → Campaign → Type 0

@@ -14,8 +14,8 @@ IsFailing c bound serial matrix =
     (r : Report) × IsReport c matrix bound serial r × IsFailure r.finding
 
 -- thread t has a call number k
-abbrev pub HasCall : Matrix → ℕ → ℕ → Type 0
-HasCall matrix t k = k < length (calls_of matrix t)
+abbrev pub HasCallNumber : Matrix → ℕ → ℕ → Type 0
+HasCallNumber matrix t k = k < length (calls_of matrix t)
 
 -- call k of thread t comes before call l of thread u: by thread, and then by number
 abbrev pub ComesBefore : ℕ → ℕ → ℕ → ℕ → Type 0
@@ -26,15 +26,15 @@ ComesBefore t k u l = (t < u) ⊎ (t ≡ u) × (k < l)
 pub record IsLeastRemoval (Fails : Matrix → Type 0) (matrix next : Matrix) : Type 0 where
   pub thread : ℕ
   pub call : ℕ
-  pub there : HasCall matrix thread call
+  pub there : HasCallNumber matrix thread call
   pub removed : next ≡ without matrix thread call
   pub fails : Fails next
-  pub least : (t k : ℕ) → ComesBefore t k thread call → HasCall matrix t k
+  pub least : (t k : ℕ) → ComesBefore t k thread call → HasCallNumber matrix t k
       → Fails (without matrix t k) → ⊥
 
 -- the matrix without any one of its calls does not fail
 abbrev pub IsMinimal : (Matrix → Type 0) → Matrix → Type 0
-IsMinimal Fails matrix = (t k : ℕ) → HasCall matrix t k → Fails (without matrix t k) → ⊥
+IsMinimal Fails matrix = (t k : ℕ) → HasCallNumber matrix t k → Fails (without matrix t k) → ⊥
 
 -- From the first matrix to the last: each one fails, and comes from the one before by the least
 -- removal; the last is minimal.

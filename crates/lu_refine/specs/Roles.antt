@@ -7,27 +7,27 @@ use Rattle.lu_refine.specs.Campaigns.{AreCallsOf, HaveArguments}
 use Rattle.lu_refine.specs.Choices.{candidate_at}
 
 -- how many calls a thread makes that has these candidates: none where it has none
-abbrev pub width : ℕ → List Call → ℕ
-width calls [] = 0
-width calls (candidate ∷ others) = calls
+abbrev pub calls_per_thread : ℕ → List Call → ℕ
+calls_per_thread calls [] = 0
+calls_per_thread calls (candidate ∷ others) = calls
 
 -- how many candidates each position has, thread 0's positions first
 abbrev pub bases : ℕ → List (List Call) → List ℕ
 bases calls [] = []
 bases calls (candidates ∷ threads) =
-    replicate (width calls candidates) (length candidates) ++ bases calls threads
+    replicate (calls_per_thread calls candidates) (length candidates) ++ bases calls threads
 
 -- each thread's calls: its candidates with the next numbers of the choice
-abbrev pub rows : ℕ → List (List Call) → List ℕ → List (List Call)
-rows calls [] choice = []
-rows calls (candidates ∷ threads) choice =
-    map (candidate_at candidates) (take (width calls candidates) choice)
-    ∷ rows calls threads (drop (width calls candidates) choice)
+abbrev pub chosen_calls : ℕ → List (List Call) → List ℕ → List (List Call)
+chosen_calls calls [] choice = []
+chosen_calls calls (candidates ∷ threads) choice =
+    map (candidate_at candidates) (take (calls_per_thread calls candidates) choice)
+    ∷ chosen_calls calls threads (drop (calls_per_thread calls candidates) choice)
 
 -- the matrix of these threads, with the setup
 abbrev pub rows_matrix : List Call → ℕ → List (List Call) → List ℕ → Matrix
 rows_matrix setup calls candidates choice =
-    record { setup = setup; threads = rows calls candidates choice }
+    record { setup = setup; threads = chosen_calls calls candidates choice }
 
 -- ---- limits
 
@@ -39,14 +39,14 @@ pub record AreRoles (candidates : List (List Call)) : Type 0 where
   pub few_candidates : All (λ thread. length thread ≤ 8) candidates
 
 -- 1 to 8 calls of each thread that has candidates, and at most 16 positions
-pub record AreRows (calls : ℕ) (candidates : List (List Call)) : Type 0 where
+pub record AreRowLimits (calls : ℕ) (candidates : List (List Call)) : Type 0 where
   pub some_calls : 1 ≤ calls
   pub few_calls : calls ≤ 8
   pub positions : length (bases calls candidates) ≤ 16
 
 -- the limits hold
 abbrev pub AreWithinLimits : ℕ → List (List Call) → Type 0
-AreWithinLimits calls candidates = AreRoles candidates × AreRows calls candidates
+AreWithinLimits calls candidates = AreRoles candidates × AreRowLimits calls candidates
 
 -- each thread's candidates are calls of the component
 abbrev pub AllCallsOf : Declarations → List (List Call) → Type 0

@@ -6,12 +6,13 @@ ghost use Rattle.lu_machine.specs.Starts.{AllEnd};
 ghost use Rattle.lu_replay.specs.Confirmed.{IsPass};
 ghost use Rattle.lu_refine.specs.Choices.{AreEnough, choice_count};
 ghost use Rattle.lu_refine.specs.Campaigns.{AreCallsOf, Chooses, HaveArguments, IsFoundOf, IsGrid, IsLimitFault};
-ghost use Rattle.lu_refine.specs.Roles.{AllCallsOf, AllHaveArguments, AreWithinLimits, bases};
-ghost use Rattle.lu_refine.specs.ByThread.{ChoosesByThread, ChoosesInSlice, IsRolesFault};
+ghost use Rattle.lu_refine.specs.Roles.{AreWithinLimits, bases};
+ghost use Rattle.lu_refine.specs.ByThread.{CanAsk, IsRolesFault, IsSliceAnswer, IsThreadsAnswer, asked_of};
 
 use crate::arena::check_in_arena;
 use crate::campaigns::{Campaign, CampaignFault};
 use crate::choice::{Positions, bases_of, choice_at, count_choices, fill, same_lists};
+use crate::roles::Roles;
 use lu_component::Component;
 use lu_report::{Finding, Report};
 use lu_test::{Call, Calls, MOST_CALLS, MOST_CALLS_OF_THREAD, MOST_THREADS};
@@ -130,96 +131,67 @@ pub fn campaign(
 {
     check_grid(candidates.len(), threads, calls)?;
     let lists = same_lists(alloc, candidates, threads)?;
-    campaign_by_thread(alloc, component, setup, &lists, calls, bound, serial)
+    let roles = Roles {
+        component,
+        setup,
+        candidates: &lists,
+        calls,
+        bound,
+        serial,
+    };
+    campaign_by_thread(alloc, roles)
 }
 
-/// Checks all matrices in which each thread makes calls of its own candidates: `calls` calls of
-/// each thread that has candidates, and none of a thread that has none. Else it is as
+/// Checks all matrices in which each thread makes calls of its own candidates: as many as are asked
+/// for of each thread that has candidates, and none of a thread that has none. Else it is as
 /// [`campaign`]: the matrices are taken in lexicographic order of the numbers of the candidates,
-/// each within its thread's list, thread 0's calls first. Asks of each thread's candidates what
-/// [`campaign`] asks of its list.
+/// each within its thread's list, thread 0's calls first. What [`campaign`] asks of its list has to
+/// hold of each thread's candidates.
 ///
 /// # Errors
 ///
 /// [`CampaignFault::Candidates`] where there are not 1 to 8 threads, where no thread has
 /// candidates, or where one has more than 8. [`CampaignFault::Limit`] where none of these holds,
-/// and `calls` is not 1 to 8, or there are more than 16 positions. [`CampaignFault::Memory`] where
-/// memory was refused.
-pub fn campaign_by_thread(
-    alloc: Global,
-    component: &Component,
-    setup: &Calls,
-    candidates: &[Calls],
-    calls: u8,
-    bound: u16,
-    serial: u16,
-) -> Result<Campaign, CampaignFault>
-    requires setup { IsSetup setup.now }
-    requires setup_of { AreCallsOf component.now setup.now }
-    requires settles { AllEnd component.now setup.now }
-    requires of { AllCallsOf component.now candidates.now }
-    requires arguments { AllHaveArguments candidates.now }
-    requires bound { bound ≤ 256 }
-    requires serial { (1 ≤ serial) × (serial ≤ 256) }
-    ensures answer { ChoosesByThread component.now setup.now candidates.now calls
-        bound serial result }
-    ensures of { IfOk result (IsFoundOf component.now) }
-    ensures fault { IfErr result (IsRolesFault candidates.now calls) }
+/// and the number of calls is not 1 to 8, or there are more than 16 positions.
+/// [`CampaignFault::Memory`] where memory was refused.
+pub fn campaign_by_thread(alloc: Global, roles: Roles<'_>) -> Result<Campaign, CampaignFault>
+    requires { CanAsk (asked_of roles) }
+    ensures answer { IfOk result (IsThreadsAnswer (asked_of roles.entry)) }
+    ensures of { IfOk result (IsFoundOf roles.entry.component.now) }
+    ensures fault { IfErr result (IsRolesFault roles.entry.candidates.now roles.entry.calls) }
 {
-    campaign_slice(
-        alloc,
-        component,
-        setup,
-        candidates,
-        calls,
-        bound,
-        serial,
-        0,
-        u64::MAX,
-    )
+    campaign_slice(alloc, roles, 0, u64::MAX)
 }
 
 /// Checks some of the matrices of [`campaign_by_thread`]: those with the numbers `from` to `to - 1`
-/// in its order, counted from 0; a `to` past the last matrix is the end. The answer is the first of
-/// them whose report is no pass, with that report, or how many they are: 0 where `from` is not
-/// below `to` or not below the number of matrices. Slices that follow one another answer together
-/// what one slice answers ([`slices_join`](crate::laws::slices_join)).
+/// in its order, counted from 0; a `to` past the last matrix is the end. Returns the first of them
+/// whose report is no pass, with that report, or how many they are: 0 where `from` is not below
+/// `to` or not below the number of matrices. Slices that follow one another say together what one
+/// slice says ([`slices_join`](crate::laws::slices_join)).
 ///
 /// # Errors
 ///
 /// Those of [`campaign_by_thread`].
 pub fn campaign_slice(
     alloc: Global,
-    component: &Component,
-    setup: &Calls,
-    candidates: &[Calls],
-    calls: u8,
-    bound: u16,
-    serial: u16,
+    roles: Roles<'_>,
     from: u64,
     to: u64,
 ) -> Result<Campaign, CampaignFault>
-    requires setup { IsSetup setup.now }
-    requires setup_of { AreCallsOf component.now setup.now }
-    requires settles { AllEnd component.now setup.now }
-    requires of { AllCallsOf component.now candidates.now }
-    requires arguments { AllHaveArguments candidates.now }
-    requires bound { bound ≤ 256 }
-    requires serial { (1 ≤ serial) × (serial ≤ 256) }
-    ensures answer { ChoosesInSlice component.now setup.now candidates.now calls
-        bound serial from to result }
-    ensures of { IfOk result (IsFoundOf component.now) }
-    ensures fault { IfErr result (IsRolesFault candidates.now calls) }
+    requires { CanAsk (asked_of roles) }
+    ensures answer { IfOk result (IsSliceAnswer (asked_of roles.entry) from to) }
+    ensures of { IfOk result (IsFoundOf roles.entry.component.now) }
+    ensures fault { IfErr result (IsRolesFault roles.entry.candidates.now roles.entry.calls) }
 {
-    let positions = positions_of(alloc, candidates, calls)?;
+    let component = roles.component;
+    let positions = positions_of(alloc, roles.candidates, roles.calls)?;
     let bases = positions.as_slice();
     let end = to.min(count_choices(bases));
     let start = from.min(end);
     for place in start..end {
         let choice = choice_at(alloc, bases, place)?;
-        let choice = choice.as_slice();
-        let matrix = fill(alloc, component, setup, candidates, calls, choice)?;
-        let report = check_in_arena(alloc, component, &matrix, bound, serial)?;
+        let matrix = fill(alloc, roles, choice.as_slice())?;
+        let report = check_in_arena(alloc, component, &matrix, roles.bound, roles.serial)?;
         if !is_pass(&report) {
             return Ok(Campaign::First { matrix, report });
         }

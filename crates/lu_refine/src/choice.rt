@@ -1,12 +1,11 @@
 //! Choices of candidates: a number for each position of a matrix.
 
 ghost use Rattle.std.specs.Prelude.{◌≡◌, ◌<◌, ◌≤◌, IfOk, length, map, replicate, All};
-ghost use Rattle.lu_test.specs.Matrix.{IsSetup};
-ghost use Rattle.lu_refine.specs.Campaigns.{AreCallsOf};
 ghost use Rattle.lu_refine.specs.Choices.{ArePositions, IsChoiceIn, candidate_at, choice_count, place_in};
-ghost use Rattle.lu_refine.specs.Roles.{AllCallsOf, AllHaveArguments, AreWithinLimits, bases, rows_matrix, width};
+ghost use Rattle.lu_refine.specs.Roles.{AreWithinLimits, bases, calls_per_thread};
+ghost use Rattle.lu_refine.specs.ByThread.{CanAsk, IsRoleChoice, asked_of, role_matrix};
 
-use lu_component::Component;
+use crate::roles::Roles;
 use lu_test::{Call, Calls, MOST_CALLS, Matrix, copy_call, copy_calls};
 use smallvec::SmallVec;
 use std::alloc::{AllocError, Global};
@@ -15,8 +14,8 @@ use std::alloc::{AllocError, Global};
 pub(crate) type Positions = SmallVec<u8, MOST_CALLS>;
 
 /// How many calls a thread makes that has these candidates: none where it has none.
-fn width(calls: u8, candidates: &Calls) -> u8
-    ensures { result ≡ width calls candidates.now }
+fn calls_per_thread(calls: u8, candidates: &Calls) -> u8
+    ensures { result ≡ calls_per_thread calls candidates.now }
 {
     if candidates.as_slice().is_empty() {
         0
@@ -37,7 +36,7 @@ pub(crate) fn bases_of(
     let mut found = Positions::new(alloc);
     for thread in candidates {
         let base = thread.as_slice().len() as u8;
-        let row = Positions::from_elem(alloc, base, usize::from(width(calls, thread)))?;
+        let row = Positions::from_elem(alloc, base, usize::from(calls_per_thread(calls, thread)))?;
         found.extend_from_slice(row.as_slice())?;
     }
     Ok(found)
@@ -87,31 +86,21 @@ fn calls_of(alloc: Global, candidates: &[Call], numbers: &[u8]) -> Result<Calls,
 
 /// The component's matrix of this setup, in which each thread makes the calls that the choice takes
 /// from its candidates.
-pub(crate) fn fill(
-    alloc: Global,
-    component: &Component,
-    setup: &Calls,
-    candidates: &[Calls],
-    calls: u8,
-    choice: &[u8],
-) -> Result<Matrix, AllocError>
-    requires setup { IsSetup setup.now }
-    requires setup_of { AreCallsOf component.now setup.now }
-    requires of { AllCallsOf component.now candidates.now }
-    requires arguments { AllHaveArguments candidates.now }
-    requires limits { AreWithinLimits calls candidates.now }
-    requires choice { IsChoiceIn (bases calls candidates.now) choice.now }
-    ensures { IfOk result (λ m. m ≡ rows_matrix setup.now calls candidates.now choice.now) }
+pub(crate) fn fill(alloc: Global, roles: Roles<'_>, choice: &[u8]) -> Result<Matrix, AllocError>
+    requires asked { CanAsk (asked_of roles) }
+    requires limits { AreWithinLimits roles.calls roles.candidates.now }
+    requires choice { IsRoleChoice (asked_of roles) choice.now }
+    ensures { IfOk result (λ m. m ≡ role_matrix (asked_of roles.entry) choice.now) }
 {
-    let mut rows = Vec::with_capacity(alloc, candidates.len())?;
+    let mut chosen_calls = Vec::with_capacity(alloc, roles.candidates.len())?;
     let mut rest = choice;
-    for thread in candidates {
-        let (row, others) = rest.split_at(usize::from(width(calls, thread)));
-        rows.push(calls_of(alloc, thread.as_slice(), row)?)?;
+    for thread in roles.candidates {
+        let (row, others) = rest.split_at(usize::from(calls_per_thread(roles.calls, thread)));
+        chosen_calls.push(calls_of(alloc, thread.as_slice(), row)?)?;
         rest = others;
     }
-    let setup = copy_calls(alloc, setup.as_slice())?;
-    Ok(Matrix::new(component, setup, rows).unwrap())
+    let setup = copy_calls(alloc, roles.setup.as_slice())?;
+    Ok(Matrix::new(roles.component, setup, chosen_calls).unwrap())
 }
 
 /// The same candidates for each of so many threads, as [`campaign`](crate::campaign) has them.

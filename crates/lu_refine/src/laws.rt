@@ -1,6 +1,6 @@
 //! Laws of removals and of slices, for the crates above. Their functions do nothing.
 
-ghost use Rattle.lu_refine.specs.Laws.{ChoicesNumbered, OneAnswer, SlicesJoin};
+ghost use Rattle.lu_refine.specs.Laws.{ChoicesNumbered, OneSliceAnswer, SlicesJoin};
 ghost use Rattle.lu_refine.specs.Removals.{OneShrunk};
 
 /// A chain of least removals has one end: so a matrix that fails shrinks to one matrix.
@@ -13,7 +13,7 @@ pub fn one_shrunk()
 /// answers what the campaign answers. A slice has one answer, so it does not matter who tries it.
 pub fn slices_join()
     ensures join { SlicesJoin }
-    ensures one_answer { OneAnswer }
+    ensures one_answer { OneSliceAnswer }
 {}
 
 /// What is numbered in a slice: each choice of candidates has a number of its own, from 0 to the

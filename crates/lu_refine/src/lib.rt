@@ -18,6 +18,7 @@ mod campaigning;
 mod campaigns;
 mod choice;
 pub mod laws;
+mod roles;
 mod shrink_fault;
 mod shrinking;
 
@@ -25,5 +26,6 @@ pub use campaigning::{campaign, campaign_by_thread, campaign_slice, count_matric
 pub use campaigns::{Campaign, CampaignFault};
 pub use choice::same_lists;
 pub use lu_spec::{Spec, SpecFault, SpecFaultKind, read_spec, write_spec};
+pub use roles::Roles;
 pub use shrink_fault::ShrinkFault;
 pub use shrinking::shrink;

@@ -12,7 +12,7 @@ use Rattle.lu_report.specs.declared.report.Finding.TheVariants.{SerialCut, Nonde
 use Rattle.lu_replay.specs.Confirmed.{IsShown}
 use Rattle.lu_spec.specs.Specs.{AreOf, IsSpec}
 use Rattle.lu_refute.specs.Answers.{IsAnswerTo, IsFailure, IsOutsideAnswer}
-use Rattle.lu_refute.specs.Walks.{IsFailing, IsOfFailure}
+use Rattle.lu_refute.specs.Walks.{IsScheduleOfFailure, IsOfFailure}
 use Rattle.lu_refute.proofs.Outside.{conflict_outside, fail_outside}
 
 -- where the failing schedule is good for a specification, or there is none, something is outside it
@@ -44,12 +44,12 @@ outside_answer s serial members (Pass counts) answer failure not_own outside = f
 
 -- ---- the same, where the set and the finding are known by equations
 
-pub none_own : (c : Declarations) (matrix : Matrix) (s : State) → IsStart c matrix s → (set members : List (List SerialOp)) → set ≡ members → (f finding : Finding) → f ≡ finding → (found : Option (List Move)) → found ≡ None → IsFailing c matrix set f found → (u : List Move) → IsOfFailure s members finding u → ⊥
+pub none_own : (c : Declarations) (matrix : Matrix) (s : State) → IsStart c matrix s → (set members : List (List SerialOp)) → set ≡ members → (f finding : Finding) → f ≡ finding → (found : Option (List Move)) → found ≡ None → IsScheduleOfFailure c matrix set f found → (u : List Move) → IsOfFailure s members finding u → ⊥
 none_own c matrix s start set members same f finding is None none all u of =
     all s u start (subst (λ (x : Finding). IsOfFailure s set x u) (sym is) (subst (λ (x : List (List SerialOp)). IsOfFailure s x finding u) (sym same) of))
 none_own c matrix s start set members same f finding is (Some v) none all u of = absurd cc
 
-pub own_found : (c : Declarations) (matrix : Matrix) (s : State) → IsStart c matrix s → (set members : List (List SerialOp)) → set ≡ members → (f finding : Finding) → f ≡ finding → (found : Option (List Move)) (u : List Move) → found ≡ Some u → IsFailing c matrix set f found → IsOfFailure s members finding u
+pub own_found : (c : Declarations) (matrix : Matrix) (s : State) → IsStart c matrix s → (set members : List (List SerialOp)) → set ≡ members → (f finding : Finding) → f ≡ finding → (found : Option (List Move)) (u : List Move) → found ≡ Some u → IsScheduleOfFailure c matrix set f found → IsOfFailure s members finding u
 own_found c matrix s start set members same f finding is None u some of = absurd cc
 own_found c matrix s start set members same f finding is (Some v) u some of =
     let e : v ≡ u = cc in

@@ -24,7 +24,7 @@ use Rattle.lu_witness.specs.declared.judgement.Verdict.TheVariants.{Good, NoWitn
 use Rattle.lu_witness.specs.Witnesses.{IsVerdict}
 use Rattle.lu_witness.specs.Goodness.{IsGoodAt}
 use Rattle.lu_witness.proofs.Endings.{judged_good, judged_bad, judged_without}
-use Rattle.lu_replay.specs.Replays.{Shows, IsInfeasibleAt}
+use Rattle.lu_replay.specs.Replays.{PlaysToStatus, IsInfeasibleAt}
 use Rattle.lu_replay.proofs.Playing.{replay_or_fault}
 use Rattle.lu_refute.specs.Linearizable.{Refutes}
 
@@ -49,7 +49,7 @@ module _ (c : Declarations) (matrix : Matrix) (s : State) (is : IsStart c matrix
       let status = status_of r.end r.holds.0 in
       replay_or_fault c matrix u r.history status.0 i (r.end, (s, is, r.leads), status.1) at
 
-  module _ (end : Status) (h : List Event) (shows : Shows c matrix u h end) (well : IsWellFormed h) (v : Verdict) (judged : IsVerdict M h v) where
+  module _ (end : Status) (h : List Event) (shows : PlaysToStatus c matrix u h end) (well : IsWellFormed h) (v : Verdict) (judged : IsVerdict M h v) where
     leads : Leads s u (shows.0) h
     leads = subst (λ (x : State). Leads x u (shows.0) h) (start_same c matrix shows.1.0 s shows.1.1 is) shows.1.2
 

@@ -23,7 +23,7 @@ use Rattle.lu_report.specs.declared.report.Finding.TheVariants.{SerialCut, Nonde
 use Rattle.lu_refute.specs.Linearizable.{IsCounterexample, IsCutOf, IsLinearizable, Refutes}
 use Rattle.lu_refute.specs.Whole.{EndsWhole, made_calls}
 use Rattle.lu_refute.specs.Answers.{IsOutsideAnswer}
-use Rattle.lu_refute.specs.Laws.{AnswerRefutes, ConflictOutside, FailOutside, FailRefutes, HasAll, IsSpecOf, IsWhole, NotLinearizable, OutsideWhole, SpecIsSerial, WholeCut}
+use Rattle.lu_refute.specs.Laws.{AnswerRefutes, ConflictOutside, FailOutside, FailRefutes, HasAll, IsMatrixSpec, IsWhole, NotLinearizable, OutsideWhole, SpecIsSerial, WholeCut}
 use Rattle.lu_refute.proofs.Core.{HasStuck, IsWholeFrom, seats_start, stuck_last}
 use Rattle.lu_refute.proofs.Cuts.{start_done}
 use Rattle.lu_refute.proofs.Grounds.{Ground, ground_of, grounded, none_on, start_on}
@@ -32,7 +32,7 @@ use Rattle.lu_refute.proofs.Own.{cut_refutes, made_cut}
 
 -- ---- specifications that have every serial history
 
-spec_fits : (g : Ground) (matrix : Matrix) (members : List (List SerialOp)) → IsSpecOf matrix members → AreFit (start_on g matrix) (IsMember members)
+spec_fits : (g : Ground) (matrix : Matrix) (members : List (List SerialOp)) → IsMatrixSpec matrix members → AreFit (start_on g matrix) (IsMember members)
 spec_fits g matrix members spec = record {
   apart = λ p q i o x y conflict. spec.0.deterministic p q i o x y conflict;
   serial = λ q member. spec.0.serial q member;
@@ -45,14 +45,14 @@ whole_at_start g matrix q (inr all) = inr (λ t. (let none = start_done g matrix
 
 pub spec_is_serial : SpecIsSerial
 spec_is_serial c matrix s bound members q is =
-    subst (λ x. NoOffence x bound → IsSpecOf matrix members → HasAll x members → IsMember members q → IsWhole matrix q → IsSerialHistory x q) (sym (grounded c matrix s is))
+    subst (λ x. NoOffence x bound → IsMatrixSpec matrix members → HasAll x members → IsMember members q → IsWhole matrix q → IsSerialHistory x q) (sym (grounded c matrix s is))
     (λ none spec has member whole.
     let g = ground_of c s in
     serial_member (IsMember members) (start_on g matrix) bound (none_on g matrix) (seats_start g matrix) (λ u cut_so. none u (inl cut_so)) (spec_fits g matrix members spec) has q member (whole_at_start g matrix q whole))
 
 pub fail_refutes : FailRefutes
 fail_refutes c matrix s bound members u is =
-    subst (λ x. NoOffence x bound → IsSpecOf matrix members → HasAll x members → Refutes (IsSerialHistory x) x u → Refutes (IsMember members) x u) (sym (grounded c matrix s is))
+    subst (λ x. NoOffence x bound → IsMatrixSpec matrix members → HasAll x members → Refutes (IsSerialHistory x) x u → Refutes (IsMember members) x u) (sym (grounded c matrix s is))
     (λ none spec has bad.
     let g = ground_of c s in
     refutes_back (IsMember members) (start_on g matrix) bound (none_on g matrix) (seats_start g matrix) (λ v cut_so. none v (inl cut_so)) (spec_fits g matrix members spec) has u bad)

@@ -22,8 +22,8 @@ use Rattle.lu_refute.specs.Whole.{IsSeriallyWhole, made_calls}
 use Rattle.lu_refute.specs.Answers.{IsAnswer, IsAnswerTo, IsConfirmedFailure, IsFailure}
 
 -- a specification of the matrix
-abbrev pub IsSpecOf : Matrix → List (List SerialOp) → Type 0
-IsSpecOf matrix members = IsSpec members × AreOf matrix members
+abbrev pub IsMatrixSpec : Matrix → List (List SerialOp) → Type 0
+IsMatrixSpec matrix members = IsSpec members × AreOf matrix members
 
 -- each serial history is a member
 abbrev pub HasAll : State → List (List SerialOp) → Type 0
@@ -45,7 +45,7 @@ abbrev pub SpecIsSerial : Type 0
 SpecIsSerial =
     (c : Declarations) (matrix : Matrix) (s : State) (bound : ℕ) (members : List (List SerialOp))
     (q : List SerialOp) →
-    IsStart c matrix s → NoOffence s bound → IsSpecOf matrix members → HasAll s members →
+    IsStart c matrix s → NoOffence s bound → IsMatrixSpec matrix members → HasAll s members →
     IsMember members q → IsWhole matrix q → IsSerialHistory s q
 
 -- There a schedule that is not good for the serial histories is not good for the specification.
@@ -53,7 +53,7 @@ abbrev pub FailRefutes : Type 0
 FailRefutes =
     (c : Declarations) (matrix : Matrix) (s : State) (bound : ℕ) (members : List (List SerialOp))
     (u : List Move) →
-    IsStart c matrix s → NoOffence s bound → IsSpecOf matrix members → HasAll s members →
+    IsStart c matrix s → NoOffence s bound → IsMatrixSpec matrix members → HasAll s members →
     Refutes (IsSerialHistory s) s u → Refutes (IsMember members) s u
 
 -- ---- serial schedules
@@ -87,7 +87,7 @@ abbrev pub FailOutside : Type 0
 FailOutside =
     (c : Declarations) (matrix : Matrix) (s : State) (bound : ℕ) (members : List (List SerialOp))
     (u : List Move) →
-    IsStart c matrix s → NoOffence s bound → IsSpecOf matrix members
+    IsStart c matrix s → NoOffence s bound → IsMatrixSpec matrix members
     → IsFirstOutside s bound members None →
     Refutes (IsSerialHistory s) s u → Refutes (IsMember members) s u
 

@@ -21,7 +21,7 @@ use Rattle.lu_refute.specs.Linearizable.{Refutes}
 use Rattle.lu_refute.specs.Answers.{IsOutsideAnswer, IsShortest}
 
 -- no operation is open, and none has returned; the calls are those made
-pub record IsBefore (walk : Walk) : Type 0 where
+pub record IsBeforeAnyReturn (walk : Walk) : Type 0 where
   pub quiet : IsQuiet walk.machine
   pub entries : walk.entries.items ≡ []
   pub calls : walk.calls.items ≡ made_calls walk.machine
@@ -89,9 +89,10 @@ IsOfFailure s members (Fail v why) u = (u ≡ v) × Refutes (IsMember members) s
 IsOfFailure s members (Pass counts) u = ⊥
 
 -- the schedule of such a failure, or none where the finding is no such one
-abbrev pub IsFailing : Declarations → Matrix → List (List SerialOp) → Finding → Option (List Move)
+abbrev pub IsScheduleOfFailure : Declarations → Matrix → List (List SerialOp) → Finding
+    → Option (List Move)
     → Type 0
-IsFailing c matrix members finding None =
+IsScheduleOfFailure c matrix members finding None =
     (s : State) (u : List Move) → IsStart c matrix s → IsOfFailure s members finding u → ⊥
-IsFailing c matrix members finding (Some u) =
+IsScheduleOfFailure c matrix members finding (Some u) =
     (s : State) → IsStart c matrix s → IsOfFailure s members finding u

@@ -10,7 +10,7 @@ ghost use Rattle.lu_replay.specs.Confirmed.{IsShownWith};
 ghost use Rattle.lu_spec.specs.Specs.{AreOf};
 ghost use Rattle.lu_refute.specs.Linearizable.{IsCounterexampleTo, IsLinearizable};
 ghost use Rattle.lu_refute.specs.Answers.{IsAnswer, IsAnswerWith, IsConfirmedFailure, IsFailure, IsRefuteFault};
-ghost use Rattle.lu_refute.specs.Walks.{HasOutside, IsFailing, IsFromOutside, TellsRefutation};
+ghost use Rattle.lu_refute.specs.Walks.{HasOutside, IsScheduleOfFailure, IsFromOutside, TellsRefutation};
 
 use crate::fault::RefuteFault;
 use crate::shortest::shortest;
@@ -71,7 +71,7 @@ fn schedule_of_failure(
     set: &Trie<Global>,
 ) -> Result<Option<Schedule>, AllocError>
     requires { CanRun component.now matrix.now }
-    ensures { IfOk result (IsFailing component.now matrix.now set.now finding.now) }
+    ensures { IfOk result (IsScheduleOfFailure component.now matrix.now set.now finding.now) }
 {
     match finding {
         Finding::SerialCut(_) => Ok(None),

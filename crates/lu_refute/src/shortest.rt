@@ -5,7 +5,7 @@ ghost use Rattle.lu_machine.specs.Starts.{CanRun, IsStart};
 ghost use Rattle.lu_machine.specs.Steps.{IsFeasible};
 ghost use Rattle.lu_witness.specs.Witnesses.{IsMember};
 ghost use Rattle.lu_refute.specs.Whole.{made_calls};
-ghost use Rattle.lu_refute.specs.Walks.{EndsOutside, IsBefore, IsFurther, IsOutsideOf, IsShortestOf, IsStop};
+ghost use Rattle.lu_refute.specs.Walks.{EndsOutside, IsBeforeAnyReturn, IsFurther, IsOutsideOf, IsShortestOf, IsStop};
 
 use lu_component::Component;
 use lu_history::{SerialOp, SerialOutcome};
@@ -32,7 +32,7 @@ impl<'a> Walk<'a> {
     ) -> Result<Walk<'a>, AllocError>
         requires { CanRun component.now matrix.now }
         ensures start { IfOk result (λ walk. IsStart component.now matrix.now walk.machine) }
-        ensures before { IfOk result IsBefore }
+        ensures before { IfOk result IsBeforeAnyReturn }
     {
         Ok(Walk {
             machine: Machine::start(alloc, component, matrix)?,
@@ -61,7 +61,7 @@ impl<'a> Walk<'a> {
     /// Goes along a serial schedule whose history is no member of the set, until its entries are no
     /// member, or to its end. Returns the number of moves made.
     fn go_outside(&mut self, moves: &[Move], set: &Trie<Global>) -> Result<usize, AllocError>
-        requires before { IsBefore self.old }
+        requires before { IsBeforeAnyReturn self.old }
         requires empty { IsMember set.now [] }
         requires outside { EndsOutside self.old.machine set.now moves.now }
         ensures { IfOk result (IsStop self.old.machine set.now moves.now self.new) }

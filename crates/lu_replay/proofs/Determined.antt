@@ -14,7 +14,7 @@ use Rattle.lu_machine.proofs.Numbers.{least_same, numbers_same}
 use Rattle.lu_history.specs.declared.serial.SerialOutcome.{SerialOutcome}
 use Rattle.lu_history.specs.declared.serial.SerialOp.{SerialOp}
 use Rattle.lu_serial.specs.Serial.{HasOpen, EndsAs, IsSeriallyEnded, IsSeriallyCut, IsSerialHistory}
-use Rattle.lu_serial.specs.Offences.{IsOffence, IsConflict, IsFirstConflict, IsFirstCut}
+use Rattle.lu_serial.specs.Offences.{IsOffence, IsSerialConflict, IsFirstConflict, IsFirstCut}
 use Rattle.lu_serial.proofs.Opening.{others, complete_not_open}
 use Rattle.lu_serial.proofs.CallsLeft.{none_at_start}
 use Rattle.lu_serial.proofs.Single.{AtMostOne, one_along, one_learnt}
@@ -54,7 +54,7 @@ module _ (c : Declarations) (matrix : Matrix) (s : State) (is : IsStart c matrix
   pub cut_no_conflict : (most : ℕ) (u v : List Move) (i : ℕ) (o : SerialOutcome) → IsFirstCut s most u → IsFirstConflict s most v i o → ⊥
   cut_no_conflict most u v i o cut conflict =
       let same : v ≡ u = least_same (IsOffence s most) v u conflict.0 cut.0 in
-      let clash : IsConflict s u i o = subst (λ (x : List Move). IsConflict s x i o) same conflict.1 in
+      let clash : IsSerialConflict s u i o = subst (λ (x : List Move). IsSerialConflict s x i o) same conflict.1 in
       cut_not_ended most u clash.history cut.1 clash.ended
 
   pub conflict_same : (most : ℕ) (u v : List Move) (i j : ℕ) (o p : SerialOutcome) → IsFirstConflict s most u i o → IsFirstConflict s most v j p → (u ≡ v) × (i ≡ j) × (o ≡ p)

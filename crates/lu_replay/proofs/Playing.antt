@@ -23,7 +23,7 @@ use Rattle.lu_history.specs.Histories.{Fits, IsWellFormed}
 use Rattle.lu_history.proofs.Events.{push_history}
 use Rattle.lu_history.specs.Standing.{Agree}
 use Rattle.lu_history.proofs.Following.{start_agrees, step_agrees, step_fits}
-use Rattle.lu_replay.specs.Replays.{Plays, Shows, IsInfeasibleAt}
+use Rattle.lu_replay.specs.Replays.{Plays, PlaysToStatus, IsInfeasibleAt}
 
 -- from the start the first moves, so many, lead to this state with this history
 pub record IsPlayed (start : State) (u : List Move) (many : ℕ) (now : State) (history : List Event) : Type 0 where
@@ -63,13 +63,13 @@ plays_on c matrix u end h i m mid k p at q =
     let f = goes_on_feasible p.0 u end h p.2 i m (slice_get_within u i m at) mid k first in
     subst (IsFeasible mid) (get_or_from_slice_get u i m m at) f
 
-pub one_replay : (c : Declarations) (matrix : Matrix) (u : List Move) (h k : List Event) (a b : Status) → Shows c matrix u h a → Shows c matrix u k b → (h ≡ k) × (a ≡ b)
+pub one_replay : (c : Declarations) (matrix : Matrix) (u : List Move) (h k : List Event) (a b : Status) → PlaysToStatus c matrix u h a → PlaysToStatus c matrix u k b → (h ≡ k) × (a ≡ b)
 one_replay c matrix u h k a b p q =
     let same = plays_same c matrix u p.0 q.0 h k p.1 q.1 in
     let status : HasStatus p.0 b = subst (λ (s : State). HasStatus s b) (sym same.0) q.2 in
     (same.1, status_same p.0 a b p.2 status)
 
-pub replay_or_fault : (c : Declarations) (matrix : Matrix) (u : List Move) (h : List Event) (a : Status) (i : ℕ) → Shows c matrix u h a → IsInfeasibleAt c matrix u i → ⊥
+pub replay_or_fault : (c : Declarations) (matrix : Matrix) (u : List Move) (h : List Event) (a : Status) (i : ℕ) → PlaysToStatus c matrix u h a → IsInfeasibleAt c matrix u i → ⊥
 replay_or_fault c matrix u h a i p q = q.5 (plays_on c matrix u p.0 h i q.2 q.0 q.1 p.1 q.4 q.3)
 
 -- an infeasible move is the first one
@@ -143,7 +143,7 @@ some_status s = elim (complete_or_not s) [
   ]
 ]
 
-pub all_replayed : (c : Declarations) (matrix : Matrix) (u : List Move) → Settles c matrix → ((h : List Event) × (a : Status) × Shows c matrix u h a) ⊎ ((i : ℕ) × IsInfeasibleAt c matrix u i)
+pub all_replayed : (c : Declarations) (matrix : Matrix) (u : List Move) → Settles c matrix → ((h : List Event) × (a : Status) × PlaysToStatus c matrix u h a) ⊎ ((i : ℕ) × IsInfeasibleAt c matrix u i)
 all_replayed c matrix u settles = let start = start_there c matrix settles in elim (goes_or_fails start.0 u) [
   | inl (end, h, leads) ↦
       let status = some_status end in

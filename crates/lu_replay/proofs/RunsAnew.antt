@@ -37,7 +37,7 @@ use Rattle.lu_witness.proofs.Verdicts.{one_verdict}
 use Rattle.lu_report.specs.declared.report.Finding.{Finding}
 use Rattle.lu_report.specs.declared.report.Finding.TheVariants.{SerialCut, Nondeterministic, Fail, Pass}
 use Rattle.lu_report.specs.declared.report.Report.{Report}
-use Rattle.lu_replay.specs.Replays.{Shows, IsInfeasibleAt}
+use Rattle.lu_replay.specs.Replays.{PlaysToStatus, IsInfeasibleAt}
 use Rattle.lu_replay.specs.Reports.{IsFinding, IsFindingAgainst, IsReport, IsReportAgainst}
 use Rattle.lu_replay.specs.Confirmed.{IsBadFor, IsConfirmed, IsConfirmedAgainst, IsShown, IsShownAgainst, IsShownWith, IsPass, IsReason}
 use Rattle.lu_replay.proofs.Determined.{cut_no_conflict, conflict_same}
@@ -82,7 +82,7 @@ module _ (c : Declarations) (matrix : Matrix) (s : State) (is : IsStart c matrix
       let status = status_of r.end r.holds.0 in
       replay_or_fault c matrix u r.history status.0 i (r.end, (s, is, r.leads), status.1) at
 
-  module _ (end : Status) (h : List Event) (shows : Shows c matrix u h end) (well : IsWellFormed h) (v : Verdict) (judged : IsVerdict M h v) where
+  module _ (end : Status) (h : List Event) (shows : PlaysToStatus c matrix u h end) (well : IsWellFormed h) (v : Verdict) (judged : IsVerdict M h v) where
     abbrev last : State
     last = shows.0
 

@@ -12,7 +12,7 @@ use Rattle.lu_machine.specs.Schedules.{BeginsWith, Reaches, IsSchedule}
 use Rattle.lu_history.specs.declared.serial.SerialOp.{SerialOp}
 use Rattle.lu_witness.specs.Witnesses.{IsMember}
 use Rattle.lu_report.specs.declared.report.Report.{Report}
-use Rattle.lu_replay.specs.Replays.{Shows, IsInfeasibleAt}
+use Rattle.lu_replay.specs.Replays.{PlaysToStatus, IsInfeasibleAt}
 use Rattle.lu_replay.specs.Reports.{IsReport, IsReportAgainst}
 use Rattle.lu_replay.specs.Confirmed.{IsConfirmed, IsConfirmedAgainst, IsPass}
 
@@ -20,13 +20,13 @@ use Rattle.lu_replay.specs.Confirmed.{IsConfirmed, IsConfirmedAgainst, IsPass}
 abbrev pub OneReplay : Type 0
 OneReplay =
     (c : Declarations) (matrix : Matrix) (u : List Move) (h k : List Event) (a b : Status) →
-    Shows c matrix u h a → Shows c matrix u k b → (h ≡ k) × (a ≡ b)
+    PlaysToStatus c matrix u h a → PlaysToStatus c matrix u k b → (h ≡ k) × (a ≡ b)
 
 -- a schedule that shows something is infeasible nowhere
 abbrev pub ReplayOrFault : Type 0
 ReplayOrFault =
     (c : Declarations) (matrix : Matrix) (u : List Move) (h : List Event) (a : Status) (i : ℕ) →
-    Shows c matrix u h a → IsInfeasibleAt c matrix u i → ⊥
+    PlaysToStatus c matrix u h a → IsInfeasibleAt c matrix u i → ⊥
 
 -- a schedule is infeasible at one place at most
 abbrev pub OneFault : Type 0
@@ -38,7 +38,7 @@ OneFault =
 abbrev pub AllReplayed : Type 0
 AllReplayed =
     (c : Declarations) (matrix : Matrix) (u : List Move) → Settles c matrix →
-    ((h : List Event) × (a : Status) × Shows c matrix u h a)
+    ((h : List Event) × (a : Status) × PlaysToStatus c matrix u h a)
     ⊎ ((i : ℕ) × IsInfeasibleAt c matrix u i)
 
 -- no ended schedule is a beginning of another

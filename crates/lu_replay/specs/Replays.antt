@@ -12,8 +12,8 @@ use Rattle.lu_replay.specs.declared.fault.ReplayFault.{ReplayFault}
 use Rattle.lu_replay.specs.declared.fault.ReplayFault.TheVariants.{Infeasible, Memory}
 
 -- from the start the schedule leads to a state of this status, with this history
-abbrev pub Shows : Declarations → Matrix → List Move → List Event → Status → Type 0
-Shows c matrix u history status =
+abbrev pub PlaysToStatus : Declarations → Matrix → List Move → List Event → Status → Type 0
+PlaysToStatus c matrix u history status =
     (end : State) × Plays c matrix u end history × HasStatus end status
 
 -- the fault of the schedule; want of memory can come with any

@@ -67,27 +67,33 @@ fn is_reason(status: Status, verdict: Verdict, why: Why) -> bool
     }
 }
 
-/// Whether the schedule ends within the bound without its witnesses in the set of the tree, for
-/// this reason.
-fn fails<T: SerialTree>(
+/// That a schedule ends within a bound without its witnesses, and why.
+#[derive(Clone, Copy)]
+struct Claim<'a> {
+    bound: u16,
+    schedule: &'a Schedule,
+    why: Why,
+}
+
+/// Whether what is claimed of a schedule holds for the set of the tree.
+fn holds<T: SerialTree>(
     alloc: Global,
     component: &Component,
     matrix: &Matrix,
-    bound: u16,
     tree: &T,
-    schedule: &Schedule,
-    why: Why,
+    claim: Claim<'_>,
 ) -> Result<bool, AllocError>
     requires { CanRun component.now matrix.now }
-    ensures { SaysBad component.now matrix.now (T.members tree.now) bound schedule.now why result }
+    ensures { SaysBad component.now matrix.now (T.members tree.now) claim.entry.bound
+        claim.entry.schedule.now claim.entry.why result }
 {
-    if schedule.moves().len() > usize::from(bound) {
+    if claim.schedule.moves().len() > usize::from(claim.bound) {
         return Ok(false);
     }
-    match replay(alloc, component, matrix, schedule) {
+    match replay(alloc, component, matrix, claim.schedule) {
         Ok(shown) => {
             let verdict = verdict(tree, &shown.history);
-            Ok(is_reason(shown.status, verdict, why))
+            Ok(is_reason(shown.status, verdict, claim.why))
         }
         Err(ReplayFault::Infeasible(_)) => Ok(false),
         Err(ReplayFault::Memory) => Err(AllocError),
@@ -114,7 +120,15 @@ fn is_shown(
             earlier,
         } => Ok(is_conflict(learnt, schedule, *before, *earlier)),
         Finding::Fail { schedule, why } => match learnt {
-            Learnt::Set(set) => fails(alloc, component, matrix, bound, &set, schedule, *why),
+            Learnt::Set(set) => {
+                let why = *why;
+                let claim = Claim {
+                    bound,
+                    schedule,
+                    why,
+                };
+                holds(alloc, component, matrix, &set, claim)
+            }
             Learnt::Cut(_) => Ok(false),
             Learnt::Conflict { .. } => Ok(false),
         },
@@ -159,7 +173,13 @@ fn is_shown_against<T: SerialTree>(
         Finding::SerialCut(_) => Ok(false),
         Finding::Nondeterministic { .. } => Ok(false),
         Finding::Fail { schedule, why } => {
-            fails(alloc, component, matrix, bound, tree, schedule, *why)
+            let why = *why;
+            let claim = Claim {
+                bound,
+                schedule,
+                why,
+            };
+            holds(alloc, component, matrix, tree, claim)
         }
         Finding::Pass(_) => Ok(false),
     }

@@ -4,7 +4,7 @@ ghost use Rattle.std.specs.Prelude.{◌≡◌, [], ◌++◌, IfOk, IfErr, IfSome
 ghost use Rattle.lu_machine.specs.Starts.{CanRun};
 ghost use Rattle.lu_machine.specs.Runs.{with_event};
 ghost use Rattle.lu_history.specs.Histories.{Fits, IsWellFormed};
-ghost use Rattle.lu_replay.specs.Replays.{IsReplayFault, Shows};
+ghost use Rattle.lu_replay.specs.Replays.{IsReplayFault, PlaysToStatus};
 
 use crate::fault::ReplayFault;
 use crate::shown::Replay;
@@ -25,7 +25,7 @@ pub fn replay(
 ) -> Result<Replay, ReplayFault>
     requires { CanRun component.now matrix.now }
     ensures shows { IfOk result (λ r.
-        Shows component.now matrix.now schedule.now r.history r.status) }
+        PlaysToStatus component.now matrix.now schedule.now r.history r.status) }
     ensures well_formed { IfOk result (λ r. IsWellFormed r.history) }
     ensures fault { IfErr result (IsReplayFault component.now matrix.now schedule.now) }
 {

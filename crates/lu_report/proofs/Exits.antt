@@ -21,7 +21,7 @@ use Rattle.lu_report.specs.Parts.{AreLimits, IsJudgement, IsSerialBound, IsThrea
 use Rattle.lu_report.specs.Text.{number_line, earlier_line, fail_line, finding_lines, version_of, version_line, serial_lines, local_lines}
 use Rattle.lu_text.specs.Lines.{kept_lines}
 use Rattle.lu_history.specs.Serial.{IsOutcome}
-use Rattle.lu_report.specs.Forms.{AreBefore, AreNone, IsEarlierLine, AreBehind, AreBounded, AreConflict, AreCountLines, AreCounts, AreCut, AreEarlier, AreFinding, AreJudgement, AreLocal, AreReport, AreRun, AreStuck, Begins, Cuts, HasNo, IsBehind, IsFirst, IsNumberLine, IsScheduleLine, IsSound, IsVersionLine, SaysNumber, Spells, Stops, StopsAt}
+use Rattle.lu_report.specs.Forms.{AreBeforeLines, AreNone, IsEarlierLine, AreBehind, AreBounded, AreConflict, AreCountLines, AreCounts, AreCut, AreEarlier, AreFinding, AreJudgement, AreLocal, AreReport, AreRun, AreStuck, IsLineThen, Cuts, HasNo, IsBehind, IsFirst, IsNumberLine, IsScheduleLine, IsSoundFinding, IsVersionLine, SaysNumber, Spells, Stops, StopsAt}
 use Rattle.std.specs.Fmt.{decimal}
 use Rattle.std.proofs.lemmas.Fmt.{decimal_injective}
 use Rattle.std.proofs.lemmas.List.{append_assoc, append_cancel_left, append_cancel_right}
@@ -58,10 +58,10 @@ too_low front first line least most n low few small said same is =
     absurd (omega arith)
 
 module _ (front : List ℕ) (least most : ℕ) (AreTail : List (List ℕ) → Type 0) (text : List ℕ) (e : Unread) where
-  pub no_number : least ≤ most → (t : List (List ℕ)) × AreTail t → HasNo (IsNumberLine front least most) text e → Stops (Begins (IsNumberLine front least most) AreTail) text e
+  pub no_number : least ≤ most → (t : List (List ℕ)) × AreTail t → HasNo (IsNumberLine front least most) text e → Stops (IsLineThen (IsNumberLine front least most) AreTail) text e
   no_number some tail none = at_head (IsNumberLine front least most) AreTail text (number_line front least, (least, omega arith, some, refl)) tail e none
 
-  pub past_number : (rest : List ℕ) (n : ℕ) → SaysNumber front least most text n rest → Stops AreTail rest e → Stops (Begins (IsNumberLine front least most) AreTail) text e
+  pub past_number : (rest : List ℕ) (n : ℕ) → SaysNumber front least most text n rest → Stops AreTail rest e → Stops (IsLineThen (IsNumberLine front least most) AreTail) text e
   past_number rest n says s = in_tail (IsNumberLine front least most) AreTail text rest (number_line front n) (n, says.0, says.1, refl) says.2 e s
 
 -- ---- some lines of each part
@@ -84,7 +84,7 @@ a_stuck = (number_line (codes "stuck ") 0 ∷ a_cut.0, ((0, omega arith, omega a
 pub an_earlier : (t : List (List ℕ)) × AreEarlier t
 an_earlier = (an_outcome.0 ∷ [], (an_outcome.1, refl))
 
-pub a_before : (t : List (List ℕ)) × AreBefore t
+pub a_before : (t : List (List ℕ)) × AreBeforeLines t
 a_before = (number_line (codes "before ") 0 ∷ an_earlier.0, ((0, omega arith, omega arith, refl), an_earlier.1))
 
 -- ---- what was found
@@ -137,21 +137,21 @@ conflict_found (x ∷ y ∷ []) are = absurd are.1.1
 conflict_found (x ∷ y ∷ z ∷ t) are =
     (are.0.0, are.1.0.0, are.1.1.0.0, are.0.1, are.1.0.2, are.1.1.0.1.0, rw (are.0.2, are.1.0.3, are.1.1.0.1.1, are.1.1.1) refl)
 
-pub pass_only : (t : List (List ℕ)) (f : Finding) → IsSound f → codes "pass\n" ∷ t ≡ finding_lines f → AreCountLines t
+pub pass_only : (t : List (List ℕ)) (f : Finding) → IsSoundFinding f → codes "pass\n" ∷ t ≡ finding_lines f → AreCountLines t
 pass_only t (SerialCut u) is e = absurd (clash 112 115 refl (ap (byte_at 0) e))
 pass_only t (Nondeterministic u before earlier) is e = absurd (clash 112 110 refl (ap (byte_at 0) e))
 pass_only t (Fail u Complete) is e = absurd (clash 112 102 refl (ap (byte_at 0) e))
 pass_only t (Fail u (Stuck w)) is e = absurd (clash 112 102 refl (ap (byte_at 0) e))
 pass_only t (Pass counts) is e = counts_form counts t is.1 (cc)
 
-pub conflict_only : (t : List (List ℕ)) (f : Finding) → IsSound f → codes "nondeterministic\n" ∷ t ≡ finding_lines f → AreConflict t
+pub conflict_only : (t : List (List ℕ)) (f : Finding) → IsSoundFinding f → codes "nondeterministic\n" ∷ t ≡ finding_lines f → AreConflict t
 conflict_only t (SerialCut u) is e = absurd (clash 110 115 refl (ap (byte_at 0) e))
 conflict_only t (Nondeterministic u before earlier) is e = conflict_form u before earlier t is.1.0 is.0 is.1.1 (cc)
 conflict_only t (Fail u Complete) is e = absurd (clash 110 102 refl (ap (byte_at 0) e))
 conflict_only t (Fail u (Stuck w)) is e = absurd (clash 110 102 refl (ap (byte_at 0) e))
 conflict_only t (Pass counts) is e = absurd (clash 110 112 refl (ap (byte_at 0) e))
 
-pub cut_only : (t : List (List ℕ)) (f : Finding) → IsSound f → codes "serial-cut\n" ∷ t ≡ finding_lines f → AreRun t
+pub cut_only : (t : List (List ℕ)) (f : Finding) → IsSoundFinding f → codes "serial-cut\n" ∷ t ≡ finding_lines f → AreRun t
 cut_only t (SerialCut u) is e = run_form u t is.1 (cc)
 cut_only t (Nondeterministic u before earlier) is e = absurd (clash 115 110 refl (ap (byte_at 0) e))
 cut_only t (Fail u Complete) is e = absurd (clash 115 102 refl (ap (byte_at 0) e))
@@ -162,7 +162,7 @@ pub fail_byte : (why : Why) (t : List (List ℕ)) → byte_at 0 (fail_line why �
 fail_byte Complete t = refl
 fail_byte (Stuck w) t = refl
 
-pub fail_only : (why : Why) (t : List (List ℕ)) (f : Finding) → IsSound f → fail_line why ∷ t ≡ finding_lines f → AreRun t
+pub fail_only : (why : Why) (t : List (List ℕ)) (f : Finding) → IsSoundFinding f → fail_line why ∷ t ≡ finding_lines f → AreRun t
 fail_only why t (SerialCut u) is e = absurd (clash 102 115 refl (sym (fail_byte why t) ∙ ap (byte_at 0) e))
 fail_only why t (Nondeterministic u before earlier) is e = absurd (clash 102 110 refl (sym (fail_byte why t) ∙ ap (byte_at 0) e))
 fail_only why t (Fail u other) is e = run_form u t is.1 (cc)
@@ -207,7 +207,7 @@ a_finding = (finding_lines some_finding, (some_finding, (tt, no_moves), refl))
 pub found_none : (text : List ℕ) → (IsFirst text (codes "pass\n") → ⊥) → ((why : Why) → IsThreadOf why → IsFirst text (fail_line why) → ⊥) → StopsAt AreJudgement text text
 found_none text pass fail = at_once AreJudgement text a_judgement.0 a_judgement.1 (λ t are e. none are.0 are.1 (sym e ∙ ap (take 1) are.2))
   where
-    none : (f : Finding) → IsSound f × IsJudgement f → take 1 (kept_lines text) ≡ take 1 (finding_lines f) → ⊥
+    none : (f : Finding) → IsSoundFinding f × IsJudgement f → take 1 (kept_lines text) ≡ take 1 (finding_lines f) → ⊥
     none (SerialCut u) is e = is.1
     none (Nondeterministic u before earlier) is e = is.1
     none (Fail u why) is e = fail why is.0.0 e
@@ -228,7 +228,7 @@ found_judged text conflict cut (From rest) s = record {
     first [] t last whole e lines is = ap (take 1) whole ∙ (sym e ∙ ap (take 1) is)
     first (x ∷ front) t last whole e lines is = ap (take 1) whole ∙ ap (take 1) is
 
-    none : (t : List (List ℕ)) (f : Finding) → IsSound f → s.front ++ t ≡ finding_lines f → take 1 t ≡ take 1 (kept_lines rest.now) → ⊥
+    none : (t : List (List ℕ)) (f : Finding) → IsSoundFinding f → s.front ++ t ≡ finding_lines f → take 1 t ≡ take 1 (kept_lines rest.now) → ⊥
     none t (SerialCut u) is same e = cut (first s.front t (kept_lines rest.now) s.whole e _ same)
     none t (Nondeterministic u before earlier) is same e = conflict (first s.front t (kept_lines rest.now) s.whole e _ same)
     none t (Fail u why) is same e = s.none t (Fail u why, (is, tt), same) e
@@ -261,7 +261,7 @@ behind version serial local f = serial_lines serial ++ (local_lines version loca
 record AreRest (version : Version) (t : List (List ℕ)) : Type 0 where
   report : Report
   limits : AreLimits report
-  sound : IsSound report.finding
+  sound : IsSoundFinding report.finding
   is : version ≡ version_of report.serial report.local
   lines : t ≡ bound_line report.bound ∷ behind version report.serial report.local report.finding
 
@@ -278,7 +278,7 @@ rest_of version t are =
       lines = subst (λ (v : Version). t ≡ bound_line are.0.bound ∷ behind v are.0.serial are.0.local are.0.finding) (sym is) (let f = are.3 in cc);
     }
 
-behind_back : (version : Version) (serial : Option ℕ) (local : ℕ) (f : Finding) → version ≡ version_of serial local → IfSome serial IsSerialBound → local ≤ 16 → IsSound f → IfNone serial (IsJudgement f)
+behind_back : (version : Version) (serial : Option ℕ) (local : ℕ) (f : Finding) → version ≡ version_of serial local → IfSome serial IsSerialBound → local ≤ 16 → IsSoundFinding f → IfNone serial (IsJudgement f)
     → AreBehind version (behind version serial local f)
 behind_back One (Some n) zero f e some low is judged = ((n, some.0, some.1, refl), (f, is, refl))
 behind_back Two (Some n) (suc k) f e some low is judged = ((n, some.0, some.1, refl), ((suc k, omega arith, low, refl), (f, is, refl)))
@@ -297,7 +297,7 @@ bounded_back version t are =
     subst (AreBounded version) (sym rest.lines)
     ((r.bound, omega arith, rest.limits.most, refl), behind_back version r.serial r.local r.finding rest.is rest.limits.serial rest.limits.local_few rest.sound rest.limits.judged)
 
-limits_of : (bound : ℕ) (serial : Option ℕ) (local : ℕ) (f : Finding) → bound ≤ 256 → IfSome serial IsSerialBound → local ≤ 16 → IsSound f → IfNone serial (IsJudgement f) → AreLimits (parts_of bound serial local f)
+limits_of : (bound : ℕ) (serial : Option ℕ) (local : ℕ) (f : Finding) → bound ≤ 256 → IfSome serial IsSerialBound → local ≤ 16 → IsSoundFinding f → IfNone serial (IsJudgement f) → AreLimits (parts_of bound serial local f)
 limits_of bound serial local f most some low is judged = record { most = most; serial = some; local_few = low; within = is.0; judged = judged }
 
 pub bounded_into : (version : Version) (t : List (List ℕ)) → AreBounded version t → AreReport (version_line version ∷ t)

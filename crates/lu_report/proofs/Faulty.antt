@@ -5,7 +5,7 @@ use Rattle.std.proofs.lemmas.List.{length-append}
 use Rattle.lu_report.specs.declared.reader.Unread.{Unread}
 use Rattle.lu_report.specs.declared.reader.Unread.TheVariants.{From, Exhausted}
 use Rattle.lu_text.specs.Lines.{kept_lines}
-use Rattle.lu_report.specs.Forms.{Begins, DiffersAt, HasNo, IsFirst, Stops, StopsAt}
+use Rattle.lu_report.specs.Forms.{IsLineThen, DiffersAt, HasNo, IsFirst, Stops, StopsAt}
 
 -- ---- the first line of a text
 
@@ -84,14 +84,14 @@ later Texts Tails text rest line kept into back Exhausted s = tt
 
 module _ (IsHead : List ℕ → Type 0) (AreTail : List (List ℕ) → Type 0) (text : List ℕ) where
   -- at a line that is no head
-  pub at_head : (line : List ℕ) × IsHead line → (t : List (List ℕ)) × AreTail t → (e : Unread) → HasNo IsHead text e → Stops (Begins IsHead AreTail) text e
+  pub at_head : (line : List ℕ) × IsHead line → (t : List (List ℕ)) × AreTail t → (e : Unread) → HasNo IsHead text e → Stops (IsLineThen IsHead AreTail) text e
   at_head head tail (From rest) none = record { front = []; whole = rw none.0 refl; other = head.0 ∷ tail.0; is = (head.1, tail.1); none = λ u begins e. no_head u begins (rw none.0 at e) }
     where
-      no_head : (u : List (List ℕ)) → Begins IsHead AreTail u → take 1 u ≡ take 1 (kept_lines text) → ⊥
+      no_head : (u : List (List ℕ)) → IsLineThen IsHead AreTail u → take 1 u ≡ take 1 (kept_lines text) → ⊥
       no_head [] begins e = begins
       no_head (x ∷ u) begins e = none.1 x begins.0 (sym e)
   at_head head tail Exhausted none = tt
 
   -- behind the head
-  pub in_tail : (rest line : List ℕ) → IsHead line → kept_lines text ≡ line ∷ kept_lines rest → (e : Unread) → Stops AreTail rest e → Stops (Begins IsHead AreTail) text e
-  in_tail rest line is kept e s = later (Begins IsHead AreTail) AreTail text rest line kept (λ t are. (is, are)) (λ t are. are.1) e s
+  pub in_tail : (rest line : List ℕ) → IsHead line → kept_lines text ≡ line ∷ kept_lines rest → (e : Unread) → Stops AreTail rest e → Stops (IsLineThen IsHead AreTail) text e
+  in_tail rest line is kept e s = later (IsLineThen IsHead AreTail) AreTail text rest line kept (λ t are. (is, are)) (λ t are. are.1) e s

@@ -20,8 +20,8 @@ use Rattle.lu_report.specs.declared.version.Version.{Version}
 use Rattle.lu_report.specs.declared.version.Version.TheVariants.{One, Two, Three}
 use Rattle.lu_report.specs.Parts.{IsThreadOf}
 use Rattle.lu_report.specs.Text.{fail_line, finding_lines, number_line, version_line, version_of}
-use Rattle.lu_report.specs.Forms.{AreBefore, AreBounded, AreConflict, AreCountLines, AreCut, AreEarlier, AreFinding, AreJudgement, AreLocal, AreNone, AreReport, AreRun, AreStuck, Begins, DiffersAt, IsNumberLine, IsVersionLine, Spells}
-use Rattle.lu_report.specs.EveryLine.{AreFaultsFrom, AreReportFaults, IsFindingLine, IsJudgedAs, IsJudgementLine, IsLineOf, behind_finding, fault_on, missing, next_form, next_of, version_by}
+use Rattle.lu_report.specs.Forms.{AreBeforeLines, AreBounded, AreConflict, AreCountLines, AreCut, AreEarlier, AreFinding, AreJudgement, AreLocal, AreNone, AreReport, AreRun, AreStuck, IsLineThen, DiffersAt, IsNumberLine, IsVersionLine, Spells}
+use Rattle.lu_report.specs.EveryLine.{AreFaultsFrom, AreReportFaults, IsFindingLine, IsJudgedAs, IsJudgementLine, IsLineOf, behind_finding, fault_on, missing, next_form, next_wanted, version_by}
 use Rattle.lu_report.specs.Laws.{IsToldAsRead}
 use Rattle.lu_report.proofs.Faulty.{deeper}
 use Rattle.lu_report.proofs.Exits.{a_before, a_cut, a_finding, a_judgement, a_local, a_stuck, an_earlier, bounded_back, bounded_into, conflict_found, conflict_only, counts_found, cut_only, fail_only, no_schedule, nothing, pass_only, run_found, some_behind}
@@ -35,16 +35,16 @@ behind_serial Two lines = AreLocal lines
 behind_serial Three lines = AreLocal lines
 
 abbrev AreOf : Version → LineForm → List (List ℕ) → Type 0
-AreOf v form.Version lines = Begins IsVersionLine (AreBounded v) lines
+AreOf v form.Version lines = IsLineThen IsVersionLine (AreBounded v) lines
 AreOf v form.Bound lines = AreBounded v lines
-AreOf v form.Serial lines = Begins (IsNumberLine (codes "serial ") 1 256) (behind_serial v) lines
+AreOf v form.Serial lines = IsLineThen (IsNumberLine (codes "serial ") 1 256) (behind_serial v) lines
 AreOf v form.Local lines = AreLocal lines
-AreOf v form.AnyLocal lines = Begins (IsNumberLine (codes "local ") 0 16) AreJudgement lines
+AreOf v form.AnyLocal lines = IsLineThen (IsNumberLine (codes "local ") 0 16) AreJudgement lines
 AreOf v form.Finding lines = AreFinding lines
 AreOf v form.Judgement lines = AreJudgement lines
 AreOf v form.Schedule lines = AreRun lines
 AreOf v form.ConflictSchedule lines = AreConflict lines
-AreOf v form.Before lines = AreBefore lines
+AreOf v form.Before lines = AreBeforeLines lines
 AreOf v form.Earlier lines = AreEarlier lines
 AreOf v form.Complete lines = AreCountLines lines
 AreOf v form.Stuck lines = AreStuck lines
@@ -346,7 +346,7 @@ pub none_judged : (version : Version) (lines : List (Bor (List ℕ))) (found : L
 none_judged version lines found none = record { behind = λ others are. rw none are }
 
 pub one_judged : (version : Version) (lines : List (Bor (List ℕ))) (wanted : Option LineForm) (i : ℕ) (d : Bor (List ℕ)) (fault : Option ReportLineFault) (found after : List ReportLineFault) → i < length lines → AreJudgedTo version lines wanted i found
-    → IsJudgedAs (i + 1) wanted (get_or lines i d).now fault → after ≡ found ++ option_to_list fault → AreJudgedTo version lines (next_of version wanted (get_or lines i d).now) (i + 1) after
+    → IsJudgedAs (i + 1) wanted (get_or lines i d).now fault → after ≡ found ++ option_to_list fault → AreJudgedTo version lines (next_wanted version wanted (get_or lines i d).now) (i + 1) after
 one_judged version lines wanted i d fault found after within to judged is = record {
   behind = λ told are.
       let line = (get_or lines i d).now in

@@ -32,7 +32,7 @@ use Rattle.lu_report.specs.Parts.{Parts, AreLimits, IsSerialBound, IsThreadOf, p
 use Rattle.lu_report.specs.Text.{number_line, earlier_line, fail_line, finding_lines, version_of, version_line, serial_lines, local_lines, report_lines, report_text}
 use Rattle.lu_text.specs.Lines.{kept_lines}
 use Rattle.lu_history.specs.Serial.{IsOutcome}
-use Rattle.lu_report.specs.Forms.{IsSound, IsFault, GivesReport, Spells}
+use Rattle.lu_report.specs.Forms.{IsSoundFinding, IsFault, GivesReport, Spells}
 use Rattle.lu_report.proofs.Exits.{byte_at, clash, fail_byte, same_number, version_same}
 
 -- ---- the lines of a report's text are its lines
@@ -105,7 +105,7 @@ fail_is_line : (why : Why) → IsThreadOf why → IsLine (fail_line why)
 fail_is_line Complete is = record { front = codes "fail complete"; plain = refl; whole = refl }
 fail_is_line (Stuck t) is = number_is_line (codes "fail stuck ") t refl (omega arith)
 
-finding_are_lines : (f : Finding) → IsSound f → AllByRecursion IsLine (finding_lines f)
+finding_are_lines : (f : Finding) → IsSoundFinding f → AllByRecursion IsLine (finding_lines f)
 finding_are_lines (SerialCut u) is = (record { front = codes "serial-cut"; plain = refl; whole = refl }, (schedule_is_line u is.1, tt))
 finding_are_lines (Nondeterministic u before earlier) is =
     let few = is.0 in
@@ -128,7 +128,7 @@ local_are_lines One local low t are = are
 local_are_lines Two local low t are = (number_is_line (codes "local ") local refl (omega arith), are)
 local_are_lines Three local low t are = (number_is_line (codes "local ") local refl (omega arith), are)
 
-pub report_again : (r : Report) → AreLimits r → IsSound r.finding → kept_lines (report_text r) ≡ report_lines r
+pub report_again : (r : Report) → AreLimits r → IsSoundFinding r.finding → kept_lines (report_text r) ≡ report_lines r
 report_again r limits is =
     let most = limits.most in
     let version : Version = version_of r.serial r.local in
@@ -167,7 +167,7 @@ counts_same a b e f g =
     ∙ (ap (λ (x : ℕ). let y : Counts = record { complete = b.complete; stuck = x; cut = a.cut } in y) f
     ∙ ap (λ (x : ℕ). let y : Counts = record { complete = b.complete; stuck = b.stuck; cut = x } in y) g)
 
-finding_same : (f g : Finding) → IsSound f → IsSound g → finding_lines f ≡ finding_lines g → f ≡ g
+finding_same : (f g : Finding) → IsSoundFinding f → IsSoundFinding g → finding_lines f ≡ finding_lines g → f ≡ g
 finding_same (SerialCut u) (SerialCut v) is also e = ap SerialCut (schedule_same u v is.1 also.1 (ap (line_at 1) e))
 finding_same (SerialCut u) (Nondeterministic v j p) is also e = absurd (clash 115 110 refl (ap (byte_at 0) e))
 finding_same (SerialCut u) (Fail v x) is also e = absurd (clash 115 102 refl (ap (byte_at 0) e ∙ fail_byte x (schedule_text v ∷ [])))
@@ -236,7 +236,7 @@ same_parts a b e f g h =
     ∙ (ap (λ (x : ℕ). parts_of b.bound b.serial x a.finding) g
     ∙ ap (λ (x : Finding). parts_of b.bound b.serial b.local x) h))
 
-pub report_same : (r s : Report) → AreLimits r → IsSound r.finding → AreLimits s → IsSound s.finding → report_lines r ≡ report_lines s → r ≡ s
+pub report_same : (r s : Report) → AreLimits r → IsSoundFinding r.finding → AreLimits s → IsSoundFinding s.finding → report_lines r ≡ report_lines s → r ≡ s
 report_same r s limits is others also e =
     let most = limits.most in
     let most' = others.most in

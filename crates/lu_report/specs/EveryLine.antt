@@ -79,9 +79,9 @@ next_form version form.Stuck line = Some form.Cut
 next_form version form.Cut line = Some form.End
 next_form version form.End line = None
 
-abbrev pub next_of : Version → Option LineForm → List ℕ → Option LineForm
-next_of version None line = None
-next_of version (Some wanted) line = next_form version wanted line
+abbrev pub next_wanted : Version → Option LineForm → List ℕ → Option LineForm
+next_wanted version None line = None
+next_wanted version (Some wanted) line = next_form version wanted line
 
 -- so many lines before it, a line is there and begins with these bytes
 abbrev pub has_at : ℕ → List ℕ → List (List ℕ) → Bool
@@ -115,15 +115,15 @@ missing n None = []
 missing n (Some form.End) = []
 missing n (Some wanted) = fault_on n wanted ∷ []
 
--- these are the faults of the lines, of which the first is line n and to be of this form, in a report
--- of this version; nothing is known behind a line that stands behind the end
+-- these are the faults of the lines, of which the first is line n and to be of this form, in a
+-- report of this version; nothing is known behind a line that stands behind the end
 abbrev pub AreFaultsFrom : Version → ℕ → List (List ℕ) → Option LineForm → List ReportLineFault
     → Type 0
 AreFaultsFrom version n [] wanted faults = faults ≡ missing n wanted
 AreFaultsFrom version n (line ∷ lines) wanted faults =
     (fault : Option ReportLineFault) × (others : List ReportLineFault)
     × IsJudgedAs n wanted line fault
-    × AreFaultsFrom version (n + 1) lines (next_of version wanted line) others
+    × AreFaultsFrom version (n + 1) lines (next_wanted version wanted line) others
     × (faults ≡ option_to_list fault ++ others)
 
 -- these are the faults of the lines of a text

@@ -37,20 +37,20 @@ HasParts (Fail u why) = AreMoves u
 HasParts (Pass counts) = AreCounts counts
 
 -- what a finding in a report is
-abbrev pub IsSound : Finding → Type 0
-IsSound f = IsWithin f × HasParts f
+abbrev pub IsSoundFinding : Finding → Type 0
+IsSoundFinding f = IsWithin f × HasParts f
 
 -- this text spells this report
 abbrev pub Spells : List ℕ → Report → Type 0
-Spells text r = AreLimits r × IsSound r.finding × (text ≡ report_text r)
+Spells text r = AreLimits r × IsSoundFinding r.finding × (text ≡ report_text r)
 
 -- these are the lines of a finding
 abbrev pub AreFinding : List (List ℕ) → Type 0
-AreFinding lines = (f : Finding) × IsSound f × (lines ≡ finding_lines f)
+AreFinding lines = (f : Finding) × IsSoundFinding f × (lines ≡ finding_lines f)
 
 -- these are the lines of a report
 abbrev pub AreReport : List (List ℕ) → Type 0
-AreReport lines = (r : Report) × AreLimits r × IsSound r.finding × (lines ≡ report_lines r)
+AreReport lines = (r : Report) × AreLimits r × IsSoundFinding r.finding × (lines ≡ report_lines r)
 
 -- ---- faults
 
@@ -101,51 +101,51 @@ abbrev pub AreNone : List (List ℕ) → Type 0
 AreNone lines = lines ≡ []
 
 -- one of these lines, and such lines behind it
-abbrev pub Begins : (List ℕ → Type 0) → (List (List ℕ) → Type 0) → List (List ℕ) → Type 0
-Begins IsHead AreTail [] = ⊥
-Begins IsHead AreTail (line ∷ lines) = IsHead line × AreTail lines
+abbrev pub IsLineThen : (List ℕ → Type 0) → (List (List ℕ) → Type 0) → List (List ℕ) → Type 0
+IsLineThen IsHead AreTail [] = ⊥
+IsLineThen IsHead AreTail (line ∷ lines) = IsHead line × AreTail lines
 
 -- the line of a schedule alone
 abbrev pub AreRun : List (List ℕ) → Type 0
-AreRun lines = Begins IsScheduleLine AreNone lines
+AreRun lines = IsLineThen IsScheduleLine AreNone lines
 
 -- the lines of a conflict: the schedule, where it is, and the earlier outcome
 abbrev pub AreEarlier : List (List ℕ) → Type 0
-AreEarlier lines = Begins IsEarlierLine AreNone lines
+AreEarlier lines = IsLineThen IsEarlierLine AreNone lines
 
-abbrev pub AreBefore : List (List ℕ) → Type 0
-AreBefore lines = Begins (IsNumberLine (codes "before ") 0 15) AreEarlier lines
+abbrev pub AreBeforeLines : List (List ℕ) → Type 0
+AreBeforeLines lines = IsLineThen (IsNumberLine (codes "before ") 0 15) AreEarlier lines
 
 abbrev pub AreConflict : List (List ℕ) → Type 0
-AreConflict lines = Begins IsScheduleLine AreBefore lines
+AreConflict lines = IsLineThen IsScheduleLine AreBeforeLines lines
 
 -- the lines of the counts
 abbrev pub AreCut : List (List ℕ) → Type 0
-AreCut lines = Begins (IsNumberLine (codes "cut ") 0 (2 ^ 64 - 1)) AreNone lines
+AreCut lines = IsLineThen (IsNumberLine (codes "cut ") 0 (2 ^ 64 - 1)) AreNone lines
 
 abbrev pub AreStuck : List (List ℕ) → Type 0
-AreStuck lines = Begins (IsNumberLine (codes "stuck ") 0 (2 ^ 64 - 1)) AreCut lines
+AreStuck lines = IsLineThen (IsNumberLine (codes "stuck ") 0 (2 ^ 64 - 1)) AreCut lines
 
 abbrev pub AreCountLines : List (List ℕ) → Type 0
-AreCountLines lines = Begins (IsNumberLine (codes "complete ") 0 (2 ^ 64 - 1)) AreStuck lines
+AreCountLines lines = IsLineThen (IsNumberLine (codes "complete ") 0 (2 ^ 64 - 1)) AreStuck lines
 
 -- the lines of a failure or a pass
 abbrev pub AreJudgement : List (List ℕ) → Type 0
-AreJudgement lines = (f : Finding) × (IsSound f × IsJudgement f) × (lines ≡ finding_lines f)
+AreJudgement lines = (f : Finding) × (IsSoundFinding f × IsJudgement f) × (lines ≡ finding_lines f)
 
 -- the lines behind that of the bound in a report of this version
 abbrev pub AreLocal : List (List ℕ) → Type 0
-AreLocal lines = Begins (IsNumberLine (codes "local ") 1 16) AreFinding lines
+AreLocal lines = IsLineThen (IsNumberLine (codes "local ") 1 16) AreFinding lines
 
 abbrev pub AreBehind : Version → List (List ℕ) → Type 0
-AreBehind One lines = Begins (IsNumberLine (codes "serial ") 1 most_moves) AreFinding lines
-AreBehind Two lines = Begins (IsNumberLine (codes "serial ") 1 most_moves) AreLocal lines
-AreBehind Three lines = Begins (IsNumberLine (codes "local ") 0 16) AreJudgement lines
+AreBehind One lines = IsLineThen (IsNumberLine (codes "serial ") 1 most_moves) AreFinding lines
+AreBehind Two lines = IsLineThen (IsNumberLine (codes "serial ") 1 most_moves) AreLocal lines
+AreBehind Three lines = IsLineThen (IsNumberLine (codes "local ") 0 16) AreJudgement lines
 
 -- the lines behind the first in a report of this version
 abbrev pub AreBounded : Version → List (List ℕ) → Type 0
 AreBounded version lines =
-    Begins (IsNumberLine (codes "bound ") 0 most_moves) (AreBehind version) lines
+    IsLineThen (IsNumberLine (codes "bound ") 0 most_moves) (AreBehind version) lines
 
 -- ---- what is read
 
@@ -165,18 +165,19 @@ AreCountsOf text counts =
 
 -- the text is that of a finding
 abbrev pub IsFindingOf : List ℕ → Finding → Type 0
-IsFindingOf text f = IsSound f × (kept_lines text ≡ finding_lines f)
+IsFindingOf text f = IsSoundFinding f × (kept_lines text ≡ finding_lines f)
 
 -- the text is that of a conflict behind its first line
 abbrev pub IsConflictOf : List ℕ → Finding → Type 0
-IsConflictOf text f = IsSound f × (codes "nondeterministic\n" ∷ kept_lines text ≡ finding_lines f)
+IsConflictOf text f =
+    IsSoundFinding f × (codes "nondeterministic\n" ∷ kept_lines text ≡ finding_lines f)
 
 -- the text is that of a report of this version behind the line of this bound
 pub record IsBehind (version : Version) (bound : ℕ) (text : List ℕ) (r : Report) : Type 0 where
   pub bounded : r.bound ≡ bound
   pub of : version ≡ version_of r.serial r.local
   pub limits : AreLimits r
-  pub sound : IsSound r.finding
+  pub sound : IsSoundFinding r.finding
   pub lines : kept_lines text ≡
       serial_lines r.serial ++ (local_lines version r.local ++ finding_lines r.finding)
 

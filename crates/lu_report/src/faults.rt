@@ -73,8 +73,8 @@ fn judge_line(
 }
 
 /// The form of the line behind this one, where it is known.
-fn next_of(version: Version, form: Option<LineForm>, line: &[u8]) -> Option<LineForm>
-    ensures { result ≡ spec.next_of version form line.now }
+fn next_wanted(version: Version, form: Option<LineForm>, line: &[u8]) -> Option<LineForm>
+    ensures { result ≡ spec.next_wanted version form line.now }
 {
     match form {
         None => None,
@@ -115,9 +115,10 @@ fn with_fault(
 ///
 /// Each line is judged by what the lines before it say that it is to be. Behind a line with a fault
 /// that is the form that stands next. A first line that says no version counts as one of version 3
-/// where line 3 begins with `local`, of version 2 where line 4 does, and else of version 1. Behind a
-/// finding's line with a fault the next is known by the first word of that line; where that is none
-/// of a finding, no further line is judged. Of the lines behind the last one the first alone is told.
+/// where line 3 begins with `local`, of version 2 where line 4 does, and else of version 1. Behind
+/// a finding's line with a fault the next is known by the first word of that line; where that is
+/// none of a finding, no further line is judged. Of the lines behind the last one the first alone
+/// is told.
 ///
 /// # Errors
 ///
@@ -131,7 +132,7 @@ pub fn report_faults(alloc: Global, lines: &[&[u8]]) -> Result<Vec<ReportLineFau
     for (place, line) in lines.iter().enumerate() {
         let fault = judge_line(alloc, form, line, place + 1)?;
         faults = with_fault(faults, fault)?;
-        form = next_of(version, form, line);
+        form = next_wanted(version, form, line);
     }
     let fault = missing(form, lines.len() + 1);
     let faults = with_fault(faults, fault)?;

@@ -3,7 +3,8 @@
 ghost use Rattle.lu_report.specs.Laws.{NoneTold, ToldAsRead};
 
 /// [`crate::report_faults`] agrees with [`crate::read_report`]: it tells no fault exactly of a text
-/// that spells a report, and of any other first one on the reader's line. The function does nothing.
+/// that spells a report, and of any other first one on the reader's line. The function does
+/// nothing.
 pub fn told_as_read()
     ensures first { ToldAsRead }
     ensures none { NoneTold }

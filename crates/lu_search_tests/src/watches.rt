@@ -2,13 +2,13 @@
 
 ghost use Rattle.std.specs.Prelude.{◌≡◌, false};
 ghost use Rattle.lu_machine.specs.Starts.{CanRun};
-ghost use Rattle.lu_tree.specs.Tables.{AreTables};
+ghost use Rattle.lu_tree.specs.Tables.{AreRunTables};
 
 use crate::serial_runs::set_of;
 use crate::trees::{assert_clean, beginning};
 use lu_fixtures::{Fixture, ROWS, fixture_of};
 use lu_test::Schedule;
-use lu_tree::{Found, Tables, Unwatched, Watch, search_watched, search_with};
+use lu_tree::{Found, SearchSpace, Tables, Unwatched, Watch, search_with};
 use lu_trie::{PackedTrie, SerialTree};
 use lu_witness::Cache;
 use std::alloc::Global;
@@ -72,16 +72,15 @@ fn found_watched<T: SerialTree>(
 {
     let from = beginning(rt, case, b"schedule\n")?;
     assert!(rt; from.moves().len() <= usize::from(bound) && bound <= 256);
-    let mut cache = Cache::new(rt.alloc(), tree, 1)?;
-    Ok(search_watched(
-        rt.alloc(),
-        &case.component,
-        &case.matrix,
-        &mut cache,
-        &from,
+    let space = SearchSpace {
+        alloc: rt.alloc(),
+        component: &case.component,
+        matrix: &case.matrix,
         bound,
-        watch,
-    )?)
+    };
+    let tables = Tables::new(rt.alloc(), &case.component, &case.matrix, bound)?;
+    let mut cache = Cache::new(rt.alloc(), tree, 1)?;
+    Ok(search_with(&space, &tables, &mut cache, &from, watch)?)
 }
 
 /// The same for the matrix of this text, over the packed set of the serial histories of the other
@@ -162,21 +161,18 @@ fn found_below<T: SerialTree>(
     from: &[u8],
 ) -> Result<Found, Fail>
     requires of { CanRun case.now.component case.now.matrix }
-    requires tables { AreTables case.now.component case.now.matrix tables.now }
+    requires tables { AreRunTables case.now.component case.now.matrix tables.now }
 {
     let from = beginning(rt, case, from)?;
     assert!(rt; from.moves().len() <= 40);
+    let space = SearchSpace {
+        alloc: rt.alloc(),
+        component: &case.component,
+        matrix: &case.matrix,
+        bound: 40,
+    };
     let mut cache = Cache::new(rt.alloc(), tree, 1)?;
-    Ok(search_with(
-        rt.alloc(),
-        &case.component,
-        &case.matrix,
-        tables,
-        &mut cache,
-        &from,
-        40,
-        &mut Unwatched,
-    )?)
+    Ok(search_with(&space, tables, &mut cache, &from, &mut Unwatched)?)
 }
 
 /// The whole tree and its two halves: where each begins, and how many complete schedules it has.

@@ -11,8 +11,8 @@ use Rattle.lu_trie.specs.Members.{Adds, same_history}
 use Rattle.lu_trie.specs.Conflicts.{HasConflict, IsDeterministic}
 use Rattle.lu_trie.proofs.Determinism.{none_deterministic}
 use Rattle.lu_serial.specs.Serial.{IsSeriallyEnded}
-use Rattle.lu_serial.specs.Offences.{IsConflict, IsFirstConflict, IsOffence, IsSetOf}
-use Rattle.lu_serial.specs.Walks.{Answers, IsUpTo, Learns, Shows}
+use Rattle.lu_serial.specs.Offences.{IsSerialConflict, IsFirstConflict, IsOffence, IsSetOf}
+use Rattle.lu_serial.specs.Walks.{TakesOrStops, IsUpTo, Learns, Shows}
 
 -- at first
 pub learns_none : (members : List (List SerialOp)) → members ≡ [] → Learns members []
@@ -23,7 +23,7 @@ pub learns_more : (members new shown : List (List SerialOp)) (q : List SerialOp)
 learns_more members new shown q learns adds deterministic = (deterministic, λ p. adds p ∙ ap (λ b. same_history p q || b) (learns.1 p))
 
 -- what was found is a conflict
-pub stops_at : {H : Type 0} → (Known : H → List (List SerialOp) → Type 0) (members : List (List SerialOp)) (q : List SerialOp) (found : Option (ℕ × SerialOutcome)) → (found ≡ None → ⊥) → ((i : ℕ) (o : SerialOutcome) → (found ≡ Some (i, o)) ↔ HasConflict members q i o) → Answers Known Known (λ p stop. HasConflict members p stop.0 stop.1) q found
+pub stops_at : {H : Type 0} → (Known : H → List (List SerialOp) → Type 0) (members : List (List SerialOp)) (q : List SerialOp) (found : Option (ℕ × SerialOutcome)) → (found ≡ None → ⊥) → ((i : ℕ) (o : SerialOutcome) → (found ≡ Some (i, o)) ↔ HasConflict members q i o) → TakesOrStops Known Known (λ p stop. HasConflict members p stop.0 stop.1) q found
 stops_at Known members q None some are = absurd (some refl)
 stops_at Known members q (Some stop) some are = ((λ first shown known. known), (are stop.0 stop.1).0 refl)
 
@@ -40,7 +40,7 @@ pub first_conflict : (s : State) (bound : ℕ) (u : List Move) (members : List (
 first_conflict s bound u members i o shows (q, ended, has) =
     let other = has.0 in
     let y = shows.1.only other (sym (shows.2.1 other) ∙ has.1) in
-    let conflict : IsConflict s u i o = record { history = q; ended = ended; earlier = y.0; smaller = y.1; other = other; earlier_ended = y.2; conflict = has.2 } in
+    let conflict : IsSerialConflict s u i o = record { history = q; ended = ended; earlier = y.0; smaller = y.1; other = other; earlier_ended = y.2; conflict = has.2 } in
     (least_of s bound u members shows (inr (i, o, conflict)), conflict)
 
 pub passed_all : (s : State) (bound : ℕ) (u : List Move) → u ≡ [] → (members : List (List SerialOp)) → Shows s bound (IsUpTo u) (Learns members) → IsSetOf s bound members

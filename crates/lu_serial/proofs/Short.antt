@@ -10,7 +10,7 @@ use Rattle.lu_machine.specs.Steps.{picks_of}
 use Rattle.lu_machine.specs.Runs.{Leads}
 use Rattle.lu_machine.proofs.StepLaws.{step_feasible}
 use Rattle.lu_history.specs.declared.serial.SerialOp.{SerialOp}
-use Rattle.lu_serial.specs.Serial.{HasOpen, IsSerialFrom, HasTaken, GoesOn, Takes, IsSeriallyEnded, IsSeriallyCut}
+use Rattle.lu_serial.specs.Serial.{HasOpen, IsSerialFrom, HasTaken, RunsToEvent, Takes, IsSeriallyEnded, IsSeriallyCut}
 use Rattle.lu_serial.specs.Offences.{NoOffence}
 use Rattle.lu_machine.proofs.Paths.{child_leads, leads_on, leads_same, leads_split}
 use Rattle.lu_serial.proofs.SerialPaths.{serial_split, no_event}
@@ -94,7 +94,7 @@ module _ (s : State) (bound : ℕ) (u rest : List Move) (q : List SerialOp) (end
 
 module _ (s : State) (bound : ℕ) (u : List Move) (q : List SerialOp) (none : NoOffence s bound) (ended : IsSeriallyEnded s u q) where
   -- the operation has taken n moves, and goes on
-  few_more : (after rest v : List Move) (here : State) (h : List Event) (t n : ℕ) → Leads s v here h → HasTaken s v here t n → u ≡ v ++ (after ++ rest) → GoesOn here t after → n ≤ bound → n + length after ≤ bound
+  few_more : (after rest v : List Move) (here : State) (h : List Event) (t n : ℕ) → Leads s v here h → HasTaken s v here t n → u ≡ v ++ (after ++ rest) → RunsToEvent here t after → n ≤ bound → n + length after ≤ bound
   few_more [] rest v here h t n leads taken parts goes le = omega arith
   few_more (m ∷ []) rest v here h t n leads taken parts goes le =
       let next : n + min (length (m ∷ rest)) 1 ≤ bound = short s bound v (m ∷ rest) q here t n none (subst (λ x. IsSeriallyEnded s x q) parts ended) taken in

@@ -26,10 +26,10 @@ use Rattle.lu_trie.specs.Members.{contains, same_history}
 use Rattle.lu_trie.proofs.Ops.{same_histories_are, histories_equiv}
 use Rattle.lu_trie.proofs.Membership.{split_or}
 use Rattle.lu_serial.specs.declared.node.OpenCall.{OpenCall}
-use Rattle.lu_serial.specs.declared.walk.Halt.TheVariants.{Stopped}
+use Rattle.lu_serial.specs.declared.walk.EarlyEnd.TheVariants.{Stopped}
 use Rattle.lu_machine.specs.Schedules.{BeginsWith}
 use Rattle.lu_serial.specs.Serial.{HasOpen, SerialRun, EndsAs, HasTaken, IsSeriallyEnded, IsSeriallyCut, entry_of, entries_of, stuck_of}
-use Rattle.lu_serial.specs.Walks.{Answers, AreShown, AreTurns, HasSerialMove, HasTakenOf, IsAt, IsFull, IsOpenIn, IsSerialMove, IsUpTo, Shows, Walked, ended_entries, entry_if, open_after}
+use Rattle.lu_serial.specs.Walks.{TakesOrStops, AreShown, AreTurns, HasSerialMove, HasTakenOf, IsAt, IsFull, IsOpenIn, IsSerialMove, IsUpTo, Shows, Walked, ended_entries, entry_if, open_after}
 use Rattle.lu_machine.proofs.Orders.{between, same_move, smaller_begins, smaller_last, smaller_longer, smaller_on, smaller_trans}
 use Rattle.lu_serial.proofs.CallsLeft.{none_at_start, within_kid, within_start}
 use Rattle.lu_machine.proofs.Ahead.{begins_itself, begins_shorter}
@@ -165,7 +165,7 @@ module _ (start : State) (bound : ℕ) (u : List Move) (s : State) (entries : Li
               c;
         }
 
-    pub end_walk : {H S : Type 0} → (first : H) (Old New : H → List (List SerialOp) → Type 0) (Stops : List SerialOp → S → Type 0) (stop : Option S) → Answers Old New Stops (ended_entries entries current) stop → Shows start bound (λ v. IsSmaller v u) (Old first) → Walked start bound u (New first) Stops (option_map Stopped stop) u
+    pub end_walk : {H S : Type 0} → (first : H) (Old New : H → List (List SerialOp) → Type 0) (Stops : List SerialOp → S → Type 0) (stop : Option S) → TakesOrStops Old New Stops (ended_entries entries current) stop → Shows start bound (λ v. IsSmaller v u) (Old first) → Walked start bound u (New first) Stops (option_map Stopped stop) u
     end_walk first Old New Stops None answers (shown, x, known) = (ended_entries entries current ∷ shown, end_shown shown x, answers first shown known)
     end_walk first Old New Stops (Some stop) answers (shown, x, known) = ((shown, x, answers.0 first shown known), (ended_entries entries current, ended_here, answers.1))
 

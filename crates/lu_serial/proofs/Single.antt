@@ -15,7 +15,7 @@ use Rattle.lu_trie.specs.Conflicts.{ConflictAt}
 use Rattle.lu_trie.proofs.Conflicts.{Diverges, conflict_from, diverges_from}
 use Rattle.lu_trie.proofs.Determinism.{conflict_back, no_self_conflict}
 use Rattle.lu_serial.specs.Serial.{HasOpen, IsByOpen, IsSerialFrom, EndsAs, IsSeriallyEnded, entries_of, stuck_of}
-use Rattle.lu_serial.specs.Offences.{IsConflict, IsFirstConflict}
+use Rattle.lu_serial.specs.Offences.{IsSerialConflict, IsFirstConflict}
 use Rattle.lu_machine.proofs.Orders.{smaller_cases}
 use Rattle.lu_machine.proofs.Paths.{leads_same}
 use Rattle.lu_serial.proofs.Opening.{step_turned, others, same_or_not, complete_not_open}
@@ -92,10 +92,10 @@ module _ (s : State) (one : AtMostOne s) (bound : ℕ) (u : List Move) where
       (λ k r c. elim (smaller_cases x.1.earlier y.1.earlier) [
         | inl z ↦ elim z [
           | inl lt ↦ (let back = conflict_back x.1.other y.1.other k r c in
-              let clash : IsConflict s y.1.earlier k back.0 = record { history = y.1.other; ended = y.1.earlier_ended; earlier = x.1.earlier; smaller = lt; other = x.1.other; earlier_ended = x.1.earlier_ended; conflict = back.1 } in
+              let clash : IsSerialConflict s y.1.earlier k back.0 = record { history = y.1.other; ended = y.1.earlier_ended; earlier = x.1.earlier; smaller = lt; other = x.1.other; earlier_ended = x.1.earlier_ended; conflict = back.1 } in
               x.0.least y.1.earlier y.1.smaller (inr (k, back.0, clash)))
           | inr gt ↦
-              (let clash : IsConflict s x.1.earlier k r = record { history = x.1.other; ended = x.1.earlier_ended; earlier = y.1.earlier; smaller = gt; other = y.1.other; earlier_ended = y.1.earlier_ended; conflict = c } in
+              (let clash : IsSerialConflict s x.1.earlier k r = record { history = x.1.other; ended = x.1.earlier_ended; earlier = y.1.earlier; smaller = gt; other = y.1.other; earlier_ended = y.1.earlier_ended; conflict = c } in
               x.0.least x.1.earlier x.1.smaller (inr (k, r, clash)))
         ]
         | inr e ↦

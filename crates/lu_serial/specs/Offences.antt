@@ -17,7 +17,7 @@ use Rattle.lu_serial.specs.Serial.{Takes, IsSeriallyEnded, IsSeriallyCut, IsSeri
 
 -- u is serially ended, and its history conflicts at i with that of a smaller serially ended
 -- schedule, whose next outcome is o
-pub record IsConflict (s : State) (u : List Move) (i : ℕ) (o : SerialOutcome) : Type 0 where
+pub record IsSerialConflict (s : State) (u : List Move) (i : ℕ) (o : SerialOutcome) : Type 0 where
   pub history : List SerialOp
   pub ended : IsSeriallyEnded s u history
   pub earlier : List Move
@@ -28,7 +28,8 @@ pub record IsConflict (s : State) (u : List Move) (i : ℕ) (o : SerialOutcome) 
 
 -- a serial offence: a schedule that is serially cut, or serially ended with such a conflict
 abbrev pub IsOffence : State → ℕ → List Move → Type 0
-IsOffence s bound u = IsSeriallyCut s bound u ⊎ ((i : ℕ) × (o : SerialOutcome) × IsConflict s u i o)
+IsOffence s bound u =
+    IsSeriallyCut s bound u ⊎ ((i : ℕ) × (o : SerialOutcome) × IsSerialConflict s u i o)
 
 -- no schedule is a serial offence
 abbrev pub NoOffence : State → ℕ → Type 0
@@ -47,7 +48,7 @@ IsFirstCut s bound u = IsLeast (IsOffence s bound) u × IsSeriallyCut s bound u
 
 -- u is the least serial offence, and conflicts at i with a smaller one, whose next outcome is o
 abbrev pub IsFirstConflict : State → ℕ → List Move → ℕ → SerialOutcome → Type 0
-IsFirstConflict s bound u i o = IsLeast (IsOffence s bound) u × IsConflict s u i o
+IsFirstConflict s bound u i o = IsLeast (IsOffence s bound) u × IsSerialConflict s u i o
 
 -- what `learn` answers: the set, where there is no offence; or the least offence, which is cut or
 -- conflicts so

@@ -88,11 +88,11 @@ pub record HasTaken (s : State) (u : List Move) (end : State) (t n : ℕ) : Type
   pub goes_on : Leads called after end []
 
 -- thread t makes these moves from s, and none of them but perhaps the last has an event
-abbrev pub GoesOn : State → ℕ → List Move → Type 0
-GoesOn s t [] = Unit {0}
-GoesOn s t (m ∷ []) = m.thread ≡ t
-GoesOn s t (m ∷ n ∷ u) =
-    (m.thread ≡ t) × (next : State) × Step s m next None × GoesOn next t (n ∷ u)
+abbrev pub RunsToEvent : State → ℕ → List Move → Type 0
+RunsToEvent s t [] = Unit {0}
+RunsToEvent s t (m ∷ []) = m.thread ≡ t
+RunsToEvent s t (m ∷ n ∷ u) =
+    (m.thread ≡ t) × (next : State) × Step s m next None × RunsToEvent next t (n ∷ u)
 
 -- an operation of u takes n moves after its call: they are of its thread, and none but perhaps the
 -- last, which is the return, has an event
@@ -103,7 +103,7 @@ pub record Takes (s : State) (u : List Move) (n : ℕ) : Type 0 where
   pub rest : List Move
   pub call : HasCall s u thread called (after ++ rest)
   pub count : length after ≡ n
-  pub goes_on : GoesOn called thread after
+  pub goes_on : RunsToEvent called thread after
 
 -- the open operation has taken `bound` moves after its call, and its thread is enabled
 abbrev pub IsSeriallyCut : State → ℕ → List Move → Type 0

@@ -18,10 +18,10 @@ use Rattle.lu_history.specs.declared.serial.SerialOp.{SerialOp}
 use Rattle.lu_trie.specs.Members.{contains}
 use Rattle.lu_trie.specs.Conflicts.{IsDeterministic}
 use Rattle.lu_serial.specs.declared.node.OpenCall.{OpenCall}
-use Rattle.lu_serial.specs.declared.node.Node.{Node}
-use Rattle.lu_serial.specs.declared.walk.Tour.{Tour}
-use Rattle.lu_serial.specs.declared.walk.Halt.{Halt}
-use Rattle.lu_serial.specs.declared.walk.Halt.TheVariants.{Cut, Stopped}
+use Rattle.lu_serial.specs.declared.node.SerialNode.{SerialNode}
+use Rattle.lu_serial.specs.declared.walk.WalkState.{WalkState}
+use Rattle.lu_serial.specs.declared.walk.EarlyEnd.{EarlyEnd}
+use Rattle.lu_serial.specs.declared.walk.EarlyEnd.TheVariants.{Cut, Stopped}
 use Rattle.lu_machine.specs.Schedules.{BeginsWith}
 use Rattle.lu_serial.specs.Serial.{HasOpen, IsByOpen, IsSerialFrom, HasTaken, IsSeriallyEnded, IsSeriallyCut, entry_of, entries_of, stuck_of}
 
@@ -49,9 +49,9 @@ open_after current t None =
 open_after current t (Some (Call u k)) = Some (record { thread = t; taken = 0 })
 open_after current t (Some (Return u k outcome)) = None
 
-abbrev pub HasRoom : Option OpenCall → Type 0
-HasRoom None = Unit {0}
-HasRoom (Some current) = current.taken + 1 < 2 ^ 16
+abbrev pub HasCountRoom : Option OpenCall → Type 0
+HasCountRoom None = Unit {0}
+HasCountRoom (Some current) = current.taken + 1 < 2 ^ 16
 
 -- the open operation has taken as many moves as it may
 abbrev pub IsFull : Option OpenCall → ℕ → Type 0
@@ -63,11 +63,11 @@ entry_if None = []
 entry_if (Some e) = entry_of e
 
 -- the entry of the undo's event, if it has one, was added
-abbrev pub HasEntered : Undo → Node → Node → Type 0
+abbrev pub HasEntered : Undo → SerialNode → SerialNode → Type 0
 HasEntered undo old new = new.entries.items ≡ old.entries.items ++ entry_if undo.event
 
 -- the entry of the undo's event, if it has one, was taken away
-abbrev pub HasLeft : Undo → Node → Node → Type 0
+abbrev pub HasLeft : Undo → SerialNode → SerialNode → Type 0
 HasLeft undo old new =
     (entries : List SerialOp) → old.entries.items ≡ entries ++ entry_if undo.event
     → new.entries.items ≡ entries
@@ -135,29 +135,30 @@ abbrev pub Shows : State → ℕ → (List Move → Type 0) → (List (List Seri
 Shows s bound Part Known =
     (shown : List (List SerialOp)) × AreShown s bound Part shown × Known shown
 
--- a harvest that was shown one history more has taken it, or stops there
-abbrev pub Answers : {H S : Type 0} → (H → List (List SerialOp) → Type 0)
+-- a visitor that was shown one history more has taken it, or stops there
+abbrev pub TakesOrStops : {H S : Type 0} → (H → List (List SerialOp) → Type 0)
     → (H → List (List SerialOp) → Type 0) → (List SerialOp → S → Type 0) → List SerialOp → Option S
     → Type 0
-Answers {H} Old New Stops q None =
+TakesOrStops {H} Old New Stops q None =
     (first : H) (shown : List (List SerialOp)) → Old first shown → New first (q ∷ shown)
-Answers {H} Old New Stops q (Some stop) =
+TakesOrStops {H} Old New Stops q (Some stop) =
     ((first : H) (shown : List (List SerialOp)) → Old first shown → New first shown) × Stops q stop
 
--- the harvest gathers this history, or stops there
+-- the visitor gathers this history, or stops there
 abbrev pub GathersHistory : {H S : Type 0} → (H → H → List (List SerialOp) → Type 0)
     → (H → List SerialOp → S → Type 0) → H → H → List SerialOp → Option S → Type 0
-GathersHistory was_shown stops old new q = Answers (was_shown old) (was_shown new) (stops new) q
+GathersHistory was_shown stops old new q =
+    TakesOrStops (was_shown old) (was_shown new) (stops new) q
 
 -- it gathers the history of a schedule that ends at the node, or stops there
 abbrev pub Gathers : {H S : Type 0} → (H → H → List (List SerialOp) → Type 0)
-    → (H → List SerialOp → S → Type 0) → H → H → Node → Option OpenCall → Option S → Type 0
+    → (H → List SerialOp → S → Type 0) → H → H → SerialNode → Option OpenCall → Option S → Type 0
 Gathers was_shown stops old new node current =
     GathersHistory was_shown stops old new (ended_entries node.entries.items current)
 
 -- a walk that passed leaves path, machine and entries as they were, and one that halted leaves a
 -- schedule at the path
-abbrev pub IsHome : {H S : Type 0} → Tour H → Option (Halt S) → Tour H → Type 0
+abbrev pub IsHome : {H S : Type 0} → WalkState H → Option (EarlyEnd S) → WalkState H → Type 0
 IsHome old None new =
     (new.path.items ≡ old.path.items) × (new.node.machine ≡ old.node.machine)
     × (new.node.entries.items ≡ old.node.entries.items)
@@ -168,27 +169,29 @@ abbrev pub IsUpTo : List Move → List Move → Type 0
 IsUpTo u v = IsSmaller v u ⊎ BeginsWith v u
 
 -- the path led here, and all smaller schedules were shown
-abbrev pub IsReady : State → ℕ → List Move → Node → Option OpenCall
+abbrev pub IsReady : State → ℕ → List Move → SerialNode → Option OpenCall
     → (List (List SerialOp) → Type 0) → Type 0
 IsReady start bound path node current Known =
     IsAt start bound path node.machine node.entries.items current
     × Shows start bound (λ v. IsSmaller v path) Known
 
--- the tour's path led here, and all smaller schedules were shown to its harvest, which was once the
+-- the walk's path led here, and all smaller schedules were shown to its visitor, which was once the
 -- first
-abbrev pub IsReadyTour : {H : Type 0} → State → ℕ → Tour H → Option OpenCall
+abbrev pub IsReadyState : {H : Type 0} → State → ℕ → WalkState H → Option OpenCall
     → (H → H → List (List SerialOp) → Type 0) → H → Type 0
-IsReadyTour start bound tour current was_shown first =
-    IsReady start bound tour.path.items tour.node current (was_shown tour.harvest first)
+IsReadyState start bound walk_state current was_shown first =
+    IsReady start bound walk_state.path.items walk_state.node current
+    (was_shown walk_state.visitor first)
 
 -- a walk can go on from here
-abbrev pub CanWalk : {H : Type 0} → (H → H → List (List SerialOp) → Type 0) → ℕ → Tour H
+abbrev pub CanWalk : {H : Type 0} → (H → H → List (List SerialOp) → Type 0) → ℕ → WalkState H
     → Option OpenCall → Type 0
-CanWalk {H} was_shown bound tour current =
-    (start : State) × (first : H) × IsReadyTour start bound tour current was_shown first
+CanWalk {H} was_shown bound walk_state current =
+    (start : State) × (first : H) × IsReadyState start bound walk_state current was_shown first
 
--- the schedule u is cut, or ends with a history at which the harvest stops
-abbrev pub HaltsAt : {S : Type 0} → State → ℕ → (List SerialOp → S → Type 0) → Halt S → List Move
+-- the schedule u is cut, or ends with a history at which the visitor stops
+abbrev pub HaltsAt : {S : Type 0} → State → ℕ → (List SerialOp → S → Type 0) → EarlyEnd S
+    → List Move
     → Type 0
 HaltsAt s bound Stops Cut u = IsSeriallyCut s bound u
 HaltsAt s bound Stops (Stopped stop) u = (q : List SerialOp) × IsSeriallyEnded s u q × Stops q stop
@@ -196,18 +199,19 @@ HaltsAt s bound Stops (Stopped stop) u = (q : List SerialOp) × IsSeriallyEnded 
 -- A walk that passed has shown all schedules up to those that begin with the path; one that halted
 -- all that are smaller than the one there.
 abbrev pub Walked : {S : Type 0} → State → ℕ → List Move → (List (List SerialOp) → Type 0)
-    → (List SerialOp → S → Type 0) → Option (Halt S) → List Move → Type 0
+    → (List SerialOp → S → Type 0) → Option (EarlyEnd S) → List Move → Type 0
 Walked s bound before Known Stops None after = Shows s bound (IsUpTo before) Known
 Walked s bound before Known Stops (Some halt) after =
     Shows s bound (λ v. IsSmaller v after) Known × HaltsAt s bound Stops halt after
 
 -- what a walk does, whatever start leads here
 abbrev pub Walks : {H S : Type 0} → (H → H → List (List SerialOp) → Type 0)
-    → (H → List SerialOp → S → Type 0) → ℕ → Tour H → Option OpenCall → Tour H → Option (Halt S)
+    → (H → List SerialOp → S → Type 0) → ℕ → WalkState H → Option OpenCall → WalkState H
+    → Option (EarlyEnd S)
     → Type 0
 Walks {H} was_shown stops bound old current new halt =
-    (start : State) (first : H) → IsReadyTour start bound old current was_shown first
-    → Walked start bound old.path.items (was_shown new.harvest first) (stops new.harvest) halt
+    (start : State) (first : H) → IsReadyState start bound old current was_shown first
+    → Walked start bound old.path.items (was_shown new.visitor first) (stops new.visitor) halt
     new.path.items
 
 -- the members are the histories shown, and none of them conflict

@@ -8,8 +8,8 @@ ghost use Rattle.lu_trie.specs.Conflicts.{HasConflict};
 ghost use Rattle.lu_serial.specs.Offences.{IsLearnt};
 ghost use Rattle.lu_serial.specs.Walks.{Learns};
 
-use crate::node::Node;
-use crate::walk::{Halt, Harvest, Tour, walk};
+use crate::node::SerialNode;
+use crate::walk::{EarlyEnd, HistoryVisitor, WalkState, walk};
 use lu_component::Component;
 use lu_history::{SerialOp, SerialOutcome};
 use lu_test::{Matrix, Schedule};
@@ -39,7 +39,7 @@ pub enum Learnt<A: Allocator> {
     },
 }
 
-impl<A: Allocator + Clone> Harvest for Trie<A> {
+impl<A: Allocator + Clone> HistoryVisitor for Trie<A> {
     type Stop = (usize, SerialOutcome);
 
     ghost was_shown = { λ set _ shown. Learns set shown };
@@ -80,19 +80,19 @@ pub fn learn<A: Allocator + Clone>(
     ensures learnt { FromEachStart component.now matrix.now (λ s. IfOk result (IsLearnt s bound)) }
     ensures limits { IsComponent component.now × IsMatrix matrix.now }
 {
-    let node = Node::start(alloc, component, matrix)?;
+    let node = SerialNode::start(alloc, component, matrix)?;
     let path = Vec::new(alloc);
     let set = Trie::new(set_alloc);
-    let mut tour = Tour {
+    let mut walk_state = WalkState {
         node,
         path,
-        harvest: set,
+        visitor: set,
     };
-    match walk(bound, &mut tour, None)? {
-        None => Ok(Learnt::Set(tour.harvest)),
-        Some(Halt::Cut) => Ok(Learnt::Cut(Schedule::new(tour.path))),
-        Some(Halt::Stopped((before, earlier))) => Ok(Learnt::Conflict {
-            schedule: Schedule::new(tour.path),
+    match walk(bound, &mut walk_state, None)? {
+        None => Ok(Learnt::Set(walk_state.visitor)),
+        Some(EarlyEnd::Cut) => Ok(Learnt::Cut(Schedule::new(walk_state.path))),
+        Some(EarlyEnd::Stopped((before, earlier))) => Ok(Learnt::Conflict {
+            schedule: Schedule::new(walk_state.path),
             before,
             earlier,
         }),

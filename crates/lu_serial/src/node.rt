@@ -7,7 +7,7 @@ ghost use Rattle.lu_machine.specs.Ends.{HasMove};
 ghost use Rattle.lu_machine.specs.Starts.{CanRun, IsStart};
 ghost use Rattle.lu_machine.specs.Steps.{IsFeasible, Step};
 ghost use Rattle.lu_machine.specs.Undoes.{CanTake, restored};
-ghost use Rattle.lu_serial.specs.Walks.{AreTurns, HasEntered, HasLeft, HasRoom, HasSerialMove, IsFull, IsOpenIn, open_after};
+ghost use Rattle.lu_serial.specs.Walks.{AreTurns, HasEntered, HasLeft, HasCountRoom, HasSerialMove, IsFull, IsOpenIn, open_after};
 
 use lu_component::Component;
 use lu_history::{SerialOp, SerialOutcome};
@@ -24,24 +24,24 @@ pub(crate) struct OpenCall {
 
 /// A machine, with the serial operations of the path that led to its state.
 #[derive(Debug, Drop)]
-pub(crate) struct Node<'a> {
+pub(crate) struct SerialNode<'a> {
     pub(crate) machine: Machine<'a>,
     pub(crate) entries: Vec<SerialOp>,
 }
 
-impl<'a> Node<'a> {
+impl<'a> SerialNode<'a> {
     /// The start of a run.
     pub(crate) fn start(
         alloc: Global,
         component: &'a Component,
         matrix: &'a Matrix,
-    ) -> Result<Node<'a>, AllocError>
+    ) -> Result<SerialNode<'a>, AllocError>
         requires { CanRun component.now matrix.now }
         ensures machine { IfOk result (λ node. IsStart component.now matrix.now node.machine) }
         ensures entries { IfOk result (λ node. node.entries.items ≡ []) }
         ensures limits { IsComponent component.now × IsMatrix matrix.now }
     {
-        Ok(Node {
+        Ok(SerialNode {
             machine: Machine::start(alloc, component, matrix)?,
             entries: Vec::new(alloc),
         })
@@ -85,7 +85,7 @@ pub(crate) fn open_after(
     thread: u8,
     event: Option<Event>,
 ) -> Option<OpenCall>
-    requires { HasRoom current }
+    requires { HasCountRoom current }
     ensures { result ≡ open_after current thread event }
 {
     match event {

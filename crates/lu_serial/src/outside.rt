@@ -6,8 +6,8 @@ ghost use Rattle.lu_trie.specs.Members.{contains};
 ghost use Rattle.lu_serial.specs.Offences.{FindsOutside};
 ghost use Rattle.lu_serial.specs.Walks.{Seeks};
 
-use crate::node::Node;
-use crate::walk::{Halt, Harvest, Tour, walk};
+use crate::node::SerialNode;
+use crate::walk::{EarlyEnd, HistoryVisitor, WalkState, walk};
 use lu_component::Component;
 use lu_history::SerialOp;
 use lu_test::{Matrix, Schedule};
@@ -20,7 +20,7 @@ struct Search<'a, A: Allocator> {
     set: &'a Trie<A>,
 }
 
-impl<'a, A: Allocator> Harvest for Search<'a, A> {
+impl<'a, A: Allocator> HistoryVisitor for Search<'a, A> {
     type Stop = ();
 
     ghost was_shown = { λ search first shown. Seeks first.set.now search.set.now shown };
@@ -54,16 +54,16 @@ pub fn first_outside<A: Allocator>(
     requires few { bound ≤ 256 }
     ensures { FindsOutside component.now matrix.now bound set.now result }
 {
-    let node = Node::start(alloc, component, matrix)?;
+    let node = SerialNode::start(alloc, component, matrix)?;
     let path = Vec::new(alloc);
-    let mut tour = Tour {
+    let mut walk_state = WalkState {
         node,
         path,
-        harvest: Search { set },
+        visitor: Search { set },
     };
-    match walk(bound, &mut tour, None)? {
-        Some(Halt::Stopped(())) => Ok(Some(Schedule::new(tour.path))),
-        Some(Halt::Cut) => Ok(None),
+    match walk(bound, &mut walk_state, None)? {
+        Some(EarlyEnd::Stopped(())) => Ok(Some(Schedule::new(walk_state.path))),
+        Some(EarlyEnd::Cut) => Ok(None),
         None => Ok(None),
     }
 }

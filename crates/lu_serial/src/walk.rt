@@ -5,17 +5,17 @@ ghost use Rattle.lu_history.specs.declared.serial.SerialOp.{SerialOp};
 ghost use Rattle.lu_history.specs.Serial.{IsSerial};
 ghost use Rattle.lu_serial.specs.Walks.{CanWalk, Gathers, GathersHistory, IsHome, Walks, ended_entries};
 
-use crate::node::{Node, OpenCall, goes_on, is_full, open_after, turns};
+use crate::node::{OpenCall, SerialNode, goes_on, is_full, open_after, turns};
 use lu_history::{SerialOp, SerialOutcome};
 use lu_test::Move;
 use std::alloc::AllocError;
 
 /// What a walk shows the history of each serially ended schedule to.
-pub(crate) trait Harvest {
+pub(crate) trait HistoryVisitor {
     /// Why it stops the walk.
     type Stop: Copy;
 
-    /// What is known of a harvest, the first value, which was once the second, and to which these
+    /// What is known of a visitor, the first value, which was once the second, and to which these
     /// histories were shown since then. The last one stands first.
     ghost was_shown: { Self → Self → List (List SerialOp) → Type 0 };
 
@@ -35,79 +35,80 @@ pub(crate) trait Harvest {
 
 /// Where a walk halts before it has passed all schedules of its part.
 #[derive(Clone, Copy, Debug)]
-pub(crate) enum Halt<S> {
+pub(crate) enum EarlyEnd<S> {
     /// At a schedule that is cut.
     Cut,
 
-    /// At one that ends, where the harvest stopped it.
+    /// At one that ends, where the visitor stopped it.
     Stopped(S),
 }
 
-impl Node<'_> {
+impl SerialNode<'_> {
     /// Shows the history of a schedule that ends here.
-    fn end<H: Harvest>(
+    fn end<H: HistoryVisitor>(
         &mut self,
-        harvest: &mut H,
+        visitor: &mut H,
         current: Option<OpenCall>,
     ) -> Result<Option<H::Stop>, AllocError>
         requires serial { IsSerial (ended_entries self.old.entries.items current) }
-        requires begun { (first : H) × (shown : _) × H.was_shown harvest.old first shown }
+        requires begun { (first : H) × (shown : _) × H.was_shown visitor.old first shown }
         ensures machine { self.new.machine ≡ self.old.machine }
         ensures entries { OnOk result (self.new.entries.items ≡ self.old.entries.items) }
         ensures takes { IfOk result
-            (Gathers H.was_shown H.stops harvest.old harvest.new self.old current) }
+            (Gathers H.was_shown H.stops visitor.old visitor.new self.old current) }
     {
         let Some(current) = current else {
-            return harvest.at_end(&self.entries);
+            return visitor.at_end(&self.entries);
         };
         self.entries.push(SerialOp {
             thread: current.thread,
             outcome: SerialOutcome::Stuck,
         })?;
-        let stop = harvest.at_end(&self.entries)?;
+        let stop = visitor.at_end(&self.entries)?;
         self.entries.pop();
         Ok(stop)
     }
 }
 
-/// What a walk takes along: the node where it stands, the path that led there, and the harvest.
+/// What a walk takes along: the node where it stands, the path that led there, and the visitor.
 #[derive(Drop)]
-pub(crate) struct Tour<'a, H> {
-    pub(crate) node: Node<'a>,
+pub(crate) struct WalkState<'a, H> {
+    pub(crate) node: SerialNode<'a>,
     pub(crate) path: Vec<Move>,
-    pub(crate) harvest: H,
+    pub(crate) visitor: H,
 }
 
-/// Walks the serial schedules that begin with the tour's path, in order, and shows those that end
-/// to its harvest. It halts at one that is cut, or where the harvest stops it.
-pub(crate) fn walk<H: Harvest>(
+/// Walks the serial schedules that begin with the walk's path, in order, and shows those that end
+/// to its visitor. It halts at one that is cut, or where the visitor stops it.
+pub(crate) fn walk<H: HistoryVisitor>(
     bound: u16,
-    tour: &mut Tour<'_, H>,
+    walk_state: &mut WalkState<'_, H>,
     current: Option<OpenCall>,
-) -> Result<Option<Halt<H::Stop>>, AllocError>
-    requires { CanWalk H.was_shown bound tour.old current }
-    ensures home { IfOk result (λ halt. IsHome tour.old halt tour.new) }
-    ensures walks { IfOk result (Walks H.was_shown H.stops bound tour.old current tour.new) }
+) -> Result<Option<EarlyEnd<H::Stop>>, AllocError>
+    requires { CanWalk H.was_shown bound walk_state.old current }
+    ensures home { IfOk result (λ halt. IsHome walk_state.old halt walk_state.new) }
+    ensures walks { IfOk result (Walks H.was_shown H.stops bound walk_state.old current
+        walk_state.new) }
 {
-    if !goes_on(&tour.node.machine, current) {
-        let stop = tour.node.end(&mut tour.harvest, current)?;
-        return Ok(stop.map(Halt::Stopped));
+    if !goes_on(&walk_state.node.machine, current) {
+        let stop = walk_state.node.end(&mut walk_state.visitor, current)?;
+        return Ok(stop.map(EarlyEnd::Stopped));
     }
     if is_full(current, bound) {
-        return Ok(Some(Halt::Cut));
+        return Ok(Some(EarlyEnd::Cut));
     }
-    let (first, end) = turns(&tour.node.machine, current);
+    let (first, end) = turns(&walk_state.node.machine, current);
     for thread in first..end {
-        for pick in 0..tour.node.machine.picks(thread) {
+        for pick in 0..walk_state.node.machine.picks(thread) {
             let next = Move { thread, pick };
-            let undo = tour.node.enter(next)?;
-            tour.path.push(next)?;
+            let undo = walk_state.node.enter(next)?;
+            walk_state.path.push(next)?;
             let below = open_after(current, thread, undo.event());
-            if let Some(halt) = walk(bound, tour, below)? {
+            if let Some(halt) = walk(bound, walk_state, below)? {
                 return Ok(Some(halt));
             }
-            tour.path.pop();
-            tour.node.leave(undo);
+            walk_state.path.pop();
+            walk_state.node.leave(undo);
         }
     }
     Ok(None)

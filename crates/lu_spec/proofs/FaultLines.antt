@@ -8,12 +8,12 @@ use Rattle.lu_text.proofs.KeptLines.{joined_lines}
 use Rattle.lu_history.specs.declared.serial.SerialOp.{SerialOp}
 use Rattle.lu_test.specs.Matrix.{Matrix}
 use Rattle.lu_spec.specs.declared.fault.SpecLineFault.{SpecLineFault}
-use Rattle.lu_spec.specs.declared.reader.Draft.{Draft}
+use Rattle.lu_spec.specs.declared.reader.ListedDraft.{ListedDraft}
 use Rattle.lu_spec.specs.Beginnings.{AddsBeginnings, IsClosureOf}
 use Rattle.lu_spec.specs.SpecText.{AreListed, HasConflictIn, IsFaultAmong, IsReadAs, SaysHistory, SaysNoHistory, first_line, history_line}
 use Rattle.lu_spec.specs.Specs.{FitsMatrix}
 use Rattle.lu_spec.specs.Reading.{IsGatheredDraft, IsNextOf}
-use Rattle.lu_spec.specs.EveryFault.{AddsFaults, AreFaultsFrom, AreFaultsOfLines, AreSpecFaults, IsFirstFault, IsJudgedAs, IsTakenOf, Judges, Leaves, LeavesDraft, TakesNone, first_line_fault}
+use Rattle.lu_spec.specs.EveryFault.{AddsFaults, AreFaultsFrom, AreFaultsOfLines, AreSpecFaults, IsFirstLineFault, IsJudgedAs, IsTakenOf, Judges, Leaves, LeavesDraft, TakesNone, first_line_fault}
 use Rattle.lu_spec.specs.Laws.{IsToldAsRead}
 use Rattle.lu_spec.proofs.Collected.{in_listed, in_set}
 use Rattle.lu_spec.proofs.Faultless.{no_fault}
@@ -26,23 +26,23 @@ use Rattle.lu_spec.proofs.Nexts.{gathered_more, listed_more, no_histories}
 taken_here : (matrix : Matrix) (gathered set : List (List SerialOp)) (line : List ℕ) (q : List SerialOp) → IsClosureOf gathered set → IsTakenOf matrix set line q → IsTakenOf matrix gathered line q
 taken_here matrix gathered set line q closure taken = record { says = taken.says; fits = taken.fits; apart = λ conflict. taken.apart (in_set gathered set q closure conflict) }
 
-pub none_left : (matrix : Matrix) (gathered : List (List SerialOp)) (line : List ℕ) (draft : Draft) → TakesNone matrix draft.set line → IsGatheredDraft matrix gathered draft.set draft.last.items → LeavesDraft matrix gathered line draft
+pub none_left : (matrix : Matrix) (gathered : List (List SerialOp)) (line : List ℕ) (draft : ListedDraft) → TakesNone matrix draft.set line → IsGatheredDraft matrix gathered draft.set draft.last.items → LeavesDraft matrix gathered line draft
 none_left matrix gathered line draft none are =
     (gathered, inr (λ q taken. none q (record { says = taken.says; fits = taken.fits; apart = λ conflict. taken.apart (in_listed gathered draft.set q are.closure conflict) }), refl), are)
 
 -- with one history more
-with_taken : (matrix : Matrix) (gathered : List (List SerialOp)) (line : List ℕ) (draft next : Draft) (q : List SerialOp) → IsTakenOf matrix gathered line q → AddsBeginnings draft.set next.set q → next.last.items ≡ q → IsGatheredDraft matrix gathered draft.set draft.last.items → LeavesDraft matrix gathered line next
+with_taken : (matrix : Matrix) (gathered : List (List SerialOp)) (line : List ℕ) (draft next : ListedDraft) (q : List SerialOp) → IsTakenOf matrix gathered line q → AddsBeginnings draft.set next.set q → next.last.items ≡ q → IsGatheredDraft matrix gathered draft.set draft.last.items → LeavesDraft matrix gathered line next
 with_taken matrix gathered line draft next q taken adds last are =
     let more = gathered_more matrix gathered draft.set draft.last.items are q taken.says.0 taken.fits taken.apart next.set adds in
     (gathered ++ q ∷ [], inl (q, taken, refl), subst (IsGatheredDraft matrix (gathered ++ q ∷ []) next.set) (sym last) more)
 
-pub one_left : (matrix : Matrix) (gathered : List (List SerialOp)) (line : List ℕ) (draft next : Draft) (q : List SerialOp) → IsTakenOf matrix draft.set line q → AddsBeginnings draft.set next.set q → next.last.items ≡ q → IsGatheredDraft matrix gathered draft.set draft.last.items → LeavesDraft matrix gathered line next
+pub one_left : (matrix : Matrix) (gathered : List (List SerialOp)) (line : List ℕ) (draft next : ListedDraft) (q : List SerialOp) → IsTakenOf matrix draft.set line q → AddsBeginnings draft.set next.set q → next.last.items ≡ q → IsGatheredDraft matrix gathered draft.set draft.last.items → LeavesDraft matrix gathered line next
 one_left matrix gathered line draft next q taken adds last are = with_taken matrix gathered line draft next q (taken_here matrix gathered draft.set line q are.closure taken) adds last are
 
 taken_next : (matrix : Matrix) (gathered : List (List SerialOp)) (line : List ℕ) (q : List SerialOp) → IsNextOf matrix gathered line q → IsTakenOf matrix gathered line q
 taken_next matrix gathered line q next = record { says = (next.is.1, next.is.0); fits = next.fits; apart = next.apart }
 
-pub next_left : (matrix : Matrix) (gathered : List (List SerialOp)) (line : List ℕ) (draft next : Draft) (q : List SerialOp) → IsNextOf matrix gathered line q → AddsBeginnings draft.set next.set q → next.last.items ≡ q → IsGatheredDraft matrix gathered draft.set draft.last.items → LeavesDraft matrix gathered line next
+pub next_left : (matrix : Matrix) (gathered : List (List SerialOp)) (line : List ℕ) (draft next : ListedDraft) (q : List SerialOp) → IsNextOf matrix gathered line q → AddsBeginnings draft.set next.set q → next.last.items ≡ q → IsGatheredDraft matrix gathered draft.set draft.last.items → LeavesDraft matrix gathered line next
 next_left matrix gathered line draft next q is adds last are = with_taken matrix gathered line draft next q (taken_next matrix gathered line q is) adds last are
 
 -- ---- a line of which no history is taken
@@ -64,17 +64,17 @@ module _ (matrix : Matrix) (set : List (List SerialOp)) (line : List ℕ) where
 -- ---- line after line
 
 -- the faults of the lines up to the rest are found, and those of all lines are these and those of the rest
-pub record AreJudgedTo (matrix : Matrix) (text : List ℕ) (draft : Draft) (rest : List ℕ) (number : ℕ) (before now : List SpecLineFault) : Type 0 where
+pub record AreJudgedTo (matrix : Matrix) (text : List ℕ) (draft : ListedDraft) (rest : List ℕ) (number : ℕ) (before now : List SpecLineFault) : Type 0 where
   pub gathered : List (List SerialOp)
   pub are : IsGatheredDraft matrix gathered draft.set draft.last.items
   pub found : List SpecLineFault
   pub so_far : now ≡ before ++ found
   pub behind : (others : List SpecLineFault) → AreFaultsFrom matrix (number + 1) gathered (kept_lines rest) others → AreFaultsFrom matrix 2 [] (kept_lines text) (found ++ others)
 
-pub none_judged : (matrix : Matrix) (text : List ℕ) (draft : Draft) (before : List SpecLineFault) → IsGatheredDraft matrix [] draft.set draft.last.items → AreJudgedTo matrix text draft text 1 before before
+pub none_judged : (matrix : Matrix) (text : List ℕ) (draft : ListedDraft) (before : List SpecLineFault) → IsGatheredDraft matrix [] draft.set draft.last.items → AreJudgedTo matrix text draft text 1 before before
 none_judged matrix text draft before are = record { gathered = []; are = are; found = []; so_far = sym (append-nil before); behind = λ others is. is }
 
-pub one_judged : (matrix : Matrix) (text line rest others : List ℕ) (draft next : Draft) (number : ℕ) (fault : Option SpecLineFault) (before now after : List SpecLineFault) → AreJudgedTo matrix text draft rest number before now → kept_lines rest ≡ line ∷ kept_lines others
+pub one_judged : (matrix : Matrix) (text line rest others : List ℕ) (draft next : ListedDraft) (number : ℕ) (fault : Option SpecLineFault) (before now after : List SpecLineFault) → AreJudgedTo matrix text draft rest number before now → kept_lines rest ≡ line ∷ kept_lines others
     → Judges matrix draft (number + 1) line (next, fault) → after ≡ now ++ option_to_list fault → AreJudgedTo matrix text next others (number + 1) before after
 one_judged matrix text line rest others draft next number fault before now after to cut judges is =
     let judged = judges to.gathered to.are in
@@ -93,7 +93,7 @@ nothing_left : (rest : List ℕ) → length rest ≡ 0 → rest ≡ []
 nothing_left [] empty = refl
 nothing_left (b ∷ rest) empty = absurd (omega arith)
 
-pub all_judged : (matrix : Matrix) (text rest : List ℕ) (draft : Draft) (number : ℕ) (before now : List SpecLineFault) → length rest ≡ 0 → AreJudgedTo matrix text draft rest number before now → AddsFaults matrix (kept_lines text) before now
+pub all_judged : (matrix : Matrix) (text rest : List ℕ) (draft : ListedDraft) (number : ℕ) (before now : List SpecLineFault) → length rest ≡ 0 → AreJudgedTo matrix text draft rest number before now → AddsFaults matrix (kept_lines text) before now
 all_judged matrix text rest draft number before now empty to =
     let none : rest ≡ [] = nothing_left rest empty in
     let at_end : AreFaultsFrom matrix (number + 1) to.gathered (kept_lines rest) [] = subst (λ (x : List ℕ). AreFaultsFrom matrix (number + 1) to.gathered (kept_lines x) []) (sym none) refl in
@@ -109,11 +109,11 @@ no_last_part : (xs ys : List ℕ) → [] ≡ xs ++ ys → ys ≡ []
 no_last_part [] ys e = sym e
 no_last_part (x ∷ xs) ys e = absurd cc
 
-of_nothing : (first : List ℕ) (fault : Option SpecLineFault) → first ≡ [] → IsFirstFault first fault → option_to_list fault ≡ first_line_fault ∷ []
+of_nothing : (first : List ℕ) (fault : Option SpecLineFault) → first ≡ [] → IsFirstLineFault first fault → option_to_list fault ≡ first_line_fault ∷ []
 of_nothing first None none is = absurd (let e : [] ≡ first_line = sym none ∙ is in cc)
 of_nothing first (Some fault) none is = ap (λ (x : SpecLineFault). x ∷ []) is.1
 
-pub of_text : (matrix : Matrix) (text first rest : List ℕ) (fault : Option SpecLineFault) (before all : List SpecLineFault) → (0 < length text → kept_lines text ≡ first ∷ kept_lines rest) → text ≡ first ++ rest → IsFirstFault first fault
+pub of_text : (matrix : Matrix) (text first rest : List ℕ) (fault : Option SpecLineFault) (before all : List SpecLineFault) → (0 < length text → kept_lines text ≡ first ∷ kept_lines rest) → text ≡ first ++ rest → IsFirstLineFault first fault
     → before ≡ option_to_list fault → AddsFaults matrix (kept_lines rest) before all → AreSpecFaults matrix text all
 of_text matrix [] first rest fault before all cut whole is here (others, are, more) =
     let one = of_nothing first fault (no_first_part first rest whole) is in
@@ -168,7 +168,7 @@ told_as_read matrix text faults are = by_lines (kept_lines text) refl are
     none_behind lines [] cut (listed, listing, is) = (listed, listing, sym (joined_lines text) ∙ (ap concat (cut ∙ ap (λ (x : List (List ℕ)). first_line ∷ x) is) ∙ ap (λ (x : List ℕ). first_line ++ x) (concat_lines listed)))
     none_behind lines (first ∷ others) cut among = inr (lines, cut, among)
 
-    by_first : (first : List ℕ) (lines : List (List ℕ)) (fault : Option SpecLineFault) (others : List SpecLineFault) → kept_lines text ≡ first ∷ lines → IsFirstFault first fault → ToldBehind matrix [] lines others → IsToldAsRead matrix text (option_to_list fault ++ others)
+    by_first : (first : List ℕ) (lines : List (List ℕ)) (fault : Option SpecLineFault) (others : List SpecLineFault) → kept_lines text ≡ first ∷ lines → IsFirstLineFault first fault → ToldBehind matrix [] lines others → IsToldAsRead matrix text (option_to_list fault ++ others)
     by_first first lines None others cut is told = none_behind lines others (cut ∙ ap (λ (x : List ℕ). x ∷ lines) is) told
     by_first first lines (Some fault) others cut (other, is) told =
         inl (ap (λ (x : SpecLineFault). x.kind) is, ap (λ (x : SpecLineFault). x.line) is, λ rest e. other (let both : first ∷ lines ≡ first_line ∷ rest = sym cut ∙ e in let same : first ≡ first_line = cc in same))

@@ -13,7 +13,7 @@ use Rattle.lu_spec.specs.declared.fault.SpecFaultKind.{SpecFaultKind}
 use Rattle.lu_spec.specs.declared.fault.SpecFaultKind.TheVariants.{Form, Foreign, Nondeterministic}
 use Rattle.lu_spec.specs.Beginnings.{Has}
 use Rattle.lu_spec.specs.Specs.{FitsMatrix}
-use Rattle.lu_spec.specs.SpecText.{AreListed, IsFaultOfLine, IsLineOf, IsListable, IsReadAs, IsSpecFault, first_line, history_line, spec_text, words_of}
+use Rattle.lu_spec.specs.SpecText.{AreListed, IsFaultOfLine, IsHistoryLine, IsListable, IsReadAs, IsSpecFault, first_line, history_line, spec_text, history_words}
 use Rattle.lu_spec.proofs.Sets.{has_first, has_left, has_next, has_right}
 use Rattle.lu_spec.proofs.HistoryLines.{line_same, words_lack}
 
@@ -26,13 +26,13 @@ kept_line : (line rest : List ℕ) → IsPlain line → kept_lines (line ++ 10 �
 kept_line [] rest plain = refl
 kept_line (b ∷ line) rest plain = rw plain.0 (ap (onto_line b) (kept_line line rest plain.1))
 
-plain_history : (q : List SerialOp) → IsListable q → IsPlain (join_with_byte 32 (words_of q))
-plain_history q is = each_joined (λ b. (b == 10) ≡ false) 32 refl (words_of q) (words_lack 10 q (omega arith) is.entries)
+plain_history : (q : List SerialOp) → IsListable q → IsPlain (join_with_byte 32 (history_words q))
+plain_history q is = each_joined (λ b. (b == 10) ≡ false) 32 refl (history_words q) (words_lack 10 q (omega arith) is.entries)
 
 kept_listed : (listed : List (List SerialOp)) → ((q : List SerialOp) → Has listed q → IsListable q) → kept_lines (flat_map history_line listed) ≡ map history_line listed
 kept_listed [] are = refl
 kept_listed (q ∷ listed) are =
-    let line = join_with_byte 32 (words_of q) in
+    let line = join_with_byte 32 (history_words q) in
     let others = flat_map history_line listed in
     let whole : flat_map history_line (q ∷ listed) ≡ line ++ 10 ∷ others = flat_map-cons history_line q listed ∙ append_assoc line (codes "\n") others in
     ap kept_lines whole ∙ (kept_line line others (plain_history q (are q (has_first q listed)))
@@ -70,10 +70,10 @@ module _ (matrix : Matrix) (listed : List (List SerialOp)) (are : AreListed matr
       here : Has listed found.history
       here = subst (λ (x : List (List SerialOp)). Has x found.history) (sym found.parts) (has_right before (found.history ∷ found.after) found.history (has_first found.history found.after))
 
-      is_line : IsLineOf before line found.history
+      is_line : IsHistoryLine before line found.history
       is_line = (found.is, (are.each found.history here).0, are.order before found.history found.after found.parts)
 
-      same : (p : List SerialOp) → IsLineOf before line p → p ≡ found.history
+      same : (p : List SerialOp) → IsHistoryLine before line p → p ≡ found.history
       same p other = line_same p found.history other.1 is_line.1 (sym other.0 ∙ found.is)
 
       by_kind : (k : SpecFaultKind) → IsFaultOfLine matrix before line k → ⊥

@@ -15,7 +15,7 @@ use Rattle.lu_history.specs.declared.serial.SerialOutcome.{SerialOutcome}
 use Rattle.lu_history.specs.declared.serial.SerialOutcome.TheVariants.{Ret, Trap, Stuck}
 use Rattle.lu_history.specs.declared.serial.SerialOp.{SerialOp}
 use Rattle.lu_history.specs.Serial.{IsOutcome}
-use Rattle.lu_spec.specs.SpecText.{IsEntry, IsListable, entry_text, history_line, outcome_text, words_of}
+use Rattle.lu_spec.specs.SpecText.{IsEntry, IsListable, entry_text, history_line, listed_outcome_text, history_words}
 use Rattle.lu_spec.proofs.Entries.{spelled}
 
 -- ---- one entry a word
@@ -23,7 +23,7 @@ use Rattle.lu_spec.proofs.Entries.{spelled}
 some_same : (a b : ℕ) → Some a ≡ Some b → a ≡ b
 some_same a b e = cc
 
-outcome_same : (a b : SerialOutcome) → IsOutcome a → IsOutcome b → outcome_text a ≡ outcome_text b → a ≡ b
+outcome_same : (a b : SerialOutcome) → IsOutcome a → IsOutcome b → listed_outcome_text a ≡ listed_outcome_text b → a ≡ b
 outcome_same (Ret m) (Ret n) x y e = ap Ret (some_same m n (sym (value_again m x) ∙ (ap value_in e ∙ value_again n y)))
 outcome_same (Ret m) Trap x y e = absurd (let v : Some m ≡ value_in (codes "trap") = sym (value_again m x) ∙ ap value_in e in cc)
 outcome_same (Ret m) Stuck x y e = absurd (let v : Some m ≡ value_in (codes "stuck") = sym (value_again m x) ∙ ap value_in e in cc)
@@ -36,9 +36,9 @@ outcome_same Stuck Stuck x y e = refl
 
 entry_same : (a b : SerialOp) → IsEntry a → IsEntry b → entry_text a ≡ entry_text b → a ≡ b
 entry_same a b x y e =
-    let bytes : (48 + a.thread) ∷ 61 ∷ outcome_text a.outcome ≡ (48 + b.thread) ∷ 61 ∷ outcome_text b.outcome = sym (spelled a x.0) ∙ (e ∙ spelled b y.0) in
+    let bytes : (48 + a.thread) ∷ 61 ∷ listed_outcome_text a.outcome ≡ (48 + b.thread) ∷ 61 ∷ listed_outcome_text b.outcome = sym (spelled a x.0) ∙ (e ∙ spelled b y.0) in
     let digit : 48 + a.thread ≡ 48 + b.thread = cc in
-    let rest : outcome_text a.outcome ≡ outcome_text b.outcome = cc in
+    let rest : listed_outcome_text a.outcome ≡ listed_outcome_text b.outcome = cc in
     let thread : a.thread ≡ b.thread = omega arith in
     let outcome : a.outcome ≡ b.outcome = outcome_same a.outcome b.outcome x.1 y.1 rest in
     ap (λ (t : ℕ). let op : SerialOp = record { thread = t; outcome = a.outcome } in op) thread
@@ -56,13 +56,13 @@ entries_same (a ∷ p) (b ∷ q) x y e =
     rw (op, rest) refl
 
 -- entries that may not be listed are those of no history that may
-pub not_listable : (words : List (List ℕ)) (entries : List SerialOp) → All IsEntry entries → words ≡ map entry_text entries → (IsListable entries → ⊥) → (first : List ℕ) (q : List SerialOp) → IsListable q → first ∷ words ≡ words_of q → ⊥
+pub not_listable : (words : List (List ℕ)) (entries : List SerialOp) → All IsEntry entries → words ≡ map entry_text entries → (IsListable entries → ⊥) → (first : List ℕ) (q : List SerialOp) → IsListable q → first ∷ words ≡ history_words q → ⊥
 not_listable words entries are say none first q listable e =
     let rest : words ≡ map entry_text q = cc in
     let same : entries ≡ q = entries_same entries q are listable.entries (sym say ∙ rest) in
     none (subst IsListable (sym same) listable)
 
-pub not_listed : (words : List (Bor (List ℕ))) (entries : List SerialOp) → 1 ≤ length words → All IsEntry entries → texts (take (length words - 1) (drop 1 words)) ≡ map entry_text entries → (IsListable entries → ⊥) → (q : List SerialOp) → IsListable q → texts words ≡ words_of q → ⊥
+pub not_listed : (words : List (Bor (List ℕ))) (entries : List SerialOp) → 1 ≤ length words → All IsEntry entries → texts (take (length words - 1) (drop 1 words)) ≡ map entry_text entries → (IsListable entries → ⊥) → (q : List SerialOp) → IsListable q → texts words ≡ history_words q → ⊥
 not_listed [] entries some are say none q listable e = absurd (omega arith)
 not_listed (w ∷ words) entries some are say none q listable e =
     let whole : take (length (w ∷ words) - 1) words ≡ words = take_all (length (w ∷ words) - 1) words (omega arith) in
@@ -83,7 +83,7 @@ entry_lacks c op small is =
     apart : (b : ℕ) → 48 ≤ b → (b == c) ≡ false
     apart b high = ne_eqb b c (λ e. omega arith)
 
-    outcome_lacks : (o : SerialOutcome) → IsOutcome o → Lacks c (outcome_text o)
+    outcome_lacks : (o : SerialOutcome) → IsOutcome o → Lacks c (listed_outcome_text o)
     outcome_lacks (Ret n) lt = each_weaker (λ b. (48 ≤ b) × (b ≤ 57)) (λ b. (b == c) ≡ false) (λ b d. apart b d.0) (decimal n) (digits_each n (omega arith))
     outcome_lacks Trap lt = (apart 116 (omega arith), (apart 114 (omega arith), (apart 97 (omega arith), (apart 112 (omega arith), tt))))
     outcome_lacks Stuck lt = (apart 115 (omega arith), (apart 116 (omega arith), (apart 117 (omega arith), (apart 99 (omega arith), (apart 107 (omega arith), tt)))))
@@ -92,19 +92,19 @@ entries_lack : (c : ℕ) (q : List SerialOp) → c < 48 → All IsEntry q → Al
 entries_lack c [] small are = tt
 entries_lack c (op ∷ q) small are = (entry_lacks c op small (are zero op (omega arith)), entries_lack c q small (λ k d h. are (suc k) d (omega arith)))
 
-pub words_lack : (c : ℕ) (q : List SerialOp) → c < 48 → All IsEntry q → AllByRecursion (Lacks c) (words_of q)
+pub words_lack : (c : ℕ) (q : List SerialOp) → c < 48 → All IsEntry q → AllByRecursion (Lacks c) (history_words q)
 words_lack c q small are = ((apart 104 (omega arith), (apart 105 (omega arith), (apart 115 (omega arith), (apart 116 (omega arith), (apart 111 (omega arith), (apart 114 (omega arith), (apart 121 (omega arith), tt))))))), entries_lack c q small are)
   where
     apart : (b : ℕ) → 48 ≤ b → (b == c) ≡ false
     apart b high = ne_eqb b c (λ e. omega arith)
 
 -- a line that splits into the words of a history
-pub line_says : (line text : List ℕ) (q : List SerialOp) → line ≡ text ++ codes "\n" → slice_split (λ b. b == 32) text ≡ words_of q → line ≡ history_line q
+pub line_says : (line text : List ℕ) (q : List SerialOp) → line ≡ text ++ codes "\n" → slice_split (λ b. b == 32) text ≡ history_words q → line ≡ history_line q
 line_says line text q ends words = ends ∙ ap (λ (x : List ℕ). x ++ codes "\n") (sym (join_with_byte-slice_split 32 text) ∙ ap (join_with_byte 32) words)
 
-pub line_splits : (line text : List ℕ) (q : List SerialOp) → line ≡ text ++ codes "\n" → All IsEntry q → line ≡ history_line q → slice_split (λ b. b == 32) text ≡ words_of q
+pub line_splits : (line text : List ℕ) (q : List SerialOp) → line ≡ text ++ codes "\n" → All IsEntry q → line ≡ history_line q → slice_split (λ b. b == 32) text ≡ history_words q
 line_splits line text q ends are says =
-    let same : text ≡ join_with_byte 32 (words_of q) = append_cancel_right text (join_with_byte 32 (words_of q)) (codes "\n") (sym ends ∙ says) in
+    let same : text ≡ join_with_byte 32 (history_words q) = append_cancel_right text (join_with_byte 32 (history_words q)) (codes "\n") (sym ends ∙ says) in
     ap (slice_split (λ b. b == 32)) same ∙ split_joined (λ b. b == 32) 32 refl (codes "history") (map entry_text q) (words_lack 32 q (omega arith) are)
 
 -- ---- answers
@@ -120,7 +120,7 @@ none_weaker (Some x) P Q f h = tt
 -- a line is that of one history
 pub line_same : (p q : List SerialOp) → IsListable p → IsListable q → history_line p ≡ history_line q → p ≡ q
 line_same p q x y e =
-    let same : join_with_byte 32 (words_of p) ≡ join_with_byte 32 (words_of q) = append_cancel_right (join_with_byte 32 (words_of p)) (join_with_byte 32 (words_of q)) (codes "\n") e in
-    let words : words_of p ≡ words_of q = sym (line_splits (history_line p) (join_with_byte 32 (words_of p)) p refl x.entries refl) ∙ (ap (slice_split (λ b. b == 32)) same ∙ line_splits (history_line q) (join_with_byte 32 (words_of q)) q refl y.entries refl) in
+    let same : join_with_byte 32 (history_words p) ≡ join_with_byte 32 (history_words q) = append_cancel_right (join_with_byte 32 (history_words p)) (join_with_byte 32 (history_words q)) (codes "\n") e in
+    let words : history_words p ≡ history_words q = sym (line_splits (history_line p) (join_with_byte 32 (history_words p)) p refl x.entries refl) ∙ (ap (slice_split (λ b. b == 32)) same ∙ line_splits (history_line q) (join_with_byte 32 (history_words q)) q refl y.entries refl) in
     let entries : map entry_text p ≡ map entry_text q = cc in
     entries_same p q x.entries y.entries entries

@@ -8,7 +8,7 @@ use Rattle.lu_trie.specs.Conflicts.{ConflictAt, HasConflict, IsDeterministic}
 use Rattle.lu_trie.proofs.Determinism.{conflict_back, no_self_conflict}
 use Rattle.lu_spec.specs.Beginnings.{Has, Begins, IsClosureOf, AddsBeginnings}
 use Rattle.lu_spec.specs.Specs.{IsSpec, FitsMatrix, FitsIn}
-use Rattle.lu_spec.specs.SpecText.{AreListed, ComesAfter, GoesOn, HasConflictIn, IsLineOf, IsListable, history_line}
+use Rattle.lu_spec.specs.SpecText.{AreListed, ComesAfter, MayFollow, HasConflictIn, IsHistoryLine, IsListable, history_line}
 use Rattle.lu_spec.specs.Reading.{IsGatheredDraft, IsListedDraft, IsNextOf, IsNextDraft}
 use Rattle.lu_spec.proofs.Sets.{begins_self, has_either, has_right, has_left, has_first, has_cons}
 use Rattle.lu_spec.proofs.Closures.{conflict_on, none_right, is_spec}
@@ -34,7 +34,7 @@ last_same [] (b ∷ ys) x y e = absurd (no_push ys y (let f : [] ≡ ys ++ y ∷
 last_same (a ∷ xs) [] x y e = absurd (no_push xs x (let f : [] ≡ xs ++ x ∷ [] = cc in f))
 last_same (a ∷ xs) (b ∷ ys) x y e = last_same xs ys x y (let f : xs ++ x ∷ [] ≡ ys ++ y ∷ [] = cc in f)
 
-pub follows : (matrix : Matrix) (listed set : List (List SerialOp)) (last q : List SerialOp) → IsGatheredDraft matrix listed set last → (last ≢ [] → ComesAfter last q) → GoesOn listed q
+pub follows : (matrix : Matrix) (listed set : List (List SerialOp)) (last q : List SerialOp) → IsGatheredDraft matrix listed set last → (last ≢ [] → ComesAfter last q) → MayFollow listed q
 follows matrix listed set last q draft after before p is = by_end draft.ends
   where
     by_end : ((listed ≡ []) × (last ≡ [])) ⊎ ((front : List (List SerialOp)) × (listed ≡ front ++ last ∷ [])) → ComesAfter p q
@@ -45,7 +45,7 @@ follows matrix listed set last q draft after before p is = by_end draft.ends
         let some = (draft.are.each last member).0.some in
         subst (λ (x : List SerialOp). ComesAfter x q) same (after (λ empty. absurd (omega (arith, some, ap length empty))))
 
-pub must_follow : (matrix : Matrix) (listed set : List (List SerialOp)) (last q : List SerialOp) → IsGatheredDraft matrix listed set last → GoesOn listed q → last ≢ [] → ComesAfter last q
+pub must_follow : (matrix : Matrix) (listed set : List (List SerialOp)) (last q : List SerialOp) → IsGatheredDraft matrix listed set last → MayFollow listed q → last ≢ [] → ComesAfter last q
 must_follow matrix listed set last q draft goes some = by_end draft.ends
   where
     by_end : ((listed ≡ []) × (last ≡ [])) ⊎ ((front : List (List SerialOp)) × (listed ≡ front ++ last ∷ [])) → ComesAfter last q
@@ -53,10 +53,10 @@ must_follow matrix listed set last q draft goes some = by_end draft.ends
     by_end (inr (front, e)) = goes front last e
 
 -- a line whose history does not follow is that of none that does
-pub none_follows : (matrix : Matrix) (listed set : List (List SerialOp)) (last q : List SerialOp) (line : List ℕ) → IsGatheredDraft matrix listed set last → IsListable q → line ≡ history_line q → ((last ≢ [] → ComesAfter last q) → ⊥) → (p : List SerialOp) → IsLineOf listed line p → ⊥
+pub none_follows : (matrix : Matrix) (listed set : List (List SerialOp)) (last q : List SerialOp) (line : List ℕ) → IsGatheredDraft matrix listed set last → IsListable q → line ≡ history_line q → ((last ≢ [] → ComesAfter last q) → ⊥) → (p : List SerialOp) → IsHistoryLine listed line p → ⊥
 none_follows matrix listed set last q line draft listable is fails p other =
     let same : p ≡ q = line_same p q other.1 listable (sym other.0 ∙ is) in
-    fails (λ some. must_follow matrix listed set last q draft (subst (GoesOn listed) same other.2) some)
+    fails (λ some. must_follow matrix listed set last q draft (subst (MayFollow listed) same other.2) some)
 
 -- ---- the calls that are left
 
@@ -135,9 +135,9 @@ module _ (listed : List (List SerialOp)) (q : List SerialOp) where
       ]
 
 module _ (matrix : Matrix) (listed : List (List SerialOp)) (are : AreListed matrix listed) (line : List ℕ) (q : List SerialOp) (next : IsNextOf matrix listed line q) where
-  order : (before : List (List SerialOp)) (x : List SerialOp) (after : List (List SerialOp)) → listed ++ q ∷ [] ≡ before ++ x ∷ after → GoesOn before x
+  order : (before : List (List SerialOp)) (x : List SerialOp) (after : List (List SerialOp)) → listed ++ q ∷ [] ≡ before ++ x ∷ after → MayFollow before x
   order before x after is = elim (split_push listed before after q x is) [
-    | inl (all, here) ↦ subst (λ (z : List SerialOp). GoesOn before z) (sym here) (subst (λ (z : List (List SerialOp)). GoesOn z q) (sym all) next.is.2)
+    | inl (all, here) ↦ subst (λ (z : List SerialOp). MayFollow before z) (sym here) (subst (λ (z : List (List SerialOp)). MayFollow z q) (sym all) next.is.2)
     | inr (rest, was) ↦ are.order before x rest was
   ]
 

@@ -14,7 +14,7 @@ use Rattle.lu_witness.specs.Witnesses.{entries}
 use Rattle.lu_witness.proofs.Entries.{entries_own}
 use Rattle.lu_spec.specs.Beginnings.{Has, Begins, IsClosureOf}
 use Rattle.lu_spec.specs.Specs.{IsSpec, FitsMatrix, AreOf, HasOutcome}
-use Rattle.lu_spec.specs.SpecText.{AreListed, GoesOn, IsEntry, IsListable, IsReadAs, spec_text}
+use Rattle.lu_spec.specs.SpecText.{AreListed, MayFollow, IsEntry, IsListable, IsReadAs, spec_text}
 use Rattle.lu_spec.specs.Listed.{IsListing, Rises}
 use Rattle.lu_spec.proofs.Sets.{begins_self, begins_trans, has_cons, has_first, has_next}
 use Rattle.lu_spec.proofs.Rooms.{calls_past, entries_other}
@@ -176,7 +176,7 @@ module _ (matrix : Matrix) (members listed : List (List SerialOp)) (is_matrix : 
       not_empty [] none = absurd (none refl)
       not_empty (op ∷ h) none = omega arith
 
-  in_order : (before : List (List SerialOp)) (q : List SerialOp) (after : List (List SerialOp)) → listed ≡ before ++ q ∷ after → GoesOn before q
+  in_order : (before : List (List SerialOp)) (q : List SerialOp) (after : List (List SerialOp)) → listed ≡ before ++ q ∷ after → MayFollow before q
   in_order before q after parts front p last =
       let whole : listed ≡ front ++ p ∷ (q ∷ after) = parts ∙ (ap (λ (x : List (List SerialOp)). x ++ q ∷ after) last ∙ append_assoc front (p ∷ []) (q ∷ after)) in
       (rises_behind front p (q ∷ after) (subst Rises whole is.rises)).0.0

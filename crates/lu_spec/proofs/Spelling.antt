@@ -8,7 +8,7 @@ use Rattle.lu_history.specs.Order.{op_cmp}
 use Rattle.lu_test.specs.Matrix.{Matrix}
 use Rattle.lu_trie.proofs.Ops.{ops_total}
 use Rattle.lu_spec.specs.Beginnings.{Has, Begins, IsClosureOf}
-use Rattle.lu_spec.specs.SpecText.{AreListed, ComesAfter, GoesOn, IsReadAs, spec_text}
+use Rattle.lu_spec.specs.SpecText.{AreListed, ComesAfter, MayFollow, IsReadAs, spec_text}
 use Rattle.lu_spec.specs.Listed.{IsListing, IsMaximal, Rises}
 use Rattle.lu_spec.proofs.Sets.{begins_self, begins_trans, has_cons, has_first, has_right}
 
@@ -50,7 +50,7 @@ each_after p q [] after all = tt
 each_after p q (r ∷ listed) after all = (after_trans p q r after all.0, each_after p q listed after all.1)
 
 rises_from : (listed before : List (List SerialOp)) (p : List SerialOp) (rest : List (List SerialOp))
-    → ((front : List (List SerialOp)) (q : List SerialOp) (after : List (List SerialOp)) → listed ≡ front ++ q ∷ after → GoesOn front q) → listed ≡ before ++ p ∷ rest → Rises (p ∷ rest)
+    → ((front : List (List SerialOp)) (q : List SerialOp) (after : List (List SerialOp)) → listed ≡ front ++ q ∷ after → MayFollow front q) → listed ≡ before ++ p ∷ rest → Rises (p ∷ rest)
 rises_from listed before p [] order is = (tt, tt)
 rises_from listed before p (r ∷ rest) order is =
     let longer : listed ≡ (before ++ p ∷ []) ++ r ∷ rest = is ∙ sym (append_assoc before (p ∷ []) (r ∷ rest)) in

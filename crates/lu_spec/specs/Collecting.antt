@@ -5,7 +5,7 @@ use Rattle.std.specs.Str.{bytes_eq}
 use Rattle.lu_text.specs.declared.fault.Fault.{Fault}
 use Rattle.lu_text.specs.declared.fault.Fault.TheVariants.{At, Memory}
 use Rattle.lu_text.specs.Lines.{lines_of, words_of}
-use Rattle.lu_text.specs.Words.{Word, three}
+use Rattle.lu_text.specs.Words.{Word, exactly_three}
 use Rattle.lu_history.specs.declared.serial.SerialOp.{SerialOp}
 use Rattle.lu_test.specs.Matrix.{Matrix}
 use Rattle.lu_trie.specs.Conflicts.{IsDeterministic}
@@ -23,7 +23,7 @@ are_head (a, b, c) =
 
 -- the words `lineup spec 1`
 abbrev pub is_head : List Word → Bool
-is_head words = option_map_or are_head (three words) false
+is_head words = option_map_or are_head (exactly_three words) false
 
 -- a line with these words lists a history, where `begun` tells whether a line before it had words:
 -- each line with words does, but for a first one that is the head

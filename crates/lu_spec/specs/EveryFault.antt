@@ -6,7 +6,7 @@ use Rattle.lu_history.specs.declared.serial.SerialOp.{SerialOp}
 use Rattle.lu_test.specs.Matrix.{Matrix}
 use Rattle.lu_spec.specs.declared.fault.SpecFaultKind.TheVariants.{Form}
 use Rattle.lu_spec.specs.declared.fault.SpecLineFault.{SpecLineFault}
-use Rattle.lu_spec.specs.declared.reader.Draft.{Draft}
+use Rattle.lu_spec.specs.declared.reader.ListedDraft.{ListedDraft}
 use Rattle.lu_spec.specs.Specs.{FitsMatrix}
 use Rattle.lu_spec.specs.SpecText.{HasConflictIn, IsFaultOfLine, SaysHistory, first_line}
 use Rattle.lu_spec.specs.Reading.{IsGatheredDraft, IsNextOf}
@@ -21,8 +21,8 @@ pub record IsTakenOf (matrix : Matrix) (gathered : List (List SerialOp)) (line :
 abbrev pub TakesNone : Matrix → List (List SerialOp) → List ℕ → Type 0
 TakesNone matrix gathered line = (q : List SerialOp) → IsTakenOf matrix gathered line q → ⊥
 
--- Behind a line its history is gathered, where it says such a one, in order or not. A line that says
--- none is left out.
+-- Behind a line its history is gathered, where it says such a one, in order or not. A line that
+-- says none is left out.
 abbrev pub Leaves : Matrix → List (List SerialOp) → List ℕ → List (List SerialOp) → Type 0
 Leaves matrix gathered line after =
     ((q : List SerialOp) × IsTakenOf matrix gathered line q × (after ≡ gathered ++ q ∷ []))
@@ -48,15 +48,15 @@ AreFaultsFrom matrix n gathered (line ∷ lines) faults =
 abbrev pub first_line_fault : SpecLineFault
 first_line_fault = record { kind = Form; line = 1 }
 
-abbrev pub IsFirstFault : List ℕ → Option SpecLineFault → Type 0
-IsFirstFault line None = line ≡ first_line
-IsFirstFault line (Some fault) = (line ≢ first_line) × (fault ≡ first_line_fault)
+abbrev pub IsFirstLineFault : List ℕ → Option SpecLineFault → Type 0
+IsFirstLineFault line None = line ≡ first_line
+IsFirstLineFault line (Some fault) = (line ≢ first_line) × (fault ≡ first_line_fault)
 
 -- these are the faults of the lines of a text; those behind the first are read as if it were right
 abbrev pub AreFaultsOfLines : Matrix → List (List ℕ) → List SpecLineFault → Type 0
 AreFaultsOfLines matrix [] faults = faults ≡ first_line_fault ∷ []
 AreFaultsOfLines matrix (first ∷ lines) faults =
-    (fault : Option SpecLineFault) × (others : List SpecLineFault) × IsFirstFault first fault
+    (fault : Option SpecLineFault) × (others : List SpecLineFault) × IsFirstLineFault first fault
     × AreFaultsFrom matrix 2 [] lines others
     × (faults ≡ option_to_list fault ++ others)
 
@@ -67,19 +67,19 @@ AreSpecFaults matrix text faults = AreFaultsOfLines matrix (kept_lines text) fau
 -- ---- what is returned of a line, behind the histories of a draft
 
 -- a draft of the histories that are gathered behind the line
-abbrev pub LeavesDraft : Matrix → List (List SerialOp) → List ℕ → Draft → Type 0
+abbrev pub LeavesDraft : Matrix → List (List SerialOp) → List ℕ → ListedDraft → Type 0
 LeavesDraft matrix gathered line next =
     (after : List (List SerialOp)) × Leaves matrix gathered line after
     × IsGatheredDraft matrix after next.set next.last.items
 
-abbrev pub LeftBy : Matrix → Draft → List ℕ → Draft → Type 0
+abbrev pub LeftBy : Matrix → ListedDraft → List ℕ → ListedDraft → Type 0
 LeftBy matrix draft line next =
     (gathered : List (List SerialOp))
     → IsGatheredDraft matrix gathered draft.set draft.last.items
     → LeavesDraft matrix gathered line next
 
 -- such a draft, and the fault of the line, which is line n
-abbrev pub Judges : Matrix → Draft → ℕ → List ℕ → Draft × Option SpecLineFault → Type 0
+abbrev pub Judges : Matrix → ListedDraft → ℕ → List ℕ → ListedDraft × Option SpecLineFault → Type 0
 Judges matrix draft n line returned =
     (gathered : List (List SerialOp))
     → IsGatheredDraft matrix gathered draft.set draft.last.items

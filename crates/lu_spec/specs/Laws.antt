@@ -30,8 +30,8 @@ ReadAgain =
     IsMatrix matrix → IsSpec members → AreOf matrix members → IsListing members listed →
     IsReadAs matrix (spec_text listed) members
 
--- Where nothing is told of a text it lists histories of the matrix; else the first fault that is told
--- is the reader's.
+-- Where nothing is told of a text it lists histories of the matrix; else the first fault that is
+-- told is the reader's.
 abbrev pub IsToldAsRead : Matrix → List ℕ → List SpecLineFault → Type 0
 IsToldAsRead matrix text [] =
     (listed : List (List SerialOp)) × AreListed matrix listed × (text ≡ spec_text listed)

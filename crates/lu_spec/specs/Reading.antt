@@ -6,14 +6,14 @@ use Rattle.lu_history.specs.declared.serial.SerialOp.{SerialOp}
 use Rattle.lu_test.specs.Matrix.{Matrix}
 use Rattle.lu_trie.specs.Conflicts.{IsDeterministic}
 use Rattle.lu_spec.specs.declared.fault.SpecFaultKind.{SpecFaultKind}
-use Rattle.lu_spec.specs.declared.reader.Draft.{Draft}
+use Rattle.lu_spec.specs.declared.reader.ListedDraft.{ListedDraft}
 use Rattle.lu_spec.specs.Beginnings.{Has, IsClosureOf}
 use Rattle.lu_spec.specs.Specs.{FitsMatrix}
-use Rattle.lu_spec.specs.SpecText.{AreListed, HasConflictIn, IsFaultAmong, IsFaultOfLine, IsLineOf, IsListable, history_line}
+use Rattle.lu_spec.specs.SpecText.{AreListed, HasConflictIn, IsFaultAmong, IsFaultOfLine, IsHistoryLine, IsListable, history_line}
 
 -- the last of the listed histories; the empty one where none is listed
-abbrev pub IsLast : List (List SerialOp) → List SerialOp → Type 0
-IsLast listed last =
+abbrev pub IsLastListed : List (List SerialOp) → List SerialOp → Type 0
+IsLastListed listed last =
     ((listed ≡ []) × (last ≡ []))
     ⊎ ((before : List (List SerialOp)) × (listed ≡ before ++ last ∷ []))
 
@@ -27,17 +27,17 @@ pub record IsGatheredDraft (matrix : Matrix) (gathered set : List (List SerialOp
     (last : List SerialOp) : Type 0 where
   pub are : AreGathered matrix gathered
   pub closure : IsClosureOf gathered set
-  pub ends : IsLast gathered last
+  pub ends : IsLastListed gathered last
 
 -- the listed histories, with their closure and the last of them
 pub record IsListedDraft (matrix : Matrix) (listed set : List (List SerialOp))
     (last : List SerialOp) : Type 0 where
   pub are : AreListed matrix listed
   pub closure : IsClosureOf listed set
-  pub ends : IsLast listed last
+  pub ends : IsLastListed listed last
 
 -- nothing is listed, whatever the matrix
-abbrev pub ListsNothing : Draft → Type 0
+abbrev pub ListsNothing : ListedDraft → Type 0
 ListsNothing draft = (matrix : Matrix) → IsListedDraft matrix [] draft.set draft.last.items
 
 -- there are such histories
@@ -49,7 +49,7 @@ IsSomeGathering matrix set last =
     (gathered : List (List SerialOp)) × IsGatheredDraft matrix gathered set last
 
 -- these lines are theirs
-abbrev pub IsDraftOf : Matrix → List (List ℕ) → Draft → Type 0
+abbrev pub IsDraftOf : Matrix → List (List ℕ) → ListedDraft → Type 0
 IsDraftOf matrix lines draft =
     (listed : List (List SerialOp)) × IsListedDraft matrix listed draft.set draft.last.items
     × (lines ≡ map history_line listed)
@@ -57,7 +57,7 @@ IsDraftOf matrix lines draft =
 -- the line is that of one more history, which may stand there
 pub record IsNextOf (matrix : Matrix) (listed : List (List SerialOp)) (line : List ℕ)
     (q : List SerialOp) : Type 0 where
-  pub is : IsLineOf listed line q
+  pub is : IsHistoryLine listed line q
   pub fits : FitsMatrix matrix q
   pub apart : HasConflictIn listed q → ⊥
 
@@ -90,7 +90,7 @@ FindsNext matrix set last line returned =
 
 -- the draft with it
 abbrev pub DraftsNext : {E : Type 0} → Matrix → List (List SerialOp) → List SerialOp → List ℕ
-    → Result Draft E → Type 0
+    → Result ListedDraft E → Type 0
 DraftsNext matrix set last line returned =
     (listed : List (List SerialOp)) → IsListedDraft matrix listed set last
     → IfOk returned (λ next. IsNextDraft matrix listed line next.set next.last.items)

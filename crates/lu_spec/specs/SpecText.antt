@@ -20,22 +20,22 @@ use Rattle.lu_spec.specs.Specs.{FitsMatrix}
 
 -- ---- the spelling
 
-abbrev pub outcome_text : SerialOutcome → List ℕ
-outcome_text (Ret n) = decimal n
-outcome_text Trap = codes "trap"
-outcome_text Stuck = codes "stuck"
+abbrev pub listed_outcome_text : SerialOutcome → List ℕ
+listed_outcome_text (Ret n) = decimal n
+listed_outcome_text Trap = codes "trap"
+listed_outcome_text Stuck = codes "stuck"
 
 -- `t=outcome`
 abbrev pub entry_text : SerialOp → List ℕ
-entry_text op = decimal op.thread ++ codes "=" ++ outcome_text op.outcome
+entry_text op = decimal op.thread ++ codes "=" ++ listed_outcome_text op.outcome
 
 -- `history` and the entries
-abbrev pub words_of : List SerialOp → List (List ℕ)
-words_of q = codes "history" ∷ map entry_text q
+abbrev pub history_words : List SerialOp → List (List ℕ)
+history_words q = codes "history" ∷ map entry_text q
 
 -- the words with one space between them
 abbrev pub history_line : List SerialOp → List ℕ
-history_line q = join_with_byte 32 (words_of q) ++ codes "\n"
+history_line q = join_with_byte 32 (history_words q) ++ codes "\n"
 
 abbrev pub first_line : List ℕ
 first_line = codes "lineup spec 1\n"
@@ -58,7 +58,8 @@ pub record IsListable (q : List SerialOp) : Type 0 where
 
 -- the word says no outcome
 abbrev pub SaysNoOutcome : List ℕ → Type 0
-SaysNoOutcome word = (outcome : SerialOutcome) → IsOutcome outcome → word ≡ outcome_text outcome → ⊥
+SaysNoOutcome word =
+    (outcome : SerialOutcome) → IsOutcome outcome → word ≡ listed_outcome_text outcome → ⊥
 
 -- the words say these entries
 abbrev pub SayEntries : List (List ℕ) → List SerialOp → Type 0
@@ -69,10 +70,10 @@ SayNoEntries words = (q : List SerialOp) → All IsEntry q → words ≡ map ent
 
 -- the words say this history, which may be listed
 abbrev pub SayHistory : List (List ℕ) → List SerialOp → Type 0
-SayHistory words q = IsListable q × (words ≡ words_of q)
+SayHistory words q = IsListable q × (words ≡ history_words q)
 
 abbrev pub SayNoHistory : List (List ℕ) → Type 0
-SayNoHistory words = (q : List SerialOp) → IsListable q → words ≡ words_of q → ⊥
+SayNoHistory words = (q : List SerialOp) → IsListable q → words ≡ history_words q → ⊥
 
 -- the line says this history, which may be listed
 abbrev pub SaysHistory : List ℕ → List SerialOp → Type 0
@@ -89,22 +90,22 @@ ComesAfter (a ∷ p) [] = ⊥
 ComesAfter (a ∷ p) (b ∷ q) = (op_cmp a b ≡ Less) ⊎ (a ≡ b) × ComesAfter p q
 
 -- q may stand behind the listed histories: it comes after the last one
-abbrev pub GoesOn : List (List SerialOp) → List SerialOp → Type 0
-GoesOn listed q =
+abbrev pub MayFollow : List (List SerialOp) → List SerialOp → Type 0
+MayFollow listed q =
     (before : List (List SerialOp)) (p : List SerialOp) → listed ≡ before ++ p ∷ [] → ComesAfter p q
 
 -- a list of histories of the matrix, in order and none a beginning of the next, without conflict
 pub record AreListed (matrix : Matrix) (listed : List (List SerialOp)) : Type 0 where
   pub each : (q : List SerialOp) → Has listed q → IsListable q × FitsMatrix matrix q
   pub order : (before : List (List SerialOp)) (q : List SerialOp) (after : List (List SerialOp))
-      → listed ≡ before ++ q ∷ after → GoesOn before q
+      → listed ≡ before ++ q ∷ after → MayFollow before q
   pub deterministic : IsDeterministic listed
 
 -- ---- what is wrong with a line behind the listed histories
 
 -- the line is that of a history that may stand there
-abbrev pub IsLineOf : List (List SerialOp) → List ℕ → List SerialOp → Type 0
-IsLineOf listed line q = (line ≡ history_line q) × IsListable q × GoesOn listed q
+abbrev pub IsHistoryLine : List (List SerialOp) → List ℕ → List SerialOp → Type 0
+IsHistoryLine listed line q = (line ≡ history_line q) × IsListable q × MayFollow listed q
 
 -- q conflicts with a listed history
 abbrev pub HasConflictIn : List (List SerialOp) → List SerialOp → Type 0
@@ -114,11 +115,11 @@ HasConflictIn listed q =
 -- no history's line; that of a history that does not fit the matrix; or that of one that conflicts
 -- with a listed one
 abbrev pub IsFaultOfLine : Matrix → List (List SerialOp) → List ℕ → SpecFaultKind → Type 0
-IsFaultOfLine matrix listed line Form = (q : List SerialOp) → IsLineOf listed line q → ⊥
+IsFaultOfLine matrix listed line Form = (q : List SerialOp) → IsHistoryLine listed line q → ⊥
 IsFaultOfLine matrix listed line Foreign =
-    (q : List SerialOp) × IsLineOf listed line q × (FitsMatrix matrix q → ⊥)
+    (q : List SerialOp) × IsHistoryLine listed line q × (FitsMatrix matrix q → ⊥)
 IsFaultOfLine matrix listed line Nondeterministic =
-    (q : List SerialOp) × IsLineOf listed line q × FitsMatrix matrix q × HasConflictIn listed q
+    (q : List SerialOp) × IsHistoryLine listed line q × FitsMatrix matrix q × HasConflictIn listed q
 
 -- among the lines behind the first line, those before line n are of listed histories, and line n
 -- has this fault

@@ -16,13 +16,13 @@ use crate::reader::add_beginnings;
 use crate::spec::Spec;
 use lu_history::SerialOp;
 use lu_test::Matrix;
-use lu_text::{Fault, lines_of, three, words_of};
+use lu_text::{Fault, exactly_three, lines_of, words_of};
 use lu_trie::Trie;
 use std::alloc::{AllocError, Global};
 
 /// All beginnings of the histories of the lines so far, and whether one of these lines had words.
 #[derive(Drop)]
-struct Draft {
+struct CollectedDraft {
     set: Trie<Global>,
     begun: bool,
 }
@@ -38,7 +38,7 @@ fn is_text(word: &[u8], text: &str) -> bool
 fn is_head(words: &[&[u8]]) -> bool
     ensures { result ≡ spec.is_head (texts words.now) }
 {
-    match three(words) {
+    match exactly_three(words) {
         None => false,
         Some((first, second, third)) => {
             is_text(first, "lineup") && is_text(second, "spec") && is_text(third, "1")
@@ -91,10 +91,10 @@ fn history_said(
 fn collect_line(
     alloc: Global,
     matrix: &Matrix,
-    mut draft: Draft,
+    mut draft: CollectedDraft,
     words: &[&[u8]],
     number: usize,
-) -> Result<Draft, SpecFault>
+) -> Result<CollectedDraft, SpecFault>
     requires { IsDeterministic draft.set }
     ensures next { IfOk result (λ next.
         AddsLine matrix.now draft.begun draft.set (texts words.now) next.set) }
@@ -105,21 +105,21 @@ fn collect_line(
 {
     let begun = has_begun(draft.begun, words);
     if !lists(draft.begun, words) {
-        return Ok(Draft { begun, ..draft });
+        return Ok(CollectedDraft { begun, ..draft });
     }
     let history = history_said(alloc, matrix, &draft.set, words, number)?;
     add_beginnings(&mut draft.set, &history)?;
-    Ok(Draft { begun, ..draft })
+    Ok(CollectedDraft { begun, ..draft })
 }
 
 /// The draft before the first line.
-fn nothing_collected(alloc: Global) -> Result<Draft, AllocError>
+fn nothing_collected(alloc: Global) -> Result<CollectedDraft, AllocError>
     ensures empty { IfOk result (λ draft. IsClosureOf [] draft.set) }
     ensures begun { IfOk result (λ draft. draft.begun ≡ false) }
 {
     let mut set = Trie::new(alloc);
     add_beginnings(&mut set, &[])?;
-    Ok(Draft { set, begun: false })
+    Ok(CollectedDraft { set, begun: false })
 }
 
 /// Reads a specification of a matrix as a person writes it: the first line may be left out, and

@@ -4,13 +4,13 @@ ghost use Rattle.std.specs.Prelude.{◌≡◌, ◌++◌, IfOk, IfSome, IfNone};
 ghost use Rattle.std.specs.Option.{option_to_list};
 ghost use Rattle.lu_text.specs.Lines.{kept_lines};
 ghost use Rattle.lu_trie.specs.Conflicts.{IsDeterministic};
-ghost use Rattle.lu_spec.specs.EveryFault.{AddsFaults, AreSpecFaults, IsFirstFault, IsTakenOf, Judges, LeftBy, TakesNone};
+ghost use Rattle.lu_spec.specs.EveryFault.{AddsFaults, AreSpecFaults, IsFirstLineFault, IsTakenOf, Judges, LeftBy, TakesNone};
 ghost use Rattle.lu_spec.specs.Reading.{IsSomeGathering};
 
 use crate::fault::{SpecFaultKind, SpecLineFault};
 use crate::fitting::{calls_of, fits_in};
 use crate::history_line::{history_in, is_word};
-use crate::reader::{Draft, next_history, nothing_listed, with_history};
+use crate::reader::{ListedDraft, next_history, nothing_listed, with_history};
 use lu_history::SerialOp;
 use lu_test::Matrix;
 use lu_text::{Fault, cut_line};
@@ -44,7 +44,12 @@ fn taken_in(
 }
 
 /// The draft behind a line that has a fault: with its history, where that is one to be taken.
-fn left_by(alloc: Global, matrix: &Matrix, draft: Draft, line: &[u8]) -> Result<Draft, AllocError>
+fn left_by(
+    alloc: Global,
+    matrix: &Matrix,
+    draft: ListedDraft,
+    line: &[u8],
+) -> Result<ListedDraft, AllocError>
     requires { IsSomeGathering matrix.now draft.set draft.last.items }
     ensures { IfOk result (LeftBy matrix.now draft line.now) }
 {
@@ -61,10 +66,10 @@ fn left_by(alloc: Global, matrix: &Matrix, draft: Draft, line: &[u8]) -> Result<
 fn judge_line(
     alloc: Global,
     matrix: &Matrix,
-    draft: Draft,
+    draft: ListedDraft,
     line: &[u8],
     number: usize,
-) -> Result<(Draft, Option<SpecLineFault>), AllocError>
+) -> Result<(ListedDraft, Option<SpecLineFault>), AllocError>
     requires { IsSomeGathering matrix.now draft.set draft.last.items }
     ensures { IfOk result (Judges matrix.now draft number line.now) }
 {
@@ -127,7 +132,7 @@ fn with_faults(
 
 /// The fault of the first line, where that is another than it is to be.
 fn first_fault(line: &[u8]) -> Option<SpecLineFault>
-    ensures { IsFirstFault line.now result }
+    ensures { IsFirstLineFault line.now result }
 {
     if is_word(line, "lineup spec 1\n") {
         return None;

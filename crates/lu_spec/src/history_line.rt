@@ -4,7 +4,7 @@ ghost use Rattle.std.specs.Prelude.{◌≡◌, ◌↔◌, IsTrue, IfOk, IfSome, 
 ghost use Rattle.lu_text.specs.Lines.{texts};
 ghost use Rattle.lu_history.specs.declared.serial.SerialOp.{SerialOp};
 ghost use Rattle.lu_history.specs.Serial.{IsOutcome, IsSerial};
-ghost use Rattle.lu_spec.specs.SpecText.{ComesAfter, IsEntry, IsListable, SayEntries, SayHistory, SayNoEntries, SayNoHistory, SaysHistory, SaysNoHistory, SaysNoOutcome, entry_text, outcome_text};
+ghost use Rattle.lu_spec.specs.SpecText.{ComesAfter, IsEntry, IsListable, SayEntries, SayHistory, SayNoEntries, SayNoHistory, SaysHistory, SaysNoHistory, SaysNoOutcome, entry_text, listed_outcome_text};
 
 use lu_history::{SerialOp, SerialOutcome};
 use lu_test::MOST_CALLS;
@@ -21,7 +21,7 @@ pub(crate) fn is_word(word: &[u8], text: &str) -> bool
 /// The outcome that a word says.
 fn outcome_in(word: &[u8]) -> Option<SerialOutcome>
     ensures some { IfSome result (λ outcome.
-        IsOutcome outcome × (word.now ≡ outcome_text outcome)) }
+        IsOutcome outcome × (word.now ≡ listed_outcome_text outcome)) }
     ensures none { IfNone result (SaysNoOutcome word.now) }
 {
     if is_word(word, "trap") {

@@ -21,8 +21,8 @@ pub fn read_again()
     ensures { ReadAgain }
 {}
 
-/// [`crate::spec_faults`] agrees with [`crate::read_spec`]: it tells no fault exactly of a text that
-/// lists histories of the matrix, and of any other the reader's fault first. The function does
+/// [`crate::spec_faults`] agrees with [`crate::read_spec`]: it tells no fault exactly of a text
+/// that lists histories of the matrix, and of any other the reader's fault first. The function does
 /// nothing.
 pub fn told_as_read()
     ensures first { ToldAsRead }

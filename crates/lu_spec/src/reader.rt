@@ -21,7 +21,7 @@ use std::alloc::{AllocError, Allocator, Global};
 
 /// The histories of the lines so far: all their beginnings, and the last of them.
 #[derive(Drop)]
-pub(crate) struct Draft {
+pub(crate) struct ListedDraft {
     pub set: Trie<Global>,
     pub last: Vec<SerialOp>,
 }
@@ -52,7 +52,7 @@ fn goes_on(last: &[SerialOp], history: &[SerialOp]) -> bool
 pub(crate) fn next_history(
     alloc: Global,
     matrix: &Matrix,
-    draft: &Draft,
+    draft: &ListedDraft,
     line: &[u8],
     number: usize,
 ) -> Result<Vec<SerialOp>, SpecFault>
@@ -78,7 +78,10 @@ pub(crate) fn next_history(
 }
 
 /// The draft with one more history.
-pub(crate) fn with_history(mut draft: Draft, history: Vec<SerialOp>) -> Result<Draft, AllocError>
+pub(crate) fn with_history(
+    mut draft: ListedDraft,
+    history: Vec<SerialOp>,
+) -> Result<ListedDraft, AllocError>
     requires { IsSerial history.items }
     ensures set { IfOk result (λ next. AddsBeginnings draft.set next.set history.items) }
     ensures last { IfOk result (λ next. next.last.items ≡ history.items) }
@@ -92,10 +95,10 @@ pub(crate) fn with_history(mut draft: Draft, history: Vec<SerialOp>) -> Result<D
 fn read_line(
     alloc: Global,
     matrix: &Matrix,
-    draft: Draft,
+    draft: ListedDraft,
     line: &[u8],
     number: usize,
-) -> Result<Draft, SpecFault>
+) -> Result<ListedDraft, SpecFault>
     requires { IsSomeDraft matrix.now draft.set draft.last.items }
     ensures next { DraftsNext matrix.now draft.set draft.last.items line.now result }
     ensures fault { Refuses matrix.now draft.set draft.last.items line.now number result }
@@ -106,19 +109,19 @@ fn read_line(
 }
 
 /// The draft before the first history.
-pub(crate) fn nothing_listed(alloc: Global) -> Result<Draft, AllocError>
+pub(crate) fn nothing_listed(alloc: Global) -> Result<ListedDraft, AllocError>
     ensures { IfOk result ListsNothing }
 {
     let mut set = Trie::new(alloc);
     add_beginnings(&mut set, &[])?;
-    Ok(Draft {
+    Ok(ListedDraft {
         set,
         last: Vec::new(alloc),
     })
 }
 
 /// The draft of the histories of all lines; the text is what follows the first line.
-fn read_lines(alloc: Global, matrix: &Matrix, text: &[u8]) -> Result<Draft, SpecFault>
+fn read_lines(alloc: Global, matrix: &Matrix, text: &[u8]) -> Result<ListedDraft, SpecFault>
     ensures read { IfOk result (IsDraftOf matrix.now (kept_lines text.now)) }
     ensures fault { IfErr result (IsRefusalAmong matrix.now (kept_lines text.now)) }
 {

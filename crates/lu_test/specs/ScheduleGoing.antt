@@ -10,13 +10,13 @@ use Rattle.lu_test.specs.ScheduleText.{has_form, moves_of, one_line}
 abbrev pub words_by : List (List ℕ) → Option (List (List ℕ))
 words_by parts = if has_form parts then Some (drop 1 parts) else None
 
-abbrev pub words_in : Option (List ℕ) → Option (List (List ℕ))
-words_in None = None
-words_in (Some line) = words_by (slice_split (λ b. b == 32) line)
+abbrev pub schedule_line_words : Option (List ℕ) → Option (List (List ℕ))
+schedule_line_words None = None
+schedule_line_words (Some line) = words_by (slice_split (λ b. b == 32) line)
 
 -- the words behind `schedule`, where the text has the form of a schedule
 abbrev pub schedule_words : List ℕ → Option (List (List ℕ))
-schedule_words text = words_in (one_line text)
+schedule_words text = schedule_line_words (one_line text)
 
 -- the moves that they say
 abbrev pub moves_said : Option (List (List ℕ)) → Result (List Move) ScheduleFault

@@ -12,7 +12,7 @@ use std::alloc::{AllocError, Global};
 /// The words behind `schedule` of a line.
 fn words_by<'a>(alloc: Global, line: &'a [u8]) -> Result<Option<Vec<&'a [u8]>>, AllocError>
     ensures { IfOk result (λ words. option_map (λ ws. texts ws.items) words ≡
-        spec.words_in (Some line.now)) }
+        spec.schedule_line_words (Some line.now)) }
 {
     let mut words = parts_of(alloc, b' ', line)?;
     if !has_form(&words) {

@@ -13,37 +13,37 @@ abbrev pub five_texts : Bor Word × Bor Word × Bor Word × Bor Word × Bor Word
     → Word × Word × Word × Word × Word
 five_texts (a, b, c, d, e) = (a.now, b.now, c.now, d.now, e.now)
 
-abbrev pub one : List Word → Option Word
-one [] = None
-one (a ∷ []) = Some a
-one (a ∷ b ∷ words) = None
+abbrev pub exactly_one : List Word → Option Word
+exactly_one [] = None
+exactly_one (a ∷ []) = Some a
+exactly_one (a ∷ b ∷ words) = None
 
-abbrev pub two : List Word → Option (Word × Word)
-two [] = None
-two (a ∷ []) = None
-two (a ∷ b ∷ []) = Some (a, b)
-two (a ∷ b ∷ c ∷ words) = None
+abbrev pub exactly_two : List Word → Option (Word × Word)
+exactly_two [] = None
+exactly_two (a ∷ []) = None
+exactly_two (a ∷ b ∷ []) = Some (a, b)
+exactly_two (a ∷ b ∷ c ∷ words) = None
 
-abbrev pub three : List Word → Option (Word × Word × Word)
-three [] = None
-three (a ∷ []) = None
-three (a ∷ b ∷ []) = None
-three (a ∷ b ∷ c ∷ []) = Some (a, b, c)
-three (a ∷ b ∷ c ∷ d ∷ words) = None
+abbrev pub exactly_three : List Word → Option (Word × Word × Word)
+exactly_three [] = None
+exactly_three (a ∷ []) = None
+exactly_three (a ∷ b ∷ []) = None
+exactly_three (a ∷ b ∷ c ∷ []) = Some (a, b, c)
+exactly_three (a ∷ b ∷ c ∷ d ∷ words) = None
 
-abbrev pub four : List Word → Option (Word × Word × Word × Word)
-four [] = None
-four (a ∷ []) = None
-four (a ∷ b ∷ []) = None
-four (a ∷ b ∷ c ∷ []) = None
-four (a ∷ b ∷ c ∷ d ∷ []) = Some (a, b, c, d)
-four (a ∷ b ∷ c ∷ d ∷ e ∷ words) = None
+abbrev pub exactly_four : List Word → Option (Word × Word × Word × Word)
+exactly_four [] = None
+exactly_four (a ∷ []) = None
+exactly_four (a ∷ b ∷ []) = None
+exactly_four (a ∷ b ∷ c ∷ []) = None
+exactly_four (a ∷ b ∷ c ∷ d ∷ []) = Some (a, b, c, d)
+exactly_four (a ∷ b ∷ c ∷ d ∷ e ∷ words) = None
 
-abbrev pub five : List Word → Option (Word × Word × Word × Word × Word)
-five [] = None
-five (a ∷ []) = None
-five (a ∷ b ∷ []) = None
-five (a ∷ b ∷ c ∷ []) = None
-five (a ∷ b ∷ c ∷ d ∷ []) = None
-five (a ∷ b ∷ c ∷ d ∷ e ∷ []) = Some (a, b, c, d, e)
-five (a ∷ b ∷ c ∷ d ∷ e ∷ f ∷ words) = None
+abbrev pub exactly_five : List Word → Option (Word × Word × Word × Word × Word)
+exactly_five [] = None
+exactly_five (a ∷ []) = None
+exactly_five (a ∷ b ∷ []) = None
+exactly_five (a ∷ b ∷ c ∷ []) = None
+exactly_five (a ∷ b ∷ c ∷ d ∷ []) = None
+exactly_five (a ∷ b ∷ c ∷ d ∷ e ∷ []) = Some (a, b, c, d, e)
+exactly_five (a ∷ b ∷ c ∷ d ∷ e ∷ f ∷ words) = None

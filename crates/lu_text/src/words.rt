@@ -15,8 +15,8 @@ pub fn place_of(byte: u8, text: &[u8]) -> Option<usize>
 
 /// The word, where there is one and no more.
 #[tactic(auto, using(crate::proofs::Arity::is_one, crate::proofs::Arity::is_not_one))]
-pub fn one<'a>(words: &[&'a [u8]]) -> Option<&'a [u8]>
-    ensures { option_map (λ a. a.now) result ≡ spec.one (texts words.now) }
+pub fn exactly_one<'a>(words: &[&'a [u8]]) -> Option<&'a [u8]>
+    ensures { option_map (λ a. a.now) result ≡ spec.exactly_one (texts words.now) }
 {
     if words.len() != 1 {
         return None;
@@ -26,8 +26,8 @@ pub fn one<'a>(words: &[&'a [u8]]) -> Option<&'a [u8]>
 
 /// The two words, where there are so many and no more.
 #[tactic(auto, using(crate::proofs::Arity::are_two, crate::proofs::Arity::are_not_two))]
-pub fn two<'a>(words: &[&'a [u8]]) -> Option<(&'a [u8], &'a [u8])>
-    ensures { option_map (λ p. (p.0.now, p.1.now)) result ≡ spec.two (texts words.now) }
+pub fn exactly_two<'a>(words: &[&'a [u8]]) -> Option<(&'a [u8], &'a [u8])>
+    ensures { option_map (λ p. (p.0.now, p.1.now)) result ≡ spec.exactly_two (texts words.now) }
 {
     if words.len() != 2 {
         return None;
@@ -37,8 +37,9 @@ pub fn two<'a>(words: &[&'a [u8]]) -> Option<(&'a [u8], &'a [u8])>
 
 /// The three words, where there are so many and no more.
 #[tactic(auto, using(crate::proofs::Arity::are_three, crate::proofs::Arity::are_not_three))]
-pub fn three<'a>(words: &[&'a [u8]]) -> Option<(&'a [u8], &'a [u8], &'a [u8])>
-    ensures { option_map (λ p. (p.0.now, p.1.now, p.2.now)) result ≡ spec.three (texts words.now) }
+pub fn exactly_three<'a>(words: &[&'a [u8]]) -> Option<(&'a [u8], &'a [u8], &'a [u8])>
+    ensures { option_map (λ p. (p.0.now, p.1.now, p.2.now)) result
+        ≡ spec.exactly_three (texts words.now) }
 {
     if words.len() != 3 {
         return None;
@@ -48,8 +49,8 @@ pub fn three<'a>(words: &[&'a [u8]]) -> Option<(&'a [u8], &'a [u8], &'a [u8])>
 
 /// The four words, where there are so many and no more.
 #[tactic(auto, using(crate::proofs::Arity::are_four, crate::proofs::Arity::are_not_four))]
-pub fn four<'a>(words: &[&'a [u8]]) -> Option<(&'a [u8], &'a [u8], &'a [u8], &'a [u8])>
-    ensures { option_map spec.four_texts result ≡ spec.four (texts words.now) }
+pub fn exactly_four<'a>(words: &[&'a [u8]]) -> Option<(&'a [u8], &'a [u8], &'a [u8], &'a [u8])>
+    ensures { option_map spec.four_texts result ≡ spec.exactly_four (texts words.now) }
 {
     if words.len() != 4 {
         return None;
@@ -59,8 +60,10 @@ pub fn four<'a>(words: &[&'a [u8]]) -> Option<(&'a [u8], &'a [u8], &'a [u8], &'a
 
 /// The five words, where there are so many and no more.
 #[tactic(auto, using(crate::proofs::Arity::are_five, crate::proofs::Arity::are_not_five))]
-pub fn five<'a>(words: &[&'a [u8]]) -> Option<(&'a [u8], &'a [u8], &'a [u8], &'a [u8], &'a [u8])>
-    ensures { option_map spec.five_texts result ≡ spec.five (texts words.now) }
+pub fn exactly_five<'a>(
+    words: &[&'a [u8]],
+) -> Option<(&'a [u8], &'a [u8], &'a [u8], &'a [u8], &'a [u8])>
+    ensures { option_map spec.five_texts result ≡ spec.exactly_five (texts words.now) }
 {
     if words.len() != 5 {
         return None;

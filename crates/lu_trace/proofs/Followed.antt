@@ -8,7 +8,7 @@ use Rattle.lu_test.specs.Matrix.{Matrix}
 use Rattle.lu_machine.specs.declared.event.Event.{Event}
 use Rattle.lu_machine.specs.declared.event.Status.{Status}
 use Rattle.lu_machine.specs.declared.thread.Activity.TheVariants.{Open}
-use Rattle.lu_machine.specs.States.{State, with_thread}
+use Rattle.lu_machine.specs.States.{State, with_standing}
 use Rattle.lu_machine.specs.Steps.{OneStep, RunsOn, Step, IsFeasible, is_at_local, more_local}
 use Rattle.lu_machine.specs.Runs.{Leads, with_event}
 use Rattle.lu_machine.specs.Starts.{IsStart}
@@ -19,7 +19,7 @@ use Rattle.lu_machine.proofs.OneStepLaws.{one_same}
 use Rattle.lu_machine.proofs.Paths.{goes_on_feasible}
 use Rattle.lu_machine.proofs.Running.{local_once}
 use Rattle.lu_trace.specs.Lines.{status_line, step_line, waits}
-use Rattle.lu_trace.specs.Traces.{Adds, LocalLines, MoveLines, TraceLines, IsTrace, IsInfeasibleAt, Plays}
+use Rattle.lu_trace.specs.Traces.{AddsLines, LocalLines, MoveLines, TraceLines, IsTrace, IsInfeasibleAt, Plays}
 
 -- ---- where lines lead
 
@@ -47,11 +47,11 @@ lines_lead number s (m ∷ u) end lines h =
 -- ---- one step more
 
 -- the record of no lines
-pub none_more : (s : State) (t : ℕ) (old : List ℕ) → Adds (LocalLines 0 s t s) old old
+pub none_more : (s : State) (t : ℕ) (old : List ℕ) → AddsLines (LocalLines 0 s t s) old old
 none_more s t old = ([], (refl, refl), sym (append-nil old))
 
 -- no line where the thread is not at a local instruction
-pub no_more : (n : ℕ) (s : State) (t : ℕ) (old : List ℕ) → is_at_local s t ≡ false → Adds (LocalLines n s t s) old old
+pub no_more : (n : ℕ) (s : State) (t : ℕ) (old : List ℕ) → is_at_local s t ≡ false → AddsLines (LocalLines n s t s) old old
 no_more zero s t old h = none_more s t old
 no_more (suc n) s t old h = ([], rw h (refl, refl), sym (append-nil old))
 
@@ -59,19 +59,19 @@ local_on : (n : ℕ) (s : State) (t : ℕ) (next end : State) (rest lines : List
 local_on n s t next end rest lines h step more is = rw h (next, rest, step, more, is)
 
 -- a local instruction and its line, and those behind it
-pub once_more : (most : ℕ) (s : State) (t : ℕ) (next end : State) (event : Option Event) (old mid new : List ℕ) → 0 < most → is_at_local s t ≡ true → OneStep s (record { thread = t; pick = 0 }) next event → mid ≡ old ++ step_line None s (record { thread = t; pick = 0 }) → Adds (LocalLines (most - 1) next t end) mid new → Adds (LocalLines most s t end) old new
+pub once_more : (most : ℕ) (s : State) (t : ℕ) (next end : State) (event : Option Event) (old mid new : List ℕ) → 0 < most → is_at_local s t ≡ true → OneStep s (record { thread = t; pick = 0 }) next event → mid ≡ old ++ step_line None s (record { thread = t; pick = 0 }) → AddsLines (LocalLines (most - 1) next t end) mid new → AddsLines (LocalLines most s t end) old new
 once_more zero s t next end event old mid new some h step is adds = absurd (omega (arith, some))
 once_more (suc n) s t next end event old mid new some h step is adds =
     let m : Move = record { thread = t; pick = 0 } in
     let once = local_once s t h in
-    let same = one_same s m next (with_thread s t (record { done = once.standing.done; activity = Open once.after })) event None step once.step in
+    let same = one_same s m next (with_standing s t (record { done = once.standing.done; activity = Open once.after })) event None step once.step in
     let silent : OneStep s m next None = subst (λ (e : Option Event). OneStep s m next e) same.1 step in
     let less : suc n - 1 ≡ n = omega arith in
     let rest : LocalLines n next t end adds.0 = subst (λ k. LocalLines k next t end adds.0) less adds.1 in
     (step_line None s m ++ adds.0, local_on n s t next end adds.0 (step_line None s m ++ adds.0) h silent rest refl, adds.2 ∙ (ap (λ x. x ++ adds.0) is ∙ append_assoc old (step_line None s m) adds.0))
 
 -- a move's first step and its line, and those behind it
-pub move_more : (number : ℕ) (s : State) (m : Move) (mid end : State) (event : Option Event) (old text new : List ℕ) (more : ℕ) → OneStep s m mid event → more ≡ more_local s m.thread → text ≡ old ++ step_line (Some number) s m → Adds (LocalLines more mid m.thread end) text new → Adds (MoveLines number s m end) old new
+pub move_more : (number : ℕ) (s : State) (m : Move) (mid end : State) (event : Option Event) (old text new : List ℕ) (more : ℕ) → OneStep s m mid event → more ≡ more_local s m.thread → text ≡ old ++ step_line (Some number) s m → AddsLines (LocalLines more mid m.thread end) text new → AddsLines (MoveLines number s m end) old new
 move_more number s m mid end event old text new more step count is adds =
     let rest : LocalLines (more_local s m.thread) mid m.thread end adds.0 = subst (λ k. LocalLines k mid m.thread end adds.0) count adds.1 in
     (step_line (Some number) s m ++ adds.0, (mid, event, adds.0, step, rest, refl), adds.2 ∙ (ap (λ x. x ++ adds.0) is ∙ append_assoc old (step_line (Some number) s m) adds.0))
@@ -96,7 +96,7 @@ pub record IsTraced (start : State) (u : List Move) (many : ℕ) (now : State) (
 pub traced_none : (start : State) (u : List Move) → IsTraced start u 0 start []
 traced_none start u = record { lines_are = (refl, refl) }
 
-pub traced_more : (start : State) (u : List Move) (many : ℕ) (now : State) (old : List ℕ) (m : Move) (new : State) (text : List ℕ) → IsTraced start u many now old → many < length u → m ≡ get_or u many m → Adds (MoveLines many now m new) old text → IsTraced start u (many + 1) new text
+pub traced_more : (start : State) (u : List Move) (many : ℕ) (now : State) (old : List ℕ) (m : Move) (new : State) (text : List ℕ) → IsTraced start u many now old → many < length u → m ≡ get_or u many m → AddsLines (MoveLines many now m new) old text → IsTraced start u (many + 1) new text
 traced_more start u many now old m new text traced below read adds =
     let more : take (many + 1) u ≡ take many u ++ m ∷ [] =
     take_more u many m below ∙ ap (λ (n : Move). take many u ++ n ∷ []) (sym read) in

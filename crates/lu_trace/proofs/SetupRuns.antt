@@ -1,5 +1,5 @@
 -- The steps of a setup: they are few, they end where its calls end, and no other steps do.
-use Rattle.std.proofs.Common.{◌≡◌, ℕ, zero, suc, ◌+◌, ◌-◌, ◌*◌, codes, ◌<◌, ◌≤◌, Bool, true, false, MatchBool, List, [], ◌∷◌, ◌++◌, length, replicate, map, Option, Some, None, slice_get, refl, sym, ◌∙◌, ap, subst, add-one, arith}
+use Rattle.std.proofs.Common.{◌≡◌, ℕ, zero, suc, ◌+◌, ◌-◌, ◌*◌, codes, ◌<◌, ◌≤◌, Bool, true, false, MatchBool, List, [], ◌∷◌, ◌++◌, length, replicate, Option, Some, None, slice_get, refl, sym, ◌∙◌, ap, subst, add-one, arith}
 use Rattle.std.specs.Option.{option_map}
 use Rattle.std.specs.List.{All}
 use Rattle.std.proofs.lemmas.List.{append_assoc, append-nil}
@@ -13,7 +13,6 @@ use Rattle.lu_test.specs.Matrix.{IsCallOf, IsMatrix, Matrix, alone, calls_of}
 use Rattle.lu_machine.specs.declared.event.Event.{Event}
 use Rattle.lu_machine.specs.declared.thread.Activity.{Activity}
 use Rattle.lu_machine.specs.declared.thread.Activity.TheVariants.{Idle, Open}
-use Rattle.lu_machine.specs.declared.thread.Thread.{Thread}
 use Rattle.lu_machine.specs.States.{State, is_open, progress, progress_of}
 use Rattle.lu_machine.specs.Steps.{ByActivity, IsFeasible, OneStep, RunsOn, Step, is_at_local, more_local}
 use Rattle.lu_machine.specs.Runs.{Leads}
@@ -21,8 +20,8 @@ use Rattle.lu_machine.specs.Starts.{AllEnd, CanRun, IsStart, MakesAll, empty_sta
 use Rattle.lu_machine.proofs.Keeping.{step_moved}
 use Rattle.lu_machine.proofs.OneStepLaws.{feasible_one, one_feasible, one_same}
 use Rattle.lu_machine.proofs.Starting.{after, none_settles, start_same}
-use Rattle.lu_trace.specs.Setups.{AreSetupLines, IsTraceFromSetup, LinesUpTo, SetupLines, found, setup_heading, setup_line}
-use Rattle.lu_trace.specs.Traces.{Adds, IsTrace}
+use Rattle.lu_trace.specs.Setups.{AreSetupLines, IsTraceFromSetup, LinesUpTo, SetupLines, found_lines, setup_heading, setup_line}
+use Rattle.lu_trace.specs.Traces.{AddsLines}
 use Rattle.lu_trace.proofs.Followed.{one_trace}
 
 -- ---- few steps
@@ -143,7 +142,7 @@ setup_lines c calls s now lines few short settles is h =
 
 -- ---- one step more
 
-pub no_lines : (s : State) (old : List ℕ) → Adds (SetupLines 0 s s) old old
+pub no_lines : (s : State) (old : List ℕ) → AddsLines (SetupLines 0 s s) old old
 no_lines s old = ([], (refl, refl), sym (append-nil old))
 
 lines_more : (n : ℕ) (s now new : State) (event : Option Event) (lines : List ℕ) → SetupLines n s now lines → OneStep now first_move new event → SetupLines (suc n) s new (lines ++ setup_line now)
@@ -153,14 +152,14 @@ lines_more zero s now new event lines h step =
 lines_more (suc n) s now new event lines h step =
     (h.0, h.1, h.2 ++ setup_line now, h.3, lines_more n h.0 now new event h.2 h.4 step, ap (λ x. x ++ setup_line now) h.5 ∙ append_assoc (setup_line s) h.2 (setup_line now))
 
-pub one_line_more : (n : ℕ) (s now new : State) (event : Option Event) (old text next : List ℕ) → Adds (SetupLines n s now) old text → OneStep now first_move new event → next ≡ text ++ setup_line now → Adds (SetupLines (n + 1) s new) old next
+pub one_line_more : (n : ℕ) (s now new : State) (event : Option Event) (old text next : List ℕ) → AddsLines (SetupLines n s now) old text → OneStep now first_move new event → next ≡ text ++ setup_line now → AddsLines (SetupLines (n + 1) s new) old next
 one_line_more n s now new event old text next h step is =
     rw (add-one n) (h.0 ++ setup_line now, lines_more n s now new event h.0 h.1 step, is ∙ (ap (λ x. x ++ setup_line now) h.2 ∙ append_assoc old h.0 (setup_line now)))
 
-pub up_to : (most n : ℕ) (s now : State) (old text : List ℕ) → (n < most → IsFeasible now first_move → ⊥) → Adds (SetupLines n s now) old text → Adds (LinesUpTo most s now) old text
+pub up_to : (most n : ℕ) (s now : State) (old text : List ℕ) → (n < most → IsFeasible now first_move → ⊥) → AddsLines (SetupLines n s now) old text → AddsLines (LinesUpTo most s now) old text
 up_to most n s now old text far h = (h.0, (n, h.1, far), h.2)
 
-pub setup_added : (c : Declarations) (calls : List Call) (s now : State) (old text : List ℕ) → c.local ≤ 16 → length calls ≤ 8 → AllEnd c calls → s ≡ empty_state c (alone calls) → Adds (LinesUpTo 34952 s now) old text → Adds (AreSetupLines c calls) old text
+pub setup_added : (c : Declarations) (calls : List Call) (s now : State) (old text : List ℕ) → c.local ≤ 16 → length calls ≤ 8 → AllEnd c calls → s ≡ empty_state c (alone calls) → AddsLines (LinesUpTo 34952 s now) old text → AddsLines (AreSetupLines c calls) old text
 setup_added c calls s now old text few short settles is h =
     (h.0, setup_lines c calls s now h.0 few short settles is h.1, h.2)
 
@@ -203,6 +202,6 @@ one_trace_from_setup c matrix u text other p q =
     let start = start_same c matrix p.1 q.1 p.4 q.4 in
     let trace = one_trace c matrix u p.2 q.2 p.5 q.5 in
     let heading = setup_heading matrix.setup in
-    p.6 ∙ (ap (λ x. heading ++ x ++ codes "start\n" ++ found p.1 ++ p.2) lines
-    ∙ (ap (λ (x : State). heading ++ q.0 ++ codes "start\n" ++ found x ++ p.2) start
-    ∙ (ap (λ x. heading ++ q.0 ++ codes "start\n" ++ found q.1 ++ x) trace ∙ sym q.6)))
+    p.6 ∙ (ap (λ x. heading ++ x ++ codes "start\n" ++ found_lines p.1 ++ p.2) lines
+    ∙ (ap (λ (x : State). heading ++ q.0 ++ codes "start\n" ++ found_lines x ++ p.2) start
+    ∙ (ap (λ x. heading ++ q.0 ++ codes "start\n" ++ found_lines q.1 ++ x) trace ∙ sym q.6)))

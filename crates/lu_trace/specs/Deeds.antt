@@ -1,8 +1,7 @@
 -- What an instruction does, and what it waits for, in words: of the state before it.
-use Rattle.std.specs.Prelude.{ℕ, ◌++◌, ◌==◌, if◌then◌else◌, List, [], codes, Option, Some, None, Result, String}
+use Rattle.std.specs.Prelude.{ℕ, ◌++◌, ◌==◌, if◌then◌else◌, List, [], codes, Option, Some, None}
 use Rattle.std.specs.Option.{option_map}
 use Rattle.std.specs.Fmt.{decimal}
-use Rattle.lu_text.specs.Writing.{Writes}
 use Rattle.lu_component.specs.declared.instr.Instr.{Instr}
 use Rattle.lu_component.specs.declared.instr.Instr.TheVariants.{Set, Compute, Load, Store, Cas, Lock, Unlock, Await, AwaitNot, Pick, Jump, JumpIfZero, Return}
 use Rattle.lu_component.specs.declared.instr.Operand.{Operand}
@@ -14,6 +13,7 @@ use Rattle.lu_machine.specs.declared.thread.Frame.{Frame}
 use Rattle.lu_machine.specs.Effects.{value_of, computed}
 use Rattle.lu_machine.specs.States.{State, cell_at, value_at, owner_of}
 use Rattle.lu_machine.specs.Steps.{owns}
+use Rattle.lu_trace.specs.declared.deeds.Swap.{Swap}
 
 -- ---- words
 
@@ -67,17 +67,23 @@ store_deed s f w i v = or_trap (λ n. cell_becomes s.component w (value_of f i) 
 abbrev pub look_deed : State → Frame → ℕ → Operand → List ℕ
 look_deed s f w i = or_trap (λ n. cell_is s.component w (value_of f i) n) (seen s f w i)
 
--- where the values are equal the cell becomes `desired` and the register 1, else the register 0
-abbrev pub swap_deed : Declarations → ℕ → ℕ → ℕ → ℕ → ℕ → ℕ → List ℕ
-swap_deed c to w i expected desired n =
-    if n == expected then cell_becomes c w i desired ++ codes ", " ++ register_becomes to 1
-    else cell_is c w i n ++ codes ", " ++ register_becomes to 0
+-- a compare-and-swap of the operation f, with the values of its operands
+abbrev pub swap_of : Frame → ℕ → ℕ → Operand → Operand → Operand → Swap
+swap_of f to w i expected desired = record {
+  to = to;
+  array = w;
+  index = value_of f i;
+  expected = value_of f expected;
+  desired = value_of f desired;
+}
 
--- such a deed is written
-abbrev pub WritesSwap : {T E Z : Type 0} → Result T E → String Z → String Z → Declarations → ℕ → ℕ
-    → ℕ → ℕ → ℕ → ℕ → Type 0
-WritesSwap result old new c to w i expected desired n =
-    Writes result old new (swap_deed c to w i expected desired n)
+-- where the values are equal the cell becomes `desired` and the register 1, else the register 0
+abbrev pub swap_deed : Declarations → Swap → ℕ → List ℕ
+swap_deed c swap n =
+    if n == swap.expected
+    then cell_becomes c swap.array swap.index swap.desired ++ codes ", "
+    ++ register_becomes swap.to 1
+    else cell_is c swap.array swap.index n ++ codes ", " ++ register_becomes swap.to 0
 
 -- the lock is free; a trap where thread t does not own it
 abbrev pub unlock_deed : State → ℕ → ℕ → List ℕ
@@ -94,10 +100,7 @@ deed s m f (Compute by to a b) = register_becomes to (computed by (value_of f a)
 deed s m f (Load to w i) = load_deed s f to w i
 deed s m f (Store w i v) = store_deed s f w i (value_of f v)
 deed s m f (Cas to w i expected desired) =
-    or_trap
-    (λ n. swap_deed s.component to w (value_of f i) (value_of f expected)
-    (value_of f desired) n)
-    (seen s f w i)
+    or_trap (swap_deed s.component (swap_of f to w i expected desired)) (seen s f w i)
 deed s m f (Lock l) = lock_word s.component l ++ codes " is taken"
 deed s m f (Unlock l) = unlock_deed s m.thread l
 deed s m f (Await w i v) = look_deed s f w i

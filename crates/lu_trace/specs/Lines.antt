@@ -45,24 +45,25 @@ abbrev pub column : List ℕ
 column = codes "                        "
 
 -- what a line of thread t begins with: the number or none, and in the thread's column its name
-abbrev pub head : Option ℕ → ℕ → List ℕ
-head number t =
+abbrev pub line_head : Option ℕ → ℕ → List ℕ
+line_head number t =
     number_text number ++ codes " " ++ repeat t column ++ codes "T" ++ decimal t ++ codes " "
 
 -- a line of thread t
 abbrev pub line : Option ℕ → ℕ → List ℕ → List ℕ
-line number t words = head number t ++ words ++ codes "\n"
+line number t words = line_head number t ++ words ++ codes "\n"
 
 -- ---- steps
 
 -- the code of an operation
-abbrev pub code_of : Declarations → ℕ → List Instr
-code_of c op = option_map_or (λ o. o.code) (slice_get c.operations op) []
+abbrev pub code_of_operation : Declarations → ℕ → List Instr
+code_of_operation c op = option_map_or (λ o. o.code) (slice_get c.operations op) []
 
 -- the instruction at the operation's place as the component's text has it, and what begins a remark
 abbrev pub instr_text : Declarations → Frame → Instr → List ℕ
 instr_text c f instr =
-    label_text (code_of c f.op) f.place ++ join_with_byte 32 (instr_words c instr) ++ codes "  # "
+    label_text (code_of_operation c f.op) f.place ++ join_with_byte 32 (instr_words c instr)
+    ++ codes "  # "
 
 -- a call as a matrix has it
 abbrev pub call_words : Declarations → Call → List ℕ
@@ -80,14 +81,14 @@ next_instr s m f =
     (instr_at s.component f.op f.place) []
 
 -- what a thread that stands so does next
-abbrev pub next_words : State → Move → ℕ → Activity → List ℕ
-next_words s m done Idle = next_call s m.thread done
-next_words s m done (Open f) = next_instr s m f
+abbrev pub next_move_words : State → Move → ℕ → Activity → List ℕ
+next_move_words s m done Idle = next_call s m.thread done
+next_move_words s m done (Open f) = next_instr s m f
 
 -- what the thread of the move m does next, in the state s
 abbrev pub step_words : State → Move → List ℕ
 step_words s m =
-    option_map_or (λ thread. next_words s m thread.done thread.activity)
+    option_map_or (λ thread. next_move_words s m thread.done thread.activity)
     (slice_get s.threads m.thread) []
 
 -- the line of that, with the number or none

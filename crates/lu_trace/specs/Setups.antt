@@ -67,15 +67,15 @@ abbrev pub cell_count : Declarations → ℕ → ℕ
 cell_count c w = option_map_or (λ array. array.len) (slice_get c.arrays w) 0
 
 -- the line of array w: its name, and the value of each cell
-abbrev pub array_line : State → ℕ → List ℕ
-array_line s w =
+abbrev pub array_values_line : State → ℕ → List ℕ
+array_values_line s w =
     indent ++ array_word s.component w ++ codes " is"
     ++ values_text s w (cell_count s.component w) ++ codes "\n"
 
 -- the lines of the first n arrays
 abbrev pub array_lines : State → ℕ → List ℕ
 array_lines s zero = []
-array_lines s (suc n) = array_lines s n ++ array_line s n
+array_lines s (suc n) = array_lines s n ++ array_values_line s n
 
 -- whether a lock is free, and else who has it
 abbrev pub holder_text : Option ℕ → List ℕ
@@ -83,17 +83,17 @@ holder_text None = codes " is free\n"
 holder_text (Some t) = codes " is taken by thread " ++ decimal t ++ codes "\n"
 
 -- the line of lock l
-abbrev pub lock_line : State → ℕ → List ℕ
-lock_line s l = indent ++ lock_word s.component l ++ holder_text (owner_of s l)
+abbrev pub lock_owner_line : State → ℕ → List ℕ
+lock_owner_line s l = indent ++ lock_word s.component l ++ holder_text (owner_of s l)
 
 -- the lines of the first n locks
 abbrev pub lock_lines : State → ℕ → List ℕ
 lock_lines s zero = []
-lock_lines s (suc n) = lock_lines s n ++ lock_line s n
+lock_lines s (suc n) = lock_lines s n ++ lock_owner_line s n
 
 -- the lines of all arrays, and of all locks
-abbrev pub found : State → List ℕ
-found s = array_lines s (length s.component.arrays) ++ lock_lines s (length s.component.locks)
+abbrev pub found_lines : State → List ℕ
+found_lines s = array_lines s (length s.component.arrays) ++ lock_lines s (length s.component.locks)
 
 -- ---- the whole
 
@@ -103,7 +103,7 @@ abbrev pub IsTraceFromSetup : Declarations → Matrix → List Move → List ℕ
 IsTraceFromSetup c matrix u text =
     (lines : List ℕ) × (start : State) × (trace : List ℕ)
     × AreSetupLines c matrix.setup lines × IsStart c matrix start × IsTrace c matrix u trace
-    × (text ≡ setup_heading matrix.setup ++ lines ++ codes "start\n" ++ found start ++ trace)
+    × (text ≡ setup_heading matrix.setup ++ lines ++ codes "start\n" ++ found_lines start ++ trace)
 
 abbrev pub IsTextFromSetup : {Z : Type 0} → Declarations → Matrix → List Move → String Z → Type 0
 IsTextFromSetup c matrix u text = IsTraceFromSetup c matrix u (string_bytes text)

@@ -61,8 +61,8 @@ IsTraceFault c matrix u Memory = Unit {0}
 -- ---- texts that grow
 
 -- the new text is the old one and such lines
-abbrev pub Adds : (List ℕ → Type 0) → List ℕ → List ℕ → Type 0
-Adds Are old new = (lines : List ℕ) × Are lines × (new ≡ old ++ lines)
+abbrev pub AddsLines : (List ℕ → Type 0) → List ℕ → List ℕ → Type 0
+AddsLines Are old new = (lines : List ℕ) × Are lines × (new ≡ old ++ lines)
 
 abbrev pub AddsText : {Z : Type 0} → (List ℕ → Type 0) → String Z → String Z → Type 0
-AddsText Are old new = Adds Are (string_bytes old) (string_bytes new)
+AddsText Are old new = AddsLines Are (string_bytes old) (string_bytes new)

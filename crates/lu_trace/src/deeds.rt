@@ -4,7 +4,7 @@ ghost use Rattle.std.specs.Prelude.{◌≡◌, ◌<◌, length};
 ghost use Rattle.lu_text.specs.Writing.{Writes};
 ghost use Rattle.lu_component.specs.Component.{IsOperand};
 ghost use Rattle.lu_machine.specs.Layout.{IsSound};
-ghost use Rattle.lu_trace.specs.Deeds.{WritesSwap, store_deed};
+ghost use Rattle.lu_trace.specs.Deeds.{store_deed};
 ghost use Rattle.lu_trace.specs.Deeds as spec;
 
 use lu_component::{Component, Instr, Operand};
@@ -12,6 +12,16 @@ use lu_lang::{array_name, lock_name};
 use lu_machine::{Frame, Machine, compute};
 use lu_test::Move;
 use std::alloc::AllocError;
+
+/// A compare-and-swap of a cell, with the values of its operands.
+#[derive(Clone, Copy)]
+pub(crate) struct Swap {
+    to: u8,
+    array: u8,
+    index: u32,
+    expected: u32,
+    desired: u32,
+}
 
 /// Adds what a register becomes.
 fn write_register(text: &mut String, register: u8, value: u32) -> Result<(), AllocError>
@@ -57,24 +67,19 @@ fn write_jump(text: &mut String, target: u8) -> Result<(), AllocError>
 fn write_swap(
     text: &mut String,
     component: &Component,
-    to: u8,
-    array: u8,
-    index: u32,
-    expected: u32,
-    desired: u32,
+    swap: Swap,
     value: u32,
 ) -> Result<(), AllocError>
-    ensures { WritesSwap result text.old text.new component.now to array index
-        expected desired value }
+    ensures { Writes result text.old text.new (spec.swap_deed component.now swap value) }
 {
-    if value == expected {
-        write_becoming(text, component, array, index, desired)?;
+    if value == swap.expected {
+        write_becoming(text, component, swap.array, swap.index, swap.desired)?;
         text.push_str(", ")?;
-        write_register(text, to, 1)
+        write_register(text, swap.to, 1)
     } else {
-        write_cell(text, component, array, index, value)?;
+        write_cell(text, component, swap.array, swap.index, value)?;
         text.push_str(", ")?;
-        write_register(text, to, 0)
+        write_register(text, swap.to, 0)
     }
 }
 
@@ -217,16 +222,16 @@ pub(crate) fn write_deed(
             desired,
         } => match value_in(machine, frame, array, index) {
             None => text.push_str("trap"),
-            Some(value) => write_swap(
-                text,
-                component,
-                to,
-                array,
-                frame.value(index),
-                frame.value(expected),
-                frame.value(desired),
-                value,
-            ),
+            Some(value) => {
+                let swap = Swap {
+                    to,
+                    array,
+                    index: frame.value(index),
+                    expected: frame.value(expected),
+                    desired: frame.value(desired),
+                };
+                write_swap(text, component, swap, value)
+            }
         },
         Instr::Lock(lock) => write!(text, "{} is taken", lock_name(component, lock)),
         Instr::Unlock(lock) => write_unlock(text, machine, next, lock),

@@ -2,8 +2,8 @@
 
 ghost use Rattle.lu_trace.specs.Laws.{OneTrace, OneTraceFromSetup, TraceLeads, TraceOrFault};
 
-/// A schedule that has a trace leads somewhere, and is infeasible nowhere; and it has one trace, and
-/// one from the setup on. The function does nothing.
+/// A schedule that has a trace leads somewhere, and is infeasible nowhere; and it has one trace,
+/// and one from the setup on. The function does nothing.
 pub fn trace_laws()
     ensures leads { TraceLeads }
     ensures one_trace { OneTrace }

@@ -2,7 +2,8 @@
 //!
 //! [`write_trace`] plays a schedule of a component and a matrix, and writes a line for each step.
 //! Each thread has a column of its own, so that it is seen how their steps interleave.
-//! [`write_trace_from_setup`] begins before, with what the calls of the matrix's setup do and leave.
+//! [`write_trace_from_setup`] begins before, with what the calls of the matrix's setup do and
+//! leave.
 //!
 //! ```text
 //! trace complete

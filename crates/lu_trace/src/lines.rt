@@ -59,7 +59,7 @@ pub(crate) fn write_head(
     number: Option<usize>,
     thread: u8,
 ) -> Result<(), AllocError>
-    ensures { Writes result text.old text.new (spec.head number thread) }
+    ensures { Writes result text.old text.new (spec.line_head number thread) }
 {
     let indent = COLUMN.repeat(alloc, usize::from(thread))?;
     write_number(text, number)?;
@@ -67,8 +67,8 @@ pub(crate) fn write_head(
 }
 
 /// The code of an operation, by its number. No call of a component names one that is not there.
-fn code_of(component: &Component, op: u8) -> &[Instr]
-    ensures { result.now ≡ spec.code_of component.now op }
+fn code_of_operation(component: &Component, op: u8) -> &[Instr]
+    ensures { result.now ≡ spec.code_of_operation component.now op }
 {
     match component.operation(op) {
         None => &[],
@@ -86,7 +86,11 @@ pub(crate) fn write_instr_text(
 ) -> Result<(), AllocError>
     ensures { Writes result text.old text.new (spec.instr_text component.now frame.now instr.now) }
 {
-    write_label(text, code_of(component, frame.op), usize::from(frame.place))?;
+    write_label(
+        text,
+        code_of_operation(component, frame.op),
+        usize::from(frame.place),
+    )?;
     write_instr(text, component, *instr)?;
     text.push_str("  # ")
 }

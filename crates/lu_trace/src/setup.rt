@@ -121,7 +121,7 @@ fn write_values(
 /// Adds the line of an array.
 fn write_array(text: &mut String, machine: &Machine<'_>, array: u8) -> Result<(), AllocError>
     requires { array < length machine.now.component.arrays }
-    ensures { Writes result text.old text.new (spec.array_line machine.now array) }
+    ensures { Writes result text.old text.new (spec.array_values_line machine.now array) }
 {
     let component = machine.component();
     write!(text, "{INDENT}{} is", array_name(component, array))?;
@@ -154,7 +154,7 @@ fn write_holder(text: &mut String, owner: Option<u8>) -> Result<(), AllocError>
 /// Adds the line of a lock.
 fn write_lock(text: &mut String, machine: &Machine<'_>, lock: u8) -> Result<(), AllocError>
     requires { lock < length machine.now.component.locks }
-    ensures { Writes result text.old text.new (spec.lock_line machine.now lock) }
+    ensures { Writes result text.old text.new (spec.lock_owner_line machine.now lock) }
 {
     text.push_str(INDENT)?;
     text.push_str(lock_name(machine.component(), lock))?;
@@ -175,7 +175,7 @@ fn write_locks(text: &mut String, machine: &Machine<'_>) -> Result<(), AllocErro
 
 /// Adds the cells and locks that threads find.
 fn write_found(text: &mut String, machine: &Machine<'_>) -> Result<(), AllocError>
-    ensures { Writes result text.old text.new (spec.found machine.now) }
+    ensures { Writes result text.old text.new (spec.found_lines machine.now) }
 {
     write_arrays(text, machine)?;
     write_locks(text, machine)
@@ -193,8 +193,8 @@ fn write_found(text: &mut String, machine: &Machine<'_>) -> Result<(), AllocErro
 ///
 /// # Errors
 ///
-/// `Infeasible` with the index, from 0, of the first move of the schedule that is not feasible where
-/// it stands; `Memory` where memory was refused.
+/// `Infeasible` with the index, from 0, of the first move of the schedule that is not feasible
+/// where it stands; `Memory` where memory was refused.
 pub fn write_trace_from_setup(
     alloc: Global,
     component: &Component,

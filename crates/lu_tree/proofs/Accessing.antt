@@ -21,7 +21,7 @@ use Rattle.lu_machine.specs.declared.undo.Shared.TheVariants.{Nothing, Cell, Own
 use Rattle.lu_machine.specs.Changes.{at_work, idle}
 use Rattle.lu_machine.specs.Effects.{Effect, onward, onward_with, value_of}
 use Rattle.lu_machine.specs.Effects.Effect.{GoesOn, Ends}
-use Rattle.lu_machine.specs.States.{State, cell_at, cell_of, instr_at, owner_of, value_at, with_cell, with_owner, with_thread}
+use Rattle.lu_machine.specs.States.{State, cell_at, cell_of, instr_at, owner_of, value_at, with_cell, with_owner, with_standing}
 use Rattle.lu_machine.specs.Steps.{Carries, ByActivity, OneStep, RunsOn, Step, event_after, instr_picks, more_local, opened, owns, picks_of, thread_after}
 use Rattle.lu_machine.specs.Undoes.{with_shared}
 use Rattle.lu_machine.proofs.Keeping.{Turns, step_moved}
@@ -29,7 +29,7 @@ use Rattle.lu_machine.proofs.Running.{ran}
 use Rattle.lu_machine.proofs.StepLaws.{feasible_step, step_same}
 use Rattle.lu_horizon.proofs.OwnLaws.{get_set_other, get_set_same, one_step_by}
 use Rattle.lu_horizon.specs.Dead.{DeadTable}
-use Rattle.lu_orders.specs.Solo.{IsSame, move_of}
+use Rattle.lu_orders.specs.Solo.{IsSame, only_move}
 use Rattle.lu_orders.proofs.Frames.{frame_runs, more_alike}
 use Rattle.lu_tree.specs.declared.access.Access.{Access}
 use Rattle.lu_tree.specs.declared.access.Held.{Held}
@@ -153,7 +153,7 @@ pub record IsLike (t : ℕ) (s r : State) : Type 0 where
 
 -- s with what is written, and thread t standing so
 abbrev pub written : State → Shared → ℕ → Thread → State
-written s w t now = with_thread (with_shared s w) t now
+written s w t now = with_standing (with_shared s w) t now
 
 shared_component : (s : State) (w : Shared) → (with_shared s w).component ≡ s.component
 shared_component s Nothing = refl
@@ -177,7 +177,7 @@ written_stands s w t was now stands = rw (shared_threads s w) (get_set_same s.th
 pub written_other : (s : State) (w : Shared) (t u : ℕ) (now : Thread) → (t ≡ u → ⊥) → slice_get (written s w t now).threads u ≡ slice_get s.threads u
 written_other s w t u now differ = rw (shared_threads s w) (get_set_other s.threads t u now (λ e. differ (sym e)))
 
-written_again : (s : State) (w : Shared) (t : ℕ) (x y : Thread) → with_thread (written s w t x) t y ≡ written s w t y
+written_again : (s : State) (w : Shared) (t : ℕ) (x y : Thread) → with_standing (written s w t x) t y ≡ written s w t y
 written_again s w t x y = ap (λ (threads : List Thread). let z : State = record (with_shared s w) { threads = threads } in z) (set-set (with_shared s w).threads t x y)
 
 -- what one call or instruction writes, and that it does the same in each state that is like this one for its thread
@@ -186,7 +186,7 @@ record Once (s : State) (t : ℕ) (new : State) (event : Option Event) : Type 0 
   pub within : Within wrote (next_access s t)
   pub now : Thread
   pub is : new ≡ written s wrote t now
-  pub there : (r : State) → IsLike t s r → OneStep r (move_of t) (written r wrote t now) event × (picks_of r t ≡ picks_of s t)
+  pub there : (r : State) → IsLike t s r → OneStep r (only_move t) (written r wrote t now) event × (picks_of r t ≡ picks_of s t)
 
 picks_at : (s : State) (t k : ℕ) (f : Frame) (instr : Instr) → slice_get s.threads t ≡ Some (at_work k f) → instr_at s.component f.op f.place ≡ Some instr → picks_of s t ≡ instr_picks s f instr
 picks_at s t k f instr stands at = rw (stands, at) refl
@@ -194,7 +194,7 @@ picks_at s t k f instr stands at = rw (stands, at) refl
 access_at : (s : State) (t k : ℕ) (f : Frame) (instr : Instr) → slice_get s.threads t ≡ Some (at_work k f) → instr_at s.component f.op f.place ≡ Some instr → next_access s t ≡ instr_access s.component f instr
 access_at s t k f instr stands at = rw (stands, at) refl
 
-once : (s new : State) (t k : ℕ) (activity : Activity) (event : Option Event) → slice_get s.threads t ≡ Some (record { done = k; activity = activity }) → ByActivity s (move_of t) k activity new event → Once s t new event
+once : (s new : State) (t k : ℕ) (activity : Activity) (event : Option Event) → slice_get s.threads t ≡ Some (record { done = k; activity = activity }) → ByActivity s (only_move t) k activity new event → Once s t new event
 once s new t k Idle event was h = record {
   wrote = Nothing;
   within = tt;
@@ -206,14 +206,14 @@ once s new t k Idle event was h = record {
       ((idle k, stands, (h.0, rw like.matrix_is h.1, refl, refl, h.4)), picks));
 }
 once s new t k (Open f) event was h =
-    let a = acting s (move_of t) f h.0 h.1 h.2 h.5 in
+    let a = acting s (only_move t) f h.0 h.1 h.2 h.5 in
     let at : next_access s t ≡ instr_access s.component f h.0 = access_at s t k f h.0 was h.3 in
     let now = thread_after k h.2 in
     record {
       wrote = a.wrote;
       within = subst (λ x. Within a.wrote x) (sym at) a.within;
       now = now;
-      is = h.6 ∙ ap (λ (x : State). with_thread x t now) a.is;
+      is = h.6 ∙ ap (λ (x : State). with_standing x t now) a.is;
       there = λ r like.
           (let stands : slice_get r.threads t ≡ Some (at_work k f) = like.stands ∙ was in
           let here : instr_at r.component f.op f.place ≡ Some h.0 = rw like.component h.3 in
@@ -245,10 +245,10 @@ like_same s r t like = record { component = like.component; matrix_is = like.mat
 
 pub does : (s new : State) (t : ℕ) (event : Option Event) → Moves t s new event → Does s t new event
 does s new t event moves =
-    let step : Step s (move_of t) new event = moves.1 in
+    let step : Step s (only_move t) new event = moves.1 in
     let mid = step.0 in
     let thread : Thread = step.1.0 in
-    let by : ByActivity s (move_of t) thread.done thread.activity mid event = one_step_by s (move_of t) mid event thread step.1.1 step.1 in
+    let by : ByActivity s (only_move t) thread.done thread.activity mid event = one_step_by s (only_move t) mid event thread step.1.1 step.1 in
     let first = once s mid t thread.done thread.activity event step.1.1 by in
     let n = more_local s t in
     let start = written s first.wrote t first.now in
@@ -310,15 +310,15 @@ conflict_back None (Some b) is = refl
 conflict_back (Some a) None is = refl
 conflict_back (Some a) (Some b) is = by_order a.location b.location a.writes b.writes (are_one a.location b.location) (are_one b.location a.location) (one_back a.location b.location) is
 
-holds_still : (s : State) (t : ℕ) (now : Thread) (l : Location) → HoldsSame s (with_thread s t now) l
+holds_still : (s : State) (t : ℕ) (now : Thread) (l : Location) → HoldsSame s (with_standing s t now) l
 holds_still s t now (location.Cell p) = refl
 holds_still s t now (location.Lock l) = refl
 
-holds_cell : (s : State) (p n t : ℕ) (now : Thread) (l : Location) → are_one (location.Cell p) l ≡ false → HoldsSame s (with_thread (with_cell s p n) t now) l
+holds_cell : (s : State) (p n t : ℕ) (now : Thread) (l : Location) → are_one (location.Cell p) l ≡ false → HoldsSame s (with_standing (with_cell s p n) t now) l
 holds_cell s p n t now (location.Cell q) is = get_or-set_other s.cells p q n 0 (λ e. not_eq p q is (sym e))
 holds_cell s p n t now (location.Lock l) is = refl
 
-holds_owner : (s : State) (m : ℕ) (owner : Option ℕ) (t : ℕ) (now : Thread) (l : Location) → are_one (location.Lock m) l ≡ false → HoldsSame s (with_thread (with_owner s m owner) t now) l
+holds_owner : (s : State) (m : ℕ) (owner : Option ℕ) (t : ℕ) (now : Thread) (l : Location) → are_one (location.Lock m) l ≡ false → HoldsSame s (with_standing (with_owner s m owner) t now) l
 holds_owner s m owner t now (location.Cell q) is = refl
 holds_owner s m owner t now (location.Lock l) is = get_or-set_other s.locks m l owner None (λ e. not_eq m l is (sym e))
 
@@ -390,13 +390,13 @@ independent_commute table t u s r c e f one two (differ, none) unordered =
 
 -- an only move has one event
 pub moves_event : (t : ℕ) (s r c : State) (e f : Option Event) → Moves t s r e → Moves t s c f → e ≡ f
-moves_event t s r c e f one two = (step_same s (move_of t) r c e f one.1 two.1).1
+moves_event t s r c e f one two = (step_same s (only_move t) r c e f one.1 two.1).1
 
 -- the only moves of two threads that are independent commute where they are free, and only there
 pub free_commute : (table : DeadTable) (t u : ℕ) (s : State) → picks_of s t ≡ 1 → picks_of s u ≡ 1 → AreIndependent t u s → AreFree t u s → Commute table t u s
 free_commute table t u s first second independent free =
-    let one = feasible_step s (move_of t) (omega (arith, first)) in
-    let two = feasible_step s (move_of u) (omega (arith, second)) in
+    let one = feasible_step s (only_move t) (omega (arith, first)) in
+    let two = feasible_step s (only_move u) (omega (arith, second)) in
     independent_commute table t u s one.0 two.0 one.1 two.1 (first, one.2) (second, two.2) independent (free one.0 two.0 one.1 two.1 (first, one.2) (second, two.2))
 
 pub commute_is_free : (table : DeadTable) (t u : ℕ) (s : State) → Commute table t u s → AreFree t u s
@@ -427,7 +427,7 @@ turn_event s t done (Open f) now event turns = rw turns.2 ((effect_event t done 
 
 event_is_of : (s r : State) (t : ℕ) (event : Option Event) → Moves t s r event → IsEventOf t event
 event_is_of s r t event moves =
-    let moved = step_moved s (move_of t) r event moves.1 in
+    let moved = step_moved s (only_move t) r event moves.1 in
     turn_event s t moved.standing.done moved.standing.activity moved.now event moved.turns
 
 turn_opens : (s : State) (t done : ℕ) (activity : Activity) (now : Thread) (event : Option Event) → (activity ≡ Idle → ⊥) → Turns s t done activity now event → OpensNone event
@@ -436,7 +436,7 @@ turn_opens s t done (Open f) now event busy turns = rw turns.2 ((effect_event t 
 
 opens_none : (s r : State) (t : ℕ) (event : Option Event) → ((k : ℕ) → slice_get s.threads t ≡ Some (idle k) → ⊥) → Moves t s r event → OpensNone event
 opens_none s r t event busy moves =
-    let moved = step_moved s (move_of t) r event moves.1 in
+    let moved = step_moved s (only_move t) r event moves.1 in
     turn_opens s t moved.standing.done moved.standing.activity moved.now event (λ is. busy moved.standing.done (moved.stands ∙ ap (λ (a : Activity). let x : Thread = record { done = moved.standing.done; activity = a } in Some x) is)) moved.turns
 
 unordered_by : (t u : ℕ) (e f : Option Event) → (t ≡ u → ⊥) → IsEventOf t e → OpensNone e → IsEventOf u f → AreUnordered e f
@@ -489,7 +489,7 @@ AreAlikeBut (location.Cell p) s r =
 AreAlikeBut (location.Lock l) s r =
     (r.cells ≡ s.cells) × ((o : Option ℕ) → slice_set r.locks l o ≡ slice_set s.locks l o)
 
-alike_still : (l : Location) (s : State) (t : ℕ) (now : Thread) → AreAlikeBut l s (with_thread s t now)
+alike_still : (l : Location) (s : State) (t : ℕ) (now : Thread) → AreAlikeBut l s (with_standing s t now)
 alike_still (location.Cell p) s t now = (λ v. refl, refl)
 alike_still (location.Lock l) s t now = (refl, λ o. refl)
 

@@ -15,7 +15,7 @@ use Rattle.lu_witness.specs.declared.judgement.Why.{Why}
 use Rattle.lu_witness.specs.Goodness.{IsFirstBad, AreAllGood}
 use Rattle.lu_tree.specs.Reordered.{AreReordered}
 use Rattle.lu_tree.specs.Trees.{Below}
-use Rattle.lu_tree.specs.Walks.{AreBelow, Counted, IsBadAt, IsFirstAt, IsGoodBehind, StopsAt, no_schedule}
+use Rattle.lu_tree.specs.Walks.{AreBelow, IsCountAtEnd, IsBadAt, IsFirstAt, IsGoodBehind, StopsAtSchedule, no_schedule}
 use Rattle.lu_tree.proofs.BelowLaws.{below_here, below_led}
 use Rattle.lu_tree.proofs.Reordering.{counted_reordered, reordered_same, reordered_then}
 use Rattle.lu_tree.proofs.Walking.{AllEndSo, GoesOnBelow, counted_here, first_here, kids_all, kids_more, kids_none, kids_stop, kids_turn}
@@ -57,7 +57,7 @@ module _ (Set : List SerialOp → Type 0) (s : State) (h : List Event) (left : �
     longer : (u path : List Move) → (u ++ m ∷ []) ++ reverse path ≡ u ++ reverse (path ++ m ∷ [])
     longer u path = append_assoc u (m ∷ []) (reverse path) ∙ ap (λ x. u ++ x) (sym (reverse-append path (m ∷ [])))
 
-    pub stops_more : IsFeasible s m → (below : Counts) → AreAdded Set s h left (record { thread = t; pick = p }) below → (path : List Move) (end : State) (last : List Event) → StopsAt Set r k (left - 1) path end last → StopsAt Set s h left (path ++ m ∷ []) end last
+    pub stops_more : IsFeasible s m → (below : Counts) → AreAdded Set s h left (record { thread = t; pick = p }) below → (path : List Move) (end : State) (last : List Event) → StopsAtSchedule Set r k (left - 1) path end last → StopsAtSchedule Set s h left (path ++ m ∷ []) end last
     stops_more feasible below added path end last stops = λ start u at.
         (let b = stops start (u ++ m ∷ []) (on start u at) in
         let c = subst (λ n. IsFirstAt Set start n (Below (u ++ m ∷ [])) ((u ++ m ∷ []) ++ reverse path) end last) (one_less u) b in
@@ -81,21 +81,21 @@ module _ (Set : List SerialOp → Type 0) (s : State) (h : List Event) (left : �
   over_at (inl none) u = inl none
   over_at (inr zero) u = inr (omega arith)
 
-  pub end_below : HasNoMove s ⊎ (left ≡ 0) → (counts : Counts) → Counted Set s h counts → AreBelow Set s h left counts
+  pub end_below : HasNoMove s ⊎ (left ≡ 0) → (counts : Counts) → IsCountAtEnd Set s h counts → AreBelow Set s h left counts
   end_below over counts counted =
       below_here Set s h left counts
       (λ k re.
-      (let there : Counted Set s (k ++ []) counts = rw (append-nil k) (counted_reordered Set s h k counts re counted) in
+      (let there : IsCountAtEnd Set s (k ++ []) counts = rw (append-nil k) (counted_reordered Set s h k counts re counted) in
       let here = counted_here s [] s [] (refl, refl) (IsGoodBehind Set k) (0 + left) (over_at over []) (omega arith) counts there in
       subst (λ n. AllEndSo (IsGoodBehind Set k) s n (Below []) counts) none_more here))
 
-  pub end_stops : HasNoMove s ⊎ (left ≡ 0) → IsEnded s → (path : List Move) → path ≡ [] → StopsAt Set s h left path s h
+  pub end_stops : HasNoMove s ⊎ (left ≡ 0) → IsEnded s → (path : List Move) → path ≡ [] → StopsAtSchedule Set s h left path s h
   end_stops over ended path none = λ start u at.
       (let here = first_here start u s h at Set (length u + left) (over_at over u) (omega arith) ended in
       rw (none, append-nil) here)
 
 -- where a walk stopped, by other names for the place
-pub stops_there : (Set : List SerialOp → Type 0) (s : State) (h : List Event) (left : ℕ) (path other : List Move) (end there : State) (last behind : List Event) → other ≡ path → there ≡ end → behind ≡ last → StopsAt Set s h left path end last → StopsAt Set s h left other there behind
+pub stops_there : (Set : List SerialOp → Type 0) (s : State) (h : List Event) (left : ℕ) (path other : List Move) (end there : State) (last behind : List Event) → other ≡ path → there ≡ end → behind ≡ last → StopsAtSchedule Set s h left path end last → StopsAtSchedule Set s h left other there behind
 stops_there Set s h left path other end there last behind is to back stops = rw (is, to, back) stops
 
 -- a schedule that is the first to end and bad is the first bad one
@@ -115,7 +115,7 @@ module _ (Set : List SerialOp → Type 0) (start : State) (bound left : ℕ) (fr
       let good = subst (λ n. AllEndSo (IsGoodBehind Set []) start n (Below moves) below) all led in
       subst (λ u. AreAllGood Set start bound (Below u) below) is (record { good = good.good; numbers = good.numbers })
 
-  pub walk_stopped : (path : List Move) (end : State) (k : List Event) → StopsAt Set s h left path end k → IsFirstAt Set start bound (Below from) (from ++ reverse path) end k
+  pub walk_stopped : (path : List Move) (end : State) (k : List Event) → StopsAtSchedule Set s h left path end k → IsFirstAt Set start bound (Below from) (from ++ reverse path) end k
   walk_stopped path end k stops =
       let a = stops start moves at in
       let b = subst (λ n. IsFirstAt Set start n (Below moves) (moves ++ reverse path) end k) all a in

@@ -18,7 +18,7 @@ use Rattle.lu_machine.specs.Effects.{Effect, computed, onward, onward_at, onward
 use Rattle.lu_machine.specs.Effects.Effect.{Ends}
 use Rattle.lu_machine.specs.States.{State, cell_at, cell_of, value_at, with_cell, with_owner}
 use Rattle.lu_machine.specs.Steps.{Carries, owns, thread_after, event_after}
-use Rattle.lu_horizon.specs.Dead.{DeadTable, dead_before, is_dead, is_register}
+use Rattle.lu_horizon.specs.Dead.{DeadTable, dead_before, is_dead, names_register}
 use Rattle.lu_tree.specs.declared.access.Access.{Access}
 use Rattle.lu_tree.specs.declared.access.Location.{Location}
 use Rattle.lu_tree.specs.declared.access.Location.TheVariants as location
@@ -63,7 +63,7 @@ module _ (table : DeadTable) (f : Frame) (rs : List ℕ) (many : length rs ≡ l
   Dead r = is_dead table f.op f.place r ≡ true
 
   -- what is read is the same
-  same_value : (o : Operand) → ((r : ℕ) → is_dead table f.op f.place r ≡ true → is_register r o ≡ false) → value_of g o ≡ value_of f o
+  same_value : (o : Operand) → ((r : ℕ) → is_dead table f.op f.place r ≡ true → names_register r o ≡ false) → value_of g o ≡ value_of f o
   same_value (Num n) unread = refl
   same_value (Reg q) unread = live q (false_from_ne_true (is_dead table f.op f.place q) (λ dead. absurd (let other : (q == q) ≡ false = unread q dead in grind (arith, nat_tests))))
 
@@ -120,7 +120,7 @@ module _ (table : DeadTable) (f : Frame) (rs : List ℕ) (many : length rs ≡ l
 
   pub carries_live : (s : State) (m : Move) (instr : Instr) (new : State) (e : Effect) → ((r : ℕ) → is_dead table f.op f.place r ≡ true → dead_before (is_dead table f.op) f.place instr r ≡ true) → Carries s m f instr new e → Changing table s m f rs instr new e
   carries_live s m (Set to v) new e closed h =
-      let read = λ (r : ℕ). is_register r v in
+      let read = λ (r : ℕ). names_register r v in
       let next = λ (r : ℕ). (to == r) || is_dead table f.op (f.place + 1) r in
       let value = same_value v (unread read next closed) in
       record {
@@ -130,11 +130,11 @@ module _ (table : DeadTable) (f : Frame) (rs : List ℕ) (many : length rs ≡ l
         keeps = sets to (f.place + 1) (value_of f v) (behind read next closed);
       }
   carries_live s m (Compute by to x y) new e closed h =
-      let read = λ (r : ℕ). is_register r x || is_register r y in
+      let read = λ (r : ℕ). names_register r x || names_register r y in
       let next = λ (r : ℕ). (to == r) || is_dead table f.op (f.place + 1) r in
       let none = unread read next closed in
-      let one = same_value x (λ r dead. (or_parts (is_register r x) (is_register r y) (none r dead)).0) in
-      let two = same_value y (λ r dead. (or_parts (is_register r x) (is_register r y) (none r dead)).1) in
+      let one = same_value x (λ r dead. (or_parts (names_register r x) (names_register r y) (none r dead)).0) in
+      let two = same_value y (λ r dead. (or_parts (names_register r x) (names_register r y) (none r dead)).1) in
       let n = computed by (value_of f x) (value_of f y) in
       record {
         change = Sets (f.place + 1) to n;
@@ -143,27 +143,27 @@ module _ (table : DeadTable) (f : Frame) (rs : List ℕ) (many : length rs ≡ l
         keeps = sets to (f.place + 1) n (behind read next closed);
       }
   carries_live s m (Load to w i) new e closed h =
-      let read = λ (r : ℕ). is_register r i in
+      let read = λ (r : ℕ). names_register r i in
       let next = λ (r : ℕ). (to == r) || is_dead table f.op (f.place + 1) r in
       let cell = same_cell s w i (same_value i (unread read next closed)) in
       let a = load_live s to (cell_at s f w i) (cell_at s g w i) e cell h.1 (λ n. sets to (f.place + 1) n (behind read next closed)) in
       record { change = a.0; is = a.1; there = (h.0, a.2); keeps = a.3 }
   carries_live s m (Store w i v) new e closed h =
-      let read = λ (r : ℕ). is_register r i || is_register r v in
+      let read = λ (r : ℕ). names_register r i || names_register r v in
       let next = λ (r : ℕ). is_dead table f.op (f.place + 1) r in
       let none = unread read next closed in
-      let cell = same_cell s w i (same_value i (λ r dead. (or_parts (is_register r i) (is_register r v) (none r dead)).0)) in
-      let value = same_value v (λ r dead. (or_parts (is_register r i) (is_register r v) (none r dead)).1) in
+      let cell = same_cell s w i (same_value i (λ r dead. (or_parts (names_register r i) (names_register r v) (none r dead)).0)) in
+      let value = same_value v (λ r dead. (or_parts (names_register r i) (names_register r v) (none r dead)).1) in
       let a = store_live s new (value_of f v) (value_of g v) (cell_at s f w i) (cell_at s g w i) e cell value h (behind read next closed) in
       record { change = a.0; is = a.1; there = a.2; keeps = a.3 }
   carries_live s m (Cas to w i x y) new e closed h =
-      let read = λ (r : ℕ). is_register r i || (is_register r x || is_register r y) in
+      let read = λ (r : ℕ). names_register r i || (names_register r x || names_register r y) in
       let next = λ (r : ℕ). (to == r) || is_dead table f.op (f.place + 1) r in
       let none = unread read next closed in
-      let cell = same_cell s w i (same_value i (λ r dead. (or_parts (is_register r i) (is_register r x || is_register r y) (none r dead)).0)) in
-      let pair = λ (r : ℕ) (dead : is_dead table f.op f.place r ≡ true). (or_parts (is_register r i) (is_register r x || is_register r y) (none r dead)).1 in
-      let one = same_value x (λ r dead. (or_parts (is_register r x) (is_register r y) (pair r dead)).0) in
-      let two = same_value y (λ r dead. (or_parts (is_register r x) (is_register r y) (pair r dead)).1) in
+      let cell = same_cell s w i (same_value i (λ r dead. (or_parts (names_register r i) (names_register r x || names_register r y) (none r dead)).0)) in
+      let pair = λ (r : ℕ) (dead : is_dead table f.op f.place r ≡ true). (or_parts (names_register r i) (names_register r x || names_register r y) (none r dead)).1 in
+      let one = same_value x (λ r dead. (or_parts (names_register r x) (names_register r y) (pair r dead)).0) in
+      let two = same_value y (λ r dead. (or_parts (names_register r x) (names_register r y) (pair r dead)).1) in
       let a = cas_live s new to (value_of f x) (value_of g x) (value_of f y) (value_of g y) (cell_at s f w i) (cell_at s g w i) e cell one two h (λ n. sets to (f.place + 1) n (behind read next closed)) in
       record { change = a.0; is = a.1; there = a.2; keeps = a.3 }
   carries_live s m (Lock l) new e closed h =
@@ -177,19 +177,19 @@ module _ (table : DeadTable) (f : Frame) (rs : List ℕ) (many : length rs ≡ l
       let a = unlock_live s new (with_owner s l None) (owns s m.thread l) e h (behind (λ r. false) (λ r. is_dead table f.op (f.place + 1) r) closed) in
       record { change = a.0; is = a.1; there = a.2; keeps = a.3 }
   carries_live s m (Await w i v) new e closed h =
-      let read = λ (r : ℕ). is_register r i || is_register r v in
+      let read = λ (r : ℕ). names_register r i || names_register r v in
       let next = λ (r : ℕ). is_dead table f.op (f.place + 1) r in
       let none = unread read next closed in
-      let cell = same_cell s w i (same_value i (λ r dead. (or_parts (is_register r i) (is_register r v) (none r dead)).0)) in
-      let value = same_value v (λ r dead. (or_parts (is_register r i) (is_register r v) (none r dead)).1) in
+      let cell = same_cell s w i (same_value i (λ r dead. (or_parts (names_register r i) (names_register r v) (none r dead)).0)) in
+      let value = same_value v (λ r dead. (or_parts (names_register r i) (names_register r v) (none r dead)).1) in
       let a = await_live (λ p. value_at s p ≡ value_of f v) (λ p. value_at s p ≡ value_of g v) (cell_at s f w i) (cell_at s g w i) e cell (λ p is. is ∙ sym value) h.1 (behind read next closed) in
       record { change = a.0; is = a.1; there = (h.0, a.2); keeps = a.3 }
   carries_live s m (AwaitNot w i v) new e closed h =
-      let read = λ (r : ℕ). is_register r i || is_register r v in
+      let read = λ (r : ℕ). names_register r i || names_register r v in
       let next = λ (r : ℕ). is_dead table f.op (f.place + 1) r in
       let none = unread read next closed in
-      let cell = same_cell s w i (same_value i (λ r dead. (or_parts (is_register r i) (is_register r v) (none r dead)).0)) in
-      let value = same_value v (λ r dead. (or_parts (is_register r i) (is_register r v) (none r dead)).1) in
+      let cell = same_cell s w i (same_value i (λ r dead. (or_parts (names_register r i) (names_register r v) (none r dead)).0)) in
+      let value = same_value v (λ r dead. (or_parts (names_register r i) (names_register r v) (none r dead)).1) in
       let a = await_live (λ p. value_at s p ≡ value_of f v → ⊥) (λ p. value_at s p ≡ value_of g v → ⊥) (cell_at s f w i) (cell_at s g w i) e cell (λ p differs is. differs (is ∙ value)) h.1 (behind read next closed) in
       record { change = a.0; is = a.1; there = (h.0, a.2); keeps = a.3 }
   carries_live s m (Pick to count) new e closed h =
@@ -207,7 +207,7 @@ module _ (table : DeadTable) (f : Frame) (rs : List ℕ) (many : length rs ≡ l
         keeps = behind (λ r. false) (λ r. is_dead table f.op target r) closed;
       }
   carries_live s m (JumpIfZero v target) new e closed h =
-      let read = λ (r : ℕ). is_register r v in
+      let read = λ (r : ℕ). names_register r v in
       let next = λ (r : ℕ). is_dead table f.op target r && is_dead table f.op (f.place + 1) r in
       let value = same_value v (unread read next closed) in
       let on = behind read next closed in
@@ -216,7 +216,7 @@ module _ (table : DeadTable) (f : Frame) (rs : List ℕ) (many : length rs ≡ l
       (λ r dead. (and_parts (is_dead table f.op target r) (is_dead table f.op (f.place + 1) r) (on r dead)).1) in
       record { change = a.0; is = a.1; there = (h.0, a.2); keeps = a.3 }
   carries_live s m (Return v) new e closed h =
-      let value = same_value v (unread (λ r. is_register r v) (λ r. true) closed) in
+      let value = same_value v (unread (λ r. names_register r v) (λ r. true) closed) in
       record {
         change = Finishes (Ret (value_of f v));
         is = h.1;

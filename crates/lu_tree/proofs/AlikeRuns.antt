@@ -16,7 +16,7 @@ use Rattle.lu_machine.specs.Changes.{at_work, idle}
 use Rattle.lu_machine.specs.Ends.{HasMove, HasNoMove, IsComplete, IsFinished, IsStuck}
 use Rattle.lu_machine.specs.Runs.{Leads, with_event}
 use Rattle.lu_machine.specs.Schedules.{IsEndedWithin, Reaches}
-use Rattle.lu_machine.specs.States.{State, call_count, instr_at, with_thread}
+use Rattle.lu_machine.specs.States.{State, call_count, instr_at, with_standing}
 use Rattle.lu_machine.specs.Steps.{ByActivity, OneStep, RunsOn, Step, activity_is_local, event_after, is_at_local, more_local, opened, picks_of, thread_after}
 use Rattle.lu_machine.specs.Undoes.{with_shared}
 use Rattle.lu_machine.proofs.Keeping.{step_moved}
@@ -24,7 +24,7 @@ use Rattle.lu_machine.proofs.Numbers.{number_same}
 use Rattle.lu_machine.proofs.StepLaws.{feasible_step, step_feasible}
 use Rattle.lu_horizon.specs.Dead.{DeadTable, IsDeadTable, is_dead}
 use Rattle.lu_horizon.proofs.OwnLaws.{leads_component}
-use Rattle.lu_orders.specs.Solo.{move_of}
+use Rattle.lu_orders.specs.Solo.{only_move}
 use Rattle.lu_history.specs.declared.serial.SerialOp.{SerialOp}
 use Rattle.lu_witness.specs.Goodness.{Any, IsGoodAt}
 use Rattle.lu_tree.specs.declared.known.Known.{Known}
@@ -92,7 +92,7 @@ module _ (table : DeadTable) where
   by_alike : (s r : State) → IsDeadTable s.component table → AreAlike table s r → (m : Move) (next : State) (event : Option Event) (k : ℕ) (a b : Activity) → slice_get s.threads m.thread ≡ Some (record { done = k; activity = a }) → slice_get r.threads m.thread ≡ Some (record { done = k; activity = b }) → AreActivitiesAlike table a b → ByActivity s m k a next event → OnceAlike s r m next event
   by_alike s r dead alike m next event k Idle Idle one two like h =
       let now = at_work k (opened h.0) in
-      let there = with_thread r m.thread now in
+      let there = with_standing r m.thread now in
       record {
         there = there;
         step = (idle k, two, (h.0, rw alike.matrix_is h.1, h.2, refl, h.4));
@@ -115,7 +115,7 @@ module _ (table : DeadTable) where
       let there = written r a.wrote t y in
       let at : instr_at r.component f.op f.place ≡ Some instr = rw alike.component h.3 in
       let event_is : event ≡ event_after t k effect = h.7 ∙ (ap (event_after t k) l.is ∙ event_live t k f g.registers l.change) in
-      let next_is : next ≡ written s a.wrote t x = h.6 ∙ ap (λ (z : State). with_thread z t x) a.is in
+      let next_is : next ≡ written s a.wrote t x = h.6 ∙ ap (λ (z : State). with_standing z t x) a.is in
       let standing : AreStandingAlike table (Some x) (Some y) = subst (λ e. AreStandingAlike table (Some (thread_after k e)) (Some y)) (sym l.is) (after_live table f g.registers like.many like.live k l.change l.keeps) in
       record {
         there = there;
@@ -162,7 +162,7 @@ module _ (table : DeadTable) where
     where
       by_test : ((x y : State) → IsDeadTable x.component table → AreAlike table x y → (t : ℕ) (end : State) → RunsOn n x t end → (there : State) × RunsOn n y t there × AreAlike table end there) → (test : Bool) → is_at_local s t ≡ test → MatchBool test ((next : State) × OneStep s (record { thread = t; pick = 0 }) next None × RunsOn n next t end) (end ≡ s) → (there : State) × RunsOn (suc n) r t there × AreAlike table end there
       by_test go true is h =
-          let once = once_alike s r dead alike (move_of t) h.0 None h.1 in
+          let once = once_alike s r dead alike (only_move t) h.0 None h.1 in
           let rest = go h.0 once.there (still_dead s h.0 once.kept dead) once.alike t end h.2 in
           let still : is_at_local r t ≡ true = local_alike s r alike t ∙ is in
           (rest.0, rw still (once.there, once.step, rest.1), rest.2)
@@ -287,8 +287,8 @@ module _ (table : DeadTable) where
       λ t below kid next event moves.
           (let back = alike_back s r alike in
           let dead_r = dead_alike s r dead alike in
-          let there = step_alike r s dead_r back (move_of t) next event moves.1 in
+          let there = step_alike r s dead_r back (only_move t) next event moves.1 in
           let one : picks_of s t ≡ 1 = picks_alike r s dead_r back t ∙ moves.0 in
-          let kept = (step_moved s (move_of t) there.0 event there.1).component in
+          let kept = (step_moved s (only_move t) there.0 event there.1).component in
           known_alike there.0 next (still_dead s there.0 kept dead) (alike_back next there.0 there.2) (h ++ with_event event []) left below (is.1 t below kid there.0 event (one, there.1))),
     )

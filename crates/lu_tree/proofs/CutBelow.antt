@@ -11,7 +11,7 @@ use Rattle.lu_machine.proofs.Paths.{child_leads}
 use Rattle.lu_machine.proofs.StepLaws.{feasible_step}
 use Rattle.lu_horizon.specs.Sure.{AreCaps}
 use Rattle.lu_horizon.proofs.CapLaws.{cap_picks, caps_step}
-use Rattle.lu_orders.specs.Orders.{first_below, first_of, orders_within}
+use Rattle.lu_orders.specs.Orders.{first_below, orders_with_first, orders_within}
 use Rattle.lu_tree.specs.Tails.{IsCutBelow}
 use Rattle.lu_tree.specs.Trees.{Below}
 use Rattle.lu_tree.specs.Walks.{cuts, one_cut}
@@ -23,7 +23,7 @@ module _ (start : State) (Good : State → List Event → Type 0) (bound : ℕ) 
     Counted : ℕ → ℕ → ℕ → Type 0
     Counted t p many = AllEndSo Good start bound (GoesOnBelow u (record { thread = t; pick = p })) (cuts (capped many))
 
-    turn : (t n : ℕ) → get_or caps t 0 ≡ n → ((n ≡ 0) × (picks_of s t ≡ 0)) ⊎ ((0 < n) × (picks_of s t ≡ 1)) → Counted t 0 (first_below (orders_within left) caps t) → Counted (t + 1) 0 (first_below (orders_within left) caps t + first_of (orders_within left) caps t n)
+    turn : (t n : ℕ) → get_or caps t 0 ≡ n → ((n ≡ 0) × (picks_of s t ≡ 0)) ⊎ ((0 < n) × (picks_of s t ≡ 1)) → Counted t 0 (first_below (orders_within left) caps t) → Counted (t + 1) 0 (first_below (orders_within left) caps t + orders_with_first (orders_within left) caps t n)
     unfolding Counted
     turn t zero had picks before =
         elim picks [

@@ -21,13 +21,13 @@ use Rattle.lu_machine.proofs.Paths.{with_event-append}
 use Rattle.lu_machine.proofs.StepLaws.{step_same}
 use Rattle.lu_horizon.proofs.OwnLaws.{one_step_by, other_stands}
 use Rattle.lu_orders.specs.Orders.{all_moves, interleavings}
-use Rattle.lu_orders.specs.Solo.{AreApart, HasSolo, IsSame, IsShared, LastEvents, Solo, move_of}
+use Rattle.lu_orders.specs.Solo.{AreApart, HasSolo, IsSame, IsShared, LastEvents, Solo, only_move}
 use Rattle.lu_orders.proofs.Frames.{Touches, Works, frame, same_itself, solo_same}
 use Rattle.lu_orders.proofs.SoloRuns.{solo_run}
 use Rattle.lu_history.specs.declared.serial.SerialOp.{SerialOp}
 use Rattle.lu_history.specs.Standing.{Agree}
-use Rattle.lu_tree.specs.declared.look.Judging.TheVariants.{OneVerdict}
-use Rattle.lu_tree.specs.declared.look.Look.{Look}
+use Rattle.lu_tree.specs.declared.tail_question.Judging.TheVariants.{OneVerdict}
+use Rattle.lu_tree.specs.declared.tail_question.TailQuestion.{TailQuestion}
 use Rattle.lu_horizon.specs.declared.sharers.Sharers.{Sharers}
 use Rattle.lu_horizon.specs.declared.sharers.Sharers.TheVariants.{Only, Readers}
 use Rattle.lu_tree.specs.Tails.{HasNoCall, StartsBehind, IsGoodTail, IsJudged, IsRest, MayMove, sharing_of}
@@ -75,9 +75,9 @@ sharers_apart : (sharers : Sharers) → AreApart (sharing_of sharers)
 sharers_apart (Only special) t u other sees = grind (arith, nat_tests)
 sharers_apart Readers t u other sees = refl
 
-module _ (Set : List SerialOp → Type 0) (look : Look) (s : State) (h : List Event) where
+module _ (Set : List SerialOp → Type 0) (question : TailQuestion) (s : State) (h : List Event) where
   -- behind the last thread
-  pub rest_end : (t left : ℕ) (ns : List ℕ) → ns ≡ zeros (length s.threads) → length s.threads ≤ t → IsComplete s → IsJudged Set look.judging h → IsRest Set look s h t left ns
+  pub rest_end : (t left : ℕ) (ns : List ℕ) → ns ≡ zeros (length s.threads) → length s.threads ≤ t → IsComplete s → IsJudged Set question.judging h → IsRest Set question s h t left ns
   rest_end t left ns is past complete judged = rw is (record {
     many = zeros_length (length s.threads);
     short = (let e = zeros_all (length s.threads) in omega arith);
@@ -87,7 +87,7 @@ module _ (Set : List SerialOp → Type 0) (look : Look) (s : State) (h : List Ev
   })
 
   -- a thread that has made all its calls
-  pub rest_turn : (t left : ℕ) (ns : List ℕ) → IsFinished s t → IsRest Set look s h (t + 1) left ns → IsRest Set look s h t left ns
+  pub rest_turn : (t left : ℕ) (ns : List ℕ) → IsFinished s t → IsRest Set question s h (t + 1) left ns → IsRest Set question s h t left ns
   rest_turn t left ns finished rest = record {
     many = rest.many;
     short = rest.short;
@@ -109,8 +109,8 @@ module _ (Set : List SerialOp → Type 0) (look : Look) (s : State) (h : List Ev
       over j lt is = by_thread j (slice_get s.threads j) refl lt is
 
   -- one move before
-  module _ (t : ℕ) (next : State) (event : Option Event) (step : Step s (move_of t) next event) (may : MayMove look s t) where
-    touches : (k : ℕ) (f : Frame) → slice_get s.threads t ≡ Some (at_work k f) → Touches ((sharing_of look.sharers).sees t) ((sharing_of look.sharers).keeps t) s f
+  module _ (t : ℕ) (next : State) (event : Option Event) (step : Step s (only_move t) next event) (may : MayMove question s t) where
+    touches : (k : ℕ) (f : Frame) → slice_get s.threads t ≡ Some (at_work k f) → Touches ((sharing_of question.sharers).sees t) ((sharing_of question.sharers).keeps t) s f
     touches k f stands =
         let within = may.within k f stands in
         record {
@@ -118,7 +118,7 @@ module _ (Set : List SerialOp → Type 0) (look : Look) (s : State) (h : List Ev
           reads_is = λ instr e here. (let l = rw (stands, here) at (within.reads e) in l);
         }
 
-    works : (k : ℕ) (activity : Activity) → slice_get s.threads t ≡ Some (record { done = k; activity = activity }) → Works ((sharing_of look.sharers).sees t) ((sharing_of look.sharers).keeps t) t k activity s next event
+    works : (k : ℕ) (activity : Activity) → slice_get s.threads t ≡ Some (record { done = k; activity = activity }) → Works ((sharing_of question.sharers).sees t) ((sharing_of question.sharers).keeps t) t k activity s next event
     works k activity stands = record {
       stands = stands;
       touches = λ f e. touches k f (stands ∙ ap (λ a. let x : Thread = record { done = k; activity = a } in Some x) e);
@@ -126,35 +126,35 @@ module _ (Set : List SerialOp → Type 0) (look : Look) (s : State) (h : List Ev
       step = step;
     }
 
-    quiet : (k : ℕ) (activity : Activity) → slice_get s.threads t ≡ Some (record { done = k; activity = activity }) → (sharing_of look.sharers).keeps t ≡ true → IsShared s next
+    quiet : (k : ℕ) (activity : Activity) → slice_get s.threads t ≡ Some (record { done = k; activity = activity }) → (sharing_of question.sharers).keeps t ≡ true → IsShared s next
     quiet k activity stands e =
-        let sees = (sharing_of look.sharers).sees t in
-        let fr = frame sees ((sharing_of look.sharers).keeps t) t k activity s next event (works k activity stands) s (same_itself sees t s) in
-        let same = step_same s (move_of t) fr.there next event event fr.step step in
+        let sees = (sharing_of question.sharers).sees t in
+        let fr = frame sees ((sharing_of question.sharers).keeps t) t k activity s next event (works k activity stands) s (same_itself sees t s) in
+        let same = step_same s (only_move t) fr.there next event event fr.step step in
         subst (IsShared s) same.0 (fr.quiet e)
 
     -- where one verdict is to serve, the move makes no call
-    silent : (k : ℕ) (activity : Activity) → slice_get s.threads t ≡ Some (record { done = k; activity = activity }) → look.judging ≡ OneVerdict → (rest : List Event) → HasNoCall rest → HasNoCall (with_event event rest)
+    silent : (k : ℕ) (activity : Activity) → slice_get s.threads t ≡ Some (record { done = k; activity = activity }) → question.judging ≡ OneVerdict → (rest : List Event) → HasNoCall rest → HasNoCall (with_event event rest)
     silent k Idle stands one rest none = absurd (may.calls k stands one)
     silent k (Open f) stands one rest none =
-        let by : ByActivity s (move_of t) k (Open f) step.0 event = one_step_by s (move_of t) step.0 event (at_work k f) stands step.1 in
+        let by : ByActivity s (only_move t) k (Open f) step.0 event = one_step_by s (only_move t) step.0 event (at_work k f) stands step.1 in
         rw by.7 (by_effect by.2)
       where
         by_effect : (e : Effect) → HasNoCall (with_event (event_after t k e) rest)
         by_effect (GoesOn g) = none
         by_effect (Ends o) = none
 
-    pub rest_move : (left : ℕ) (ns : List ℕ) (after : List Event) → 1 ≤ left → t < length s.threads → after ≡ h ++ with_event event [] → IsRest Set look next after t (left - 1) ns → IsRest Set look s h t left (slice_set ns t (get_or ns t 0 + 1))
+    pub rest_move : (left : ℕ) (ns : List ℕ) (after : List Event) → 1 ≤ left → t < length s.threads → after ≡ h ++ with_event event [] → IsRest Set question next after t (left - 1) ns → IsRest Set question s h t left (slice_set ns t (get_or ns t 0 + 1))
     rest_move left ns after some within is rest =
-        let moved = step_moved s (move_of t) next event step in
+        let moved = step_moved s (only_move t) next event step in
         let k = moved.standing.done in
         let activity = moved.standing.activity in
         let stands : slice_get s.threads t ≡ Some (record { done = k; activity = activity }) = moved.stands in
-        let threads = step_keeps_threads s (move_of t) next event step in
+        let threads = step_keeps_threads s (only_move t) next event step in
         let many = rest.many in
         let there : t < length ns = omega arith in
         let n = get_or ns t 0 in
-        let sharing = sharing_of look.sharers in
+        let sharing = sharing_of question.sharers in
         record {
           many = length-set ns t (n + 1) ∙ (rest.many ∙ threads);
           short = (let e = more_moves ns t there in let f = rest.short in omega arith);
@@ -170,8 +170,8 @@ module _ (Set : List SerialOp → Type 0) (look : Look) (s : State) (h : List Ev
                 let back : IsSame (sharing.sees j) j next s = record {
                   component = sym moved.component;
                   matrix_is = sym moved.matrix;
-                  stands = sym (other_stands s (move_of t) next event j (λ x. other (sym x)) step);
-                  shared = λ sees. (let q = quiet k activity stands (sharers_apart look.sharers j t other sees) in (sym q.0, sym q.1));
+                  stands = sym (other_stands s (only_move t) next event j (λ x. other (sym x)) step);
+                  shared = λ sees. (let q = quiet k activity stands (sharers_apart question.sharers j t other sees) in (sym q.0, sym q.1));
                 } in
                 rw e (old.0, solo_same (sharing.sees j) (sharing.keeps j) j old.0 (get_or ns j 0) next s back old.1))
           ];
@@ -179,38 +179,38 @@ module _ (Set : List SerialOp → Type 0) (look : Look) (s : State) (h : List Ev
               (let g = rest.good in
               let joined : after ++ g.events ≡ h ++ with_event event g.events = ap (λ x. x ++ g.events) is ∙ (append_assoc h (with_event event []) g.events ∙ ap (λ x. h ++ x) (with_event-append event [] g.events)) in
               record {
-                moves = move_of t ∷ g.moves;
+                moves = only_move t ∷ g.moves;
                 end = g.end;
                 events = with_event event g.events;
                 leads = (next, event, g.events, step, g.leads, refl);
                 complete = g.complete;
                 silent = λ one. silent k activity stands one g.events (g.silent one);
-                judged = subst (IsJudged Set look.judging) joined g.judged;
+                judged = subst (IsJudged Set question.judging) joined g.judged;
               });
         }
 
   -- all threads
-  pub rest_all : (left n : ℕ) (ns : List ℕ) → StartsBehind look.judging h → IsRest Set look s h 0 left ns → n ≡ capped (interleavings ns) → IsGoodTail Set s h left n
+  pub rest_all : (left n : ℕ) (ns : List ℕ) → StartsBehind question.judging h → IsRest Set question s h 0 left ns → n ≡ capped (interleavings ns) → IsGoodTail Set s h left n
   rest_all left n ns behind rest is = record {
     moves = ns;
-    sharing = sharing_of look.sharers;
+    sharing = sharing_of question.sharers;
     events_of = λ j. events_at j (cases_lt j (length s.threads));
-    judging = look.judging;
-    tail = record { many = rest.many; apart = sharers_apart look.sharers; each = λ j lt. solo_at j lt (cases_lt j (length s.threads)) };
+    judging = question.judging;
+    tail = record { many = rest.many; apart = sharers_apart question.sharers; each = λ j lt. solo_at j lt (cases_lt j (length s.threads)) };
     short = rest.short;
     number = is;
     behind = behind;
     good = rest.good;
   }
     where
-      has : (j : ℕ) → j < length s.threads → HasSolo ((sharing_of look.sharers).sees j) ((sharing_of look.sharers).keeps j) j (get_or ns j 0) s
+      has : (j : ℕ) → j < length s.threads → HasSolo ((sharing_of question.sharers).sees j) ((sharing_of question.sharers).keeps j) j (get_or ns j 0) s
       has j lt = rest.solo j (omega arith) lt
 
       events_at : (j : ℕ) → (j < length s.threads) ⊎ (length s.threads ≤ j) → LastEvents
       events_at j (inl lt) = (has j lt).0
       events_at j (inr past) = λ i. None
 
-      solo_at : (j : ℕ) → j < length s.threads → (c : (j < length s.threads) ⊎ (length s.threads ≤ j)) → Solo ((sharing_of look.sharers).sees j) ((sharing_of look.sharers).keeps j) j (events_at j c) (get_or ns j 0) s
+      solo_at : (j : ℕ) → j < length s.threads → (c : (j < length s.threads) ⊎ (length s.threads ≤ j)) → Solo ((sharing_of question.sharers).sees j) ((sharing_of question.sharers).keeps j) j (events_at j c) (get_or ns j 0) s
       solo_at j lt (inl lt') = (has j lt').1
       solo_at j lt (inr past) = absurd (omega arith)
 

@@ -13,10 +13,10 @@ use Rattle.lu_machine.specs.Runs.{with_event}
 use Rattle.lu_machine.proofs.Keeping.{step_moved}
 use Rattle.lu_machine.proofs.StepLaws.{step_feasible, step_same}
 use Rattle.lu_horizon.specs.Dead.{DeadTable, IsDeadTable}
-use Rattle.lu_orders.specs.Solo.{move_of}
+use Rattle.lu_orders.specs.Solo.{only_move}
 use Rattle.lu_history.specs.declared.serial.SerialOp.{SerialOp}
 use Rattle.lu_witness.specs.Witnesses.{IsMember}
-use Rattle.lu_tree.specs.declared.commuting.Both.{Both}
+use Rattle.lu_tree.specs.declared.commuting.TwoUndos.{TwoUndos}
 use Rattle.lu_tree.specs.declared.known.Known.{Known}
 use Rattle.lu_tree.specs.declared.known.Hints.{Hints}
 use Rattle.lu_tree.specs.Alike.{AreAlike}
@@ -55,14 +55,14 @@ pub hint_added : (old : Hints) (t i : ℕ) (b : Bor Known) → i ≡ t → IsHin
 hint_added old t i b is = λ u known hint. slot_set old.by_thread t i b is u known hint
 
 -- moves that were made in both orders
-pub commute_seen : (table : DeadTable) (t u : ℕ) (s end other : State) (there here : Both) → MadeBoth t u s end there → MadeBoth u t s other here → AreAlike table end other → HaveSameEvents there here → Commute table t u s
+pub commute_seen : (table : DeadTable) (t u : ℕ) (s end other : State) (there here : TwoUndos) → MadeBoth t u s end there → MadeBoth u t s other here → AreAlike table end other → HaveSameEvents there here → Commute table t u s
 commute_seen table t u s end other there here one two alike history =
     let back : MovesBoth u t s other there.second.event there.first.event = rw (history.0, history.1) two.moves in
     (end, other, there.first.event, there.second.event, one.moves, back, alike, history.2)
 
 -- an only move leads to one state
 moves_same : (t : ℕ) (s a b : State) (e f : Option Event) → Moves t s a e → Moves t s b f → (a ≡ b) × (e ≡ f)
-moves_same t s a b e f x y = step_same s (move_of t) a b e f x.1 y.1
+moves_same t s a b e f x y = step_same s (only_move t) a b e f x.1 y.1
 
 pub both_same : (t u : ℕ) (s a b : State) (e f g h : Option Event) → MovesBoth t u s a e f → MovesBoth t u s b g h → (a ≡ b) × (e ≡ g) × (f ≡ h)
 both_same t u s a b e f g h x y =
@@ -78,7 +78,7 @@ not_both t u s r event moves not end e f both =
     not (subst (λ x. picks_of x u ≡ 1) same.0 both.2.0)
 
 -- moves that commute, and were made in both orders, led to states that are alike, with one history
-pub commute_made : (table : DeadTable) (t u : ℕ) (s end other : State) (there here : Both) → MadeBoth t u s end there → MadeBoth u t s other here → Commute table t u s → AreAlike table end other × HaveSameEvents there here
+pub commute_made : (table : DeadTable) (t u : ℕ) (s end other : State) (there here : TwoUndos) → MadeBoth t u s end there → MadeBoth u t s other here → Commute table t u s → AreAlike table end other × HaveSameEvents there here
 commute_made table t u s end other there here one two (last, behind, e, f, first, second, alike, either) =
     let a = both_same t u s last end e f there.first.event there.second.event first one.moves in
     let b = both_same u t s behind other f e here.first.event here.second.event second two.moves in
@@ -86,7 +86,7 @@ commute_made table t u s end other there here one two (last, behind, e, f, first
     (subst (λ x. AreAlike table end x) b.0 (subst (λ x. AreAlike table x behind) a.0 alike), (sym a.1 ∙ b.2, sym a.2 ∙ b.1, unordered))
 
 -- their events have no more precedence in the other order
-pub commute_unordered : (table : DeadTable) (t u : ℕ) (s end : State) (there : Both) → MadeBoth t u s end there → Commute table t u s → AreUnordered there.first.event there.second.event
+pub commute_unordered : (table : DeadTable) (t u : ℕ) (s end : State) (there : TwoUndos) → MadeBoth t u s end there → Commute table t u s → AreUnordered there.first.event there.second.event
 commute_unordered table t u s end there one (last, behind, e, f, first, second, alike, either) =
     let a = both_same t u s last end e f there.first.event there.second.event first one.moves in
     rw (← a.1, ← a.2) either
@@ -152,8 +152,8 @@ module _ (Set : List SerialOp → Type 0) where
   known_behind s h left t p next event k below step is known there other moves =
       let feasible : p < picks_of s t = step_feasible s (record { thread = t; pick = p }) next event step in
       let only : p ≡ 0 = omega (arith, moves.0) in
-      let first : Step s (move_of t) next event = subst (λ x. Step s (record { thread = t; pick = x }) next event) only step in
-      let at : (there ≡ next) × (other ≡ event) = step_same s (move_of t) there next other event moves.1 first in
+      let first : Step s (only_move t) next event = subst (λ x. Step s (record { thread = t; pick = x }) next event) only step in
+      let at : (there ≡ next) × (other ≡ event) = step_same s (only_move t) there next other event moves.1 first in
       rw (at.0, at.1, ← is) known
 
   -- what is known behind a history is known behind a reordered one
@@ -178,14 +178,14 @@ module _ (Set : List SerialOp → Type 0) where
       let two = commute.5 in
       let feasible : p < picks_of s t = step_feasible s (record { thread = t; pick = p }) next event step in
       let only : p ≡ 0 = omega (arith, two.1.0) in
-      let first : Step s (move_of t) next event = subst (λ x. Step s (record { thread = t; pick = x }) next event) only step in
-      let at : (next ≡ two.0) × (event ≡ f) = step_same s (move_of t) next two.0 event f first two.1.1 in
-      let then : Step two.0 (move_of u) there last = subst (λ x. Step x (move_of u) there last) at.0 moves.1 in
-      let to : (there ≡ other) × (last ≡ e) = step_same two.0 (move_of u) there other last e then two.2.1 in
+      let first : Step s (only_move t) next event = subst (λ x. Step s (record { thread = t; pick = x }) next event) only step in
+      let at : (next ≡ two.0) × (event ≡ f) = step_same s (only_move t) next two.0 event f first two.1.1 in
+      let then : Step two.0 (only_move u) there last = subst (λ x. Step x (only_move u) there last) at.0 moves.1 in
+      let to : (there ≡ other) × (last ≡ e) = step_same two.0 (only_move u) there other last e then two.2.1 in
       let before = behind u c.1 c.2 one.0 e one.1 in
       let kid = kids_known one.0 (h ++ with_event e []) left c.1 before t below c.3 end f one.2 in
       let both = either_order h e f commute.7 in
-      let component : end.component ≡ s.component = (step_moved one.0 (move_of t) end f one.2.1).component ∙ (step_moved s (move_of u) one.0 e one.1.1).component in
+      let component : end.component ≡ s.component = (step_moved one.0 (only_move t) end f one.2.1).component ∙ (step_moved s (only_move u) one.0 e one.1.1).component in
       let dead_there : IsDeadTable end.component table = subst (λ x. IsDeadTable x table) (sym component) dead in
       let here = known_reordered end ((h ++ with_event e []) ++ with_event f []) ((h ++ with_event f []) ++ with_event e []) (left - 1) below both kid in
       rw (at.1, to.0, to.1) (known_alike table Set end other dead_there commute.6 ((h ++ with_event f []) ++ with_event e []) (left - 1) below here))

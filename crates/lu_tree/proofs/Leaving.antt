@@ -10,9 +10,9 @@ use Rattle.lu_witness.specs.Witnesses.{IsMember}
 use Rattle.lu_tree.specs.declared.found.Found.{Found}
 use Rattle.lu_tree.specs.declared.found.Found.TheVariants.{Clean, Bad, Abandoned}
 use Rattle.lu_tree.specs.declared.node.Node.{Node}
-use Rattle.lu_tree.specs.declared.tally.Tally.{Tally}
+use Rattle.lu_tree.specs.declared.tally.WalkProgress.{WalkProgress}
 use Rattle.lu_tree.specs.Trees.{Below, IsFoundWatched, is_abandoned}
-use Rattle.lu_tree.specs.Walks.{IsBadAt, IsFirstAt, IsReady}
+use Rattle.lu_tree.specs.Walks.{IsBadAt, IsFirstAt, IsReadyToWalk}
 use Rattle.lu_tree.specs.Walked.{IsBadFound, StaysBelow}
 use Rattle.lu_tree.proofs.Added.{first_bad}
 
@@ -35,12 +35,12 @@ where_none P None is p = p
 where_none P (Some x) is p = absurd (cc)
 
 -- a tally whose path is as it was
-pub ready_still : (before after : Tally) → after.path ≡ before.path → IsReady before → IsReady after
+pub ready_still : (before after : WalkProgress) → after.path ≡ before.path → IsReadyToWalk before → IsReadyToWalk after
 ready_still before after same ready =
     record { room = subst (λ p. 256 ≤ vec_capacity p) (sym same) ready.room; empty = ap (λ p. p.items) same ∙ ready.empty }
 
 -- back at the node, with no path
-pub stays_home : {T Place : Type 0} (node end : Node T Place) (left : ℕ) (tally : Tally) → end.trail.tree ≡ node.trail.tree → end.machine ≡ node.machine → end.trail.history ≡ node.trail.history → Agree (progress node.machine) node.trail.history → IsReady tally → StaysBelow node left tally end
+pub stays_home : {T Place : Type 0} (node end : Node T Place) (left : ℕ) (tally : WalkProgress) → end.trail.tree ≡ node.trail.tree → end.machine ≡ node.machine → end.trail.history ≡ node.trail.history → Agree (progress node.machine) node.trail.history → IsReadyToWalk tally → StaysBelow node left tally end
 stays_home node end left tally tree machine history agree ready =
     record {
       tree = tree;

@@ -8,7 +8,7 @@ use Rattle.lu_horizon.proofs.OwnLaws.{get_set_other}
 use Rattle.lu_tree.specs.declared.access.Held.TheVariants.{Value, Owner}
 use Rattle.lu_tree.specs.declared.access.Location.{Location}
 use Rattle.lu_tree.specs.declared.access.Location.TheVariants as location
-use Rattle.lu_tree.specs.declared.commuting.Both.{Both}
+use Rattle.lu_tree.specs.declared.commuting.TwoUndos.{TwoUndos}
 use Rattle.lu_tree.specs.Accesses.{conflict, held_at, left_at, next_access}
 use Rattle.lu_tree.specs.Alike.{AreAlike, AreLeftAlike, AreStandingAlike}
 use Rattle.lu_tree.specs.Known.{MadeBoth}
@@ -20,7 +20,7 @@ other_two : (threads : List Thread) (t u v : ℕ) (x y : Thread) → (t ≡ v �
 other_two threads t u v x y one two = get_set_other (slice_set threads t x) u v y (λ e. two (sym e)) ∙ get_set_other threads t v x (λ e. one (sym e))
 
 -- both orders lead to states that are alike, where they leave the two threads alike, and the same at the location
-pub left_alike : (table : DeadTable) (t u : ℕ) (s x y : State) (there here : Both) (l : Location) → MadeBoth t u s x there → MadeBoth u t s y here → (t ≡ u → ⊥) → conflict (next_access s t) (next_access s u) ≡ Some l → AreLeftAlike table (left_at x t u l) (left_at y t u l) → AreAlike table x y
+pub left_alike : (table : DeadTable) (t u : ℕ) (s x y : State) (there here : TwoUndos) (l : Location) → MadeBoth t u s x there → MadeBoth u t s y here → (t ≡ u → ⊥) → conflict (next_access s t) (next_access s u) ≡ Some l → AreLeftAlike table (left_at x t u l) (left_at y t u l) → AreAlike table x y
 left_alike table t u s x y there here l one two differ at left =
     let both = conflict_at (next_access s t) (next_access s u) l at in
     let a = ends_at t u s x there.first.event there.second.event l both.0 both.1 one.moves differ both.2 both.3 both.4 both.5 in

@@ -12,7 +12,7 @@ use Rattle.lu_trie.proofs.Membership.{kids-at}
 use Rattle.lu_witness.specs.Witnesses.{IsMember, entries}
 use Rattle.lu_witness.proofs.Entries.{entries-append, entries_own}
 use Rattle.lu_history.proofs.Events.{split_at, take_next}
-use Rattle.lu_tree.specs.Tails.{AreBehind, HasEveryOrder}
+use Rattle.lu_tree.specs.Tails.{AreMembersBehind, HasEveryOrder}
 
 pub some_entry : (t : ℕ) (ops : List SerialOp) (i : ℕ) (d : SerialOp) → i < length ops → (get_or ops i d).thread ≡ t → entries t ops ≢ []
 some_entry t [] i d lt is = absurd (omega arith)
@@ -130,7 +130,7 @@ serve_more hs ops i d within before here j op lt at first = elim (cases_lt j i) 
 ]
 
 -- a kid's members stand behind its label
-pub kid_behind : (hs : List (List SerialOp)) → IsBranching hs → (i : ℕ) (label : SerialOp) (below : List (List SerialOp)) → i < length (branches_of hs) → slice_get (branches_of hs) i ≡ Some (label, below) → AreBehind (label ∷ []) below hs
+pub kid_behind : (hs : List (List SerialOp)) → IsBranching hs → (i : ℕ) (label : SerialOp) (below : List (List SerialOp)) → i < length (branches_of hs) → slice_get (branches_of hs) i ≡ Some (label, below) → AreMembersBehind (label ∷ []) below hs
 kid_behind hs is i label below lt at q member =
     let b : Branch = (label, below) in
     let read = λ (e : Branch). get_or_from_slice_get (branches_of hs) i b e at in
@@ -138,7 +138,7 @@ kid_behind hs is i label below lt at q member =
     branching-cons hs is label q ∙ (kids-at (branches_of hs) label i b is.branches.rise is_at q ∙ (ap (λ (x : Branch). contains x.1 q) (read b) ∙ member))
 
 -- one operation further
-pub next_behind : (ops : List SerialOp) (i : ℕ) (d : SerialOp) (below outer members : List (List SerialOp)) → i < length ops → AreBehind (take i ops) outer members → AreBehind (get_or ops i d ∷ []) below outer → AreBehind (take (i + 1) ops) below members
+pub next_behind : (ops : List SerialOp) (i : ℕ) (d : SerialOp) (below outer members : List (List SerialOp)) → i < length ops → AreMembersBehind (take i ops) outer members → AreMembersBehind (get_or ops i d ∷ []) below outer → AreMembersBehind (take (i + 1) ops) below members
 next_behind ops i d below outer members lt before here q member =
     let op = get_or ops i d in
     let next : ◌≡◌ {A = ℕ} (i + 1) (suc i) = omega arith in

@@ -22,7 +22,7 @@ use Rattle.lu_history.proofs.Events.{calls-append, outcomes-append}
 use Rattle.lu_witness.specs.Goodness.{IsGoodAt}
 use Rattle.lu_witness.specs.Witnesses.{HasWitness, IsWitness}
 use Rattle.lu_tree.specs.Reordered.{AreExchanged, MayChange, AreReordered, AreReorderedBy, AreUnordered}
-use Rattle.lu_tree.specs.Walks.{Counted}
+use Rattle.lu_tree.specs.Walks.{IsCountAtEnd}
 
 pub reordered_same : (h : List Event) → AreReordered h h
 reordered_same h = (zero, refl)
@@ -240,7 +240,7 @@ module _ (Set : List SerialOp → Type 0) where
   pub good_reordered : (s : State) (h k : List Event) → AreReordered h k → IsGoodAt Set s h → IsGoodAt Set s k
   good_reordered s h k (n, by) good = good_by n s h k by good
 
-  pub counted_reordered : (s : State) (h k : List Event) (counts : Counts) → AreReordered h k → Counted Set s h counts → Counted Set s k counts
+  pub counted_reordered : (s : State) (h k : List Event) (counts : Counts) → AreReordered h k → IsCountAtEnd Set s h counts → IsCountAtEnd Set s k counts
   counted_reordered s h k counts re (inl cut) = inl cut
   counted_reordered s h k counts re (inr (inl (complete, good, one))) = inr (inl (complete, good_reordered s h k re good, one))
   counted_reordered s h k counts re (inr (inr (stuck, good, one))) = inr (inr (stuck, good_reordered s h k re good, one))

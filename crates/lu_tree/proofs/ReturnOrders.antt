@@ -15,7 +15,7 @@ use Rattle.lu_history.specs.Parts.{as_serial}
 use Rattle.lu_history.proofs.Events.{counted_return, each_beginning, kept_at, last_at, outcomes-append, outcomes_grow, outcomes_return, split_at}
 use Rattle.lu_history.proofs.PartEntries.{part_returned}
 use Rattle.lu_witness.specs.Witnesses.{entries, IsWitness}
-use Rattle.lu_witness.specs.Search.{IsBeginning, IsNext}
+use Rattle.lu_witness.specs.Search.{IsBeginning, CanComeNext}
 use Rattle.lu_witness.proofs.Beginnings.{begun_push, begun_witness}
 use Rattle.lu_judge.specs.Returned.{returned}
 use Rattle.lu_judge.proofs.Returning.{returned-append}
@@ -35,7 +35,7 @@ returned_count t h = ap length (returned_entries t h) ∙ length-map (outcomes t
 
 module _ (g : List Event) (well : IsWellFormed g) where
   -- what returns at j is next behind operations of which each thread has as many as have returned before
-  return_next : (j t k : ℕ) (o : Outcome) (q : List SerialOp) → slice_get g j ≡ Some (Return t k o) → ((u : ℕ) → length (entries u q) ≡ length (outcomes u (take j g))) → IsNext g q (record { thread = t; outcome = as_serial o })
+  return_next : (j t k : ℕ) (o : Outcome) (q : List SerialOp) → slice_get g j ≡ Some (Return t k o) → ((u : ℕ) → length (entries u q) ≡ length (outcomes u (take j g))) → CanComeNext g q (record { thread = t; outcome = as_serial o })
   return_next j t k o q at many =
       let fits = well j (Return t k o) at in
       let whole : outcomes t g ≡ outcomes t (take j g) ++ o ∷ outcomes t (drop (suc j) g) = ap (outcomes t) (split_at g (Return t k o) j at) ∙ (outcomes-append t (take j g) (Return t k o ∷ drop (suc j) g) ∙ ap (λ x. outcomes t (take j g) ++ x) (outcomes_return t k o (drop (suc j) g))) in

@@ -9,10 +9,10 @@ use Rattle.lu_machine.specs.States.{State}
 use Rattle.lu_machine.specs.Steps.{Step, picks_of}
 use Rattle.lu_machine.specs.Undoes.{CanTake, restored}
 use Rattle.lu_horizon.specs.Dead.{DeadTable}
-use Rattle.lu_orders.specs.Solo.{move_of}
+use Rattle.lu_orders.specs.Solo.{only_move}
 use Rattle.lu_history.specs.declared.serial.SerialOp.{SerialOp}
 use Rattle.lu_witness.specs.Witnesses.{IsMember}
-use Rattle.lu_tree.specs.declared.commuting.Both.{Both}
+use Rattle.lu_tree.specs.declared.commuting.TwoUndos.{TwoUndos}
 use Rattle.lu_tree.specs.declared.known.Known.{Known, out-Known}
 use Rattle.lu_tree.specs.declared.known.Hints.{Hints}
 use Rattle.lu_tree.specs.declared.node.Node.{Node}
@@ -22,7 +22,7 @@ use Rattle.lu_tree.specs.Walks.{AreBelow}
 
 -- thread t has one pick in s, and its move leads to r
 abbrev pub Moves : ℕ → State → State → Option Event → Type 0
-Moves t s r event = (picks_of s t ≡ 1) × Step s (move_of t) r event
+Moves t s r event = (picks_of s t ≡ 1) × Step s (only_move t) r event
 
 -- the only moves of t and of u, one after the other
 abbrev pub MovesBoth : ℕ → ℕ → State → State → Option Event → Option Event → Type 0
@@ -46,17 +46,17 @@ AreFree t u s =
     (r c : State) (e f : Option Event) → Moves t s r e → Moves u s c f → AreUnordered e f
 
 -- both moves were made, and can be taken back
-abbrev pub taken_back : Both → State → State
+abbrev pub taken_back : TwoUndos → State → State
 taken_back both s = restored both.first (restored both.second s)
 
-pub record MadeBoth (t u : ℕ) (s end : State) (both : Both) : Type 0 where
+pub record MadeBoth (t u : ℕ) (s end : State) (both : TwoUndos) : Type 0 where
   pub moves : MovesBoth t u s end both.first.event both.second.event
   pub back : taken_back both end ≡ s
   pub second : CanTake end both.second
   pub first : CanTake (restored both.second end) both.first
 
 -- two moves have the same events in the other order, and no more precedence
-abbrev pub HaveSameEvents : Both → Both → Type 0
+abbrev pub HaveSameEvents : TwoUndos → TwoUndos → Type 0
 HaveSameEvents there here =
     (there.first.event ≡ here.second.event) × (there.second.event ≡ here.first.event)
     × AreUnordered there.first.event there.second.event

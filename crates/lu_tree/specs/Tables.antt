@@ -8,8 +8,8 @@ use Rattle.lu_orders.specs.Orders.{CountsUpTo}
 use Rattle.lu_tree.specs.declared.tables.Tables.{Tables}
 
 -- the tables are those of the runs of the component and the matrix
-abbrev pub AreTables : Declarations → Matrix → Tables → Type 0
-AreTables c matrix tables = ServesRuns c matrix tables.horizon × IsDeadTable c tables.dead
+abbrev pub AreRunTables : Declarations → Matrix → Tables → Type 0
+AreRunTables c matrix tables = ServesRuns c matrix tables.horizon × IsDeadTable c tables.dead
 
 -- and count the orders of so many moves
 abbrev pub CountOrdersUpTo : ℕ → Tables → Type 0

@@ -5,13 +5,14 @@ use Rattle.lu_test.specs.declared.schedule.Move.{Move}
 use Rattle.lu_test.specs.Matrix.{Matrix}
 use Rattle.lu_machine.specs.States.{State}
 use Rattle.lu_machine.specs.Ends.{IsEnded}
-use Rattle.lu_machine.specs.Starts.{IsStart}
+use Rattle.lu_machine.specs.Starts.{CanRun, IsStart}
 use Rattle.lu_machine.specs.Schedules.{BeginsWith, Reaches, IsSchedule, AreAll}
 use Rattle.lu_history.specs.declared.serial.SerialOp.{SerialOp}
 use Rattle.lu_witness.specs.Witnesses.{IsMember}
 use Rattle.lu_witness.specs.Goodness.{IsFirstBad, AreAllGood}
 use Rattle.lu_tree.specs.declared.found.Found.{Found}
 use Rattle.lu_tree.specs.declared.found.Found.TheVariants.{Clean, Bad, Abandoned}
+use Rattle.lu_tree.specs.declared.space.SearchSpace.{SearchSpace}
 
 -- the schedules that begin with this one
 abbrev pub Below : List Move → List Move → Type 0
@@ -53,13 +54,21 @@ pub record IsFrontier (s : State) (most : ℕ) (pieces : List (List Move)) : Typ
 
 -- what is found from the start of the component and the matrix among the schedules that begin with
 -- `from`; and the same, unless the search was abandoned
-abbrev pub Finds : {E : Type 0} → Declarations → Matrix → List (List SerialOp) → List Move → ℕ
+abbrev pub FindsBelow : {E : Type 0} → Declarations → Matrix → List (List SerialOp) → List Move → ℕ
     → Result Found E → Type 0
-Finds c matrix members from bound result =
+FindsBelow c matrix members from bound result =
     (s : State) → IsStart c matrix s → IfOk result (IsFound (IsMember members) s bound (Below from))
 
-abbrev pub MayFind : {E : Type 0} → Declarations → Matrix → List (List SerialOp) → List Move → ℕ
+abbrev pub MayFind : {E : Type 0} → SearchSpace → List (List SerialOp) → List Move
     → Result Found E → Type 0
-MayFind c matrix members from bound result =
-    (s : State) → IsStart c matrix s
-    → IfOk result (IsFoundWatched (IsMember members) s bound (Below from))
+MayFind space members from result =
+    (s : State) → IsStart space.component.now space.matrix.now s
+    → IfOk result (IsFoundWatched (IsMember members) s space.bound (Below from))
+
+-- the space can be searched below a schedule: the matrix can be run, and the schedule has no more
+-- moves than the bound
+pub record CanSearch (space : SearchSpace) (from : List Move) : Type 0 where
+  pub run : CanRun space.component.now space.matrix.now
+  pub few : space.bound ≤ 256
+  pub short : length from ≤ space.bound
+  pub leads : (s : State) → IsStart space.component.now space.matrix.now s → IsSchedule s from

@@ -8,13 +8,13 @@ use Rattle.lu_tree.specs.declared.found.Found.{Found}
 use Rattle.lu_tree.specs.declared.found.Found.TheVariants.{Clean, Bad, Abandoned}
 use Rattle.lu_tree.specs.declared.known.Known.{Known}
 use Rattle.lu_tree.specs.declared.node.Node.{Node}
-use Rattle.lu_tree.specs.declared.tally.Tally.{Tally}
+use Rattle.lu_tree.specs.declared.tally.WalkProgress.{WalkProgress}
 use Rattle.lu_tree.specs.Known.{IsKnownNode, counts_of, kids_of}
-use Rattle.lu_tree.specs.Walks.{IsBadEnd, IsCounted, IsReady}
+use Rattle.lu_tree.specs.Walks.{IsBadEnd, IsCountOfNode, IsReadyToWalk}
 
 -- The walk ends at a node over the same tree, whose history is that of its machine. The path by
 -- which it went on is no longer than the moves that were left, and has room for any.
-pub record StaysBelow {T Place : Type 0} (node : Node T Place) (left : ℕ) (tally : Tally)
+pub record StaysBelow {T Place : Type 0} (node : Node T Place) (left : ℕ) (tally : WalkProgress)
     (end : Node T Place) : Type 0 where
   pub tree : end.trail.tree ≡ node.trail.tree
   pub agree : Agree (progress end.machine) end.trail.history
@@ -23,11 +23,12 @@ pub record StaysBelow {T Place : Type 0} (node : Node T Place) (left : ℕ) (tal
 
 -- The walk passed: it is back at the node, can go on, and this is known below the node.
 pub record Passed {T Place : Type 0} (members : T → List (List SerialOp)) (node : Node T Place)
-    (left : ℕ) (stopped : Bool) (tally : Tally) (end : Node T Place) (below : Known) : Type 0 where
+    (left : ℕ) (stopped : Bool) (tally : WalkProgress) (end : Node T Place)
+    (below : Known) : Type 0 where
   pub machine : end.machine ≡ node.machine
   pub history : end.trail.history ≡ node.trail.history
   pub running : stopped ≡ false
-  pub ready : IsReady tally
+  pub ready : IsReadyToWalk tally
   pub known : IsKnownNode members node left below
 
 -- the numbers of a schedule that is cut at the node, or ends there, and nothing of states that
@@ -35,7 +36,7 @@ pub record Passed {T Place : Type 0} (members : T → List (List SerialOp)) (nod
 abbrev pub IsCountedAlone : {T Place : Type 0} → (T → List (List SerialOp)) → Node T Place → Known
     → Type 0
 IsCountedAlone members node known =
-    IsCounted members node (counts_of known) × (kids_of known ≡ [])
+    IsCountOfNode members node (counts_of known) × (kids_of known ≡ [])
 
 -- this schedule is answered, which ends at the node and is not good, and why it is not
 abbrev pub IsBadFound : {T Place : Type 0} → (T → List (List SerialOp)) → Node T Place → List Move

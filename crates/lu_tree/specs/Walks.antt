@@ -16,7 +16,7 @@ use Rattle.lu_witness.specs.declared.judgement.Why.{Why}
 use Rattle.lu_witness.specs.Goodness.{Any, IsGoodAt, IsWhyAt, AreGood}
 use Rattle.lu_witness.specs.Witnesses.{HasWitness, IsMember}
 use Rattle.lu_tree.specs.declared.node.Node.{Node}
-use Rattle.lu_tree.specs.declared.tally.Tally.{Tally}
+use Rattle.lu_tree.specs.declared.tally.WalkProgress.{WalkProgress}
 use Rattle.lu_tree.specs.Reordered.{AreReordered}
 use Rattle.lu_tree.specs.Trees.{Below}
 
@@ -42,13 +42,13 @@ abbrev pub cuts : ℕ → Counts
 cuts n = record { complete = 0; stuck = 0; cut = n }
 
 -- a tally with which a walk can go on: no path yet, and room for any
-pub record IsReady (tally : Tally) : Type 0 where
+pub record IsReadyToWalk (tally : WalkProgress) : Type 0 where
   pub room : 256 ≤ vec_capacity tally.path
   pub empty : tally.path.items ≡ []
 
 -- the numbers of a schedule that is cut here, or ends here and is good
-abbrev pub Counted : (List SerialOp → Type 0) → State → List Event → Counts → Type 0
-Counted Set s h counts =
+abbrev pub IsCountAtEnd : (List SerialOp → Type 0) → State → List Event → Counts → Type 0
+IsCountAtEnd Set s h counts =
     (HasMove s × (counts ≡ one_cut))
     ⊎ ((IsComplete s × IsGoodAt Set s h × (counts ≡ one_complete))
     ⊎ (IsStuck s × IsGoodAt Set s h × (counts ≡ one_stuck)))
@@ -80,17 +80,17 @@ pub record IsFirstAt (Set : List SerialOp → Type 0) (start : State) (bound : �
 
 -- The walk stopped at a schedule that ends: it goes on by these moves, the last one first, and
 -- those before it are good.
-abbrev pub StopsAt : (List SerialOp → Type 0) → State → List Event → ℕ → List Move → State
+abbrev pub StopsAtSchedule : (List SerialOp → Type 0) → State → List Event → ℕ → List Move → State
     → List Event → Type 0
-StopsAt Set s h left path end history =
+StopsAtSchedule Set s h left path end history =
     (start : State) (u : List Move) → Leads start u s h →
     IsFirstAt Set start (length u + left) (Below u) (u ++ reverse path) end history
 
 -- the same of a node, over the histories of its tree
-abbrev pub IsCounted : {T Place : Type 0} → (T → List (List SerialOp)) → Node T Place → Counts
+abbrev pub IsCountOfNode : {T Place : Type 0} → (T → List (List SerialOp)) → Node T Place → Counts
     → Type 0
-IsCounted members node counts =
-    Counted (IsMember (members node.trail.tree)) node.machine node.trail.history counts
+IsCountOfNode members node counts =
+    IsCountAtEnd (IsMember (members node.trail.tree)) node.machine node.trail.history counts
 
 abbrev pub AreBelowNode : {T Place : Type 0} → (T → List (List SerialOp)) → Node T Place → ℕ
     → Counts → Type 0
@@ -99,10 +99,10 @@ AreBelowNode members node left below =
 
 -- or, where it did not pass and the watch did not stop it
 abbrev pub Stopped : {T Place : Type 0} → (T → List (List SerialOp)) → Node T Place → ℕ → Bool
-    → Bool → Tally → Node T Place → Type 0
+    → Bool → WalkProgress → Node T Place → Type 0
 Stopped members node left passed stopped tally end =
     passed ≡ false → stopped ≡ false →
-    StopsAt (IsMember (members node.trail.tree)) node.machine node.trail.history left
+    StopsAtSchedule (IsMember (members node.trail.tree)) node.machine node.trail.history left
     tally.path.items end.machine end.trail.history
 
 -- a schedule that ends at the node is good, or complete and good, or not good and why

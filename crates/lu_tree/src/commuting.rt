@@ -4,8 +4,8 @@
 //! 1977), and the other order has no more precedence, the schedules below are the same in both
 //! orders, and good in the other where they are in the one. They are walked behind the one order,
 //! and counted behind both. Moves that access nothing of what the other changes are independent, so
-//! they lead to one state; of others it is seen by making them in both orders. The states may differ
-//! in dead registers, which nothing reads any more.
+//! they lead to one state; of others it is seen by making them in both orders. The states may
+//! differ in dead registers, which nothing reads any more.
 
 ghost use Rattle.std.specs.Prelude.{◌≡◌, ◌≢◌, ◌<◌, ◌↔◌, ℕ, false, true, IfNone, IfSome, Some, slice_get};
 ghost use Rattle.lu_machine.specs.Changes.{idle};
@@ -24,47 +24,51 @@ use lu_test::Move;
 
 /// How two moves that were made one after the other are taken back.
 #[derive(Clone, Copy, Debug)]
-struct Both {
+struct TwoUndos {
     first: Undo,
     second: Undo,
 }
 
 /// Makes the only move of the thread, and says how to take it back.
 #[inline(always)]
-fn make_move<const LONG: bool>(thread: u8, machine: &mut Machine<'_>) -> Undo
-    requires one { LONG ≡ false → machine.old.component.local ≡ 0 }
+fn make_move<const RUNS_LOCAL: bool>(thread: u8, machine: &mut Machine<'_>) -> Undo
+    requires one { RUNS_LOCAL ≡ false → machine.old.component.local ≡ 0 }
     requires only { picks_of machine.old thread ≡ 1 }
     ensures moves { Moves thread machine.old machine.new result.event }
     ensures back { restored result machine.new ≡ machine.old }
     ensures fits { CanTake machine.new result }
 {
-    machine.apply_as::<LONG>(Move { thread, pick: 0 })
+    machine.apply_as::<RUNS_LOCAL>(Move { thread, pick: 0 })
 }
 
 /// Makes the only moves of two threads, one after the other: none where the second has not exactly
 /// one pick then.
 #[inline(always)]
-fn make_both<const LONG: bool>(first: u8, second: u8, machine: &mut Machine<'_>) -> Option<Both>
-    requires one { LONG ≡ false → machine.old.component.local ≡ 0 }
+fn make_both<const RUNS_LOCAL: bool>(
+    first: u8,
+    second: u8,
+    machine: &mut Machine<'_>,
+) -> Option<TwoUndos>
+    requires one { RUNS_LOCAL ≡ false → machine.old.component.local ≡ 0 }
     requires only { picks_of machine.old first ≡ 1 }
     ensures made { IfSome result (MadeBoth first second machine.old machine.new) }
     ensures none { IfNone result (MoveNotBoth first second machine.old) }
     ensures back { IfNone result (machine.new ≡ machine.old) }
 {
-    let undo = make_move::<LONG>(first, machine);
+    let undo = make_move::<RUNS_LOCAL>(first, machine);
     if machine.picks(second) != 1 {
         machine.undo(undo);
         return None;
     }
-    Some(Both {
+    Some(TwoUndos {
         first: undo,
-        second: make_move::<LONG>(second, machine),
+        second: make_move::<RUNS_LOCAL>(second, machine),
     })
 }
 
 /// Takes back both moves.
 #[inline(always)]
-fn take_back(both: Both, machine: &mut Machine<'_>)
+fn take_back(both: TwoUndos, machine: &mut Machine<'_>)
     requires second { CanTake machine.old both.second }
     requires first { CanTake (restored both.second machine.old) both.first }
     ensures { machine.new ≡ taken_back both machine.old }
@@ -90,7 +94,7 @@ fn are_unordered(one: Option<Event>, other: Option<Event>) -> bool
 
 /// Whether two moves have the same events in the other order, and no more precedence.
 #[inline(always)]
-fn have_same_events(there: Both, here: Both) -> bool
+fn have_same_events(there: TwoUndos, here: TwoUndos) -> bool
     ensures { result ≡ true ↔ HaveSameEvents there here }
 {
     are_unordered(there.first.event(), there.second.event())
@@ -111,13 +115,13 @@ fn is_idle(machine: &Machine<'_>, thread: u8) -> bool
 
 /// The event of the only move of the thread.
 #[inline(always)]
-fn event_of<const LONG: bool>(thread: u8, machine: &mut Machine<'_>) -> Option<Event>
-    requires one { LONG ≡ false → machine.old.component.local ≡ 0 }
+fn event_of<const RUNS_LOCAL: bool>(thread: u8, machine: &mut Machine<'_>) -> Option<Event>
+    requires one { RUNS_LOCAL ≡ false → machine.old.component.local ≡ 0 }
     requires only { picks_of machine.old thread ≡ 1 }
     ensures machine { machine.new ≡ machine.old }
     ensures event { (next : AState) × Moves thread machine.old next result }
 {
-    let undo = make_move::<LONG>(thread, machine);
+    let undo = make_move::<RUNS_LOCAL>(thread, machine);
     let event = undo.event();
     machine.undo(undo);
     event
@@ -126,8 +130,8 @@ fn event_of<const LONG: bool>(thread: u8, machine: &mut Machine<'_>) -> Option<E
 /// Whether the events of the only moves of two threads, which are independent, have no more
 /// precedence in the other order. Only the opening of a call can have more.
 #[inline(always)]
-fn are_free<const LONG: bool>(first: u8, second: u8, machine: &mut Machine<'_>) -> bool
-    requires one { LONG ≡ false → machine.old.component.local ≡ 0 }
+fn are_free<const RUNS_LOCAL: bool>(first: u8, second: u8, machine: &mut Machine<'_>) -> bool
+    requires one { RUNS_LOCAL ≡ false → machine.old.component.local ≡ 0 }
     requires first { picks_of machine.old first ≡ 1 }
     requires second { picks_of machine.old second ≡ 1 }
     requires differ { first ≢ second }
@@ -137,21 +141,21 @@ fn are_free<const LONG: bool>(first: u8, second: u8, machine: &mut Machine<'_>) 
     if !is_idle(machine, first) {
         return true;
     }
-    let one = event_of::<LONG>(first, machine);
-    let other = event_of::<LONG>(second, machine);
+    let one = event_of::<RUNS_LOCAL>(first, machine);
+    let other = event_of::<RUNS_LOCAL>(second, machine);
     are_unordered(one, other)
 }
 
 /// Whether the only moves of two threads, which both access this location, commute. They are made
 /// in both orders: whatever else there is stays as it was in either.
-fn commute_at<const LONG: bool>(
+fn commute_at<const RUNS_LOCAL: bool>(
     first: u8,
     second: u8,
     location: Location,
     dead: &DeadRegisters,
     machine: &mut Machine<'_>,
 ) -> bool
-    requires one { LONG ≡ false → machine.old.component.local ≡ 0 }
+    requires one { RUNS_LOCAL ≡ false → machine.old.component.local ≡ 0 }
     requires first { picks_of machine.old first ≡ 1 }
     requires second { picks_of machine.old second ≡ 1 }
     requires differ { first ≢ second }
@@ -161,12 +165,12 @@ fn commute_at<const LONG: bool>(
     ensures machine { machine.new ≡ machine.old }
     ensures commute { result ≡ true ↔ Commute dead.now first second machine.old }
 {
-    let Some(there) = make_both::<LONG>(first, second, machine) else {
+    let Some(there) = make_both::<RUNS_LOCAL>(first, second, machine) else {
         return false;
     };
     let left = left_at(machine, first, second, location);
     take_back(there, machine);
-    let Some(here) = make_both::<LONG>(second, first, machine) else {
+    let Some(here) = make_both::<RUNS_LOCAL>(second, first, machine) else {
         return false;
     };
     let alike = are_left_alike(dead, left, left_at(machine, first, second, location));
@@ -177,13 +181,13 @@ fn commute_at<const LONG: bool>(
 /// Whether the moves of two threads are their only ones and commute: in the other order they lead
 /// to the same state, but for dead registers, and with no more precedence. Where they are
 /// independent neither is made, unless one opens a call.
-fn commute<const LONG: bool>(
+fn commute<const RUNS_LOCAL: bool>(
     first: u8,
     second: u8,
     dead: &DeadRegisters,
     machine: &mut Machine<'_>,
 ) -> bool
-    requires one { LONG ≡ false → machine.old.component.local ≡ 0 }
+    requires one { RUNS_LOCAL ≡ false → machine.old.component.local ≡ 0 }
     requires differ { first ≢ second }
     ensures machine { machine.new ≡ machine.old }
     ensures commute { result ≡ true ↔ Commute dead.now first second machine.old }
@@ -192,8 +196,8 @@ fn commute<const LONG: bool>(
         return false;
     }
     match conflict(next_access(machine, first), next_access(machine, second)) {
-        None => are_free::<LONG>(first, second, machine),
-        Some(location) => commute_at::<LONG>(first, second, location, dead, machine),
+        None => are_free::<RUNS_LOCAL>(first, second, machine),
+        Some(location) => commute_at::<RUNS_LOCAL>(first, second, location, dead, machine),
     }
 }
 
@@ -210,7 +214,7 @@ fn behind<'h: 'k, 'k>(hints: &Hints<'h>, known: &'k Known, thread: u8) -> Option
 
 /// What is known behind the moves of other threads that commute with that of the thread, where this
 /// one is made first.
-pub(crate) fn hints_behind<'h: 'k, 'k, const LONG: bool>(
+pub(crate) fn hints_behind<'h: 'k, 'k, const RUNS_LOCAL: bool>(
     thread: u8,
     hints: &Hints<'h>,
     known: &'k Known,
@@ -218,7 +222,7 @@ pub(crate) fn hints_behind<'h: 'k, 'k, const LONG: bool>(
     machine: &mut Machine<'_>,
 ) -> Hints<'k>
     requires few { thread < 8 }
-    requires one { LONG ≡ false → machine.old.component.local ≡ 0 }
+    requires one { RUNS_LOCAL ≡ false → machine.old.component.local ≡ 0 }
     ensures machine { machine.new ≡ machine.old }
     ensures from { AreFrom dead.now machine.old hints.now known.now thread result }
 {
@@ -233,7 +237,7 @@ pub(crate) fn hints_behind<'h: 'k, 'k, const LONG: bool>(
         let Some(below) = first.behind(thread) else {
             continue;
         };
-        if commute::<LONG>(other, thread, dead, machine) {
+        if commute::<RUNS_LOCAL>(other, thread, dead, machine) {
             found.add(other, below);
         }
     }

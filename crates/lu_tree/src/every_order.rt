@@ -2,8 +2,8 @@
 
 ghost use Rattle.std.specs.Prelude.{◌≡◌, ◌≢◌, ◌<◌, ◌+◌, [], ◌∷◌, ◌++◌, IfOk, IfSome, IsTrue, length, take, drop};
 ghost use Rattle.lu_witness.specs.Witnesses.{IsMember, entries};
-ghost use Rattle.lu_tree.specs.declared.look.Judging.TheVariants.{EveryOrder};
-ghost use Rattle.lu_tree.specs.Tails.{AreBehind, HasEveryOrder, IsJudged};
+ghost use Rattle.lu_tree.specs.declared.tail_question.Judging.TheVariants.{EveryOrder};
+ghost use Rattle.lu_tree.specs.Tails.{AreMembersBehind, HasEveryOrder, IsJudged};
 
 use lu_history::SerialOp;
 use lu_judge::Trail;
@@ -40,7 +40,7 @@ fn kid_with<T: SerialTree>(tree: &T, place: T::Place, label: SerialOp) -> Option
     requires { T.is_place tree.now place }
     ensures place { IfSome result (T.is_place tree.now) }
     ensures behind { IfSome result (λ kid.
-        AreBehind (label ∷ []) (T.below tree.now kid) (T.below tree.now place)) }
+        AreMembersBehind (label ∷ []) (T.below tree.now kid) (T.below tree.now place)) }
 {
     for i in 0..tree.kid_count(place) {
         let (op, kid) = tree.kid(place, i);
@@ -55,7 +55,7 @@ fn kid_with<T: SerialTree>(tree: &T, place: T::Place, label: SerialOp) -> Option
 fn place_behind<T: SerialTree>(tree: &T, ops: &[SerialOp]) -> Option<T::Place>
     ensures place { IfSome result (T.is_place tree.now) }
     ensures behind { IfSome result (λ place.
-        AreBehind ops.now (T.below tree.now place) (T.members tree.now)) }
+        AreMembersBehind ops.now (T.below tree.now place) (T.members tree.now)) }
 {
     let mut place = tree.root();
     for op in ops {

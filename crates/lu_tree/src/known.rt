@@ -161,11 +161,11 @@ impl Known {
         known
     }
 
-    /// What a walk tells when it comes back from a beginning in which these threads moved: where all
-    /// would take too much of the room, no more than is asked for, and of that the shortest
+    /// What of it a walk keeps as it comes back from a beginning in which these threads moved:
+    /// where all would take too much of the room, what may be asked for, and of that the shortest
     /// beginnings alone. For what is known behind a thread's move is asked for as long as that
     /// thread does not move again, so nothing is where all of these have.
-    pub(crate) fn told(self, alloc: Global, room: u32, moved: Threads) -> Known
+    pub(crate) fn keep_nearest(self, alloc: Global, room: u32, moved: Threads) -> Known
         ensures { TellsNoMore self result }
     {
         let most = room / SHARE;

@@ -51,11 +51,11 @@ impl<'a, 't, T: SerialTree> Node<'a, 't, T> {
         })
     }
 
-    /// Makes the move here. With `LONG` false no local instructions run with a move.
+    /// Makes the move here. With `RUNS_LOCAL` false no local instructions run with a move.
     #[inline(always)]
-    pub(crate) fn enter<const LONG: bool>(&mut self, next: Move) -> Undo
+    pub(crate) fn enter<const RUNS_LOCAL: bool>(&mut self, next: Move) -> Undo
         requires feasible { IsFeasible self.old.machine next }
-        requires one { LONG ≡ false → self.old.machine.component.local ≡ 0 }
+        requires one { RUNS_LOCAL ≡ false → self.old.machine.component.local ≡ 0 }
         requires agree { Agree (progress self.old.machine) self.old.trail.history }
         ensures step { Step self.old.machine next self.new.machine result.event }
         ensures history { self.new.trail.history ≡
@@ -63,10 +63,10 @@ impl<'a, 't, T: SerialTree> Node<'a, 't, T> {
         ensures tree { self.new.trail.tree ≡ self.old.trail.tree }
         ensures agree { Agree (progress self.new.machine) self.new.trail.history }
         ensures back { restored result self.new.machine ≡ self.old.machine }
-        ensures one { LONG ≡ false → self.new.machine.component.local ≡ 0 }
+        ensures one { RUNS_LOCAL ≡ false → self.new.machine.component.local ≡ 0 }
         ensures fits { CanTake self.new.machine result }
     {
-        let undo = self.machine.apply_as::<LONG>(next);
+        let undo = self.machine.apply_as::<RUNS_LOCAL>(next);
         match undo.event() {
             None => undo,
             Some(event) => {

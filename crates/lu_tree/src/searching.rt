@@ -6,22 +6,21 @@ ghost use Rattle.lu_test.specs.Matrix.{IsMatrix};
 ghost use Rattle.lu_test.specs.Schedule.{AreMoves};
 ghost use Rattle.lu_machine.specs.Ends.{IsEnded};
 ghost use Rattle.lu_machine.specs.States.{State, progress};
-ghost use Rattle.lu_machine.specs.Runs.{Leads};
 ghost use Rattle.lu_machine.specs.Schedules.{IsSchedule};
 ghost use Rattle.lu_machine.specs.Starts.{CanRun, IsStart};
 ghost use Rattle.lu_history.specs.Standing.{Agree};
 ghost use Rattle.lu_witness.specs.Caches.{SameButEntries};
-ghost use Rattle.lu_witness.specs.Witnesses.{IsMember};
-ghost use Rattle.lu_tree.specs.Tables.{AreTables};
-ghost use Rattle.lu_tree.specs.Trees.{Finds, MayFind, is_abandoned};
+ghost use Rattle.lu_tree.specs.Tables.{AreRunTables};
+ghost use Rattle.lu_tree.specs.Trees.{CanSearch, FindsBelow, MayFind, is_abandoned};
 ghost use Rattle.lu_tree.specs.Walked.{IsBadFound};
 ghost use Rattle.lu_tree.specs.Walks.{LeadsToNode};
 
 use crate::ahead::Ahead;
 use crate::found::Found;
 use crate::node::Node;
+use crate::space::SearchSpace;
 use crate::tables::Tables;
-use crate::tally::Tally;
+use crate::tally::WalkProgress;
 use crate::walk::walk;
 use crate::watch::{Unwatched, Watch};
 use lu_component::Component;
@@ -35,20 +34,20 @@ const REMEMBERED: usize = 1024;
 
 /// The node to which the schedule leads.
 fn node_after<'a, 't, T: SerialTree>(
-    alloc: Global,
-    component: &'a Component,
-    matrix: &'a Matrix,
+    space: &SearchSpace<'a>,
     tree: &'t T,
     schedule: &[Move],
 ) -> Result<Node<'a, 't, T>, AllocError>
-    requires of { CanRun component.now matrix.now }
-    requires leads { (s : State) → IsStart component.now matrix.now s → IsSchedule s schedule.now }
-    ensures leads { IfOk result (LeadsToNode component.now matrix.now schedule.now) }
+    requires of { CanRun space.now.component.now space.now.matrix.now }
+    requires leads { (s : State) → IsStart space.now.component.now space.now.matrix.now s →
+        IsSchedule s schedule.now }
+    ensures leads { IfOk result
+        (LeadsToNode space.now.component.now space.now.matrix.now schedule.now) }
     ensures agree { IfOk result (λ node. Agree (progress node.machine) node.trail.history) }
     ensures tree { IfOk result (λ node. node.trail.tree ≡ tree.entry.now) }
-    ensures limits { IsComponent component.now × IsMatrix matrix.now }
+    ensures limits { IsComponent space.now.component.now × IsMatrix space.now.matrix.now }
 {
-    let mut node = Node::start(alloc, component, matrix, tree)?;
+    let mut node = Node::start(space.alloc, space.component, space.matrix, tree)?;
     for next in schedule {
         node.enter::<true>(*next);
     }
@@ -90,117 +89,46 @@ fn found_bad<'t, T: SerialTree>(
     })
 }
 
-/// Searches below a node, to which the schedule leads.
-fn search_below<'a, 't, T: SerialTree, W: Watch>(
-    alloc: Global,
-    component: &'a Component,
-    matrix: &'a Matrix,
+/// Searches as [`search`] does, over the tree of the cache, until the watch stops it. The watch is
+/// asked after each 64 further schedules that were judged good, or that are cut. The tables are
+/// those of the component and the matrix: whoever searches below many schedules makes them once.
+///
+/// # Errors
+///
+/// `AllocError` where memory was refused.
+pub fn search_with<'t, T: SerialTree, W: Watch>(
+    space: &SearchSpace<'_>,
     tables: &Tables,
     cache: &mut Cache<'t, T>,
-    node: &mut Node<'a, 't, T>,
     from: &Schedule,
-    bound: u16,
     watch: &mut W,
 ) -> Result<Found, AllocError>
-    requires of { CanRun component.now matrix.now }
-    requires limits { IsComponent component.now × IsMatrix matrix.now }
-    requires tables { AreTables component.now matrix.now tables.now }
-    requires few { bound ≤ 256 }
-    requires short { length from.now ≤ bound }
-    requires leads { LeadsToNode component.now matrix.now from.now node.old }
-    requires agree { Agree (progress node.old.machine) node.old.trail.history }
-    requires tree { cache.old.tree ≡ node.old.trail.tree }
+    requires of { CanSearch space.now from.now }
+    requires tables { AreRunTables space.now.component.now space.now.matrix.now tables.now }
     requires running { W.is_stopped watch.old ≡ false }
-    ensures found { MayFind component.now matrix.now (T.members cache.old.tree)
-        from.now bound result }
+    ensures found { MayFind space.now (T.members cache.old.tree) from.now result }
     ensures base { W.base watch.new ≡ W.base watch.old }
     ensures cache { SameButEntries cache.old cache.new }
     ensures stopped { W.is_stopped watch.new ≡ is_abandoned result }
+    ensures limits { IsComponent space.now.component.now × IsMatrix space.now.matrix.now }
 {
-    let left = bound - from.moves().len() as u16;
+    let moves = from.moves();
+    let mut node = node_after(space, cache.tree(), moves)?;
+    let left = space.bound - moves.len() as u16;
     let ahead = Ahead {
-        alloc,
+        alloc: space.alloc,
         tables,
         most: left,
     };
-    let mut tally = Tally::new(alloc)?;
-    let walked = walk(cache, watch, &ahead, left, node, &mut tally);
+    let mut tally = WalkProgress::new(space.alloc)?;
+    let walked = walk(cache, watch, &ahead, left, &mut node, &mut tally);
     if let Some(known) = walked {
         return Ok(Found::Clean(known.counts));
     }
     if watch.stopped() {
         return Ok(Found::Abandoned);
     }
-    found_bad(cache, from.moves(), tally.path, node)
-}
-
-/// Searches as [`search_watched`] does, with tables that were made before. Whoever searches below
-/// many schedules makes them once.
-///
-/// # Errors
-///
-/// `AllocError` where memory was refused.
-pub fn search_with<'a, 't, T: SerialTree, W: Watch>(
-    alloc: Global,
-    component: &'a Component,
-    matrix: &'a Matrix,
-    tables: &Tables,
-    cache: &mut Cache<'t, T>,
-    from: &Schedule,
-    bound: u16,
-    watch: &mut W,
-) -> Result<Found, AllocError>
-    requires of { CanRun component.now matrix.now }
-    requires tables { AreTables component.now matrix.now tables.now }
-    requires few { bound ≤ 256 }
-    requires short { length from.now ≤ bound }
-    requires leads { (s : State) → IsStart component.now matrix.now s → IsSchedule s from.now }
-    requires running { W.is_stopped watch.old ≡ false }
-    ensures found { MayFind component.now matrix.now (T.members cache.old.tree)
-        from.now bound result }
-    ensures base { W.base watch.new ≡ W.base watch.old }
-    ensures cache { SameButEntries cache.old cache.new }
-    ensures stopped { W.is_stopped watch.new ≡ is_abandoned result }
-    ensures limits { IsComponent component.now × IsMatrix matrix.now }
-{
-    let mut node = node_after(alloc, component, matrix, cache.tree(), from.moves())?;
-    search_below(
-        alloc, component, matrix, tables, cache, &mut node, from, bound, watch,
-    )
-}
-
-/// Searches as [`search`] does, over the tree of the cache, until the watch stops it. The watch is
-/// asked after each 64 further schedules that were judged good, or that are cut.
-///
-/// # Errors
-///
-/// `AllocError` where memory was refused.
-pub fn search_watched<'a, 't, T: SerialTree, W: Watch>(
-    alloc: Global,
-    component: &'a Component,
-    matrix: &'a Matrix,
-    cache: &mut Cache<'t, T>,
-    from: &Schedule,
-    bound: u16,
-    watch: &mut W,
-) -> Result<Found, AllocError>
-    requires of { CanRun component.now matrix.now }
-    requires few { bound ≤ 256 }
-    requires short { length from.now ≤ bound }
-    requires leads { (s : State) → IsStart component.now matrix.now s → IsSchedule s from.now }
-    requires running { W.is_stopped watch.old ≡ false }
-    ensures found { MayFind component.now matrix.now (T.members cache.old.tree)
-        from.now bound result }
-    ensures base { W.base watch.new ≡ W.base watch.old }
-    ensures cache { SameButEntries cache.old cache.new }
-    ensures stopped { W.is_stopped watch.new ≡ is_abandoned result }
-    ensures limits { IsComponent component.now × IsMatrix matrix.now }
-{
-    let mut node = node_after(alloc, component, matrix, cache.tree(), from.moves())?;
-    let tables = Tables::new(alloc, component, matrix, bound)?;
-    search_below(
-        alloc, component, matrix, &tables, cache, &mut node, from, bound, watch,
-    )
+    found_bad(cache, moves, tally.path, &mut node)
 }
 
 /// Searches the schedules that begin with `from`: returns the least one that is ended within the
@@ -223,12 +151,16 @@ pub fn search<T: SerialTree>(
     requires few { bound ≤ 256 }
     requires short { length from.now ≤ bound }
     requires leads { (s : State) → IsStart component.now matrix.now s → IsSchedule s from.now }
-    ensures found { Finds component.now matrix.now (T.members tree.now) from.now bound result }
+    ensures found { FindsBelow component.now matrix.now (T.members tree.now) from.now bound result }
     ensures limits { OnOk result (IsComponent component.now × IsMatrix matrix.now) }
 {
+    let space = SearchSpace {
+        alloc,
+        component,
+        matrix,
+        bound,
+    };
+    let tables = Tables::new(alloc, component, matrix, bound)?;
     let mut cache = Cache::new(alloc, tree, REMEMBERED)?;
-    let mut watch = Unwatched;
-    search_watched(
-        alloc, component, matrix, &mut cache, from, bound, &mut watch,
-    )
+    search_with(&space, &tables, &mut cache, from, &mut Unwatched)
 }

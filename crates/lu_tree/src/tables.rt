@@ -1,7 +1,7 @@
 //! Tables by which schedules are counted that no walk visits.
 
 ghost use Rattle.std.specs.Prelude.{IfOk};
-ghost use Rattle.lu_tree.specs.Tables.{AreTables, CountOrdersUpTo};
+ghost use Rattle.lu_tree.specs.Tables.{AreRunTables, CountOrdersUpTo};
 
 use lu_component::Component;
 use lu_horizon::{DeadRegisters, Horizon};
@@ -9,8 +9,9 @@ use lu_orders::Orders;
 use lu_test::Matrix;
 use std::alloc::{AllocError, Global};
 
-/// How many moves of each thread of a component and a matrix are certain, in how many orders moves of
-/// several threads can be made, and which registers are dead. Made once, for any number of searches.
+/// How many moves of each thread of a component and a matrix are certain, in how many orders moves
+/// of several threads can be made, and which registers are dead. Made once, for any number of
+/// searches.
 #[derive(Debug, Drop)]
 pub struct Tables {
     pub(crate) horizon: Horizon,
@@ -31,7 +32,7 @@ impl Tables {
         matrix: &Matrix,
         bound: u16,
     ) -> Result<Tables, AllocError>
-        ensures tables { IfOk result (AreTables component.now matrix.now) }
+        ensures tables { IfOk result (AreRunTables component.now matrix.now) }
         ensures orders { IfOk result (CountOrdersUpTo bound) }
     {
         Ok(Tables {

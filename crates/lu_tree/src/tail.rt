@@ -7,14 +7,14 @@ ghost use Rattle.lu_witness.specs.Caches.{SameButEntries};
 ghost use Rattle.lu_witness.specs.Witnesses.{HasWitness, IsMember};
 ghost use Rattle.lu_horizon.specs.Tables.{Serves};
 ghost use Rattle.lu_machine.specs.Ends.{IsFinished};
-ghost use Rattle.lu_tree.specs.declared.look.Judging.TheVariants.{OneVerdict};
-ghost use Rattle.lu_tree.specs.Tails.{StartsBehind, IsCutBelow, IsGoodTailOf, IsJudgedEnd, IsRestOf, MayMove, StaysWithin, sharing_of};
+ghost use Rattle.lu_tree.specs.declared.tail_question.Judging.TheVariants.{OneVerdict};
+ghost use Rattle.lu_tree.specs.Tails.{StartsBehind, IsCutBelow, IsGoodTailOf, IsJudgedEnd, IsRestOf, MayMove, RespectsSharing, sharing_of};
 ghost use Rattle.lu_tree.specs.Walks.{AreBelowNode};
 
 use crate::ahead::Ahead;
 use crate::every_order::has_orders;
-use crate::look::{Judging, Look};
 use crate::node::Node;
+use crate::tail_question::{Judging, TailQuestion};
 use lu_horizon::{Sharers, is_unseen_at, only_reads_at, stand_at};
 use lu_machine::{Counts, Machine, Status};
 use lu_test::Move;
@@ -50,7 +50,7 @@ fn is_over(machine: &Machine<'_>, t: u8) -> bool
 /// Whether what an open operation of thread `t` does next is among what the thread may touch.
 #[inline(always)]
 fn stays_within(sharers: Sharers, machine: &Machine<'_>, t: u8) -> bool
-    ensures { IsTrue result → StaysWithin (sharing_of sharers) machine.now t }
+    ensures { IsTrue result → RespectsSharing (sharing_of sharers) machine.now t }
 {
     match sharers {
         Sharers::Only(special) => t == special || is_unseen_at(machine, t),
@@ -71,8 +71,8 @@ fn lets_call(judging: Judging) -> bool
 
 /// Whether thread `t` has one move, and it is one of those that are looked for.
 #[inline(always)]
-fn may_move(look: Look, machine: &Machine<'_>, t: u8) -> bool
-    ensures { IsTrue result → MayMove look machine.now t }
+fn may_move(question: TailQuestion, machine: &Machine<'_>, t: u8) -> bool
+    ensures { IsTrue result → MayMove question machine.now t }
 {
     if machine.picks(t) != 1 {
         return false;
@@ -80,8 +80,8 @@ fn may_move(look: Look, machine: &Machine<'_>, t: u8) -> bool
     match stand_at(machine, t) {
         None => false,
         Some(stand) => match stand.place {
-            None => lets_call(look.judging),
-            Some(_place) => stays_within(look.sharers, machine, t),
+            None => lets_call(question.judging),
+            Some(_place) => stays_within(question.sharers, machine, t),
         },
     }
 }
@@ -113,7 +113,7 @@ fn is_judged_end<'t, T: SerialTree>(
 fn no_moves<'t, T: SerialTree>(
     alloc: Global,
     cache: &mut Cache<'t, T>,
-    look: Look,
+    question: TailQuestion,
     node: &mut Node<'_, 't, T>,
 ) -> Option<Vec<usize>>
     requires agree { Agree (progress node.old.machine) node.old.trail.history }
@@ -121,9 +121,9 @@ fn no_moves<'t, T: SerialTree>(
     ensures cache { SameButEntries cache.old cache.new }
     ensures same { node.new ≡ node.old }
     ensures rest { IfSome result (λ ns. (t left : ℕ) → length node.old.machine.threads ≤ t
-        → IsRestOf T.members node.old look t left ns.items) }
+        → IsRestOf T.members node.old question t left ns.items) }
 {
-    if !is_judged_end(alloc, cache, look.judging, node) {
+    if !is_judged_end(alloc, cache, question.judging, node) {
         return None;
     }
     match vec![in alloc; 0; usize::from(node.machine.threads())] {
@@ -136,34 +136,34 @@ fn no_moves<'t, T: SerialTree>(
 /// that is all that the order of their moves could change, and the end is good, it returns how many
 /// moves each thread makes: none where it is not certain, or takes more than `left` moves, or a
 /// thread touches more than it may.
-fn finish<'t, const LONG: bool, T: SerialTree>(
+fn finish<'t, const RUNS_LOCAL: bool, T: SerialTree>(
     alloc: Global,
     cache: &mut Cache<'t, T>,
-    look: Look,
+    question: TailQuestion,
     t: u8,
     left: usize,
     node: &mut Node<'_, 't, T>,
 ) -> Option<Vec<usize>>
-    requires one { LONG ≡ false → node.old.machine.component.local ≡ 0 }
+    requires one { RUNS_LOCAL ≡ false → node.old.machine.component.local ≡ 0 }
     requires agree { Agree (progress node.old.machine) node.old.trail.history }
     requires tree { cache.old.tree ≡ node.old.trail.tree }
     requires within { t ≤ length node.old.machine.threads }
     ensures cache { SameButEntries cache.old cache.new }
     ensures same { node.new ≡ node.old }
-    ensures rest { IfSome result (λ ns. IsRestOf T.members node.old look t left ns.items) }
+    ensures rest { IfSome result (λ ns. IsRestOf T.members node.old question t left ns.items) }
 {
     let threads = node.machine.threads();
     if t == threads {
-        return no_moves(alloc, cache, look, node);
+        return no_moves(alloc, cache, question, node);
     }
     if is_over(&node.machine, t) {
-        return finish::<LONG, T>(alloc, cache, look, t + 1, left, node);
+        return finish::<RUNS_LOCAL, T>(alloc, cache, question, t + 1, left, node);
     }
-    if left == 0 || !may_move(look, &node.machine, t) {
+    if left == 0 || !may_move(question, &node.machine, t) {
         return None;
     }
-    let undo = node.enter::<LONG>(Move { thread: t, pick: 0 });
-    let found = finish::<LONG, T>(alloc, cache, look, t, left - 1, node);
+    let undo = node.enter::<RUNS_LOCAL>(Move { thread: t, pick: 0 });
+    let found = finish::<RUNS_LOCAL, T>(alloc, cache, question, t, left - 1, node);
     node.leave(undo);
     match found {
         None => None,
@@ -171,17 +171,18 @@ fn finish<'t, const LONG: bool, T: SerialTree>(
     }
 }
 
-/// What to look for below the node, where a look may serve.
-fn look_at<'t, T: SerialTree>(
+/// What to ask of the moves below the node, where a question may serve.
+fn question_at<'t, T: SerialTree>(
     ahead: &Ahead<'_>,
     left: usize,
     node: &mut Node<'_, 't, T>,
-) -> Option<Look>
+) -> Option<TailQuestion>
     ensures same { node.new ≡ node.old }
-    ensures behind { IfSome result (λ look. StartsBehind look.judging node.old.trail.history) }
+    ensures behind { IfSome result (λ question.
+        StartsBehind question.judging node.old.trail.history) }
 {
     if let Some(sharers) = ahead.tables.horizon.last_sharers(&node.machine, left) {
-        return Some(Look {
+        return Some(TailQuestion {
             sharers,
             judging: Judging::OneVerdict,
         });
@@ -192,7 +193,7 @@ fn look_at<'t, T: SerialTree>(
         .sharers(&node.machine, left == usize::from(ahead.most))?;
     match node.trail.returned(ahead.alloc) {
         Err(_) => None,
-        Ok(ops) => Some(Look {
+        Ok(ops) => Some(TailQuestion {
             sharers,
             judging: Judging::EveryOrder(ops.len()),
         }),
@@ -201,21 +202,21 @@ fn look_at<'t, T: SerialTree>(
 
 /// Where all schedules below the node end within `left` moves, complete and good, how many there
 /// are: none where that is not certain.
-fn complete_below<'t, const LONG: bool, T: SerialTree>(
+fn complete_below<'t, const RUNS_LOCAL: bool, T: SerialTree>(
     cache: &mut Cache<'t, T>,
     ahead: &Ahead<'_>,
     left: usize,
     node: &mut Node<'_, 't, T>,
 ) -> Option<u64>
-    requires one { LONG ≡ false → node.old.machine.component.local ≡ 0 }
+    requires one { RUNS_LOCAL ≡ false → node.old.machine.component.local ≡ 0 }
     requires agree { Agree (progress node.old.machine) node.old.trail.history }
     requires tree { cache.old.tree ≡ node.old.trail.tree }
     ensures cache { SameButEntries cache.old cache.new }
     ensures same { node.new ≡ node.old }
     ensures tail { IfSome result (IsGoodTailOf T.members node.old left) }
 {
-    let look = look_at(ahead, left, node)?;
-    let lengths = finish::<LONG, T>(ahead.alloc, cache, look, 0, left, node)?;
+    let question = question_at(ahead, left, node)?;
+    let lengths = finish::<RUNS_LOCAL, T>(ahead.alloc, cache, question, 0, left, node)?;
     ahead.tables.orders.interleavings(&lengths)
 }
 
@@ -231,13 +232,13 @@ fn cut_below(ahead: &Ahead<'_>, left: usize, machine: &Machine<'_>) -> Option<u6
 
 /// How many schedules there are below the node, by a law: all of them are cut, or all end complete
 /// and good. None where neither is certain.
-pub(crate) fn counted_below<'t, const LONG: bool, T: SerialTree>(
+pub(crate) fn counted_below<'t, const RUNS_LOCAL: bool, T: SerialTree>(
     cache: &mut Cache<'t, T>,
     ahead: &Ahead<'_>,
     left: u16,
     node: &mut Node<'_, 't, T>,
 ) -> Option<Counts>
-    requires one { LONG ≡ false → node.old.machine.component.local ≡ 0 }
+    requires one { RUNS_LOCAL ≡ false → node.old.machine.component.local ≡ 0 }
     requires serves { Serves ahead.now.tables.now.horizon node.old.machine }
     requires agree { Agree (progress node.old.machine) node.old.trail.history }
     requires tree { cache.old.tree ≡ node.old.trail.tree }
@@ -252,7 +253,7 @@ pub(crate) fn counted_below<'t, const LONG: bool, T: SerialTree>(
             ..Counts::NONE
         });
     }
-    let complete = complete_below::<LONG, T>(cache, ahead, left, node)?;
+    let complete = complete_below::<RUNS_LOCAL, T>(cache, ahead, left, node)?;
     Some(Counts {
         complete,
         ..Counts::NONE

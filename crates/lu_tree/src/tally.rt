@@ -1,7 +1,7 @@
 //! How a walk asks its watch.
 
 ghost use Rattle.std.specs.Prelude.{◌≡◌, true, false, IfOk};
-ghost use Rattle.lu_tree.specs.Walks.{IsReady};
+ghost use Rattle.lu_tree.specs.Walks.{IsReadyToWalk};
 
 use crate::watch::Watch;
 use lu_machine::Counts;
@@ -16,7 +16,7 @@ const UNASKED: u8 = 64;
 
 /// How far a walk has come with its watch, and the path on which it stopped.
 #[derive(Drop)]
-pub(crate) struct Tally {
+pub(crate) struct WalkProgress {
     /// How many schedules were passed since the watch was asked.
     unasked: u8,
 
@@ -25,12 +25,12 @@ pub(crate) struct Tally {
     pub(crate) path: Vec<Move>,
 }
 
-impl Tally {
+impl WalkProgress {
     /// Nothing is passed yet.
-    pub(crate) fn new(alloc: Global) -> Result<Tally, AllocError>
-        ensures { IfOk result IsReady }
+    pub(crate) fn new(alloc: Global) -> Result<WalkProgress, AllocError>
+        ensures { IfOk result IsReadyToWalk }
     {
-        Ok(Tally {
+        Ok(WalkProgress {
             unasked: 0,
             path: Vec::with_capacity(alloc, MOST_MOVES)?,
         })

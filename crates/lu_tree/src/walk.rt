@@ -10,14 +10,14 @@ ghost use Rattle.lu_witness.specs.Caches.{SameButEntries};
 ghost use Rattle.lu_witness.specs.Witnesses.{IsMember};
 ghost use Rattle.lu_tree.specs.Known.{AreHints, counts_of, kids_of};
 ghost use Rattle.lu_tree.specs.Walked.{IsCountedAlone, Passed, StaysBelow};
-ghost use Rattle.lu_tree.specs.Walks.{IsReady, Stopped};
+ghost use Rattle.lu_tree.specs.Walks.{IsReadyToWalk, Stopped};
 
 use crate::ahead::Ahead;
 use crate::commuting::hints_behind;
 use crate::known::{Hints, Known};
 use crate::node::Node;
 use crate::tail::counted_below;
-use crate::tally::Tally;
+use crate::tally::WalkProgress;
 use crate::threads::Threads;
 use crate::watch::Watch;
 use lu_machine::{Counts, Status};
@@ -29,6 +29,22 @@ use std::alloc::Global;
 /// The most beginnings of schedules of which a walk keeps what is known.
 const MOST_BEGINNINGS: u32 = 98_304;
 
+/// What a walk brings to a node.
+#[derive(Clone, Copy)]
+struct Visit<'h> {
+    /// How many moves are left.
+    left: u16,
+
+    /// What is known behind the only moves of some threads.
+    hints: Hints<'h>,
+
+    /// Of how many beginnings what is known may be kept.
+    room: u32,
+
+    /// The threads that have moved already.
+    moved: Threads,
+}
+
 /// Ends a schedule here, which is cut, or is ended and has to be good. Returns what is then known:
 /// none where it is not found good, or the watch stops the walk.
 #[inline(always)]
@@ -37,7 +53,7 @@ fn end<'t, T: SerialTree, W: Watch>(
     cache: &mut Cache<'t, T>,
     watch: &mut W,
     node: &mut Node<'_, 't, T>,
-    tally: &mut Tally,
+    tally: &mut WalkProgress,
 ) -> Option<Known>
     requires agree { Agree (progress node.old.machine) node.old.trail.history }
     requires tree { cache.old.tree ≡ node.old.trail.tree }
@@ -84,7 +100,12 @@ fn end<'t, T: SerialTree, W: Watch>(
 /// Passes the schedules below a node, which are so many. Returns what is then known: none where the
 /// watch stops the walk.
 #[inline(always)]
-fn pass<W: Watch>(alloc: Global, counts: Counts, watch: &mut W, tally: &mut Tally) -> Option<Known>
+fn pass<W: Watch>(
+    alloc: Global,
+    counts: Counts,
+    watch: &mut W,
+    tally: &mut WalkProgress,
+) -> Option<Known>
     requires running { W.is_stopped watch.old ≡ false }
     ensures base { W.base watch.new ≡ W.base watch.old }
     ensures path { tally.new.path ≡ tally.old.path }
@@ -108,7 +129,7 @@ pub(crate) fn walk<'a, 't, T: SerialTree, W: Watch>(
     ahead: &Ahead<'_>,
     left: u16,
     node: &mut Node<'a, 't, T>,
-    tally: &mut Tally,
+    tally: &mut WalkProgress,
 ) -> Option<Known>
     requires few { left ≤ 256 }
     requires serves { Serves ahead.now.tables.now.horizon node.old.machine }
@@ -116,7 +137,7 @@ pub(crate) fn walk<'a, 't, T: SerialTree, W: Watch>(
     requires agree { Agree (progress node.old.machine) node.old.trail.history }
     requires tree { cache.old.tree ≡ node.old.trail.tree }
     requires running { W.is_stopped watch.old ≡ false }
-    requires ready { IsReady tally.old }
+    requires ready { IsReadyToWalk tally.old }
     ensures cache { SameButEntries cache.old cache.new }
     ensures base { W.base watch.new ≡ W.base watch.old }
     ensures stays { StaysBelow node.old left tally.new node.new }
@@ -125,68 +146,51 @@ pub(crate) fn walk<'a, 't, T: SerialTree, W: Watch>(
     ensures stops { Stopped T.members node.old left (is_some result) (W.is_stopped watch.new)
         tally.new node.new }
 {
+    let first = Visit {
+        left,
+        hints: Hints::NONE,
+        room: MOST_BEGINNINGS,
+        moved: Threads::NONE,
+    };
     if node.machine.local() == 0 {
-        walk_as::<false, T, W>(
-            cache,
-            watch,
-            ahead,
-            left,
-            &Hints::NONE,
-            MOST_BEGINNINGS,
-            Threads::NONE,
-            node,
-            tally,
-        )
+        walk_as::<false, T, W>(cache, watch, ahead, &first, node, tally)
     } else {
-        walk_as::<true, T, W>(
-            cache,
-            watch,
-            ahead,
-            left,
-            &Hints::NONE,
-            MOST_BEGINNINGS,
-            Threads::NONE,
-            node,
-            tally,
-        )
+        walk_as::<true, T, W>(cache, watch, ahead, &first, node, tally)
     }
 }
 
-/// Walks as [`walk`] does, but counts what is known behind a thread's only move by a hint. What is
-/// known is kept of no more beginnings than there is room for. These threads have moved already.
-/// With `LONG` false no local instructions run with a move.
-fn walk_as<'a, 't, 'h, const LONG: bool, T: SerialTree, W: Watch>(
+/// Walks as [`walk`] does, but counts what is known behind a thread's only move by a hint. With
+/// `RUNS_LOCAL` false no local instructions run with a move.
+fn walk_as<'a, 't, const RUNS_LOCAL: bool, T: SerialTree, W: Watch>(
     cache: &mut Cache<'t, T>,
     watch: &mut W,
     ahead: &Ahead<'_>,
-    left: u16,
-    hints: &Hints<'h>,
-    room: u32,
-    moved: Threads,
+    visit: &Visit<'_>,
     node: &mut Node<'a, 't, T>,
-    tally: &mut Tally,
+    tally: &mut WalkProgress,
 ) -> Option<Known>
-    requires few { left ≤ 256 }
-    requires one { LONG ≡ false → node.old.machine.component.local ≡ 0 }
+    requires few { visit.now.left ≤ 256 }
+    requires one { RUNS_LOCAL ≡ false → node.old.machine.component.local ≡ 0 }
     requires serves { Serves ahead.now.tables.now.horizon node.old.machine }
     requires dead { IsDeadTable node.old.machine.component ahead.now.tables.now.dead }
     requires agree { Agree (progress node.old.machine) node.old.trail.history }
     requires tree { cache.old.tree ≡ node.old.trail.tree }
     requires running { W.is_stopped watch.old ≡ false }
-    requires ready { IsReady tally.old }
-    requires hints { AreHints T.members node.old (left - 1) hints.now }
+    requires ready { IsReadyToWalk tally.old }
+    requires hints { AreHints T.members node.old (visit.now.left - 1) visit.now.hints }
     ensures cache { SameButEntries cache.old cache.new }
     ensures base { W.base watch.new ≡ W.base watch.old }
-    ensures stays { StaysBelow node.old left tally.new node.new }
-    ensures passed { IfSome result (Passed T.members node.old left (W.is_stopped watch.new)
-        tally.new node.new) }
-    ensures stops { Stopped T.members node.old left (is_some result) (W.is_stopped watch.new)
-        tally.new node.new }
+    ensures stays { StaysBelow node.old visit.now.left tally.new node.new }
+    ensures passed { IfSome result (Passed T.members node.old visit.now.left
+        (W.is_stopped watch.new) tally.new node.new) }
+    ensures stops { Stopped T.members node.old visit.now.left (is_some result)
+        (W.is_stopped watch.new) tally.new node.new }
 {
+    let left = visit.left;
     if left == 0 {
         return end(ahead.alloc, cache, watch, node, tally);
     }
-    if let Some(counts) = counted_below::<LONG, T>(cache, ahead, left, node) {
+    if let Some(counts) = counted_below::<RUNS_LOCAL, T>(cache, ahead, left, node) {
         return pass(ahead.alloc, counts, watch, tally);
     }
     let mut is_ended = true;
@@ -195,7 +199,7 @@ fn walk_as<'a, 't, 'h, const LONG: bool, T: SerialTree, W: Watch>(
         let picks = node.machine.picks(thread);
         for pick in 0..picks {
             is_ended = false;
-            if let Some(hinted) = hints.behind_one_of(picks, thread) {
+            if let Some(hinted) = visit.hints.behind_one_of(picks, thread) {
                 if !tally.pass_many(hinted.counts, watch) {
                     return None;
                 }
@@ -203,20 +207,16 @@ fn walk_as<'a, 't, 'h, const LONG: bool, T: SerialTree, W: Watch>(
                 continue;
             }
             let dead = &ahead.tables.dead;
-            let further = hints_behind::<LONG>(thread, hints, &known, dead, &mut node.machine);
+            let hints = &visit.hints;
+            let further = Visit {
+                left: left - 1,
+                hints: hints_behind::<RUNS_LOCAL>(thread, hints, &known, dead, &mut node.machine),
+                room: visit.room.saturating_sub(known.size),
+                moved: visit.moved.with(thread),
+            };
             let next = Move { thread, pick };
-            let undo = node.enter::<LONG>(next);
-            let walked = walk_as::<LONG, T, W>(
-                cache,
-                watch,
-                ahead,
-                left - 1,
-                &further,
-                room.saturating_sub(known.size),
-                moved.with(thread),
-                node,
-                tally,
-            );
+            let undo = node.enter::<RUNS_LOCAL>(next);
+            let walked = walk_as::<RUNS_LOCAL, T, W>(cache, watch, ahead, &further, node, tally);
             let Some(below) = walked else {
                 tally.path.push_reserved(next);
                 return None;
@@ -229,5 +229,5 @@ fn walk_as<'a, 't, 'h, const LONG: bool, T: SerialTree, W: Watch>(
     if is_ended {
         return end(ahead.alloc, cache, watch, node, tally);
     }
-    Some(known.told(ahead.alloc, room, moved))
+    Some(known.keep_nearest(ahead.alloc, visit.room, visit.moved))
 }

@@ -9,7 +9,7 @@ use Rattle.lu_trie.specs.Weights.{weight-append}
 use Rattle.lu_trie.proofs.Membership.{node-nil}
 use Rattle.lu_trie.proofs.Grouping.{node-branches, node-branching}
 use Rattle.lu_trie.proofs.Trees.{lighter-at}
-use Rattle.lu_trie.specs.declared.packed.Node.{Node}
+use Rattle.lu_trie.specs.declared.packed.PackedNode.{PackedNode}
 use Rattle.lu_trie.specs.Branches.{Branch, joined, members_from, branches_of, AreBranches, IsBranching}
 use Rattle.lu_trie.specs.Packed.{Link, links_of, resolve, AllBelow, members_at, table_from, IsPacked, ArePacked}
 
@@ -48,13 +48,13 @@ taken-more (l ∷ ls) more zero (suc c) le = ap (λ x. l ∷ x) (taken-more ls m
 taken-more [] more (suc f) c le = absurd (omega arith)
 taken-more (l ∷ ls) more (suc f) c le = taken-more ls more f c (omega arith)
 
-pub table-links : (links more : List Link) (t : Table) (ns : List Node) → ArePacked links t ns → table_from (links ++ more) t ns ≡ table_from links t ns
+pub table-links : (links more : List Link) (t : Table) (ns : List PackedNode) → ArePacked links t ns → table_from (links ++ more) t ns ≡ table_from links t ns
 table-links links more t [] packed = refl
 table-links links more t (n ∷ ns) packed =
     ap (λ ls. table_from (links ++ more) (t ++ members_from n.ends (resolve t ls) ∷ []) ns) (taken-more links more n.first n.count packed.0.in_range)
     ∙ table-links links more (t ++ members_at links t n ∷ []) ns packed.1
 
-pub packed-links : (links more : List Link) (t : Table) (ns : List Node) → ArePacked links t ns → ArePacked (links ++ more) t ns
+pub packed-links : (links more : List Link) (t : Table) (ns : List PackedNode) → ArePacked links t ns → ArePacked (links ++ more) t ns
 packed-links links more t [] packed = tt
 packed-links links more t (n ∷ ns) packed =
     let same = sym (taken-more links more n.first n.count packed.0.in_range) in (
@@ -67,33 +67,33 @@ packed-links links more t (n ∷ ns) packed =
       subst (λ ls. ArePacked (links ++ more) (t ++ members_from n.ends (resolve t ls) ∷ []) ns) same (packed-links links more (t ++ members_at links t n ∷ []) ns packed.1),
     )
 
-pub table-push : (links : List Link) (t : Table) (ns : List Node) (n : Node) → table_from links t (ns ++ n ∷ []) ≡ table_from links t ns ++ members_at links (table_from links t ns) n ∷ []
+pub table-push : (links : List Link) (t : Table) (ns : List PackedNode) (n : PackedNode) → table_from links t (ns ++ n ∷ []) ≡ table_from links t ns ++ members_at links (table_from links t ns) n ∷ []
 table-push links t [] n = refl
 table-push links t (k ∷ ns) n = table-push links (t ++ members_at links t k ∷ []) ns n
 
-pub packed-push : (links : List Link) (t : Table) (ns : List Node) (n : Node) → ArePacked links t ns → IsPacked links (table_from links t ns) n → ArePacked links t (ns ++ n ∷ [])
+pub packed-push : (links : List Link) (t : Table) (ns : List PackedNode) (n : PackedNode) → ArePacked links t ns → IsPacked links (table_from links t ns) n → ArePacked links t (ns ++ n ∷ [])
 packed-push links t [] n packed is = (is, tt)
 packed-push links t (k ∷ ns) n packed is = (packed.0, packed-push links (t ++ members_at links t k ∷ []) ns n packed.1 is)
 
-pub length-table : (links : List Link) (t : Table) (ns : List Node) → length (table_from links t ns) ≡ length t + length ns
+pub length-table : (links : List Link) (t : Table) (ns : List PackedNode) → length (table_from links t ns) ≡ length t + length ns
 length-table links t [] = omega arith
 length-table links t (n ∷ ns) = omega (arith, length-table links (t ++ members_at links t n ∷ []) ns, length-append t (members_at links t n ∷ []))
 
-extends : (links : List Link) (t : Table) (ns : List Node) → (more : Table) × (table_from links t ns ≡ t ++ more)
+extends : (links : List Link) (t : Table) (ns : List PackedNode) → (more : Table) × (table_from links t ns ≡ t ++ more)
 extends links t [] = ([], sym (append-nil t))
 extends links t (n ∷ ns) =
     let e = extends links (t ++ members_at links t n ∷ []) ns in
     (members_at links t n ∷ e.0, e.1 ∙ append_assoc t (members_at links t n ∷ []) e.0)
 
 -- what stands at a place of the table
-pub record IsAt (links : List Link) (table : Table) (place : ℕ) (node : Node) : Type 0 where
+pub record IsAt (links : List Link) (table : Table) (place : ℕ) (node : PackedNode) : Type 0 where
   pub in_range : node.first + node.count ≤ length links
   pub below : AllBelow (length table) (links_of links node)
   pub branches : AreBranches (resolve table (links_of links node))
   pub serial : AllSerial (members_from node.ends (resolve table (links_of links node)))
   pub members : get_or table place [] ≡ members_from node.ends (resolve table (links_of links node))
 
-first_at : (links : List Link) (t : Table) (m : Node) (more : Table) → IsPacked links t m → (rest : Table) → more ≡ members_at links t m ∷ rest → IsAt links (t ++ more) (length t) m
+first_at : (links : List Link) (t : Table) (m : PackedNode) (more : Table) → IsPacked links t m → (rest : Table) → more ≡ members_at links t m ∷ rest → IsAt links (t ++ more) (length t) m
 first_at links t m more packed rest is =
     let same = resolve-more t more (links_of links m) packed.below in
     record {
@@ -104,7 +104,7 @@ first_at links t m more packed rest is =
       members = ap (λ x. get_or (t ++ x) (length t) []) is ∙ at_end t (members_at links t m) rest [] ∙ ap (members_from m.ends) (sym same);
     }
 
-pub at : (links : List Link) (t : Table) (ns : List Node) → ArePacked links t ns → (k : ℕ) (n : Node) → k < length ns → n ≡ get_or ns k n → (place : ℕ) → place ≡ length t + k → IsAt links (table_from links t ns) place n
+pub at : (links : List Link) (t : Table) (ns : List PackedNode) → ArePacked links t ns → (k : ℕ) (n : PackedNode) → k < length ns → n ≡ get_or ns k n → (place : ℕ) → place ≡ length t + k → IsAt links (table_from links t ns) place n
 at links t [] packed k n lt read place e = absurd (omega arith)
 at links t (m ∷ ns) packed zero n lt read place e =
     let here = members_at links t m in
@@ -138,11 +138,11 @@ linked_more t u ls bs label place hs grown all done lt is = record {
 taken-end : (links more : List Link) → take (length more) (drop (length links) (links ++ more)) ≡ more
 taken-end links more = ap (take (length more)) (drop-append_seam links more) ∙ take-length more
 
-module _ (links more : List Link) (ns : List Node) (t : Table) (view : table_from links [] ns ≡ t) (packed : ArePacked links [] ns) where
+module _ (links more : List Link) (ns : List PackedNode) (t : Table) (view : table_from links [] ns ≡ t) (packed : ArePacked links [] ns) where
   pub kept : table_from (links ++ more) [] ns ≡ t
   kept = table-links links more [] ns packed ∙ view
 
-  module _ (n : Node) (bs : List Branch) (first : n.first ≡ length links) (count : n.count ≡ length more) (all : AllBelow (length t) more) (done : resolve t more ≡ bs) (are : AreBranches bs) (serial : AllSerial (members_from n.ends bs)) where
+  module _ (n : PackedNode) (bs : List Branch) (first : n.first ≡ length links) (count : n.count ≡ length more) (all : AllBelow (length t) more) (done : resolve t more ≡ bs) (are : AreBranches bs) (serial : AllSerial (members_from n.ends bs)) where
     own : links_of (links ++ more) n ≡ more
     own = ap (λ c. take c (drop n.first (links ++ more))) count ∙ ap (λ f. take (length more) (drop f (links ++ more))) first ∙ taken-end links more
 
@@ -179,11 +179,11 @@ below_at n [] i link lt read all = absurd (omega arith)
 below_at n (l ∷ ls) zero link lt read all = subst (λ (x : Link). x.1 < n) (sym read) all.0
 below_at n (l ∷ ls) (suc i) link lt read all = below_at n ls i link (omega arith) read all.1
 
-module _ (links : List Link) (ns : List Node) (t : Table) (view : table_from links [] ns ≡ t) (packed : ArePacked links [] ns) where
+module _ (links : List Link) (ns : List PackedNode) (t : Table) (view : table_from links [] ns ≡ t) (packed : ArePacked links [] ns) where
   pub as_many : length t ≡ length ns
   as_many = omega (arith, length-table links [] ns, ap length view)
 
-  module _ (k : ℕ) (n : Node) (lt : k < length ns) (read : n ≡ get_or ns k n) where
+  module _ (k : ℕ) (n : PackedNode) (lt : k < length ns) (read : n ≡ get_or ns k n) where
     here : IsAt links t k n
     here = subst (λ x. IsAt links x k n) view (at links [] ns packed k n lt read k (omega arith))
 

@@ -9,11 +9,11 @@ use Rattle.std.proofs.lemmas.Map.Lookups.{exact_unsigned}
 use Rattle.lu_history.specs.declared.serial.SerialOutcome.{SerialOutcome}
 use Rattle.lu_history.specs.declared.serial.SerialOutcome.TheVariants.{Ret, Trap, Stuck}
 use Rattle.lu_history.specs.declared.serial.SerialOp.{SerialOp}
-use Rattle.lu_history.specs.Order.{kind_of, value_of, outcome_cmp, op_cmp}
+use Rattle.lu_history.specs.Order.{kind_of, returned_value, outcome_cmp, op_cmp}
 use Rattle.lu_trie.specs.Members.{same_op, same_history, history_cmp}
 
 outcomes_total : IsTotalOrder outcome_cmp
-outcomes_total = then_total (on_total kind_of nat_cmp_total) (on_total value_of nat_cmp_total)
+outcomes_total = then_total (on_total kind_of nat_cmp_total) (on_total returned_value nat_cmp_total)
 
 pub ops_total : IsTotalOrder op_cmp
 ops_total = then_total (on_total (λ (op : SerialOp). op.thread) nat_cmp_total) (on_total (λ (op : SerialOp). op.outcome) outcomes_total)

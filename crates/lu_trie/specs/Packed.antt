@@ -1,7 +1,7 @@
 -- A tree in a flat list of nodes, each of which comes after its kids.
 use Rattle.std.specs.Prelude.{ℕ, ◌+◌, ◌<◌, ◌≤◌, List, [], ◌∷◌, ◌++◌, length, map, take, drop, slice_index_or}
 use Rattle.lu_history.specs.declared.serial.SerialOp.{SerialOp}
-use Rattle.lu_trie.specs.declared.packed.Node.{Node}
+use Rattle.lu_trie.specs.declared.packed.PackedNode.{PackedNode}
 use Rattle.lu_trie.specs.Members.{AllSerial}
 use Rattle.lu_trie.specs.Branches.{Branch, members_from, AreBranches}
 
@@ -10,7 +10,7 @@ abbrev pub Link : Type 0
 Link = SerialOp × ℕ
 
 -- the links of a node
-abbrev pub links_of : List Link → Node → List Link
+abbrev pub links_of : List Link → PackedNode → List Link
 links_of links node = take node.count (drop node.first links)
 
 -- the branches to which links lead, where the table has the members below each place
@@ -23,11 +23,11 @@ AllBelow n [] = Unit {0}
 AllBelow n (link ∷ links) = (link.1 < n) × AllBelow n links
 
 -- the members below a node
-abbrev pub members_at : List Link → List (List (List SerialOp)) → Node → List (List SerialOp)
+abbrev pub members_at : List Link → List (List (List SerialOp)) → PackedNode → List (List SerialOp)
 members_at links table node = members_from node.ends (resolve table (links_of links node))
 
 -- the table, with the members below each further node
-abbrev pub table_from : List Link → List (List (List SerialOp)) → List Node
+abbrev pub table_from : List Link → List (List (List SerialOp)) → List PackedNode
     → List (List (List SerialOp))
 table_from links table [] = table
 table_from links table (node ∷ nodes) =
@@ -35,13 +35,13 @@ table_from links table (node ∷ nodes) =
 
 -- the node's links lie in the list, lead to earlier nodes, and to branches in order
 pub record IsPacked (links : List Link) (table : List (List (List SerialOp)))
-    (node : Node) : Type 0 where
+    (node : PackedNode) : Type 0 where
   pub in_range : node.first + node.count ≤ length links
   pub below : AllBelow (length table) (links_of links node)
   pub branches : AreBranches (resolve table (links_of links node))
   pub serial : AllSerial (members_at links table node)
 
-abbrev pub ArePacked : List Link → List (List (List SerialOp)) → List Node → Type 0
+abbrev pub ArePacked : List Link → List (List (List SerialOp)) → List PackedNode → Type 0
 ArePacked links table [] = Unit {0}
 ArePacked links table (node ∷ nodes) =
     IsPacked links table node × ArePacked links (table ++ members_at links table node ∷ []) nodes

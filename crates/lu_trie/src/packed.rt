@@ -14,7 +14,7 @@ use std::marker::Model;
 
 /// A node, whose links to its kids stand in a row.
 #[derive(Clone, Copy)]
-struct Node {
+struct PackedNode {
     /// Whether the operations that lead to the node are a member.
     ends: bool,
 
@@ -28,7 +28,7 @@ struct Node {
 /// Nodes, each after its kids. In clauses it is the list of the sets of members below each node.
 #[derive(Drop)]
 struct Table<A: Allocator> {
-    nodes: Vec<Node, A>,
+    nodes: Vec<PackedNode, A>,
 
     /// The labels of kids and the kids' places among the nodes, for each node in a row.
     links: Vec<(SerialOp, usize), A>,
@@ -60,7 +60,7 @@ impl<A: Allocator> Table<A> {
         let first = self.links.len();
         self.links.extend_from_slice(links)?;
         let place = self.nodes.len();
-        self.nodes.push(Node {
+        self.nodes.push(PackedNode {
             ends,
             first,
             count: links.len(),

@@ -12,18 +12,18 @@ use Rattle.lu_history.specs.Parts.{part}
 use Rattle.lu_history.proofs.Events.{at_push, last_at, take_next, take_within, split_at, each_beginning, called_at, counted_return, precedes_at}
 use Rattle.lu_history.proofs.PartEntries.{part_length}
 use Rattle.lu_witness.specs.Witnesses.{entries, IsEntryAt, IsWitness}
-use Rattle.lu_witness.specs.Search.{next_of, IsNext, IsBeginning}
+use Rattle.lu_witness.specs.Search.{next_of, CanComeNext, IsBeginning}
 use Rattle.lu_witness.proofs.Entries.{entries-append, entries_own, entries_more, counted_entry, entry_before, entry_of}
 
 module _ (h : List Event) where
-  pub begun_push : (p : List SerialOp) (op : SerialOp) → IsBeginning h p → IsNext h p op → IsBeginning h (p ++ op ∷ [])
-  begun_push p op is next i x at = elim (at_push p op x i at) as (λ _. IsNext h (take i (p ++ op ∷ [])) x) [
-    | inl b ↦ subst (λ g. IsNext h g x) (sym (take_within p (op ∷ []) x i b.1)) (is i x b.1)
-    | inr b ↦ subst (λ y. IsNext h (take i (p ++ op ∷ [])) y) (sym b.1) (subst (λ g. IsNext h g op) (sym (take_at p (op ∷ []) i (sym b.0))) next)
+  pub begun_push : (p : List SerialOp) (op : SerialOp) → IsBeginning h p → CanComeNext h p op → IsBeginning h (p ++ op ∷ [])
+  begun_push p op is next i x at = elim (at_push p op x i at) as (λ _. CanComeNext h (take i (p ++ op ∷ [])) x) [
+    | inl b ↦ subst (λ g. CanComeNext h g x) (sym (take_within p (op ∷ []) x i b.1)) (is i x b.1)
+    | inr b ↦ subst (λ y. CanComeNext h (take i (p ++ op ∷ [])) y) (sym b.1) (subst (λ g. CanComeNext h g op) (sym (take_at p (op ∷ []) i (sym b.0))) next)
   ]
 
-  pub begun_next : (p q : List SerialOp) (op : SerialOp) → IsBeginning h (p ++ op ∷ q) → IsNext h p op
-  begun_next p q op is = subst (λ g. IsNext h g op) (take_at p (op ∷ q) (length p) refl) (is (length p) op (last_at p q op))
+  pub begun_next : (p q : List SerialOp) (op : SerialOp) → IsBeginning h (p ++ op ∷ q) → CanComeNext h p op
+  begun_next p q op is = subst (λ g. CanComeNext h g op) (take_at p (op ∷ q) (length p) refl) (is (length p) op (last_at p q op))
 
   -- the entries of a beginning are those with which the parts begin
   begun_parts : (p : List SerialOp) → IsBeginning h p → (t i : ℕ) → take (length (entries t (take i p))) (part t h) ≡ entries t (take i p)

@@ -12,7 +12,7 @@ use Rattle.lu_machine.specs.declared.event.Event.{Event}
 use Rattle.lu_history.specs.Histories.{IsWellFormed}
 use Rattle.lu_history.proofs.Keeping.{bumped}
 use Rattle.lu_witness.specs.Witnesses.{entries, IsWitness}
-use Rattle.lu_witness.specs.Search.{AreTaken, IsNext}
+use Rattle.lu_witness.specs.Search.{AreTaken, CanComeNext}
 use Rattle.lu_witness.proofs.Entries.{entries_more}
 use Rattle.lu_witness.proofs.Beginnings.{begun_next, witness_begun}
 
@@ -81,5 +81,5 @@ module _ (hs : List (List SerialOp)) (is : IsBranching hs) (h : List Event) (p :
       kids kid.place kid.branch kid.within kid.at q kid.member (subst (λ x. IsWitness (p ++ x ∷ q) h) (sym kid.label) witness)
 
 -- the entry after p in a witness is next
-pub witness_next : (h : List Event) → IsWellFormed h → (p q : List SerialOp) (op : SerialOp) → IsWitness (p ++ op ∷ q) h → IsNext h p op
+pub witness_next : (h : List Event) → IsWellFormed h → (p q : List SerialOp) (op : SerialOp) → IsWitness (p ++ op ∷ q) h → CanComeNext h p op
 witness_next h well p q op is = begun_next h p q op (witness_begun h well (p ++ op ∷ q) is)

@@ -12,10 +12,10 @@ use Rattle.lu_history.specs.Parts.{part}
 use Rattle.lu_history.proofs.Events.{call_of, in_turn}
 use Rattle.lu_history.proofs.PartEntries.{part_length}
 use Rattle.lu_witness.specs.Witnesses.{entries}
-use Rattle.lu_witness.specs.Search.{next_of, AreTaken, IsNext}
+use Rattle.lu_witness.specs.Search.{next_of, AreTaken, CanComeNext}
 
 module _ (h : List Event) (well : IsWellFormed h) where
-  pub next_tells : (p : List SerialOp) (op : SerialOp) (k : ℕ) (before taken : List ℕ) (r : Bool) → k ≡ length (entries op.thread p) → slice_get (part op.thread h) k ≡ Some op.outcome → AreBefore h (record { t = op.thread; k = k }) before → AreTaken p taken → ((r ≡ true) ↔ ((t : ℕ) → get_or before t 0 ≤ get_or taken t 0)) → (r ≡ true) ↔ IsNext h p op
+  pub next_tells : (p : List SerialOp) (op : SerialOp) (k : ℕ) (before taken : List ℕ) (r : Bool) → k ≡ length (entries op.thread p) → slice_get (part op.thread h) k ≡ Some op.outcome → AreBefore h (record { t = op.thread; k = k }) before → AreTaken p taken → ((r ≡ true) ↔ ((t : ℕ) → get_or before t 0 ≤ get_or taken t 0)) → (r ≡ true) ↔ CanComeNext h p op
   next_tells p op k before taken r number outcome are_before are tells = (
     λ e. record {
       outcome = ap (slice_get (part op.thread h)) (sym number) ∙ outcome;
@@ -30,7 +30,7 @@ module _ (h : List Event) (well : IsWellFormed h) where
   )
 
   -- a thread past the last has nothing next
-  pub no_next : (p : List SerialOp) (op : SerialOp) → 8 ≤ op.thread → IsNext h p op → ⊥
+  pub no_next : (p : List SerialOp) (op : SerialOp) → 8 ≤ op.thread → CanComeNext h p op → ⊥
   no_next p op past next =
       let turn = in_turn h well op.thread in
       absurd (omega (arith, slice_get_within (part op.thread h) (length (entries op.thread p)) op.outcome next.outcome, part_length h well op.thread, turn.none past))

@@ -12,14 +12,14 @@ abbrev pub next_of : List SerialOp → SerialOp → OpId
 next_of p op = record { t = op.thread; k = length (entries op.thread p) }
 
 -- op ended as the next operation of its thread, and all operations that precede that one are in p
-pub record IsNext (h : List Event) (p : List SerialOp) (op : SerialOp) : Type 0 where
+pub record CanComeNext (h : List Event) (p : List SerialOp) (op : SerialOp) : Type 0 where
   pub outcome : slice_get (part op.thread h) (length (entries op.thread p)) ≡ Some op.outcome
   pub before : (j u : ℕ) → IsCallAt h j (next_of p op)
       → length (outcomes u (take j h)) ≤ length (entries u p)
 
 -- each operation is next after those before it
 abbrev pub IsBeginning : List Event → List SerialOp → Type 0
-IsBeginning h p = (i : ℕ) (op : SerialOp) → slice_get p i ≡ Some op → IsNext h (take i p) op
+IsBeginning h p = (i : ℕ) (op : SerialOp) → slice_get p i ≡ Some op → CanComeNext h (take i p) op
 
 -- how many operations of each thread are in p
 abbrev pub AreTaken : List SerialOp → List ℕ → Type 0
@@ -44,7 +44,8 @@ FindsEnd Set taken h found =
 
 -- whether the operation is next behind those of which so many are taken
 abbrev pub TellsNext : List ℕ → List Event → SerialOp → Bool → Type 0
-TellsNext taken h op found = (p : List SerialOp) → AreTaken p taken → IsTrue found ↔ IsNext h p op
+TellsNext taken h op found =
+    (p : List SerialOp) → AreTaken p taken → IsTrue found ↔ CanComeNext h p op
 
 -- one operation more of the thread is taken
 abbrev pub TakesOne : ℕ → List ℕ → List ℕ → Type 0

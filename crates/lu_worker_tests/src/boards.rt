@@ -159,8 +159,8 @@ fn a_board_without_pieces(rt: HostRuntime) -> Result<(), Fail> {
     Ok(())
 }
 
-/// What a run tells on these pieces, of which these are bad: the best piece, whether it is done, and
-/// whether a piece was given up; or the first illegal event.
+/// What a run tells on these pieces, of which these are bad: the best piece, whether it is done,
+/// and whether a piece was given up; or the first illegal event.
 fn told(
     alloc: Global,
     workers: usize,

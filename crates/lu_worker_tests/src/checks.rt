@@ -31,16 +31,14 @@ fn options(rt: &impl Abort, workers: u8, depth: u8) -> Options {
     }
 }
 
-/// The report of a matrix, by so many workers over pieces of this depth.
+/// The report of a matrix, by as many workers as the options say.
 fn report<R: AllocGlobal + Abort + Threads + Wait, G: Gate>(
     rt: &R,
     matrix: &[u8],
     gate: &G,
-    workers: u8,
-    depth: u8,
+    options: Options,
 ) -> Result<Report, Fail> {
     let case = fixture_of(rt, ROWS.as_bytes(), matrix)?;
-    let options = options(rt, workers, depth);
     Ok(check(rt, rt.alloc(), gate, &case.component, &case.matrix, options)?)
 }
 
@@ -76,6 +74,8 @@ fn is_pass(report: &Report, complete: u64) -> bool {
 const TWO_INCREMENTS: &[u8] = b"thread inc\nthread inc\n";
 
 const TWO_READS: &[u8] = b"thread get\nthread get\n";
+
+const TWO_EXCHANGES: &[u8] = b"thread cinc\nthread cinc\n";
 
 /// The least schedule in which one increment is lost.
 const LOST_INCREMENT: &str = "schedule 0 0 0 1 1 0 0 1 1 1\n";
@@ -188,7 +188,7 @@ impl Gate for Holding {
 #[test]
 fn two_workers_work_at_once(rt: HostRuntime) -> Result<(), Fail> {
     let gate = Holding::new(0, NONE, 1);
-    let reads = report(&rt, TWO_READS, &gate, 2, 4)?;
+    let reads = report(&rt, TWO_READS, &gate, options(&rt, 2, 4))?;
     assert!(rt; is_pass(&reads, 20));
     assert!(rt; gate.went_on_after_another());
     Ok(())
@@ -199,7 +199,7 @@ fn two_workers_work_at_once(rt: HostRuntime) -> Result<(), Fail> {
 #[test]
 fn the_least_failure_comes_last(rt: HostRuntime) -> Result<(), Fail> {
     let gate = Holding::new(1, 15, NONE);
-    let lost = report(&rt, TWO_INCREMENTS, &gate, 2, 4)?;
+    let lost = report(&rt, TWO_INCREMENTS, &gate, options(&rt, 2, 4))?;
     assert!(rt; is_failure(&rt, &lost, LOST_INCREMENT)?);
     assert!(rt; gate.went_on_after_another());
     Ok(())
@@ -252,15 +252,27 @@ impl Gate for Meeting {
     }
 }
 
-/// One worker calls no gate. Two call it for each of the 14 pieces.
+/// A matrix and how many schedules it has, the number of workers, the looks of their head start,
+/// and how many pieces they come to. After 64 schedules there is a look.
+const PASSES: &[(&[u8], u64, u8, u64, u64)] = &[
+    (TWO_READS, 20, 1, 0, 0),
+    (TWO_READS, 20, 2, 0, 14),
+    (TWO_READS, 20, 2, 1, 0),
+    (TWO_EXCHANGES, 2564, 2, 1, 16),
+    (TWO_EXCHANGES, 2564, 2, 1000, 0),
+];
+
+/// One worker calls no gate. Two call it for each piece, where their head start is over before the
+/// search of the calling thread.
 #[test]
 fn pieces_pass_the_gate(rt: HostRuntime) -> Result<(), Fail> {
-    for (workers, calls) in [(1u8, 0u64), (2, 14)] {
+    for (matrix, schedules, workers, looks, pieces) in PASSES {
         let gate = Meeting::new(0);
-        let reads = report(&rt, TWO_READS, &gate, workers, 4)?;
-        assert!(rt; is_pass(&reads, 20));
-        assert_eq!(rt; gate.came.load(Ordering::SeqCst), calls);
-        assert_eq!(rt; gate.ends.load(Ordering::SeqCst), calls);
+        let options = options(&rt, *workers, 4).with_head_start(*looks);
+        let found = report(&rt, matrix, &gate, options)?;
+        assert!(rt; is_pass(&found, *schedules));
+        assert_eq!(rt; gate.came.load(Ordering::SeqCst), *pieces);
+        assert_eq!(rt; gate.ends.load(Ordering::SeqCst), *pieces);
     }
     Ok(())
 }
@@ -269,7 +281,7 @@ fn pieces_pass_the_gate(rt: HostRuntime) -> Result<(), Fail> {
 #[test]
 fn sixteen_workers_meet(rt: HostRuntime) -> Result<(), Fail> {
     let gate = Meeting::new(16);
-    let reads = report(&rt, TWO_READS, &gate, 16, 8)?;
+    let reads = report(&rt, TWO_READS, &gate, options(&rt, 16, 8))?;
     assert!(rt; is_pass(&reads, 20));
     assert_eq!(rt; gate.met.load(Ordering::SeqCst), 16);
     assert_eq!(rt; gate.workers.load(Ordering::SeqCst), 0xffff);

@@ -1,6 +1,6 @@
 use Rattle.std.proofs.Common.{◌≡◌, Some, rules}
 use Rattle.lu_text.specs.Lines.{texts}
-use Rattle.lu_text.specs.Words.{two}
+use Rattle.lu_text.specs.Words.{exactly_two}
 use Rattle.lu_cli.specs.Replies.{IsCertified}
 use Rattle.lu_cli.proofs.Refuted.{texts_answered}
 use Rattle.lu_cli.proofs.commands.answer_certify.Goals as goal
@@ -9,7 +9,7 @@ pub returns : goal.returns
 returns g c =
     let p = c.in_ok-component in
     let read = c.in_ok-case in
-    let parts : two (texts c.args.parts.now) ≡ Some (p.component.now, p.matrix.now) = search rules in
+    let parts : exactly_two (texts c.args.parts.now) ≡ Some (p.component.now, p.matrix.now) = search rules in
     rw parts
     (texts_answered p.component.now p.matrix.now read.case.component read.case.matrix (λ d m. IsCertified d m c.args.options)
     read.ensures.read c.certify_matrix.result c.certify_matrix.ensures)

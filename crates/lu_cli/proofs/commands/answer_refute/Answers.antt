@@ -1,6 +1,6 @@
 use Rattle.std.proofs.Common.{◌≡◌, Some, rules}
 use Rattle.lu_text.specs.Lines.{texts}
-use Rattle.lu_text.specs.Words.{four}
+use Rattle.lu_text.specs.Words.{exactly_four}
 use Rattle.lu_cli.specs.Replies.{IsRefutedBy}
 use Rattle.lu_cli.proofs.Refuted.{texts_answered}
 use Rattle.lu_cli.proofs.commands.answer_refute.Goals as goal
@@ -9,7 +9,7 @@ pub returns : goal.returns
 returns c =
     let p = c.in_ok-component in
     let read = c.in_ok-case in
-    let parts : four (texts c.args.parts.now) ≡ Some (p.component.now, p.matrix.now, p.report.now, p.specification.now) = search rules in
+    let parts : exactly_four (texts c.args.parts.now) ≡ Some (p.component.now, p.matrix.now, p.report.now, p.specification.now) = search rules in
     rw parts
     (texts_answered p.component.now p.matrix.now read.case.component read.case.matrix (λ d m. IsRefutedBy d m p.report.now p.specification.now)
     read.ensures.read c.refute_texts.result c.refute_texts.ensures)

@@ -1,6 +1,6 @@
 use Rattle.std.proofs.Common.{◌+◌, refl, inl, inr}
 use Rattle.lu_component.specs.declared.instr.Instr.TheVariants.{Set, Compute, Load, Store, Cas, Unlock, Jump, JumpIfZero, Return}
-use Rattle.lu_horizon.specs.Code.{ahead_at, is_there, more_behind, run_on, unless_there}
+use Rattle.lu_horizon.specs.Code.{ahead_at, is_certain_cell, more_behind, run_on, unless_there}
 use Rattle.lu_horizon.specs.Outlooks.{IsWeaker, either, one_before}
 use Rattle.lu_horizon.specs.Tables.{outlook_of}
 use Rattle.lu_horizon.proofs.RunLaws.{instr_less, unless_less}
@@ -40,7 +40,7 @@ returns c =
       | in-Load2 w ↦
           (let array = w.in-Load.array in
           let index = w.in-Load.index in
-          let there = is_there d array index in
+          let there = is_certain_cell d array index in
           let o = unless_there there (on (place + 1)) rest in
           let less : IsWeaker behind o = rw (w.behind-is, w.behind-behind.ensures) (unless_less there c.run_on-next.result (on (place + 1)) rest next) in
           let all : IsWeaker result (ahead_at d c.args.code.now (outlook_of c.args.known.now) rest place instr) = elim w.in-Load.is [

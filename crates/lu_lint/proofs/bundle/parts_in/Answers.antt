@@ -10,7 +10,7 @@ loop-rest-init c = record { within = omega arith; whole = refl; told = rw c.new-
 pub overflow_sub-size : goal.overflow_sub-size
 overflow_sub-size c =
     let l = c.loop-rest in
-    let g = grown (texts l.parts.items) l.part.now c.cut_line.result.0.now c.cut_line.result.1.now l.rest.now l.size _ l.invariant.within l.invariant.whole c.cut_line.ensures.whole (c.cut_line.ensures.line (search rules)) (sym c.is_meant.ensures ∙ c.if-is_meant.false) l.invariant.told in
+    let g = grown (texts l.parts.items) l.part.now c.cut_line.result.0.now c.cut_line.result.1.now l.rest.now l.size _ l.invariant.within l.invariant.whole c.cut_line.ensures.whole (c.cut_line.ensures.line (search rules)) (sym c.is_meant_to_part.ensures ∙ c.if-is_meant_to_part.false) l.invariant.told in
     omega (arith, g.counted)
 
 pub loop-rest-preserved-in_ok-push : goal.loop-rest-preserved-in_ok-push
@@ -19,12 +19,12 @@ loop-rest-preserved-in_ok-push c =
     record {
       within = omega arith;
       whole = refl;
-      told = rw (c.in_ok-push.ensures.items, map_push _ l.parts.items _) (ended (texts l.parts.items) (take l.size l.part.now) c.cut_line.result.0.now c.cut_line.result.1.now l.rest.now _ (c.cut_line.ensures.line (search rules)) (sym c.is_meant.ensures ∙ c.if-is_meant.true) l.invariant.told);
+      told = rw (c.in_ok-push.ensures.items, map_push _ l.parts.items _) (ended (texts l.parts.items) (take l.size l.part.now) c.cut_line.result.0.now c.cut_line.result.1.now l.rest.now _ (c.cut_line.ensures.line (search rules)) (sym c.is_meant_to_part.ensures ∙ c.if-is_meant_to_part.true) l.invariant.told);
     }
 
 pub loop-rest-preserved : goal.loop-rest-preserved
 loop-rest-preserved c =
     let l = c.loop-rest in
-    let g = grown (texts l.parts.items) l.part.now c.cut_line.result.0.now c.cut_line.result.1.now l.rest.now l.size _ l.invariant.within l.invariant.whole c.cut_line.ensures.whole (c.cut_line.ensures.line (search rules)) (sym c.is_meant.ensures ∙ c.if-is_meant.false) l.invariant.told in
+    let g = grown (texts l.parts.items) l.part.now c.cut_line.result.0.now c.cut_line.result.1.now l.rest.now l.size _ l.invariant.within l.invariant.whole c.cut_line.ensures.whole (c.cut_line.ensures.line (search rules)) (sym c.is_meant_to_part.ensures ∙ c.if-is_meant_to_part.false) l.invariant.told in
     let e : length l.part.now - length c.cut_line.result.1.now ≡ l.size + length c.cut_line.result.0.now = omega (arith, g.counted) in
     rw e (record { within = g.within; whole = g.whole; told = g.told })

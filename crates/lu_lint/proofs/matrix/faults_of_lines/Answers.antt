@@ -1,4 +1,4 @@
-use Rattle.std.proofs.Common.{◌+◌, drop, refl, arith}
+use Rattle.std.proofs.Common.{◌+◌, [], drop, refl, arith}
 use Rattle.std.specs.Option.{option_copied}
 use Rattle.lu_text.specs.Lines.{texts}
 use Rattle.lu_text.proofs.Reading.{text_more, texts_end}
@@ -20,13 +20,13 @@ loop-before-preserved c =
     let of = c.args.basis.now.component.now in
     let faulty = option_copied c.args.basis.now.faulty in
     let step = text_more c.args.lines.now c.loop-before.before _ (omega arith) in
-    let went = c.in_ok-next.ensures.judged in
+    let went = c.in_ok-read.ensures.judged in
     let behind = drop (c.loop-before.before + 1) (texts c.args.lines.now) in
     let left = c.in_ok-draft.ensures behind in
-    let kept = step_kept of c.in_ok-next.ensures.sound _ _ _ _ faulty _ behind c.loop-before.invariant.kept went left in
+    let kept = step_kept of c.in_ok-read.ensures.sound _ _ _ _ faulty _ behind c.loop-before.invariant.kept went left in
     record {
       kept = kept;
-      told = rw (c.in_ok-all.ensures of faulty, c.in_ok-seen.ensures) (goes_on (matrix_lint of faulty) part.Matrix c.args.above _ _ _ _ _ _ _ _ _ _ went left (rw step at c.loop-before.invariant.told));
+      told = rw (c.in_ok-all.ensures of faulty, c.in_ok-seen.ensures) (goes_on of faulty c.args.above _ _ _ _ _ _ _ _ _ _ went left (rw step at c.loop-before.invariant.told));
     }
 
 pub returns : goal.returns
@@ -34,4 +34,4 @@ returns c =
     let of = c.args.basis.now.component.now in
     let faulty = option_copied c.args.basis.now.faulty in
     let so_far = rw (texts_end c.args.lines.now c.loop-before.before (omega arith)) at c.loop-before.invariant.told in
-    rw c.in_ok-all-2.ensures (is_done (matrix_lint of faulty) part.Matrix c.args.above _ _ _ _ _ _ _ (omega arith) (λ r. matrix_end _ _ _ r refl) so_far)
+    rw c.in_ok-all-2.ensures (is_done (matrix_lint of faulty) part.Matrix c.args.above _ _ _ _ _ _ _ (omega arith) (λ r. matrix_end c.loop-before.seen.items _ [] _ _ r refl) so_far)

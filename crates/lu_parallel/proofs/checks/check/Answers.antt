@@ -10,12 +10,14 @@ pub new-requires-clause-within : goal.new-requires-clause-within
 new-requires-clause-within g c =
     let there = start_there c.args.component.now c.args.matrix.now c.requires.of.settles in
     let start = there.0 in
-    finding_within c.args.component.now c.args.matrix.now start c.in_ok-finding.ensures.limits there.1 c.args.options.bound c.args.options.serial c.in_ok-finding.finding (c.in_ok-finding.ensures.found start there.1)
+    finding_within c.args.component.now c.args.matrix.now start c.in_ok-finding.ensures.limits there.1 c.bound-bound.result c.args.options.serial c.in_ok-finding.finding (c.in_ok-finding.ensures.found start there.1)
 
 pub returns-clause-report : goal.returns-clause-report
 returns-clause-report g c = (
-  ap (λ (r : Parts). r.bound) c.new.ensures ∙ c.bound.ensures.bound,
+  ap (λ (r : Parts). r.bound) c.new.ensures ∙ c.bound-bound.ensures.bound,
   ap (λ (r : Parts). r.serial) c.new.ensures ∙ ap (λ (n : ℕ). Some n) c.serial.ensures.serial,
   ap (λ (r : Parts). r.local) c.new.ensures ∙ c.local.ensures.local,
-  λ s is. subst (λ (f : Finding). IsFinding s c.args.options.bound c.args.options.serial f) (sym (ap (λ (r : Parts). r.finding) c.new.ensures)) (c.in_ok-finding.ensures.found s is),
+  λ s is.
+      (let found = subst (λ n. IsFinding s n c.args.options.serial c.in_ok-finding.finding) c.bound-bound.ensures.bound (c.in_ok-finding.ensures.found s is) in
+      subst (λ (f : Finding). IsFinding s c.args.options.bound c.args.options.serial f) (sym (ap (λ (r : Parts). r.finding) c.new.ensures)) found),
 )

@@ -11,18 +11,20 @@ pub against-requires-clause-within : goal.against-requires-clause-within
 against-requires-clause-within g c =
     let there = start_there c.args.component.now c.args.matrix.now c.requires.of.settles in
     let start = there.0 in
-    (against_within c.args.component.now c.args.matrix.now start c.in_ok-finding.ensures.limits there.1 (IsMember (g.T.SerialTree.members c.args.tree.now)) c.args.options.bound c.in_ok-finding.finding (c.in_ok-finding.ensures.found start there.1)).0
+    (against_within c.args.component.now c.args.matrix.now start c.in_ok-finding.ensures.limits there.1 (IsMember (g.T.SerialTree.members c.args.tree.now)) c.bound-bound.result c.in_ok-finding.finding (c.in_ok-finding.ensures.found start there.1)).0
 
 pub against-requires-clause-judged : goal.against-requires-clause-judged
 against-requires-clause-judged g c =
     let there = start_there c.args.component.now c.args.matrix.now c.requires.of.settles in
     let start = there.0 in
-    (against_within c.args.component.now c.args.matrix.now start c.in_ok-finding.ensures.limits there.1 (IsMember (g.T.SerialTree.members c.args.tree.now)) c.args.options.bound c.in_ok-finding.finding (c.in_ok-finding.ensures.found start there.1)).1
+    (against_within c.args.component.now c.args.matrix.now start c.in_ok-finding.ensures.limits there.1 (IsMember (g.T.SerialTree.members c.args.tree.now)) c.bound-bound.result c.in_ok-finding.finding (c.in_ok-finding.ensures.found start there.1)).1
 
 pub returns-clause-report : goal.returns-clause-report
 returns-clause-report g c = (
-  ap (λ (r : Parts). r.bound) c.against.ensures ∙ c.bound.ensures.bound,
+  ap (λ (r : Parts). r.bound) c.against.ensures ∙ c.bound-bound.ensures.bound,
   ap (λ (r : Parts). r.serial) c.against.ensures,
   ap (λ (r : Parts). r.local) c.against.ensures ∙ c.local.ensures.local,
-  λ s is. subst (λ (f : Finding). IsFindingAgainst (IsMember (g.T.SerialTree.members c.args.tree.now)) s c.args.options.bound f) (sym (ap (λ (r : Parts). r.finding) c.against.ensures)) (c.in_ok-finding.ensures.found s is),
+  λ s is.
+      (let found = subst (λ n. IsFindingAgainst (IsMember (g.T.SerialTree.members c.args.tree.now)) s n c.in_ok-finding.finding) c.bound-bound.ensures.bound (c.in_ok-finding.ensures.found s is) in
+      subst (λ (f : Finding). IsFindingAgainst (IsMember (g.T.SerialTree.members c.args.tree.now)) s c.args.options.bound f) (sym (ap (λ (r : Parts). r.finding) c.against.ensures)) found),
 )

@@ -16,7 +16,7 @@ use Rattle.lu_parallel.proofs.checks.search_by_workers.Goals as goal
 
 pub new-requires-clause-pieces : goal.new-requires-clause-pieces
 new-requires-clause-pieces g c =
-    let start = start_there c.args.check.now.component.now c.args.check.now.matrix.now c.requires.of.settles in
+    let start = start_there c.args.check.now.space.component.now c.args.check.now.space.matrix.now c.requires.of.settles in
     let few = (c.in_ok-pieces.ensures.frontier start.0 start.1).few in
     let long = c.in_ok-pieces.pieces.ok.0 in
     let is = c.len.ensures in
@@ -25,10 +25,10 @@ new-requires-clause-pieces g c =
 pub run_workers-requires-clause-job : goal.run_workers-requires-clause-job
 run_workers-requires-clause-job g c κs within = record {
   of = c.requires.of;
-  few = c.bound-bound.ensures.range;
+  few = c.requires.few;
   schedules = λ s is.
-      subst (λ (pieces : List (List Move)). All (IsPiece s c.bound-bound.result) pieces) (sym c.deref.ensures.value)
-      (frontier_pieces s c.bound-bound.result c.depth.result c.in_ok-pieces.pieces.items (c.in_ok-pieces.ensures.frontier s is));
+      subst (λ (pieces : List (List Move)). All (IsPiece s c.args.check.now.space.bound) pieces) (sym c.deref.ensures.value)
+      (frontier_pieces s c.args.check.now.space.bound c.depth-depth.result c.in_ok-pieces.pieces.items (c.in_ok-pieces.ensures.frontier s is));
   numbered = c.in_ok-board.ensures.board.0 ∙ (c.len.ensures ∙ sym c.deref.ensures.len);
 }
 
@@ -40,7 +40,7 @@ finding_of-requires g c =
 pub returns-in-Some-clause-found : goal.returns-in-Some-clause-found
 returns-in-Some-clause-found g c = λ s is.
     let members = g.T.SerialTree.members c.args.tree.now in
-    let bound = c.bound-bound.result in
+    let bound = c.args.check.now.space.bound in
     let pieces = c.deref.result.now in
     let works = c.in_ok-works.works.items in
     let found = c.in-Some.found in
@@ -49,8 +49,8 @@ returns-in-Some-clause-found g c = λ s is.
     let shares = subst (λ n. SharesOut n (seats_of works)) long c.in_ok-found.ensures.pieces in
     let conclusion : IsConclusion works (Some found) = rw c.in-Some.is at c.in_ok-found.ensures.conclusion in
     let over : AreWorksOver members s bound works = record {
-      component = c.args.check.now.component.now;
-      matrix = c.args.check.now.matrix.now;
+      component = c.args.check.now.space.component.now;
+      matrix = c.args.check.now.space.matrix.now;
       start = is;
       pieces = pieces;
       cover = cover;
@@ -60,5 +60,4 @@ returns-in-Some-clause-found g c = λ s is.
       skips = c.in_ok-found.ensures.skipped;
     } in
     let all = concluded members s bound works found over conclusion in
-    subst (λ n. IsFindingAgainst (IsMember members) s n c.finding_of.result) c.bound-bound.ensures.bound
-    (same_finding (IsFindingAgainst (IsMember members) s bound) (finding_of found) c.finding_of.result c.finding_of.ensures (found_against (IsMember members) s bound found all))
+    same_finding (IsFindingAgainst (IsMember members) s bound) (finding_of found) c.finding_of.result c.finding_of.ensures (found_against (IsMember members) s bound found all)

@@ -7,14 +7,14 @@ use Rattle.lu_parallel.proofs.one_thread.find.Goals as goal
 pub search_all-requires-clause-of : goal.search_all-requires-clause-of
 search_all-requires-clause-of g c = c.requires.of
 
-pub search_all-requires-clause-bound : goal.search_all-requires-clause-bound
-search_all-requires-clause-bound g c = c.requires.bound
+pub search_all-requires-clause-few : goal.search_all-requires-clause-few
+search_all-requires-clause-few g c = c.requires.few
 
 pub returns-in-Ok-clause-found : goal.returns-in-Ok-clause-found
 returns-in-Ok-clause-found g c = λ s is.
-    let set = c.in-Ok.ensures.set s c.args.serial (c.in_ok-learn.ensures.learnt s is) in
-    IfOk-weaker c.search_all.result (IsFindingAgainst (IsMember c.in-Ok.set) s c.args.bound) (IsFinding s c.args.bound c.args.serial)
-    (λ finding found. against_serially c.in-Ok.set s c.args.bound c.args.serial finding set found) (c.search_all.ensures.found s is)
+    let set = c.in-Ok.ensures.set s c.args.serial (c.in_ok-learnt.ensures.learnt s is) in
+    IfOk-weaker c.search_all.result (IsFindingAgainst (IsMember c.in-Ok.set) s c.args.space.now.bound) (IsFinding s c.args.space.now.bound c.args.serial)
+    (λ finding found. against_serially c.in-Ok.set s c.args.space.now.bound c.args.serial finding set found) (c.search_all.ensures.found s is)
 
 pub returns-in-Err-clause-found : goal.returns-in-Err-clause-found
-returns-in-Err-clause-found g c = λ s is. c.in-Err.ensures.offence s c.args.bound c.args.serial (c.in_ok-learn.ensures.learnt s is)
+returns-in-Err-clause-found g c = λ s is. c.in-Err.ensures.offence s c.args.space.now.bound c.args.serial (c.in_ok-learnt.ensures.learnt s is)

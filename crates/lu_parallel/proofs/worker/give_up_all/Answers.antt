@@ -8,12 +8,12 @@ use Rattle.lu_parallel.proofs.Tallies.{holds_empty, no_pieces, without_one}
 use Rattle.lu_parallel.proofs.worker.give_up_all.Goals as goal
 
 pub loop-piece-init : goal.loop-piece-init
-loop-piece-init c =
+loop-piece-init g c =
     let none = no_pieces c.args.seat.view c.requires.fresh.2 in
     record { board = c.requires.fresh.0; held = none.0; clean = none.1; found = none.2 }
 
 pub loop-piece-preserved : goal.loop-piece-preserved
-loop-piece-preserved c =
+loop-piece-preserved g c =
     let i = c.loop-piece.invariant in
     let was = c.loop-piece.seat.view in
     let piece = c.in-Some.piece in
@@ -26,7 +26,7 @@ loop-piece-preserved c =
     }
 
 pub returns : goal.returns
-returns c = λ members.
+returns g c = λ members.
     (let i = c.loop-piece.invariant in
     let was = c.loop-piece.seat.view in
     let spent : c.claim.new.seat.view ≡ with_spent was = c.in_default.ensures.none in
@@ -37,5 +37,5 @@ returns c = λ members.
         done = (ap (λ (v : View). v.spent) spent, ap (λ (v : View). v.held) spent ∙ i.held);
         listed = ap found_pieces c.new.ensures.items ∙ sym found;
       };
-      holds = λ s is. holds_empty (IsMember members) s c.args.job.now.bound c.args.job.now.pieces.now c.claim.new.seat.view c.new.result.items (ap (λ (v : View). v.clean) spent ∙ i.clean) found c.new.ensures.items;
+      holds = λ s is. holds_empty (IsMember members) s c.args.job.now.space.bound c.args.job.now.pieces.now c.claim.new.seat.view c.new.result.items (ap (λ (v : View). v.clean) spent ∙ i.clean) found c.new.ensures.items;
     })

@@ -32,11 +32,11 @@ returns-in-Set c =
     λ (s : State) (serial : ℕ) (is : IsStart c.args.component.now c.args.matrix.now s) (learnt : IsLearnt s serial c.args.learnt.now).
     let set = subst (IsLearnt s serial) c.in-Set.is learnt in
     rw c.in-Fail.is
-    (IfOk-weaker c.fails.result
+    (IfOk-weaker c.holds.result
     (λ answer. IsTrue answer ↔ IsBadFor (IsMember c.in-Set.set) s c.args.bound c.in-Fail.schedule c.in-Fail.why)
     (λ answer. IsTrue answer ↔ IsShown s c.args.bound serial (Fail c.in-Fail.schedule c.in-Fail.why))
     (λ answer h. set_shown s c.args.bound serial c.in-Set.set set c.in-Fail.schedule c.in-Fail.why answer h)
-    (c.fails.ensures s is))
+    (c.holds.ensures s is))
 
 pub returns-in-Cut : goal.returns-in-Cut
 returns-in-Cut c =

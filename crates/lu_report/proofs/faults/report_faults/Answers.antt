@@ -7,7 +7,7 @@ loop-place-init c = none_judged c.version_by-version.result c.args.lines.now _ (
 
 pub loop-place-preserved : goal.loop-place-preserved
 loop-place-preserved c =
-    rw c.next_of-form.ensures (one_judged c.version_by-version.result c.args.lines.now c.loop-place.form c.loop-place.place _ c.in_ok-fault.fault c.loop-place.faults.items c.in_ok-faults.faults.items (omega arith) c.loop-place.invariant c.in_ok-fault.ensures c.in_ok-faults.ensures)
+    rw c.next_wanted-form.ensures (one_judged c.version_by-version.result c.args.lines.now c.loop-place.form c.loop-place.place _ c.in_ok-fault.fault c.loop-place.faults.items c.in_ok-faults.faults.items (omega arith) c.loop-place.invariant c.in_ok-fault.ensures c.in_ok-faults.ensures)
 
 pub returns : goal.returns
 returns c =

@@ -12,7 +12,7 @@ returns-then-t-threads-clause-rest g t c =
     let Set = IsMember (g.T.SerialTree.members c.args.node.now.trail.tree) in
     let s = c.args.node.now.machine in
     let h = c.args.node.now.trail.history in
-    IfSome_then c.no_moves.result {Q = λ ns. IsRest Set c.args.look s h c.args.t c.args.left ns.items} c.no_moves.ensures.rest
+    IfSome_then c.no_moves.result {Q = λ ns. IsRest Set c.args.question s h c.args.t c.args.left ns.items} c.no_moves.ensures.rest
     (λ ns rest. rest c.args.t c.args.left (omega (arith, c.threads-threads.ensures.value)))
 
 pub returns-then-is_over-clause-rest : goal.returns-then-is_over-clause-rest
@@ -21,8 +21,8 @@ returns-then-is_over-clause-rest g t c =
     let s = c.args.node.now.machine in
     let h = c.args.node.now.trail.history in
     let yes : IsTrue c.is_over.result = search rules in
-    IfSome_then c.finish.result {Q = λ ns. IsRest Set c.args.look s h c.args.t c.args.left ns.items} c.finish.ensures.rest
-    (λ ns rest. rest_turn Set c.args.look s h c.args.t c.args.left ns.items (c.is_over.ensures yes) rest)
+    IfSome_then c.finish.result {Q = λ ns. IsRest Set c.args.question s h c.args.t c.args.left ns.items} c.finish.ensures.rest
+    (λ ns rest. rest_turn Set c.args.question s h c.args.t c.args.left ns.items (c.is_over.ensures yes) rest)
 
 pub one_more-requires-clause-few : goal.one_more-requires-clause-few
 one_more-requires-clause-few g t c =
@@ -39,9 +39,9 @@ returns-in-Some-clause-rest g t c =
     let after = c.enter-undo.new.self.machine in
     let last = c.enter-undo.new.self.trail.history in
     let entered = rw c.in-Some.is at c.finish-found.ensures.rest in
-    let rest : IsRest Set c.args.look after last c.args.t (c.args.left - 1) lengths = subst (λ x. IsRest (IsMember (g.T.SerialTree.members x)) c.args.look after last c.args.t (c.args.left - 1) lengths) c.enter-undo.ensures.tree entered in
+    let rest : IsRest Set c.args.question after last c.args.t (c.args.left - 1) lengths = subst (λ x. IsRest (IsMember (g.T.SerialTree.members x)) c.args.question after last c.args.t (c.args.left - 1) lengths) c.enter-undo.ensures.tree entered in
     let yes : IsTrue c.may_move.result = search rules in
-    rw c.one_more.ensures (rest_move Set c.args.look s c.args.node.now.trail.history c.args.t after c.enter-undo.result.event c.enter-undo.ensures.step (c.may_move.ensures yes) c.args.left lengths last (omega (arith, c.if-left-eq0.false)) (omega (arith, c.threads-threads.ensures.value, c.requires.within, c.if-t-threads.false)) c.enter-undo.ensures.history rest)
+    rw c.one_more.ensures (rest_move Set c.args.question s c.args.node.now.trail.history c.args.t after c.enter-undo.result.event c.enter-undo.ensures.step (c.may_move.ensures yes) c.args.left lengths last (omega (arith, c.if-left-eq0.false)) (omega (arith, c.threads-threads.ensures.value, c.requires.within, c.if-t-threads.false)) c.enter-undo.ensures.history rest)
 
 pub returns-in-None-clause-same : goal.returns-in-None-clause-same
 returns-in-None-clause-same g t c =

@@ -10,4 +10,4 @@ returns-in-Ok-clause-rest g c = λ t left past.
     let yes : IsTrue c.is_judged_end.result = search rules in
     let ends = c.is_judged_end.ensures.judged yes in
     let is : c.in-Ok.lengths.items ≡ zeros (length s.threads) = search rules in
-    rest_end Set c.args.look s c.args.node.now.trail.history t left c.in-Ok.lengths.items is past ends.0 ends.1)
+    rest_end Set c.args.question s c.args.node.now.trail.history t left c.in-Ok.lengths.items is past ends.0 ends.1)

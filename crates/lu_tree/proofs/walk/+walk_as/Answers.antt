@@ -8,7 +8,7 @@ use Rattle.lu_machine.specs.Undoes.{restored}
 use Rattle.lu_machine.proofs.StepLaws.{feasible_step}
 use Rattle.lu_witness.specs.Witnesses.{IsMember}
 use Rattle.lu_tree.specs.Known.{AreFrom, AreKnownBehind, IsHint, IsKnown, Moves, counts_of}
-use Rattle.lu_tree.specs.Walks.{AreBelow, Counted, StopsAt}
+use Rattle.lu_tree.specs.Walks.{AreBelow, IsCountAtEnd, StopsAtSchedule}
 use Rattle.lu_tree.proofs.Added.{AreAdded, added_all, added_more, added_none, added_turn, end_below, end_stops, stops_more, stops_there}
 use Rattle.lu_horizon.specs.Dead.{IsDeadTable}
 use Rattle.lu_horizon.proofs.OwnLaws.{serves_next}
@@ -32,8 +32,8 @@ loop-thread-init g t c =
       running = c.requires.running;
       ready = c.requires.ready;
       ended = ended_first s;
-      counted = subst (AreAdded Set s h c.args.left (record { thread = 0; pick = 0 })) (sym c.alone-known.ensures.counts) (added_none Set s h c.args.left);
-      kids = none_behind Set s h (c.args.left - 1) c.alone-known.result c.alone-known.ensures.kids;
+      counted = subst (AreAdded Set s h c.args.visit.now.left (record { thread = 0; pick = 0 })) (sym c.alone-known.ensures.counts) (added_none Set s h c.args.visit.now.left);
+      kids = none_behind Set s h (c.args.visit.now.left - 1) c.alone-known.result c.alone-known.ensures.kids;
     }
 
 pub loop-pick-preserved-in-Some-behind_one_of : goal.loop-pick-preserved-in-Some-behind_one_of
@@ -53,9 +53,9 @@ loop-pick-preserved-in-Some-behind_one_of g t c =
     let able : IsFeasible s next = omega (arith, c.loop-pick-test.true) in
     let step = feasible_step s next able in
     let moves : Moves thread s step.0 step.1 = (one, subst (λ x. Step s (record { thread = thread; pick = x }) step.0 step.1) first step.2) in
-    let some : 1 ≤ c.args.left = omega arith in
-    let behind : AreBelow Set step.0 (h ++ with_event step.1 []) (c.args.left - 1) (counts_of below) = behind_here Set s h (c.args.left - 1) thread below (IsHint c.args.hints.now) c.requires.hints told.hint step.0 step.1 moves in
-    let more = added_more Set s h c.args.left thread pick step.0 step.1 (h ++ with_event step.1 []) step.2 refl some (counts_of c.loop-pick.known) (counts_of below) i.counted behind in
+    let some : 1 ≤ c.args.visit.now.left = omega arith in
+    let behind : AreBelow Set step.0 (h ++ with_event step.1 []) (c.args.visit.now.left - 1) (counts_of below) = behind_here Set s h (c.args.visit.now.left - 1) thread below (IsHint c.args.visit.now.hints) c.requires.hints told.hint step.0 step.1 moves in
+    let more = added_more Set s h c.args.visit.now.left thread pick step.0 step.1 (h ++ with_event step.1 []) step.2 refl some (counts_of c.loop-pick.known) (counts_of below) i.counted behind in
     record {
       machine = i.machine;
       history = i.history;
@@ -65,8 +65,8 @@ loop-pick-preserved-in-Some-behind_one_of g t c =
       running = c.pass_many.ensures.running (search rules);
       ready = record { room = subst (λ p. 256 ≤ vec_capacity p) (sym c.pass_many.ensures.path) i.ready.room; empty = ap (λ p. p.items) c.pass_many.ensures.path ∙ i.ready.empty };
       ended = ended_picked s next able;
-      counted = subst (AreAdded Set s h c.args.left (record { thread = thread; pick = pick + 1 })) (sym c.add.ensures.counts) more;
-      kids = behind_same Set s h (c.args.left - 1) c.loop-pick.known c.add.new.self c.add.ensures.kids i.kids;
+      counted = subst (AreAdded Set s h c.args.visit.now.left (record { thread = thread; pick = pick + 1 })) (sym c.add.ensures.counts) more;
+      kids = behind_same Set s h (c.args.visit.now.left - 1) c.loop-pick.known c.add.new.self c.add.ensures.kids i.kids;
     }
 
 pub walk_as-walked-requires : goal.walk_as-walked-requires
@@ -81,17 +81,17 @@ walk_as-walked-requires g t c =
     let r = c.enter-undo.new.self.machine in
     let k = c.enter-undo.new.self.trail.history in
     let event = c.enter-undo.result.event in
-    let home : c.hints_behind-further.new.machine ≡ s = c.hints_behind-further.ensures.machine ∙ i.machine in
+    let home : c.hints_behind.new.machine ≡ s = c.hints_behind.ensures.machine ∙ i.machine in
     let step : Step s next r event = subst (λ x. Step x next r event) home c.enter-undo.ensures.step in
     let grown : k ≡ h ++ with_event event [] = c.enter-undo.ensures.history ∙ ap (λ x. x ++ with_event event []) i.history in
     let serves = serves_next c.args.ahead.now.tables.now.horizon s next r event c.requires.serves step in
     let table = c.args.ahead.now.tables.now.dead in
     let dead : IsDeadTable r.component table = subst (λ x. IsDeadTable x table) (sym (step_moved s next r event step).component) c.requires.dead in
-    let from = subst (λ x. AreFrom table x c.args.hints.now c.loop-pick.known thread c.hints_behind-further.result) i.machine c.hints_behind-further.ensures.from in
-    let hints = hints_on Set table s c.requires.dead h (c.args.left - 1) c.args.hints.now c.loop-pick.known thread pick c.hints_behind-further.result c.requires.hints i.kids from r event step in
+    let from = subst (λ x. AreFrom table x c.args.visit.now.hints c.loop-pick.known thread c.hints_behind.result) i.machine c.hints_behind.ensures.from in
+    let hints = hints_on Set table s c.requires.dead h (c.args.visit.now.left - 1) c.args.visit.now.hints c.loop-pick.known thread pick c.hints_behind.result c.requires.hints i.kids from r event step in
     let tree = ap (λ x. g.T.SerialTree.members x) (c.enter-undo.ensures.tree ∙ i.tree) in
-    let there = subst (λ x. AreKnownBehind Set r x (c.args.left - 1 - 1) (IsHint c.hints_behind-further.result)) (sym grown) hints in
-    let told = subst (λ x. AreKnownBehind (IsMember x) r k (c.args.left - 1 - 1) (IsHint c.hints_behind-further.result)) (sym tree) there in
+    let there = subst (λ x. AreKnownBehind Set r x (c.args.visit.now.left - 1 - 1) (IsHint c.hints_behind.result)) (sym grown) hints in
+    let told = subst (λ x. AreKnownBehind (IsMember x) r k (c.args.visit.now.left - 1 - 1) (IsHint c.hints_behind.result)) (sym tree) there in
     search (rules, serves, dead, told)
 
 pub returns-in_default-walked-clause-stops : goal.returns-in_default-walked-clause-stops
@@ -106,16 +106,16 @@ returns-in_default-walked-clause-stops g t c = λ _ running.
     let r = c.enter-undo.new.self.machine in
     let k = c.enter-undo.new.self.trail.history in
     let event = c.enter-undo.result.event in
-    let home : c.hints_behind-further.new.machine ≡ s = c.hints_behind-further.ensures.machine ∙ i.machine in
+    let home : c.hints_behind.new.machine ≡ s = c.hints_behind.ensures.machine ∙ i.machine in
     let here : pick < picks_of c.loop-thread.node.machine thread = rw (← c.picks-picks.ensures) (c.loop-pick-test.true) in
     let able : IsFeasible s next = subst (λ x. pick < picks_of x thread) c.loop-thread.invariant.machine here in
     let step : Step s next r event = subst (λ x. Step x next r event) home c.enter-undo.ensures.step in
     let grown : k ≡ h ++ with_event event [] = c.enter-undo.ensures.history ∙ ap (λ x. x ++ with_event event []) i.history in
-    let some : 1 ≤ c.args.left = omega arith in
+    let some : 1 ≤ c.args.visit.now.left = omega arith in
     let tree = ap (λ x. g.T.SerialTree.members x) (c.enter-undo.ensures.tree ∙ i.tree) in
-    let below : StopsAt Set r k (c.args.left - 1) c.walk_as-walked.new.tally.path.items c.walk_as-walked.new.node.machine c.walk_as-walked.new.node.trail.history = subst (λ x. StopsAt (IsMember x) r k (c.args.left - 1) c.walk_as-walked.new.tally.path.items c.walk_as-walked.new.node.machine c.walk_as-walked.new.node.trail.history) tree (c.in_default-walked.ensures.stops refl running) in
-    let stops = stops_more Set s h c.args.left thread pick r event k step grown some able (counts_of c.loop-pick.known) i.counted c.walk_as-walked.new.tally.path.items c.walk_as-walked.new.node.machine c.walk_as-walked.new.node.trail.history below in
-    stops_there Set s h c.args.left (c.walk_as-walked.new.tally.path.items ++ next ∷ []) c.push_reserved.new.self.items c.walk_as-walked.new.node.machine c.walk_as-walked.new.node.machine c.walk_as-walked.new.node.trail.history c.walk_as-walked.new.node.trail.history c.push_reserved.ensures.items refl refl stops)
+    let below : StopsAtSchedule Set r k (c.args.visit.now.left - 1) c.walk_as-walked.new.tally.path.items c.walk_as-walked.new.node.machine c.walk_as-walked.new.node.trail.history = subst (λ x. StopsAtSchedule (IsMember x) r k (c.args.visit.now.left - 1) c.walk_as-walked.new.tally.path.items c.walk_as-walked.new.node.machine c.walk_as-walked.new.node.trail.history) tree (c.in_default-walked.ensures.stops refl running) in
+    let stops = stops_more Set s h c.args.visit.now.left thread pick r event k step grown some able (counts_of c.loop-pick.known) i.counted c.walk_as-walked.new.tally.path.items c.walk_as-walked.new.node.machine c.walk_as-walked.new.node.trail.history below in
+    stops_there Set s h c.args.visit.now.left (c.walk_as-walked.new.tally.path.items ++ next ∷ []) c.push_reserved.new.self.items c.walk_as-walked.new.node.machine c.walk_as-walked.new.node.machine c.walk_as-walked.new.node.trail.history c.walk_as-walked.new.node.trail.history c.push_reserved.ensures.items refl refl stops)
 
 pub loop-pick-preserved : goal.loop-pick-preserved
 loop-pick-preserved g t c =
@@ -130,19 +130,19 @@ loop-pick-preserved g t c =
     let r = c.enter-undo.new.self.machine in
     let k = c.enter-undo.new.self.trail.history in
     let event = c.enter-undo.result.event in
-    let home : c.hints_behind-further.new.machine ≡ s = c.hints_behind-further.ensures.machine ∙ i.machine in
+    let home : c.hints_behind.new.machine ≡ s = c.hints_behind.ensures.machine ∙ i.machine in
     let here : pick < picks_of c.loop-thread.node.machine thread = rw (← c.picks-picks.ensures) (c.loop-pick-test.true) in
     let able : IsFeasible s next = subst (λ x. pick < picks_of x thread) c.loop-thread.invariant.machine here in
     let step : Step s next r event = subst (λ x. Step x next r event) home c.enter-undo.ensures.step in
     let grown : k ≡ h ++ with_event event [] = c.enter-undo.ensures.history ∙ ap (λ x. x ++ with_event event []) i.history in
-    let some : 1 ≤ c.args.left = omega arith in
+    let some : 1 ≤ c.args.visit.now.left = omega arith in
     let tree = ap (λ x. g.T.SerialTree.members x) (c.enter-undo.ensures.tree ∙ i.tree) in
     let below = c.in-Some-walked.below in
-    let known : IsKnown Set r k (c.args.left - 1) below = subst (λ x. IsKnown (IsMember x) r k (c.args.left - 1) below) tree w.known in
-    let behind = known_behind Set s h (c.args.left - 1) thread pick r event k below step grown known in
-    let more = added_more Set s h c.args.left thread pick r event k step grown some (counts_of c.loop-pick.known) (counts_of below) i.counted (known_below Set r k (c.args.left - 1) below known) in
+    let known : IsKnown Set r k (c.args.visit.now.left - 1) below = subst (λ x. IsKnown (IsMember x) r k (c.args.visit.now.left - 1) below) tree w.known in
+    let behind = known_behind Set s h (c.args.visit.now.left - 1) thread pick r event k below step grown known in
+    let more = added_more Set s h c.args.visit.now.left thread pick r event k step grown some (counts_of c.loop-pick.known) (counts_of below) i.counted (known_below Set r k (c.args.visit.now.left - 1) below known) in
     let counts = c.keep.ensures.counts ∙ c.add-in-loop-pick.ensures.counts in
-    let kids = behind_same Set s h (c.args.left - 1) c.loop-pick.known c.add-in-loop-pick.new.self c.add-in-loop-pick.ensures.kids i.kids in
+    let kids = behind_same Set s h (c.args.visit.now.left - 1) c.loop-pick.known c.add-in-loop-pick.new.self c.add-in-loop-pick.ensures.kids i.kids in
     record {
       machine = c.leave.ensures.machine ∙ (ap (restored c.enter-undo.result) w.machine ∙ (c.enter-undo.ensures.back ∙ home));
       history = c.leave.ensures.history c.loop-pick.node.trail.history (w.history ∙ c.enter-undo.ensures.history) ∙ i.history;
@@ -152,8 +152,8 @@ loop-pick-preserved g t c =
       running = w.running;
       ready = w.ready;
       ended = ended_picked s next able;
-      counted = subst (AreAdded Set s h c.args.left (record { thread = thread; pick = pick + 1 })) (sym counts) more;
-      kids = behind_more Set s h (c.args.left - 1) thread c.add-in-loop-pick.new.self c.keep.new.self below c.keep.ensures.kids kids behind;
+      counted = subst (AreAdded Set s h c.args.visit.now.left (record { thread = thread; pick = pick + 1 })) (sym counts) more;
+      kids = behind_more Set s h (c.args.visit.now.left - 1) thread c.add-in-loop-pick.new.self c.keep.new.self below c.keep.ensures.kids kids behind;
     }
 
 pub loop-thread-preserved : goal.loop-thread-preserved
@@ -170,14 +170,14 @@ loop-thread-preserved g t c =
       running = i.running;
       ready = i.ready;
       ended = ended_turn c.args.node.now.machine c.loop-thread.thread c.loop-pick.pick all c.loop-pick.is_ended i.ended;
-      counted = added_turn (IsMember (g.T.SerialTree.members c.args.node.now.trail.tree)) c.args.node.now.machine c.args.node.now.trail.history c.args.left c.loop-thread.thread c.loop-pick.pick all (counts_of c.loop-pick.known) i.counted;
+      counted = added_turn (IsMember (g.T.SerialTree.members c.args.node.now.trail.tree)) c.args.node.now.machine c.args.node.now.trail.history c.args.visit.now.left c.loop-thread.thread c.loop-pick.pick all (counts_of c.loop-pick.known) i.counted;
       kids = i.kids;
     }
 
 pub returns-then-left-eq0-clause-stays : goal.returns-then-left-eq0-clause-stays
 returns-then-left-eq0-clause-stays g t c =
     let node = c.end.ensures.node in
-    stays_home c.args.node.now c.end.new.node c.args.left c.end.new.tally (ap (λ n. n.trail.tree) node) (ap (λ n. n.machine) node) (ap (λ n. n.trail.history) node) c.requires.agree (ready_still c.args.tally.now c.end.new.tally c.end.ensures.path c.requires.ready)
+    stays_home c.args.node.now c.end.new.node c.args.visit.now.left c.end.new.tally (ap (λ n. n.trail.tree) node) (ap (λ n. n.machine) node) (ap (λ n. n.trail.history) node) c.requires.agree (ready_still c.args.tally.now c.end.new.tally c.end.ensures.path c.requires.ready)
 
 pub returns-then-left-eq0-clause-passed : goal.returns-then-left-eq0-clause-passed
 returns-then-left-eq0-clause-passed g t c =
@@ -191,7 +191,7 @@ returns-then-left-eq0-clause-passed g t c =
       history = ap (λ n. n.trail.history) node;
       running = running;
       ready = ready_still c.args.tally.now c.end.new.tally c.end.ensures.path c.requires.ready;
-      known = known_alone Set s h c.args.left known (counts_of known) refl alone.1 (end_below Set s h c.args.left (inr (search rules)) (counts_of known) alone.0);
+      known = known_alone Set s h c.args.visit.now.left known (counts_of known) refl alone.1 (end_below Set s h c.args.visit.now.left (inr (search rules)) (counts_of known) alone.0);
     })
     c.end.ensures.running c.end.ensures.counted
 
@@ -203,13 +203,13 @@ returns-then-left-eq0-clause-stops g t c = λ is running.
     let path = c.end.new.tally.path.items in
     let none = ap (λ p. p.items) c.end.ensures.path ∙ c.requires.ready.empty in
     let over : IsEnded s = where_none _ c.end.result is c.end.ensures.ended running in
-    let stops = end_stops Set s h c.args.left (inr (search rules)) over path none in
-    stops_there Set s h c.args.left path path s c.end.new.node.machine h c.end.new.node.trail.history refl (ap (λ n. n.machine) c.end.ensures.node) (ap (λ n. n.trail.history) c.end.ensures.node) stops)
+    let stops = end_stops Set s h c.args.visit.now.left (inr (search rules)) over path none in
+    stops_there Set s h c.args.visit.now.left path path s c.end.new.node.machine h c.end.new.node.trail.history refl (ap (λ n. n.machine) c.end.ensures.node) (ap (λ n. n.trail.history) c.end.ensures.node) stops)
 
 pub returns-in-Some-clause-stays : goal.returns-in-Some-clause-stays
 returns-in-Some-clause-stays g t c =
     let there = c.counted_below.ensures in
-    stays_home c.args.node.now c.counted_below.new.node c.args.left c.pass.new.tally (ap (λ n. n.trail.tree) there.same) (ap (λ n. n.machine) there.same) (ap (λ n. n.trail.history) there.same) c.requires.agree (ready_still c.args.tally.now c.pass.new.tally c.pass.ensures.path c.requires.ready)
+    stays_home c.args.node.now c.counted_below.new.node c.args.visit.now.left c.pass.new.tally (ap (λ n. n.trail.tree) there.same) (ap (λ n. n.machine) there.same) (ap (λ n. n.trail.history) there.same) c.requires.agree (ready_still c.args.tally.now c.pass.new.tally c.pass.ensures.path c.requires.ready)
 
 pub returns-in-Some-clause-passed : goal.returns-in-Some-clause-passed
 returns-in-Some-clause-passed g t c =
@@ -223,7 +223,7 @@ returns-in-Some-clause-passed g t c =
       history = (ap (λ n. n.trail.history) there.same);
       running = running;
       ready = ready_still c.args.tally.now c.pass.new.tally c.pass.ensures.path c.requires.ready;
-      known = known_alone Set s h c.args.left known c.in-Some.counts alone.0 alone.1 c.in-Some.ensures.below;
+      known = known_alone Set s h c.args.visit.now.left known c.in-Some.counts alone.0 alone.1 c.in-Some.ensures.below;
     })
     c.pass.ensures.running c.pass.ensures.alone
 
@@ -250,8 +250,8 @@ returns-then-is_ended-clause-passed g t c =
       running = running;
       ready = ready_still c.loop-thread.tally c.end-then-is_ended.new.tally c.end-then-is_ended.ensures.path i.ready;
       known =
-          (let counted : Counted Set s h (counts_of known) = rw (← i.tree, ← i.machine, ← i.history) alone.0 in
-          known_alone Set s h c.args.left known (counts_of known) refl alone.1 (end_below Set s h c.args.left (inl none) (counts_of known) counted));
+          (let counted : IsCountAtEnd Set s h (counts_of known) = rw (← i.tree, ← i.machine, ← i.history) alone.0 in
+          known_alone Set s h c.args.visit.now.left known (counts_of known) refl alone.1 (end_below Set s h c.args.visit.now.left (inl none) (counts_of known) counted));
     })
     c.end-then-is_ended.ensures.running c.end-then-is_ended.ensures.counted
 
@@ -269,8 +269,8 @@ returns-then-is_ended-clause-stops g t c = λ is running.
     let path = c.end-then-is_ended.new.tally.path.items in
     let empty : path ≡ [] = ap (λ p. p.items) c.end-then-is_ended.ensures.path ∙ i.ready.empty in
     let over : IsEnded s = rw (← i.machine) (where_none _ c.end-then-is_ended.result is c.end-then-is_ended.ensures.ended running) in
-    let stops = end_stops Set s h c.args.left (inl none) over path empty in
-    stops_there Set s h c.args.left path path s c.end-then-is_ended.new.node.machine h c.end-then-is_ended.new.node.trail.history refl (ap (λ n. n.machine) node ∙ i.machine) (ap (λ n. n.trail.history) node ∙ i.history) stops)
+    let stops = end_stops Set s h c.args.visit.now.left (inl none) over path empty in
+    stops_there Set s h c.args.visit.now.left path path s c.end-then-is_ended.new.node.machine h c.end-then-is_ended.new.node.trail.history refl (ap (λ n. n.machine) node ∙ i.machine) (ap (λ n. n.trail.history) node ∙ i.history) stops)
 
 pub returns-clause-passed : goal.returns-clause-passed
 returns-clause-passed g t c =
@@ -282,15 +282,15 @@ returns-clause-passed g t c =
     let past : length s.threads ≤ c.loop-thread.thread = omega (arith, c.threads-thread-end.ensures.value, ap (λ (x : State). length x.threads) home) in
     let is : c.loop-thread.is_ended ≡ false = search rules in
     let some : HasMove s = rw is at i.ended in
-    let room : 1 ≤ c.args.left = omega arith in
-    let all = added_all Set s h c.args.left c.loop-thread.thread past some room (counts_of c.loop-thread.known) i.counted in
-    let known = known_with Set s h c.args.left c.loop-thread.known room all i.kids in
+    let room : 1 ≤ c.args.visit.now.left = omega arith in
+    let all = added_all Set s h c.args.visit.now.left c.loop-thread.thread past some room (counts_of c.loop-thread.known) i.counted in
+    let known = known_with Set s h c.args.visit.now.left c.loop-thread.known room all i.kids in
     record {
       machine = i.machine;
       history = i.history;
       running = i.running;
       ready = i.ready;
-      known = c.told.ensures (g.T.SerialTree.members c.args.node.now.trail.tree) s h c.args.left known;
+      known = c.keep_nearest.ensures (g.T.SerialTree.members c.args.node.now.trail.tree) s h c.args.visit.now.left known;
     }
 
 pub loop-pick-init : goal.loop-pick-init
@@ -312,18 +312,18 @@ loop-pick-init g t c =
 pub returns-then-not-pass_many-clause-stays : goal.returns-then-not-pass_many-clause-stays
 returns-then-not-pass_many-clause-stays g t c =
     let i = c.loop-pick.invariant in
-    stays_home c.args.node.now c.loop-pick.node c.args.left c.pass_many.new.self i.tree i.machine i.history c.requires.agree (ready_still c.loop-pick.tally c.pass_many.new.self c.pass_many.ensures.path i.ready)
+    stays_home c.args.node.now c.loop-pick.node c.args.visit.now.left c.pass_many.new.self i.tree i.machine i.history c.requires.agree (ready_still c.loop-pick.tally c.pass_many.new.self c.pass_many.ensures.path i.ready)
 
 pub returns-then-is_ended-clause-stays : goal.returns-then-is_ended-clause-stays
 returns-then-is_ended-clause-stays g t c =
     let i = c.loop-thread.invariant in
     let node = c.end-then-is_ended.ensures.node in
-    stays_home c.args.node.now c.end-then-is_ended.new.node c.args.left c.end-then-is_ended.new.tally (ap (λ n. n.trail.tree) node ∙ i.tree) (ap (λ n. n.machine) node ∙ i.machine) (ap (λ n. n.trail.history) node ∙ i.history) c.requires.agree (ready_still c.loop-thread.tally c.end-then-is_ended.new.tally c.end-then-is_ended.ensures.path i.ready)
+    stays_home c.args.node.now c.end-then-is_ended.new.node c.args.visit.now.left c.end-then-is_ended.new.tally (ap (λ n. n.trail.tree) node ∙ i.tree) (ap (λ n. n.machine) node ∙ i.machine) (ap (λ n. n.trail.history) node ∙ i.history) c.requires.agree (ready_still c.loop-thread.tally c.end-then-is_ended.new.tally c.end-then-is_ended.ensures.path i.ready)
 
 pub returns-clause-stays : goal.returns-clause-stays
 returns-clause-stays g t c =
     let i = c.loop-thread.invariant in
-    stays_home c.args.node.now c.loop-thread.node c.args.left c.loop-thread.tally i.tree i.machine i.history c.requires.agree i.ready
+    stays_home c.args.node.now c.loop-thread.node c.args.visit.now.left c.loop-thread.tally i.tree i.machine i.history c.requires.agree i.ready
 
 pub returns-in_default-walked-clause-stays : goal.returns-in_default-walked-clause-stays
 returns-in_default-walked-clause-stays g t c =

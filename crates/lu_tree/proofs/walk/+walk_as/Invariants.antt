@@ -2,13 +2,13 @@ use Rattle.std.proofs.Common.{◌≡◌, ◌-◌, false}
 use Rattle.lu_witness.specs.Caches.{SameButEntries}
 use Rattle.lu_witness.specs.Witnesses.{IsMember}
 use Rattle.lu_tree.specs.Known.{AreKnownBehind, IsKid, counts_of}
-use Rattle.lu_tree.specs.Walks.{IsReady}
+use Rattle.lu_tree.specs.Walks.{IsReadyToWalk}
 use Rattle.lu_tree.proofs.Walking.{HasEnded}
 use Rattle.lu_tree.proofs.Added.{AreAdded}
 use Rattle.lu_tree.proofs.walk.+walk_as.Given as goal
 
 abbrev pub decreases-walk_as : goal.decreases-walk_as
-decreases-walk_as g l = l.left
+decreases-walk_as g l = l.visit.now.left
 
 abbrev pub invariant-loop-thread : goal.invariant-loop-thread
 invariant-loop-thread g l = record {
@@ -18,10 +18,10 @@ invariant-loop-thread g l = record {
   cache : SameButEntries l.fn.cache l.cache;
   base : g.W.Watch.base l.watch ≡ g.W.Watch.base l.fn.watch;
   running : g.W.Watch.is_stopped l.watch ≡ false;
-  ready : IsReady l.tally;
+  ready : IsReadyToWalk l.tally;
   ended : HasEnded l.fn.node.machine (record { thread = l.thread; pick = 0 }) l.is_ended;
-  counted : AreAdded (IsMember (g.T.SerialTree.members l.fn.node.trail.tree)) l.fn.node.machine l.fn.node.trail.history l.left (record { thread = l.thread; pick = 0 }) (counts_of l.known);
-  kids : AreKnownBehind (IsMember (g.T.SerialTree.members l.fn.node.trail.tree)) l.fn.node.machine l.fn.node.trail.history (l.left - 1) (IsKid l.known);
+  counted : AreAdded (IsMember (g.T.SerialTree.members l.fn.node.trail.tree)) l.fn.node.machine l.fn.node.trail.history l.visit.left (record { thread = l.thread; pick = 0 }) (counts_of l.known);
+  kids : AreKnownBehind (IsMember (g.T.SerialTree.members l.fn.node.trail.tree)) l.fn.node.machine l.fn.node.trail.history (l.visit.left - 1) (IsKid l.known);
 }
 
 abbrev pub invariant-loop-pick : goal.invariant-loop-pick
@@ -32,8 +32,8 @@ invariant-loop-pick g l = record {
   cache : SameButEntries l.fn.cache l.cache;
   base : g.W.Watch.base l.watch ≡ g.W.Watch.base l.fn.watch;
   running : g.W.Watch.is_stopped l.watch ≡ false;
-  ready : IsReady l.tally;
+  ready : IsReadyToWalk l.tally;
   ended : HasEnded l.fn.node.machine (record { thread = l.thread; pick = l.pick }) l.is_ended;
-  counted : AreAdded (IsMember (g.T.SerialTree.members l.fn.node.trail.tree)) l.fn.node.machine l.fn.node.trail.history l.left (record { thread = l.thread; pick = l.pick }) (counts_of l.known);
-  kids : AreKnownBehind (IsMember (g.T.SerialTree.members l.fn.node.trail.tree)) l.fn.node.machine l.fn.node.trail.history (l.left - 1) (IsKid l.known);
+  counted : AreAdded (IsMember (g.T.SerialTree.members l.fn.node.trail.tree)) l.fn.node.machine l.fn.node.trail.history l.visit.left (record { thread = l.thread; pick = l.pick }) (counts_of l.known);
+  kids : AreKnownBehind (IsMember (g.T.SerialTree.members l.fn.node.trail.tree)) l.fn.node.machine l.fn.node.trail.history (l.visit.left - 1) (IsKid l.known);
 }

@@ -2,7 +2,7 @@ use Rattle.std.proofs.Common.{◌≡◌, ◌<◌, ◌++◌, ◌∷◌, [], true,
 use Rattle.lu_history.specs.Histories.{Fits, IsWellFormed}
 use Rattle.lu_history.proofs.Events.{push_history}
 use Rattle.lu_judge.specs.Trails.{IsTrail, history_in}
-use Rattle.lu_judge.specs.Paths.{AreGood, history_of}
+use Rattle.lu_judge.specs.Paths.{AreGoodAsMarked, history_of}
 use Rattle.lu_judge.proofs.Plain.{alone, among, room_for}
 use Rattle.lu_judge.proofs.trail.Trail.push.Goals.{then-is_full+else-not-most_are_known, else-is_full}
 use Rattle.lu_judge.proofs.trail.Trail.push.Goals as goal
@@ -59,12 +59,12 @@ invariant_of-self-2 g c =
     elim c.if-is_full.branch [
       | then-is_full+else-not-most_are_known w ↦
           (let plain : now.is_plain ≡ false = ap (λ x. x.is_plain) w.self-inside-is ∙ c.if-self.false in
-          let good = c.add.ensures.good members (subst (AreGood members) (sym (ap (λ x. x.path) w.self-inside-is)) (w.renew.ensures.good members)) in
+          let good = c.add.ensures.good members (subst (AreGoodAsMarked members) (sym (ap (λ x. x.path) w.self-inside-is)) (w.renew.ensures.good members)) in
           rw plain (among members now.events c.add.new.self c.add.ensures.path good))
       | else-is_full w ↦
           (let plain : now.is_plain ≡ false = ap (λ x. x.is_plain) w.self-inside-is ∙ c.if-self.false in
           let same : now.tree ≡ c.self.inside.tree = ap (λ x. x.tree) w.self-inside-is in
-          let was : AreGood members c.self.inside.path = subst (λ x. AreGood (g.T.SerialTree.members x.now) c.self.inside.path) (sym same) c.self.invariant.good in
-          let good = c.add.ensures.good members (subst (AreGood members) (sym (ap (λ x. x.path) w.self-inside-is)) (c.follow.ensures.good members was)) in
+          let was : AreGoodAsMarked members c.self.inside.path = subst (λ x. AreGoodAsMarked (g.T.SerialTree.members x.now) c.self.inside.path) (sym same) c.self.invariant.good in
+          let good = c.add.ensures.good members (subst (AreGoodAsMarked members) (sym (ap (λ x. x.path) w.self-inside-is)) (c.follow.ensures.good members was)) in
           rw plain (among members now.events c.add.new.self c.add.ensures.path good))
     ]

@@ -3,7 +3,7 @@ use Rattle.std.proofs.lemmas.List.Elements.{All-get_or}
 use Rattle.std.proofs.lemmas.Option.{get_or_from_slice_get}
 use Rattle.lu_machine.specs.declared.thread.Thread.{Thread}
 use Rattle.lu_machine.specs.Layout.{StandsIn, WasIn}
-use Rattle.lu_machine.specs.States.{State, with_thread}
+use Rattle.lu_machine.specs.States.{State, with_standing}
 use Rattle.lu_machine.proofs.Layouts.{laid_moved}
 use Rattle.lu_machine.proofs.Moves.{all_at}
 use Rattle.lu_machine.proofs.Undoing.{changed_is}
@@ -22,7 +22,7 @@ returns-clause-changed g c = λ standing stands.
     (let there : slice_get c.self.inside.threads.items c.from.result ≡ Some standing = rw c.from.ensures (subst (λ (s : State). slice_get s.threads c.args.thread ≡ Some standing) (sym c.self.view_is) stands) in
     let is : c.index_mut.result.now ≡ standing = c.index_mut.ensures.value ∙ get_or_from_slice_get c.self.inside.threads.items c.from.result standing c.index_mut.result.now there in
     changed_is c.args.self.now c.args.thread c.index_mut.result.now standing c.change.new.self c.args.change _ _ c.change.result is
-    (rw c.from.ensures (ap (λ (s : State). with_thread s c.args.thread c.change.new.self) c.self.view_is))
+    (rw c.from.ensures (ap (λ (s : State). with_standing s c.args.thread c.change.new.self) c.self.view_is))
     c.change.ensures.after c.change.ensures.back c.change.ensures.register)
 
 pub returns-clause-was_in : goal.returns-clause-was_in

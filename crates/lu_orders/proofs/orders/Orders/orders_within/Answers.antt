@@ -18,8 +18,8 @@ loop-behind-preserved c =
     let b = c.loop-behind.behind in
     let i = c.loop-behind.invariant in
     record {
-      many = c.add.ensures.many ∙ i.many;
-      numbers = numbers_more caps b c.args.left c.add.new.row (omega arith) (rw (← c.from-cap.ensures) (c.add.ensures.numbers (search rules) (λ j. orders_within j (drop (length caps - b) caps)) i.numbers));
+      many = c.add_thread.ensures.many ∙ i.many;
+      numbers = numbers_more caps b c.args.left c.add_thread.new.row (omega arith) (rw (← c.from-cap.ensures) (c.add_thread.ensures.numbers (search rules) (λ j. orders_within j (drop (length caps - b) caps)) i.numbers));
     }
 
 pub returns-clause-number : goal.returns-clause-number

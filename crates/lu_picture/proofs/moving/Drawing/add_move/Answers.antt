@@ -1,11 +1,11 @@
 use Rattle.std.proofs.Common.{◌≡◌, ◌+◌, ◌++◌, max, length, rules, refl, subst, string_bytes}
-use Rattle.lu_picture.specs.Shapes.{column, number, step_words, tick}
-use Rattle.lu_picture.specs.Pictures.{Drawn, DrawsMove, marked}
+use Rattle.lu_picture.specs.Shapes.{column_width, move_number, step_words, tick}
+use Rattle.lu_picture.specs.Pictures.{Drawn, DrawsMove, marked, next_tick}
 use Rattle.lu_picture.proofs.Drawn.{limits_behind, move_more}
 use Rattle.lu_picture.proofs.moving.Drawing.add_move.Goals as goal
 
-pub column-requires : goal.column-requires
-column-requires c =
+pub column_width-requires : goal.column_width-requires
+column_width-requires c =
     limits_behind c.args.machine.now c.args.next c.step_once-event.new.self c.run_on.new.machine c.step_once-event.result c.more_local-more.result (string_bytes c.run_on.new.text) c.step_once-event.ensures c.more_local-more.ensures (rw c.new-below.ensures.bytes at c.in_ok-run_on.ensures) c.requires.limits
 
 pub returns : goal.returns
@@ -20,10 +20,10 @@ returns c =
     let d : Drawn = record { moves = here.moves; edge = here.edge; marks = here.marks.items; ticks = string_bytes here.ticks; numbers = string_bytes here.numbers; deep = here.deep } in
     let e : Drawn = record { moves = here.moves + 1; edge = here.edge + c.in_ok-wide.wide; marks = c.mark_event.new.marks.items; ticks = string_bytes c.write_tick.new.text; numbers = string_bytes c.write_number.new.text; deep = c.max-self-inside.result } in
     let said : words ≡ step_words s m = search rules in
-    let wide : c.in_ok-wide.wide ≡ column n c.run_on.new.machine event = search rules in
+    let wide : c.in_ok-wide.wide ≡ column_width n c.run_on.new.machine event = search rules in
     let marks : e.marks ≡ d.marks ++ marked d.edge event = search rules in
-    let ticks : e.ticks ≡ d.ticks ++ tick n d.moves d.edge c.threads-threads.result m words below = search rules in
-    let numbers : e.numbers ≡ d.numbers ++ number n d.moves d.edge c.threads-threads.result = search rules in
+    let ticks : e.ticks ≡ d.ticks ++ tick n c.threads-threads.result (next_tick d m) words below = search rules in
+    let numbers : e.numbers ≡ d.numbers ++ move_number n c.threads-threads.result (next_tick d m) = search rules in
     let deep : e.deep ≡ max d.deep (length words) = search rules in
     let moves : e.moves ≡ d.moves + 1 = refl in
     let edge : e.edge ≡ d.edge + c.in_ok-wide.wide = refl in

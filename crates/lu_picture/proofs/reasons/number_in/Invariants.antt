@@ -1,6 +1,0 @@
-use Rattle.std.proofs.Common.{◌≡◌}
-use Rattle.lu_picture.specs.Reasons as spec
-use Rattle.lu_picture.proofs.reasons.number_in.Given as goal
-
-abbrev pub invariant-loop-i : goal.invariant-loop-i
-invariant-loop-i l = l.found ≡ spec.number_in l.order l.t l.k l.i
