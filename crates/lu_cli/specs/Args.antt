@@ -207,7 +207,7 @@ limits_in rows =
 
 -- how many looks of its watch the search of one worker lasts before there are more
 abbrev pub head_start : ℕ
-head_start = 4194304
+head_start = 16777216
 
 -- pieces of so many moves at once; where that is not said, a head start, and then pieces of 4
 abbrev pub choice_for : ℕ → ℕ → ℕ → Option ℕ → Choice

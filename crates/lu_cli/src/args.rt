@@ -18,8 +18,8 @@ use lu_report::{Bounds, MOST_MOVES};
 use std::alloc::{AllocError, Global};
 use std::convert::AsStr;
 
-/// How many looks of its watch the search of one worker lasts before there are more: some seconds.
-const HEAD_START: u64 = 4_194_304;
+/// How many looks of its watch the search of one worker lasts before there are more: a minute.
+const HEAD_START: u64 = 16_777_216;
 
 /// What reads a number from `least` to `most`.
 fn number_parser<'a>(least: u8, most: u16) -> ValueParser<'a>
