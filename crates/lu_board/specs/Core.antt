@@ -70,6 +70,9 @@ abbrev pub after_events : List CoreEvent → CoreState → CoreState
 after_events [] m = m
 after_events (e ∷ es) m = after_events es (after_event m e)
 
+abbrev pub IsStateAfter : List CoreEvent → CoreState → CoreState → Type 0
+IsStateAfter events m end = end ≡ after_events events m
+
 -- whether each event is legal in the state after those before it
 abbrev pub all_legal : List CoreEvent → CoreState → Bool
 all_legal [] m = true

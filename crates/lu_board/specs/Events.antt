@@ -1,6 +1,6 @@
 -- What each event does to the view of its seat. The running board and the pure machine both go by
 -- these.
-use Rattle.std.specs.Prelude.{ℕ, ◌+◌, nat_lt, if◌then◌else◌, [], ◌∷◌, ◌++◌}
+use Rattle.std.specs.Prelude.{◌≡◌, ℕ, ◌+◌, nat_lt, Bool, true, if◌then◌else◌, [], ◌∷◌, ◌++◌}
 use Rattle.lu_board.specs.declared.view.View.{View}
 use Rattle.lu_board.specs.declared.view.Kind.{Kind}
 use Rattle.lu_board.specs.declared.view.Kind.TheVariants.{Clean, GivenUp}
@@ -40,3 +40,7 @@ after_claim n next v = if nat_lt next n then with_held next v else with_spent v
 -- after a look for piece i that found this best piece
 abbrev pub after_look : ℕ → ℕ → View → View
 after_look i best v = if nat_lt best i then with_skipped i best v else with_seen best v
+
+-- where the event was legal, this is the view after it
+abbrev pub IsViewAfter : View → View → Bool → Type 0
+IsViewAfter next new legal = legal ≡ true → new ≡ next

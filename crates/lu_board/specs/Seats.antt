@@ -1,5 +1,5 @@
 -- A board and its seats, as contracts see them.
-use Rattle.std.specs.Prelude.{◌≡◌, ℕ, ◌<◌, Bool, true, if◌then◌else◌, List, [], ◌∷◌, length, ◌↔◌}
+use Rattle.std.specs.Prelude.{◌≡◌, ℕ, ◌<◌, Bool, true, if◌then◌else◌, List, [], ◌∷◌, length, replicate, ◌↔◌}
 use Rattle.atomic_table.specs.Seated.{TableId}
 use Rattle.lu_board.specs.declared.view.View.{View}
 use Rattle.lu_board.specs.Views.{newcomer, IsOver, merged}
@@ -18,6 +18,10 @@ pub record SeatModel : Type 0 where
 -- a seat of a board of n pieces that has done nothing yet
 abbrev pub unused_seat : TableId → ℕ → SeatModel
 unused_seat board n = record { board = board; view = newcomer n 1 }
+
+-- so many of them
+abbrev pub unused_seats : ℕ → TableId → ℕ → List SeatModel
+unused_seats many board n = replicate many (unused_seat board n)
 
 -- a seat of this board
 abbrev pub IsSeatOf : TableId → SeatModel → Type 0

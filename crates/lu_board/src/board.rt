@@ -1,11 +1,11 @@
 //! The board that workers share, and their seats.
-ghost use Rattle.std.specs.Prelude.{◌≡◌, ◌+◌, ◌<◌, ◌≤◌, [], IsTrue, OnSome, IfSome, IfNone, IfOk, All, Contains, replicate, length, ◌↔◌};
+ghost use Rattle.std.specs.Prelude.{◌≡◌, ◌+◌, ◌<◌, ◌≤◌, [], IsTrue, OnSome, IfSome, IfNone, IfOk, All, Contains, length, ◌↔◌};
 ghost use Rattle.lu_board.specs.declared.view.TheConstants.{MAX_PIECES, MAX_WORKERS};
 ghost use Rattle.lu_board.specs.Pieces.{IsLeastPiece, AllAbove};
 ghost use Rattle.lu_board.specs.Views.{newcomer};
 ghost use Rattle.lu_board.specs.Events.{with_held, with_spent, with_found, with_settled};
 ghost use Rattle.lu_board.specs.Answer.{IsLookAnswer};
-ghost use Rattle.lu_board.specs.Seats.{unused_seat, gathered, IsSeatOf, IsDone, TellsGiven};
+ghost use Rattle.lu_board.specs.Seats.{unused_seat, unused_seats, gathered, IsSeatOf, IsDone, TellsGiven};
 ghost use Rattle.lu_board.specs.Close.{SharesOut, found_by, skipped_by, given_by};
 
 use crate::view::{
@@ -135,8 +135,7 @@ impl Board {
         requires pieces { pieces ≤ MAX_PIECES }
         requires workers { (0 < workers) × (workers ≤ MAX_WORKERS) }
         ensures board { IfOk result (λ r. (r.0.pieces ≡ pieces) × (r.0.workers ≡ workers)) }
-        ensures seats { IfOk result (λ r.
-            r.1.items ≡ replicate workers (unused_seat r.0.board pieces)) }
+        ensures seats { IfOk result (λ r. r.1.items ≡ unused_seats workers r.0.board pieces) }
     {
         let size = Size { pieces, workers };
         let (table, mut rest) = Table::of_words(alloc, &[0, pieces, pieces, workers], &size)?;
@@ -230,7 +229,8 @@ impl Board {
         requires held { Contains seat.old.view.held piece }
         ensures board { seat.new.board ≡ seat.old.board }
         ensures found { seat.new.view ≡ with_found piece seat.new.view.seen seat.old.view }
-        ensures seen { (seat.new.view.seen ≤ piece) × (seat.new.view.seen ≤ seat.old.view.seen) }
+        ensures piece { seat.new.view.seen ≤ piece }
+        ensures seen { seat.new.view.seen ≤ seat.old.view.seen }
     {
         self.table
             .shared

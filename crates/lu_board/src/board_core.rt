@@ -4,9 +4,9 @@ ghost use Rattle.lu_board.specs.declared.view.TheConstants.{MAX_PIECES, MAX_WORK
 ghost use Rattle.lu_board.specs.declared.board_core.CoreEvent.TheVariants.{Claim, Look, Lower, Settle};
 ghost use Rattle.lu_board.specs.Pieces.{is_in, without_first};
 ghost use Rattle.lu_board.specs.Views.{newcomer, IsOver};
-ghost use Rattle.lu_board.specs.Events.{with_found, with_settled, after_claim, after_look};
+ghost use Rattle.lu_board.specs.Events.{IsViewAfter, with_found, with_settled, after_claim, after_look};
 ghost use Rattle.lu_board.specs.Fit.{FitsBoard};
-ghost use Rattle.lu_board.specs.Core.{start, is_bad, after_events, all_legal, best_piece, given_in, AllDone, IsCoreFault, IsLeastBadOnceDone, StepsIfLegal};
+ghost use Rattle.lu_board.specs.Core.{IsStateAfter, start, is_bad, all_legal, best_piece, given_in, AllDone, IsCoreFault, IsLeastBadOnceDone, StepsIfLegal};
 
 use crate::view::Kind;
 use std::alloc::{AllocError, Global};
@@ -42,7 +42,7 @@ pub enum CoreFault {
 
 /// What a worker has done. Contracts see it as a view of weight 1.
 #[derive(Drop)]
-struct Worker {
+struct WorkerState {
     pieces: u64,
     spent: bool,
     seen: u64,
@@ -54,7 +54,7 @@ struct Worker {
     given: Vec<u64>,
 }
 
-impl Model for Worker {
+impl Model for WorkerState {
     ghost use Rattle.lu_board.specs.declared.view.View.{View};
     ghost use Rattle.std.specs.Prelude.{if◌then◌else◌};
 
@@ -86,11 +86,11 @@ fn take_out(pieces: &mut Vec<u64>, piece: u64) -> bool
     true
 }
 
-impl Worker {
-    fn new(alloc: Global, pieces: u64) -> Worker
+impl WorkerState {
+    fn new(alloc: Global, pieces: u64) -> WorkerState
         ensures { result ≡ newcomer pieces 1 }
     {
-        Worker {
+        WorkerState {
             pieces,
             spent: false,
             seen: pieces,
@@ -119,8 +119,7 @@ impl Worker {
     fn claim(&mut self, next: u64, pieces: u64) -> Result<bool, AllocError>
         requires { next < 2 ^ 63 }
         ensures legal { IfOk result (λ ok. ok ≡ nat_eq self.old.spent 0) }
-        ensures after { IfOk result (λ ok.
-            ok ≡ true → self.new ≡ after_claim pieces next self.old) }
+        ensures after { IfOk result (IsViewAfter (after_claim pieces next self.old) self.new) }
     {
         if self.spent {
             return Ok(false);
@@ -136,7 +135,7 @@ impl Worker {
 
     fn look(&mut self, piece: u64, best: u64) -> Result<bool, AllocError>
         ensures legal { IfOk result (λ ok. ok ≡ is_in piece self.old.held) }
-        ensures after { IfOk result (λ ok. ok ≡ true → self.new ≡ after_look piece best self.old) }
+        ensures after { IfOk result (IsViewAfter (after_look piece best self.old) self.new) }
     {
         if best < piece {
             if !take_out(&mut self.held, piece) {
@@ -155,7 +154,7 @@ impl Worker {
 
     fn lower(&mut self, piece: u64, best: u64) -> Result<bool, AllocError>
         ensures legal { IfOk result (λ ok. ok ≡ is_in piece self.old.held) }
-        ensures after { IfOk result (λ ok. ok ≡ true → self.new ≡ with_found piece best self.old) }
+        ensures after { IfOk result (IsViewAfter (with_found piece best self.old) self.new) }
     {
         if !take_out(&mut self.held, piece) {
             return Ok(false);
@@ -167,8 +166,7 @@ impl Worker {
 
     fn settle(&mut self, piece: u64, kind: Kind) -> Result<bool, AllocError>
         ensures legal { IfOk result (λ ok. ok ≡ is_in piece self.old.held) }
-        ensures after { IfOk result (λ ok.
-            ok ≡ true → self.new ≡ with_settled piece kind self.old) }
+        ensures after { IfOk result (IsViewAfter (with_settled piece kind self.old) self.new) }
     {
         if !take_out(&mut self.held, piece) {
             return Ok(false);
@@ -183,15 +181,15 @@ impl Worker {
 
 /// The state of a board, which a refused growth may leave between two events.
 #[derive(Drop)]
-struct State {
+struct BoardState {
     pieces: u64,
     bad: Vec<bool>,
     next: u64,
     best: u64,
-    workers: Vec<Worker>,
+    workers: Vec<WorkerState>,
 }
 
-impl Model for State {
+impl Model for BoardState {
     ghost use Rattle.lu_board.specs.Core.{CoreState};
 
     ghost Value = { CoreState };
@@ -208,7 +206,7 @@ impl Model for State {
 /// The state of a board after legal events.
 #[derive(Drop)]
 pub struct Core {
-    state: State,
+    state: BoardState,
 }
 
 impl Model for Core {
@@ -239,11 +237,11 @@ pub fn run(
     requires pieces { (pieces ≤ MAX_PIECES) × (length bad.now ≡ pieces) }
     requires workers { (0 < workers) × (workers ≤ MAX_WORKERS) }
     ensures legal { OnOk result (all_legal events.now (start pieces workers bad.now) ≡ true) }
-    ensures state { IfOk result (λ c. c ≡ after_events events.now (start pieces workers bad.now)) }
+    ensures state { IfOk result (IsStateAfter events.now (start pieces workers bad.now)) }
     ensures fits { IfOk result (λ c. FitsBoard pieces workers c.next c.best c.views) }
     ensures fault { IfErr result (λ e. IsCoreFault e events.now (start pieces workers bad.now)) }
 {
-    let mut state = State::new(alloc, pieces, workers, bad)?;
+    let mut state = BoardState::new(alloc, pieces, workers, bad)?;
     for (index, event) in events.iter().enumerate() {
         if !state.step(*event)? {
             return Err(CoreFault::BadEvent(index));
@@ -262,19 +260,19 @@ impl From<AllocError> for CoreFault {
     }
 }
 
-impl State {
-    fn new(alloc: Global, pieces: u64, workers: usize, bad: &[bool]) -> Result<State, AllocError>
+impl BoardState {
+    fn new(alloc: Global, pieces: u64, workers: usize, bad: &[bool]) -> Result<BoardState, AllocError>
         requires pieces { (pieces ≤ MAX_PIECES) × (length bad.now ≡ pieces) }
         requires workers { (0 < workers) × (workers ≤ MAX_WORKERS) }
         ensures { IfOk result (λ c. c ≡ start pieces workers bad.now) }
     {
         let mut list = Vec::with_capacity(alloc, workers)?;
         for _made in 0..workers {
-            list.push(Worker::new(alloc, pieces))?;
+            list.push(WorkerState::new(alloc, pieces))?;
         }
         let mut copy = Vec::new(alloc);
         copy.extend_from_slice(bad)?;
-        Ok(State {
+        Ok(BoardState {
             pieces,
             bad: copy,
             next: 0,

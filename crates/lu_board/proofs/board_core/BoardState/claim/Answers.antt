@@ -6,7 +6,7 @@ use Rattle.lu_board.specs.Events.{after_claim}
 use Rattle.lu_board.specs.Views.{blank}
 use Rattle.lu_board.proofs.Counts.{get-else}
 use Rattle.lu_board.proofs.Core.{and-true}
-use Rattle.lu_board.proofs.board_core.State.claim.Goals as goal
+use Rattle.lu_board.proofs.board_core.BoardState.claim.Goals as goal
 
 pub returns : goal.returns
 returns c =
