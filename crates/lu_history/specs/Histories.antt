@@ -21,6 +21,10 @@ Precedes h a b = (i j : ℕ) × (i < j) × IsReturnAt h i a × IsCallAt h j b
 abbrev pub IsPending : List Event → OpId → Type 0
 IsPending h a = ((i : ℕ) × IsCallAt h i a) × ((i : ℕ) → IsReturnAt h i a → ⊥)
 
+-- some operation of thread t is pending
+abbrev pub HasPending : ℕ → List Event → Type 0
+HasPending t h = (k : ℕ) × IsPending h (record { t = t; k = k })
+
 -- the number of calls of thread t
 abbrev pub calls : ℕ → List Event → ℕ
 calls t [] = 0

@@ -1,9 +1,9 @@
 //! Histories that are cheap to extend, to shorten and to ask.
 
-ghost use Rattle.std.specs.Prelude.{◌≡◌, ◌≢◌, ◌↔◌, ◌<◌, ℕ, [], ◌∷◌, ◌++◌, IsTrue, OnOk, OnErr, IfOk, IsSome, slice_get};
+ghost use Rattle.std.specs.Prelude.{◌≡◌, ◌≢◌, ◌↔◌, ◌<◌, [], ◌∷◌, ◌++◌, IsTrue, OnOk, OnErr, IfOk, IsSome, slice_get};
 ghost use Rattle.lu_machine.specs.declared.event.Event.{Event};
 ghost use Rattle.lu_history.specs.declared.operation.OpId.{OpId};
-ghost use Rattle.lu_history.specs.Histories.{Fits, IsWellFormed, IsPending, Precedes, AreBefore, calls, outcomes, pending, thread_of};
+ghost use Rattle.lu_history.specs.Histories.{Fits, HasPending, IsWellFormed, Precedes, AreBefore, calls, outcomes, pending, thread_of};
 ghost use Rattle.lu_history.specs.Parts.{LeavesOutOthers, part, is_kept, keep_pending};
 
 use crate::fault::HistoryFault;
@@ -90,7 +90,7 @@ impl History {
     pub fn pending(&self, t: u8) -> bool
         requires { t < 8 }
         ensures number { result ≡ pending t self.now }
-        ensures call { IsTrue result ↔ ((k : ℕ) × IsPending self.now (record { t = t; k = k })) }
+        ensures call { IsTrue result ↔ HasPending t self.now }
         ensures well_formed { IsWellFormed self.now }
     {
         let t = usize::from(t);

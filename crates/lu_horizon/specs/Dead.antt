@@ -57,6 +57,11 @@ DeadTable = List (List (List Bool))
 abbrev pub dead_at : List (List Bool) → ℕ → ℕ → Bool
 dead_at places place r = get_or (get_or places place []) r false
 
+-- each of these registers is not read there, and is written, or dead behind, as the places tell
+abbrev pub StayDead : List Bool → List (List Bool) → ℕ → Instr → Type 0
+StayDead dead places place instr =
+    (r : ℕ) → get_or dead r false ≡ true → dead_before (dead_at places) place instr r ≡ true
+
 -- what is said to be dead at this place of the code is not read before it is written
 abbrev pub AreDeadAt : List Instr → List (List Bool) → ℕ → Type 0
 AreDeadAt code places place =

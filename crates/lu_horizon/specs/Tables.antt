@@ -32,12 +32,16 @@ outlook_of places place = get_or places place nothing_known
 abbrev pub IsOutlookBefore : Declarations → Matrix → ℕ → ℕ → Outlook → Type 0
 IsOutlookBefore c matrix t k o = (s : State) → IsIdle c matrix t k s → HasOutlook s t o
 
+-- this is the code of the operation: none where there is no such operation
+abbrev pub IsCodeOf : Declarations → ℕ → List Instr → Type 0
+IsCodeOf c op code = (place : ℕ) → instr_at c op place ≡ slice_get code place
+
 -- call number k of thread t runs this code, and behind it there is `rest`
 pub record IsCall (c : Declarations) (matrix : Matrix) (t k : ℕ) (code : List Instr)
     (rest : Outlook) : Type 0 where
   pub call : Call
   pub called : slice_get (calls_of matrix t) k ≡ Some call
-  pub code_is : (place : ℕ) → instr_at c call.op place ≡ slice_get code place
+  pub code_is : IsCodeOf c call.op code
   pub after : IsOutlookBefore c matrix t (k + 1) rest
 
 -- the outlooks at the places of call number k of thread t

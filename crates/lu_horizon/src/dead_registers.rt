@@ -3,9 +3,9 @@
 //! A register is dead at a place of an operation where it is written before it is read again, or
 //! not read again, whichever way the operation goes on from there.
 
-ghost use Rattle.std.specs.Prelude.{◌≡◌, ◌<◌, ◌≤◌, ℕ, true, false, IfOk, get_or, length};
+ghost use Rattle.std.specs.Prelude.{◌≡◌, ◌<◌, ◌≤◌, true, false, IfOk, length};
 ghost use Rattle.lu_horizon.specs.Dead as spec;
-ghost use Rattle.lu_horizon.specs.Dead.{AreDead, AreDeadAt, IsDeadTable, is_dead};
+ghost use Rattle.lu_horizon.specs.Dead.{AreDead, AreDeadAt, IsDeadTable, StayDead, is_dead};
 
 use crate::horizon::code_of;
 use lu_component::{Component, Instr, Operand};
@@ -144,8 +144,7 @@ fn go_through(code: &[Instr], known: &mut Vec<Dead>) -> bool
 /// read before it is written.
 fn stay_dead(dead: Dead, instr: &Instr, place: usize, known: &[Dead]) -> bool
     requires { place < 64 }
-    ensures { result ≡ true → (r : ℕ) → get_or dead r false ≡ true →
-        spec.dead_before (spec.dead_at known.now) place instr.now r ≡ true }
+    ensures { result ≡ true → StayDead dead known.now place instr.now }
 {
     for register in 0..REGISTERS {
         if dead[usize::from(register)] && !dead_before(instr, place, register, known) {

@@ -1,10 +1,9 @@
 //! The table of all places.
 
-ghost use Rattle.std.specs.Prelude.{◌≡◌, ◌<◌, ◌≤◌, ℕ, IfOk, IfSome, length, slice_get};
-ghost use Rattle.lu_machine.specs.States.{instr_at};
+ghost use Rattle.std.specs.Prelude.{◌≡◌, ◌<◌, ◌≤◌, IfOk, IfSome, length};
 ghost use Rattle.lu_horizon.specs.Outlooks.{no_move};
 ghost use Rattle.lu_horizon.specs.Sure.{AreCaps, HasOutlook};
-ghost use Rattle.lu_horizon.specs.Tables.{AreOutlooks, IsThread, Serves, ServesRuns, StayOutlooks, outlook_before, outlook_of, outlook_within};
+ghost use Rattle.lu_horizon.specs.Tables.{AreOutlooks, IsCodeOf, IsThread, Serves, ServesRuns, StayOutlooks, outlook_before, outlook_of, outlook_within};
 
 use crate::certain::{before_call, certain, outlook_of};
 use crate::outlook::Outlook;
@@ -197,7 +196,7 @@ fn of_code(
 /// The code of an operation: none where there is no such operation.
 #[tactic(auto, unfolding(lu_machine::specs::States::instr_at))]
 pub(crate) fn code_of(component: &Component, op: u8) -> &[Instr]
-    ensures code { (place : ℕ) → instr_at component.now op place ≡ slice_get result.now place }
+    ensures code { IsCodeOf component.now op result.now }
     ensures few { length result.now ≤ 64 }
 {
     match component.operations().get(usize::from(op)) {

@@ -1,7 +1,7 @@
 //! What is known of the moves ahead of a thread.
 
 ghost use Rattle.std.specs.Prelude.{◌≡◌};
-ghost use Rattle.lu_horizon.specs.Outlooks.{IsWeaker, either, nothing_known, one_before};
+ghost use Rattle.lu_horizon.specs.Outlooks.{IsWeaker, either, one_before};
 
 /// What is known of the moves ahead of a thread, whatever the threads do.
 #[derive(Clone, Copy, Debug)]

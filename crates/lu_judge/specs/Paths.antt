@@ -31,6 +31,10 @@ history_at bs place = read_back place (lines bs) place
 abbrev pub history_of : Path → List Event
 history_of path = history_at path.beginnings.items path.place
 
+-- the history has this event more
+abbrev pub HasAdded : Event → Path → Path → Type 0
+HasAdded event old new = history_of new ≡ history_of old ++ event ∷ []
+
 -- each shorter beginning lies before
 abbrev pub IsBack : List Line → Type 0
 IsBack ls = (i : ℕ) (line : Line) → slice_get ls (suc i) ≡ Some line → line.0 ≤ i

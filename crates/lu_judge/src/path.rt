@@ -1,10 +1,9 @@
 //! The beginnings of histories, and a place among them.
 
-ghost use Rattle.std.specs.Prelude.{◌≡◌, ◌≢◌, ◌<◌, ◌≤◌, ◌+◌, ◌∷◌, [], ◌++◌, List, length, IfOk, IsTrue, IsFalse};
+ghost use Rattle.std.specs.Prelude.{◌≡◌, ◌≢◌, ◌<◌, ◌+◌, ◌∷◌, [], ◌++◌, List, length, IfOk, IsTrue, IsFalse};
 ghost use Rattle.lu_history.specs.declared.serial.SerialOp.{SerialOp};
 ghost use Rattle.lu_history.specs.Histories.{Fits};
-ghost use Rattle.lu_witness.specs.Witnesses.{IsMember, IsGood};
-ghost use Rattle.lu_judge.specs.Paths.{IsPath, AreGoodAsMarked, IsBlank, IsLonger, KeepsGood, NotesGood, TellsGood, history_of, history_at};
+ghost use Rattle.lu_judge.specs.Paths.{HasAdded, IsPath, AreGoodAsMarked, IsBlank, IsLonger, KeepsGood, NotesGood, TellsGood, history_of, history_at};
 
 use crate::events::Events;
 use lu_machine::Event;
@@ -58,8 +57,7 @@ impl Path {
     pub(crate) fn new(alloc: Global) -> Result<Path, AllocError>
         ensures path { IfOk result (λ path. IsPath path) }
         ensures history { IfOk result (λ path. history_of path ≡ []) }
-        ensures good { (members : List (List SerialOp)) →
-            IfOk result (λ path. AreGoodAsMarked members path) }
+        ensures good { (members : List (List SerialOp)) → IfOk result (AreGoodAsMarked members) }
     {
         let mut beginnings = Vec::with_capacity(alloc, ROOM)?;
         beginnings.push_reserved(empty());
@@ -92,7 +90,7 @@ impl Path {
         requires fits { Fits (history_of self.old) event }
         requires room { length self.old.beginnings.items < 262144 }
         ensures path { IsPath self.new }
-        ensures history { history_of self.new ≡ history_of self.old ++ event ∷ [] }
+        ensures history { HasAdded event self.old self.new }
         ensures length { length self.new.beginnings.items ≡ length self.old.beginnings.items + 1 }
         ensures good { KeepsGood self.old self.new }
     {
@@ -167,7 +165,7 @@ impl Path {
         requires path { IsPath self.old }
         requires fits { Fits (history_of self.old) event }
         ensures path { IsPath self.new }
-        ensures history { IsTrue result → history_of self.new ≡ history_of self.old ++ event ∷ [] }
+        ensures history { IsTrue result → HasAdded event self.old self.new }
         ensures same { IsFalse result → self.new ≡ self.old }
         ensures good { KeepsGood self.old self.new }
     {

@@ -4,7 +4,6 @@ ghost use Rattle.std.specs.Prelude.{◌≡◌, ◌<◌, length, IfSome};
 ghost use Rattle.lu_component.specs.Component.{IsOperand};
 ghost use Rattle.lu_machine.specs.Acts.{Acts, ActsAt, ActsOf, Alters, PassesOrTraps};
 ghost use Rattle.lu_machine.specs.Changes.{IsChange};
-ghost use Rattle.lu_machine.specs.Effects.{value_of};
 ghost use Rattle.lu_machine.specs.Layout.{IsSound};
 ghost use Rattle.lu_machine.specs.States.{value_at};
 ghost use Rattle.lu_machine.specs.Steps.{instr_picks, is_blocked, is_local};

@@ -1,8 +1,8 @@
 //! The machine.
 
-ghost use Rattle.std.specs.Prelude.{◌≡◌, ℕ, true, false, ◌+◌, ◌<◌, ◌≤◌, ◌↔◌, [], ◌∷◌, length, IsTrue, IsSome, IfSome, IfOk, slice_get, Some};
+ghost use Rattle.std.specs.Prelude.{◌≡◌, true, false, ◌+◌, ◌<◌, ◌≤◌, ◌↔◌, [], ◌∷◌, length, IsTrue, IfSome, IfOk, slice_get, Some};
 ghost use Rattle.std.specs.Option.{option_copied, option_map_or};
-ghost use Rattle.lu_test.specs.Matrix.{IsMatrix, IsOf, alone, calls_of};
+ghost use Rattle.lu_test.specs.Matrix.{IsMatrix, IsOf, calls_of};
 ghost use Rattle.lu_machine.specs.declared.thread.Activity.TheVariants.{Open};
 ghost use Rattle.lu_machine.specs.declared.thread.Frame.{Frame as AFrame};
 ghost use Rattle.lu_component.specs.Component.{IsComponent, IsRegister};
@@ -14,7 +14,7 @@ ghost use Rattle.lu_machine.specs.Layout.{IsInCode, IsSound, IsSoundNext, IsStan
 ghost use Rattle.lu_machine.specs.Events.{IsEventInRange};
 ghost use Rattle.lu_machine.specs.Ends.{HasStatus, IsFinished};
 ghost use Rattle.lu_machine.specs.Undoes.{CanTake, IsThere, LeadsBack, has_local, restored, with_shared, with_thread_back};
-ghost use Rattle.lu_machine.specs.Starts.{CanRun, IsMaking, IsStart, Makes, empty_state};
+ghost use Rattle.lu_machine.specs.Starts.{CanRun, IsMaking, IsStart, Makes, MakesAll, empty_state};
 ghost use Rattle.lu_machine.specs.Tasks.{IsAwaitable, task_at};
 
 use crate::event::{Event, Status};
@@ -123,7 +123,7 @@ impl<'a> Machine<'a> {
     /// does not end within 256 moves after its call, if there is one. Asks for a machine before any
     /// call, of one thread.
     pub(crate) fn make_all(&mut self) -> Option<u8>
-        requires { self.old ≡ empty_state self.old.component (alone (calls_of self.old.matrix 0)) }
+        requires { MakesAll self.old.component (calls_of self.old.matrix 0) 0 self.old }
         ensures { IsMaking self.old.component (calls_of self.old.matrix 0) result self.new }
     {
         for k in 0..self.matrix.calls(0) {

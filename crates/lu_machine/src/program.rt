@@ -1,8 +1,7 @@
 //! The code of a component and the calls of a matrix, laid out for a machine.
 
 ghost use Rattle.std.specs.Prelude.{◌≡◌, ◌<◌, ◌≤◌, All, length, map, IfOk};
-ghost use Rattle.lu_component.specs.Component.{IsComponent};
-ghost use Rattle.lu_test.specs.Matrix.{AreArguments, IsMatrix};
+ghost use Rattle.lu_test.specs.Matrix.{AreArguments};
 ghost use Rattle.lu_machine.specs.Steps.{choices, opened};
 ghost use Rattle.lu_machine.specs.Tasks as spec;
 

@@ -52,7 +52,7 @@ fn first_row(alloc: Global, most: u16) -> Result<Vec<u64>, AllocError>
 /// The numbers for one move more than those of `row`.
 fn next_row(alloc: Global, row: &[u64]) -> Result<Vec<u64>, AllocError>
     requires some { 0 < length row.now }
-    ensures next { (a : ℕ) → IsRow a row.now → IfOk result (λ next. IsRow (suc a) next.items) }
+    ensures next { (a : ℕ) → IsRow a row.now → IfOk result (λ r. IsRow (suc a) r.items) }
     ensures many { IfOk result (λ next. vec_len next ≡ length row.now) }
 {
     let mut next = Vec::new(alloc);
@@ -76,8 +76,7 @@ fn start(row: &mut [u64])
 impl Row {
     /// The number for `b` moves: none where the row is too short.
     fn at(&self, b: usize) -> Option<u64>
-        ensures number { (a : ℕ) → IsRow a self.now →
-            IfSome result (λ number. number ≡ capped (orders a b)) }
+        ensures number { (a : ℕ) → IsRow a self.now → IfSome result (λ n. n ≡ capped (orders a b)) }
         ensures answers { b < length self.now → IsSome result }
     {
         match self.numbers.get(b) {
@@ -170,7 +169,7 @@ impl Orders {
     /// cap. Where they are no more than 256, nor than the table is for, their number is
     /// returned; else it may be none.
     pub fn orders_within(&self, left: usize, caps: &[u16]) -> Option<u64>
-        ensures number { IfSome result (λ number. number ≡ capped (orders_within left caps.now)) }
+        ensures number { IfSome result (λ n. n ≡ capped (orders_within left caps.now)) }
         ensures answers { left ≤ 256 → CountsUpTo self.now left → IsSome result }
     {
         if left > MOST_MOVES {

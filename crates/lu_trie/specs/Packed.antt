@@ -1,5 +1,5 @@
 -- A tree in a flat list of nodes, each of which comes after its kids.
-use Rattle.std.specs.Prelude.{ℕ, ◌+◌, ◌<◌, ◌≤◌, List, [], ◌∷◌, ◌++◌, length, map, take, drop, slice_index_or}
+use Rattle.std.specs.Prelude.{◌≡◌, ℕ, ◌+◌, ◌<◌, ◌≤◌, Bool, List, [], ◌∷◌, ◌++◌, length, map, take, drop, slice_index_or}
 use Rattle.lu_history.specs.declared.serial.SerialOp.{SerialOp}
 use Rattle.lu_trie.specs.declared.packed.PackedNode.{PackedNode}
 use Rattle.lu_trie.specs.Members.{AllSerial}
@@ -16,6 +16,12 @@ links_of links node = take node.count (drop node.first links)
 -- the branches to which links lead, where the table has the members below each place
 abbrev pub resolve : List (List (List SerialOp)) → List Link → List Branch
 resolve table links = map (λ link. (link.0, slice_index_or table link.1 [])) links
+
+-- at this place are the members that come by these links, as the table had them before
+abbrev pub HoldsFrom : List (List (List SerialOp)) → Bool → List Link
+    → List (List (List SerialOp)) → ℕ → Type 0
+HoldsFrom old ends links new place =
+    slice_index_or new place [] ≡ members_from ends (resolve old links)
 
 -- each link leads to a place below n
 abbrev pub AllBelow : ℕ → List Link → Type 0

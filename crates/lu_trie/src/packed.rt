@@ -4,7 +4,7 @@ ghost use Rattle.std.specs.Prelude.{◌≡◌, ◌<◌, ◌++◌, List, [], leng
 ghost use Rattle.lu_history.specs.declared.serial.SerialOp.{SerialOp};
 ghost use Rattle.lu_trie.specs.Members.{AllSerial};
 ghost use Rattle.lu_trie.specs.Branches.{AreBranches, IsBranching, members_from};
-ghost use Rattle.lu_trie.specs.Packed.{AllBelow, members_of, resolve};
+ghost use Rattle.lu_trie.specs.Packed.{AllBelow, HoldsFrom, members_of, resolve};
 
 use crate::tree::SerialTree;
 use crate::trie::Trie;
@@ -54,8 +54,7 @@ impl<A: Allocator> Table<A> {
         requires serial { AllSerial (members_from ends (resolve self.old links.now)) }
         ensures grows { (more : List (List (List SerialOp))) × (self.new ≡ self.old ++ more) }
         ensures place { IfOk result (λ place. place < length self.new) }
-        ensures members { IfOk result (λ place. slice_index_or self.new place []
-            ≡ members_from ends (resolve self.old links.now)) }
+        ensures members { IfOk result (HoldsFrom self.old ends links.now self.new) }
     {
         let first = self.links.len();
         self.links.extend_from_slice(links)?;

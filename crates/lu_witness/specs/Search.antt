@@ -25,6 +25,10 @@ IsBeginning h p = (i : ℕ) (op : SerialOp) → slice_get p i ≡ Some op → Ca
 abbrev pub AreTaken : List SerialOp → List ℕ → Type 0
 AreTaken p taken = (t : ℕ) → get_or taken t 0 ≡ length (entries t p)
 
+-- all operations of the history that returned are taken
+abbrev pub AreAllTaken : List ℕ → List Event → Type 0
+AreAllTaken taken h = (t : ℕ) → get_or taken t 0 ≡ length (part t h)
+
 -- some member goes on from p to a witness
 abbrev pub GoesOnToWitness : (List SerialOp → Type 0) → List SerialOp → List Event → Type 0
 GoesOnToWitness Set p h = (q : List SerialOp) × Set q × IsWitness (p ++ q) h

@@ -4,11 +4,10 @@
 //! label is taken only where it is its thread's next outcome and all operations that precede it are
 //! taken.
 
-ghost use Rattle.std.specs.Prelude.{◌≡◌, ◌↔◌, ◌<◌, ◌≤◌, ℕ, IsTrue, length, get_or};
+ghost use Rattle.std.specs.Prelude.{◌↔◌, ◌<◌, ◌≤◌, ℕ, IsTrue, get_or};
 ghost use Rattle.lu_history.specs.Histories.{IsWellFormed};
-ghost use Rattle.lu_history.specs.Parts.{part};
 ghost use Rattle.lu_witness.specs.Witnesses.{IsMember, HasWitness};
-ghost use Rattle.lu_witness.specs.Search.{Finds, FindsEnd, TakesOne, TellsNext};
+ghost use Rattle.lu_witness.specs.Search.{AreAllTaken, Finds, FindsEnd, TakesOne, TellsNext};
 
 use crate::kept::Kept;
 use lu_history::{History, OpId, SerialOp};
@@ -60,7 +59,7 @@ fn ends<T: SerialTree>(tree: &T, place: T::Place, history: &Kept<'_>, taken: &[u
 /// Whether each thread's operations are all taken.
 fn all_taken(history: &Kept<'_>, taken: &[u8; 8]) -> bool
     requires { IsWellFormed history.now }
-    ensures { IsTrue result ↔ ((t : ℕ) → get_or taken.now t 0 ≡ length (part t history.now)) }
+    ensures { IsTrue result ↔ AreAllTaken taken.now history.now }
 {
     for t in 0..8 {
         if taken[usize::from(t)] != history.calls(t) {
