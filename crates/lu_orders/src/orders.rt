@@ -2,7 +2,7 @@
 
 ghost use Rattle.std.specs.Prelude.{◌≡◌, ◌+◌, ◌<◌, ◌≤◌, ◌^◌, ℕ, suc, IfOk, IfSome, IsSome, List, length, slice_set, vec_len};
 ghost use Rattle.lu_machine.specs.Sums.{capped};
-ghost use Rattle.lu_orders.specs.Orders.{AreRows, AreWithOne, IsRow, IsWithOne, CountsUpTo, all_moves, interleavings, orders, orders_within};
+ghost use Rattle.lu_orders.specs.Orders.{AreRows, AreWithOne, IsNumberOf, IsRow, IsWithOne, CountsUpTo, all_moves, interleavings, orders, orders_within};
 
 use std::alloc::{AllocError, Global};
 use std::marker::Model;
@@ -76,7 +76,7 @@ fn start(row: &mut [u64])
 impl Row {
     /// The number for `b` moves: none where the row is too short.
     fn at(&self, b: usize) -> Option<u64>
-        ensures number { (a : ℕ) → IsRow a self.now → IfSome result (λ n. n ≡ capped (orders a b)) }
+        ensures number { (a : ℕ) → IsRow a self.now → IfSome result (IsNumberOf a b) }
         ensures answers { b < length self.now → IsSome result }
     {
         match self.numbers.get(b) {

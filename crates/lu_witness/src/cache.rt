@@ -101,7 +101,8 @@ impl<'t, T: SerialTree> Cache<'t, T> {
     fn remember(&mut self, events: &[Event], found: Verdict)
         requires { IsVerdict (IsMember (T.members self.old.tree)) events.now found }
         ensures tree { self.new.tree ≡ self.old.tree }
-        ensures put { IsPut ⟦<Event as PartialEq>⟧.eq events.now self.old.kept self.new.kept found }
+        ensures entries { IsPut ⟦<Event as PartialEq>⟧.eq events.now self.old.kept
+            self.new.kept found }
     {
         let mut key = Vec::new(self.alloc);
         if key.extend_from_slice(events).is_err() {

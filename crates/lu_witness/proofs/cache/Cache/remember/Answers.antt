@@ -16,8 +16,8 @@ invariant_of-self g c =
       | inr e ↦ rw e c.self.invariant
     ]
 
-pub returns-clause-put : goal.returns-clause-put
-returns-clause-put g c =
+pub returns-clause-entries : goal.returns-clause-entries
+returns-clause-entries g c =
     let kept = ap (λ s. s.kept) c.self.view_is in
     elim (outcome c.put.result c.put.ensures.entries c.put.ensures.err) [
       | inl e ↦ inr (put_view events_eq c.self.inside.kept c.put.new.self c.args.self.now.kept c.extend_from_slice.new.self c.args.events.now c.args.found kept (search rules) e)

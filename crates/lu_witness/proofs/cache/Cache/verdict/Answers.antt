@@ -26,4 +26,4 @@ returns-in-Some-clause-entries g c =
 pub returns-in-None-clause-entries : goal.returns-in-None-clause-entries
 returns-in-None-clause-entries g c =
     let found = sym c.peek.ensures ∙ (sym c.copied.ensures ∙ c.in-None.is) in
-    looked_miss event_eq c.events-events.result.now c.args.history.now c.events-events.ensures.events c.self.inside.kept c.args.self.now.kept _ c.verdict-found.result (ap (λ s. s.kept) c.self.view_is) found c.remember.ensures.put
+    looked_miss event_eq c.events-events.result.now c.args.history.now c.events-events.ensures.events c.self.inside.kept c.args.self.now.kept _ c.verdict-found.result (ap (λ s. s.kept) c.self.view_is) found c.remember.ensures.entries
