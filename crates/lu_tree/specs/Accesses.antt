@@ -4,7 +4,8 @@ use Rattle.std.specs.Prelude.{◌≡◌, ◌≢◌, ℕ, ◌<◌, ◌==◌, ◌&
 use Rattle.std.specs.Option.{option_map}
 use Rattle.lu_component.specs.Component.{Declarations}
 use Rattle.lu_component.specs.declared.instr.Instr.{Instr}
-use Rattle.lu_component.specs.declared.instr.Instr.TheVariants.{Set, Compute, Load, Store, Cas, Lock, Unlock, Await, AwaitNot, Pick, Jump, JumpIfZero, Return}
+use Rattle.lu_component.specs.declared.instr.Operand.{Operand}
+use Rattle.lu_component.specs.declared.instr.Instr.TheVariants.{Load, Store, Cas, Lock, Unlock, Await, AwaitNot}
 use Rattle.lu_machine.specs.declared.thread.Activity.{Activity}
 use Rattle.lu_machine.specs.declared.thread.Activity.TheVariants.{Idle, Open}
 use Rattle.lu_machine.specs.declared.thread.Frame.{Frame}
@@ -24,13 +25,17 @@ of_cell writes p = record { location = location.Cell p; writes = writes }
 abbrev pub of_lock : ℕ → Access
 of_lock l = record { location = location.Lock l; writes = true }
 
--- what an instruction of the operation f accesses: nothing where its array has no such cell
+-- the access of cell i of array w by an operation f: nothing where the array has no such cell
+abbrev pub cell_access : Bool → Declarations → Frame → ℕ → Operand → Option Access
+cell_access writes c f w i = option_map (of_cell writes) (cell_of c w (value_of f i))
+
+-- what an instruction of the operation f accesses
 abbrev pub instr_access : Declarations → Frame → Instr → Option Access
-instr_access c f (Load to w i) = option_map (of_cell false) (cell_of c w (value_of f i))
-instr_access c f (Store w i v) = option_map (of_cell true) (cell_of c w (value_of f i))
-instr_access c f (Cas to w i old new) = option_map (of_cell true) (cell_of c w (value_of f i))
-instr_access c f (Await w i v) = option_map (of_cell false) (cell_of c w (value_of f i))
-instr_access c f (AwaitNot w i v) = option_map (of_cell false) (cell_of c w (value_of f i))
+instr_access c f (Load to w i) = cell_access false c f w i
+instr_access c f (Store w i v) = cell_access true c f w i
+instr_access c f (Cas to w i old new) = cell_access true c f w i
+instr_access c f (Await w i v) = cell_access false c f w i
+instr_access c f (AwaitNot w i v) = cell_access false c f w i
 instr_access c f (Lock l) = Some (of_lock l)
 instr_access c f (Unlock l) = Some (of_lock l)
 instr_access c f _ = None
@@ -59,9 +64,13 @@ conflict (Some a) None = None
 conflict (Some a) (Some b) =
     if are_one a.location b.location && (a.writes || b.writes) then Some a.location else None
 
+-- the location where the next moves of two threads conflict
+abbrev pub conflict_of : State → ℕ → ℕ → Option Location
+conflict_of s t u = conflict (next_access s t) (next_access s u)
+
 -- the next moves of two threads are independent
 abbrev pub AreIndependent : ℕ → ℕ → State → Type 0
-AreIndependent t u s = (t ≢ u) × (conflict (next_access s t) (next_access s u) ≡ None)
+AreIndependent t u s = (t ≢ u) × (conflict_of s t u ≡ None)
 
 -- s has the location
 abbrev pub HasLocation : State → Location → Type 0

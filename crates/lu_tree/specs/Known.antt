@@ -4,6 +4,7 @@ use Rattle.std.specs.Borrow.{Bor}
 use Rattle.std.specs.List.{Contains}
 use Rattle.lu_machine.specs.declared.counts.Counts.{Counts}
 use Rattle.lu_machine.specs.declared.event.Event.{Event}
+use Rattle.lu_machine.specs.Changes.{idle}
 use Rattle.lu_machine.specs.Runs.{with_event}
 use Rattle.lu_machine.specs.States.{State}
 use Rattle.lu_machine.specs.Steps.{Step, picks_of}
@@ -40,6 +41,10 @@ Commute table t u s =
     × MovesBoth t u s end e f × MovesBoth u t s other f e × AreAlike table end other
     × AreUnordered e f
 
+-- no operation of thread t is open, and k of them have ended
+abbrev pub IsIdleBehind : ℕ → ℕ → State → Type 0
+IsIdleBehind k t s = slice_get s.threads t ≡ Some (idle k)
+
 -- the events of the only moves of t and of u have no more precedence in the other order
 abbrev pub AreFree : ℕ → ℕ → State → Type 0
 AreFree t u s =
@@ -67,6 +72,10 @@ counts_of known = (out-Known known).counts
 
 abbrev pub kids_of : Known → List (ℕ × Known)
 kids_of known = (out-Known known).kids.items
+
+-- these numbers are known, and nothing behind a move
+abbrev pub TellsAlone : Counts → Known → Type 0
+TellsAlone counts known = (counts_of known ≡ counts) × (kids_of known ≡ [])
 
 abbrev pub IsKid : Known → ℕ → Known → Type 0
 IsKid known t below = Contains (kids_of known) (t, below)

@@ -1,21 +1,20 @@
 -- What the steps of the walk promise one another.
 use Rattle.std.specs.Prelude.{◌≡◌, ◌⊎◌, Bool, false, ℕ, ◌+◌, ◌≤◌, ◌++◌, List, [], Option, length, reverse, vec_capacity}
-use Rattle.lu_component.specs.Component.{Declarations}
 use Rattle.lu_test.specs.declared.schedule.Move.{Move}
-use Rattle.lu_test.specs.Matrix.{Matrix}
 use Rattle.lu_machine.specs.declared.counts.Counts.{Counts}
 use Rattle.lu_machine.specs.declared.event.Event.{Event}
 use Rattle.lu_machine.specs.States.{State}
 use Rattle.lu_machine.specs.Ends.{HasMove, IsComplete, IsStuck, IsEnded}
 use Rattle.lu_machine.specs.Order.{IsSmaller}
 use Rattle.lu_machine.specs.Runs.{Leads, with_event}
-use Rattle.lu_machine.specs.Schedules.{AreNumbers, IsEndedWithin, Reaches}
+use Rattle.lu_machine.specs.Schedules.{AreNumbers, IsEndedWithin, IsSchedule, Reaches}
 use Rattle.lu_machine.specs.Starts.{IsStart}
 use Rattle.lu_history.specs.declared.serial.SerialOp.{SerialOp}
 use Rattle.lu_witness.specs.declared.judgement.Why.{Why}
 use Rattle.lu_witness.specs.Goodness.{Any, IsGoodAt, IsWhyAt, AreGood}
 use Rattle.lu_witness.specs.Witnesses.{HasWitness, IsMember}
 use Rattle.lu_tree.specs.declared.node.Node.{Node}
+use Rattle.lu_tree.specs.declared.space.SearchSpace.{SearchSpace}
 use Rattle.lu_tree.specs.declared.tally.WalkProgress.{WalkProgress}
 use Rattle.lu_tree.specs.Reordered.{AreReordered}
 use Rattle.lu_tree.specs.Trees.{Below}
@@ -118,12 +117,21 @@ abbrev pub IsBadEnd : {T Place : Type 0} → (T → List (List SerialOp)) → No
 IsBadEnd members node why =
     IsBadAt (IsMember (members node.trail.tree)) node.machine node.trail.history why
 
+-- the history with this event at its end, or as it is where there is none
+abbrev pub IsLongerBy : Option Event → List Event → List Event → Type 0
+IsLongerBy event h new = new ≡ h ++ with_event event []
+
 -- the history before the move with this event
 abbrev pub IsTakenBack : Option Event → List Event → List Event → Type 0
-IsTakenBack event old new = (h : List Event) → old ≡ h ++ with_event event [] → new ≡ h
+IsTakenBack event old new = (h : List Event) → IsLongerBy event h old → new ≡ h
+
+-- the moves are a schedule of what is searched
+abbrev pub IsScheduleIn : SearchSpace → List Move → Type 0
+IsScheduleIn space u =
+    (s : State) → IsStart space.component.now space.matrix.now s → IsSchedule s u
 
 -- the schedule leads to the node from the start
-abbrev pub LeadsToNode : {T Place : Type 0} → Declarations → Matrix → List Move → Node T Place
-    → Type 0
-LeadsToNode c matrix u node =
-    (s : State) → IsStart c matrix s → Leads s u node.machine node.trail.history
+abbrev pub LeadsToNode : {T Place : Type 0} → SearchSpace → List Move → Node T Place → Type 0
+LeadsToNode space u node =
+    (s : State) → IsStart space.component.now space.matrix.now s
+    → Leads s u node.machine node.trail.history

@@ -1,12 +1,9 @@
 //! What a thread's next move accesses of what all threads share.
 
 ghost use Rattle.std.specs.Prelude.{◌≡◌, ◌<◌, ◌↔◌, true, IfSome, length};
-ghost use Rattle.std.specs.Option.{option_map};
 ghost use Rattle.lu_component.specs.Component.{IsOperand};
-ghost use Rattle.lu_machine.specs.Effects.{value_of};
-ghost use Rattle.lu_machine.specs.States.{cell_of};
 ghost use Rattle.lu_tree.specs.Accesses as spec;
-ghost use Rattle.lu_tree.specs.Accesses.{HasLocation, of_cell};
+ghost use Rattle.lu_tree.specs.Accesses.{HasLocation};
 ghost use Rattle.lu_tree.specs.Alike.{AreActivitiesAlike, AreFramesAlike, AreLeftAlike, AreStandingAlike};
 
 use lu_component::{Instr, Operand};
@@ -63,8 +60,8 @@ fn cell_access(
 ) -> Option<Access>
     requires array { array < length machine.now.component.arrays }
     requires index { IsOperand index }
-    ensures access { result ≡ option_map (of_cell writes)
-        (cell_of machine.now.component array (value_of frame.now index)) }
+    ensures access { result ≡
+        spec.cell_access writes machine.now.component frame.now array index }
     ensures there { IfSome result (λ access. HasLocation machine.now access.location) }
 {
     let place = machine.cell(array, frame.value(index))?;

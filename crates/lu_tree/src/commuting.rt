@@ -7,13 +7,12 @@
 //! they lead to one state; of others it is seen by making them in both orders. The states may
 //! differ in dead registers, which nothing reads any more.
 
-ghost use Rattle.std.specs.Prelude.{◌≡◌, ◌≢◌, ◌<◌, ◌↔◌, ℕ, false, true, IfNone, IfSome, Some, slice_get};
-ghost use Rattle.lu_machine.specs.Changes.{idle};
+ghost use Rattle.std.specs.Prelude.{◌≡◌, ◌≢◌, ◌<◌, ◌↔◌, ℕ, false, true, IfNone, IfSome, Some};
 ghost use Rattle.lu_machine.specs.States.{State as AState};
 ghost use Rattle.lu_machine.specs.Steps.{picks_of};
 ghost use Rattle.lu_machine.specs.Undoes.{CanTake, restored};
-ghost use Rattle.lu_tree.specs.Accesses.{HasLocation, conflict, next_access};
-ghost use Rattle.lu_tree.specs.Known.{AreFree, AreFrom, Commute, HaveSameEvents, IsKnownBy, MadeBoth, MoveNotBoth, Moves, taken_back};
+ghost use Rattle.lu_tree.specs.Accesses.{HasLocation, conflict_of};
+ghost use Rattle.lu_tree.specs.Known.{AreFree, AreFrom, Commute, HaveSameEvents, IsIdleBehind, IsKnownBy, MadeBoth, MoveNotBoth, Moves, taken_back};
 ghost use Rattle.lu_tree.specs.Reordered.{AreUnordered};
 
 use crate::access::{Location, are_left_alike, conflict, left_at, next_access};
@@ -105,7 +104,7 @@ fn have_same_events(there: TwoUndos, here: TwoUndos) -> bool
 /// Whether no operation of the thread is open.
 #[inline(always)]
 fn is_idle(machine: &Machine<'_>, thread: u8) -> bool
-    ensures { (k : ℕ) → slice_get machine.now.threads thread ≡ Some (idle k) → result ≡ true }
+    ensures { (k : ℕ) → IsIdleBehind k thread machine.now → result ≡ true }
 {
     match machine.standing(thread) {
         None => false,
@@ -159,8 +158,7 @@ fn commute_at<const RUNS_LOCAL: bool>(
     requires first { picks_of machine.old first ≡ 1 }
     requires second { picks_of machine.old second ≡ 1 }
     requires differ { first ≢ second }
-    requires at { conflict (next_access machine.old first) (next_access machine.old second)
-        ≡ Some location }
+    requires at { conflict_of machine.old first second ≡ Some location }
     requires there { HasLocation machine.old location }
     ensures machine { machine.new ≡ machine.old }
     ensures commute { result ≡ true ↔ Commute dead.now first second machine.old }

@@ -2,8 +2,7 @@
 
 ghost use Rattle.std.specs.Prelude.{◌≡◌, ◌≢◌, ◌<◌, ◌+◌, [], ◌∷◌, ◌++◌, IfOk, IfSome, IsTrue, length, take, drop};
 ghost use Rattle.lu_witness.specs.Witnesses.{IsMember, entries};
-ghost use Rattle.lu_tree.specs.declared.tail_question.Judging.TheVariants.{EveryOrder};
-ghost use Rattle.lu_tree.specs.Tails.{AreMembersBehind, HasEveryOrder, IsJudged};
+ghost use Rattle.lu_tree.specs.Tails.{HasEveryOrder, HasOrders, IsLedTo, IsPlaceBehind};
 
 use lu_history::SerialOp;
 use lu_judge::Trail;
@@ -39,8 +38,7 @@ fn without(alloc: Global, ops: &[SerialOp], i: usize) -> Result<Vec<SerialOp>, A
 fn kid_with<T: SerialTree>(tree: &T, place: T::Place, label: SerialOp) -> Option<T::Place>
     requires { T.is_place tree.now place }
     ensures place { IfSome result (T.is_place tree.now) }
-    ensures behind { IfSome result (λ kid.
-        AreMembersBehind (label ∷ []) (T.below tree.now kid) (T.below tree.now place)) }
+    ensures behind { IfSome result (IsLedTo (T.below tree.now) (label ∷ []) place) }
 {
     for i in 0..tree.kid_count(place) {
         let (op, kid) = tree.kid(place, i);
@@ -54,8 +52,7 @@ fn kid_with<T: SerialTree>(tree: &T, place: T::Place, label: SerialOp) -> Option
 /// The place to which the operations lead from the root.
 fn place_behind<T: SerialTree>(tree: &T, ops: &[SerialOp]) -> Option<T::Place>
     ensures place { IfSome result (T.is_place tree.now) }
-    ensures behind { IfSome result (λ place.
-        AreMembersBehind ops.now (T.below tree.now place) (T.members tree.now)) }
+    ensures behind { IfSome result (IsPlaceBehind (T.below tree.now) ops.now (T.members tree.now)) }
 {
     let mut place = tree.root();
     for op in ops {
@@ -108,8 +105,7 @@ pub(crate) fn has_orders<'t, T: SerialTree>(
     trail: &mut Trail<'t, T>,
 ) -> bool
     ensures same { trail.new ≡ trail.old }
-    ensures judged { IsTrue result →
-        IsJudged (IsMember (T.members tree.now)) (EveryOrder first) trail.old.history }
+    ensures judged { IsTrue result → HasOrders (T.members tree.now) first trail.old.history }
 {
     let Ok(ops) = trail.returned(alloc) else {
         return false;

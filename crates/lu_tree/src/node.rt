@@ -1,20 +1,17 @@
 //! A node of the tree of schedules.
 
-ghost use Rattle.std.specs.Prelude.{◌≡◌, ◌++◌, false, [], IfOk, IsTrue, List};
+ghost use Rattle.std.specs.Prelude.{◌≡◌, false, [], IfOk, IsTrue, List};
 ghost use Rattle.lu_component.specs.Component.{IsComponent};
 ghost use Rattle.lu_test.specs.Matrix.{IsMatrix};
 ghost use Rattle.lu_machine.specs.declared.event.Event.{Event};
-ghost use Rattle.lu_machine.specs.Ends.{IsComplete, IsEnded};
-ghost use Rattle.lu_machine.specs.Runs.{with_event};
+ghost use Rattle.lu_machine.specs.Ends.{IsEnded};
 ghost use Rattle.lu_machine.specs.Starts.{CanRun, IsStart};
 ghost use Rattle.lu_machine.specs.States.{progress};
 ghost use Rattle.lu_machine.specs.Steps.{IsFeasible, Step};
 ghost use Rattle.lu_machine.specs.Undoes.{CanTake, restored};
 ghost use Rattle.lu_history.specs.Standing.{Agree};
 ghost use Rattle.lu_witness.specs.Caches.{SameButEntries};
-ghost use Rattle.lu_witness.specs.Goodness.{IsGoodAt};
-ghost use Rattle.lu_witness.specs.Witnesses.{HasWitness, IsMember};
-ghost use Rattle.lu_tree.specs.Walks.{IsBadEnd, IsGoodComplete, IsGoodEnd, IsTakenBack};
+ghost use Rattle.lu_tree.specs.Walks.{IsBadEnd, IsGoodComplete, IsGoodEnd, IsLongerBy, IsTakenBack};
 
 use lu_component::Component;
 use lu_judge::Trail;
@@ -58,8 +55,7 @@ impl<'a, 't, T: SerialTree> Node<'a, 't, T> {
         requires one { RUNS_LOCAL ≡ false → self.old.machine.component.local ≡ 0 }
         requires agree { Agree (progress self.old.machine) self.old.trail.history }
         ensures step { Step self.old.machine next self.new.machine result.event }
-        ensures history { self.new.trail.history ≡
-            self.old.trail.history ++ with_event result.event [] }
+        ensures history { IsLongerBy result.event self.old.trail.history self.new.trail.history }
         ensures tree { self.new.trail.tree ≡ self.old.trail.tree }
         ensures agree { Agree (progress self.new.machine) self.new.trail.history }
         ensures back { restored result self.new.machine ≡ self.old.machine }
@@ -80,8 +76,7 @@ impl<'a, 't, T: SerialTree> Node<'a, 't, T> {
     #[inline(always)]
     pub(crate) fn leave(&mut self, undo: Undo)
         requires fits { CanTake self.old.machine undo }
-        requires made { (h : List Event) ×
-            (self.old.trail.history ≡ h ++ with_event undo.event []) }
+        requires made { (h : List Event) × IsLongerBy undo.event h self.old.trail.history }
         ensures machine { self.new.machine ≡ restored undo self.old.machine }
         ensures history { IsTakenBack undo.event self.old.trail.history self.new.trail.history }
         ensures tree { self.new.trail.tree ≡ self.old.trail.tree }

@@ -1,14 +1,12 @@
 //! The frontier of the tree of schedules.
 
-ghost use Rattle.std.specs.Prelude.{◌≡◌, ◌+◌, ◌≤◌, ◌++◌, [], ◌∷◌, List, ℕ, min, length, drop, IfOk, IfNone, IfSome, OnOk};
+ghost use Rattle.std.specs.Prelude.{◌≡◌, ◌+◌, ◌≤◌, ◌++◌, [], ◌∷◌, List, min, length, drop, IfOk, IfNone, IfSome, OnOk};
 ghost use Rattle.lu_component.specs.Component.{IsComponent};
 ghost use Rattle.lu_test.specs.declared.schedule.Move.{Move as AMove};
 ghost use Rattle.lu_test.specs.Matrix.{IsMatrix};
 ghost use Rattle.lu_test.specs.Schedule.{IsMove};
-ghost use Rattle.lu_machine.specs.States.{State};
-ghost use Rattle.lu_machine.specs.Schedules.{AreAll, IsCover, IsSchedule, Lists};
-ghost use Rattle.lu_machine.specs.Starts.{CanRun, IsStart};
-ghost use Rattle.lu_tree.specs.Trees.{IsFrontier, IsPieceAt};
+ghost use Rattle.lu_machine.specs.Schedules.{IsSchedule, Lists};
+ghost use Rattle.lu_machine.specs.Starts.{CanRun};
 ghost use Rattle.lu_tree.specs.Pieces.{AreDeeper, GrowByKids, HasKids, IsCoverFrom, IsFrontierFrom, TooMany};
 
 use lu_component::Component;
@@ -94,8 +92,7 @@ fn go_deeper(
     requires leads { (u : List AMove) → Lists pieces.now u → IsSchedule machine.old u }
     ensures home { OnOk result (machine.new ≡ machine.old) }
     ensures few { IfOk result (λ deeper. IfSome deeper (λ next. length next.items ≤ 65536)) }
-    ensures some { IfOk result (λ d.
-        IfSome d (λ next. AreDeeper machine.old pieces.now next.items)) }
+    ensures some { IfOk result (λ d. IfSome d (λ p. AreDeeper machine.old pieces.now p.items)) }
     ensures none { IfOk result (λ deeper. IfNone deeper (TooMany machine.old pieces.now)) }
 {
     let mut next = Vec::new(alloc);
@@ -128,8 +125,7 @@ pub fn frontier(
     requires shallow { depth ≤ 8 }
     ensures frontier { IfOk result (λ p.
         IsFrontierFrom component.now matrix.now bound depth p.items) }
-    ensures cover { IfOk result (λ pieces.
-        IsCoverFrom component.now matrix.now bound pieces.items) }
+    ensures cover { IfOk result (λ p. IsCoverFrom component.now matrix.now bound p.items) }
     ensures limits { IsComponent component.now × IsMatrix matrix.now }
 {
     let mut machine = Machine::start(alloc, component, matrix)?;

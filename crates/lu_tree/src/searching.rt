@@ -13,7 +13,7 @@ ghost use Rattle.lu_witness.specs.Caches.{SameButEntries};
 ghost use Rattle.lu_tree.specs.Tables.{AreRunTables};
 ghost use Rattle.lu_tree.specs.Trees.{CanSearch, FindsBelow, MayFind, is_abandoned};
 ghost use Rattle.lu_tree.specs.Walked.{IsBadFound};
-ghost use Rattle.lu_tree.specs.Walks.{LeadsToNode};
+ghost use Rattle.lu_tree.specs.Walks.{IsScheduleIn, LeadsToNode};
 
 use crate::ahead::Ahead;
 use crate::found::Found;
@@ -39,10 +39,8 @@ fn node_after<'a, 't, T: SerialTree>(
     schedule: &[Move],
 ) -> Result<Node<'a, 't, T>, AllocError>
     requires of { CanRun space.now.component.now space.now.matrix.now }
-    requires leads { (s : State) → IsStart space.now.component.now space.now.matrix.now s →
-        IsSchedule s schedule.now }
-    ensures leads { IfOk result
-        (LeadsToNode space.now.component.now space.now.matrix.now schedule.now) }
+    requires leads { IsScheduleIn space.now schedule.now }
+    ensures leads { IfOk result (LeadsToNode space.now schedule.now) }
     ensures agree { IfOk result (λ node. Agree (progress node.machine) node.trail.history) }
     ensures tree { IfOk result (λ node. node.trail.tree ≡ tree.entry.now) }
     ensures limits { IsComponent space.now.component.now × IsMatrix space.now.matrix.now }

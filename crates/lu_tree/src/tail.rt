@@ -1,14 +1,13 @@
 //! The last moves of a run, in any order.
 
-ghost use Rattle.std.specs.Prelude.{◌≡◌, ◌≢◌, ◌++◌, ◌+◌, ◌<◌, ◌≤◌, ◌^◌, ℕ, false, IfSome, IsTrue, length, get_or, slice_set};
+ghost use Rattle.std.specs.Prelude.{◌≡◌, ◌≢◌, ◌+◌, ◌<◌, ◌≤◌, ◌^◌, false, IfSome, IsTrue, length, get_or, slice_set};
 ghost use Rattle.lu_machine.specs.States.{progress};
 ghost use Rattle.lu_history.specs.Standing.{Agree};
 ghost use Rattle.lu_witness.specs.Caches.{SameButEntries};
-ghost use Rattle.lu_witness.specs.Witnesses.{HasWitness, IsMember};
 ghost use Rattle.lu_horizon.specs.Tables.{Serves};
 ghost use Rattle.lu_machine.specs.Ends.{IsFinished};
 ghost use Rattle.lu_tree.specs.declared.tail_question.Judging.TheVariants.{OneVerdict};
-ghost use Rattle.lu_tree.specs.Tails.{StartsBehind, IsCutBelow, IsGoodTailOf, IsJudgedEnd, IsRestOf, MayMove, RespectsSharing, sharing_of};
+ghost use Rattle.lu_tree.specs.Tails.{StartsBehind, IsCutBelow, IsGoodTailOf, IsJudgedEnd, IsRestOf, IsRestOfNone, MayMove, RespectsSharing, sharing_of};
 ghost use Rattle.lu_tree.specs.Walks.{AreBelowNode};
 
 use crate::ahead::Ahead;
@@ -120,8 +119,7 @@ fn no_moves<'t, T: SerialTree>(
     requires tree { cache.old.tree ≡ node.old.trail.tree }
     ensures cache { SameButEntries cache.old cache.new }
     ensures same { node.new ≡ node.old }
-    ensures rest { IfSome result (λ ns. (t left : ℕ) → length node.old.machine.threads ≤ t
-        → IsRestOf T.members node.old question t left ns.items) }
+    ensures rest { IfSome result (λ ns. IsRestOfNone T.members node.old question ns.items) }
 {
     if !is_judged_end(alloc, cache, question.judging, node) {
         return None;
@@ -178,8 +176,7 @@ fn question_at<'t, T: SerialTree>(
     node: &mut Node<'_, 't, T>,
 ) -> Option<TailQuestion>
     ensures same { node.new ≡ node.old }
-    ensures behind { IfSome result (λ question.
-        StartsBehind question.judging node.old.trail.history) }
+    ensures behind { IfSome result (λ q. StartsBehind q.judging node.old.trail.history) }
 {
     if let Some(sharers) = ahead.tables.horizon.last_sharers(&node.machine, left) {
         return Some(TailQuestion {

@@ -7,8 +7,7 @@ ghost use Rattle.lu_horizon.specs.Dead.{IsDeadTable};
 ghost use Rattle.lu_horizon.specs.Tables.{Serves};
 ghost use Rattle.lu_history.specs.Standing.{Agree};
 ghost use Rattle.lu_witness.specs.Caches.{SameButEntries};
-ghost use Rattle.lu_witness.specs.Witnesses.{IsMember};
-ghost use Rattle.lu_tree.specs.Known.{AreHints, counts_of, kids_of};
+ghost use Rattle.lu_tree.specs.Known.{AreHints, TellsAlone};
 ghost use Rattle.lu_tree.specs.Walked.{IsCountedAlone, Passed, StaysBelow};
 ghost use Rattle.lu_tree.specs.Walks.{IsReadyToWalk, Stopped};
 
@@ -110,7 +109,7 @@ fn pass<W: Watch>(
     ensures base { W.base watch.new ≡ W.base watch.old }
     ensures path { tally.new.path ≡ tally.old.path }
     ensures running { IfSome result (λ _. W.is_stopped watch.new ≡ false) }
-    ensures alone { IfSome result (λ known. (counts_of known ≡ counts) × (kids_of known ≡ [])) }
+    ensures alone { IfSome result (TellsAlone counts) }
     ensures stopped { IfNone result (W.is_stopped watch.new ≡ true) }
 {
     if tally.pass_many(counts, watch) {
