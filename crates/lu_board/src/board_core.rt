@@ -261,7 +261,12 @@ impl From<AllocError> for CoreFault {
 }
 
 impl BoardState {
-    fn new(alloc: Global, pieces: u64, workers: usize, bad: &[bool]) -> Result<BoardState, AllocError>
+    fn new(
+        alloc: Global,
+        pieces: u64,
+        workers: usize,
+        bad: &[bool],
+    ) -> Result<BoardState, AllocError>
         requires pieces { (pieces ≤ MAX_PIECES) × (length bad.now ≡ pieces) }
         requires workers { (0 < workers) × (workers ≤ MAX_WORKERS) }
         ensures { IfOk result (λ c. c ≡ start pieces workers bad.now) }

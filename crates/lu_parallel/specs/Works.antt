@@ -130,6 +130,13 @@ Tallied job members v old w new =
     (λ s. IsTally (IsMember members) s job.space.bound job.pieces.now v old.counts old.found.items
     → IsTally (IsMember members) s job.space.bound job.pieces.now w new.counts new.found.items)
 
+-- what was found in the piece is on the tally
+abbrev pub IsNoted : {T G E : Type 0} → Job T G → ℕ → Result Found E → View → Worker → View
+    → Worker → Type 0
+IsNoted job piece found v old w new =
+    (members : List (List SerialOp)) → IsFoundIn job members piece found
+    → Tallied job members v old w new
+
 -- piece i, which was held, is put into another set
 pub record PutsAway (i : ℕ) (old new : View) : Type 0 where
   pub pieces : new.pieces ≡ old.pieces

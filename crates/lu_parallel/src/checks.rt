@@ -85,8 +85,7 @@ fn search_ahead<R, G, T: SerialTree>(
     requires of { CanRun check.now.space.component.now check.now.space.matrix.now }
     requires few { check.now.space.bound ≤ most_moves }
     ensures found { MayFindAgainst check.now.space (T.members tree.now) result }
-    ensures limits { IfOk result (λ found. IfSome found (λ _.
-        IsMatrix check.now.space.matrix.now)) }
+    ensures limits { IfOk result (λ f. IfSome f (λ _. IsMatrix check.now.space.matrix.now)) }
 {
     let looks = check.options.head_start();
     if looks == 0 {

@@ -7,7 +7,7 @@ ghost use Rattle.lu_witness.specs.Caches.{SameButEntries};
 ghost use Rattle.lu_report.specs.Limits.{most_moves};
 ghost use Rattle.lu_tree.specs.Trees.{is_abandoned};
 ghost use Rattle.lu_parallel.specs.Watches.{held_piece};
-ghost use Rattle.lu_parallel.specs.Works.{ArePieces, AreTablesFor, IsFoundIn, IsFresh, IsLent, IsWorkFor, IsWorkOn, PutsAway, Tallied};
+ghost use Rattle.lu_parallel.specs.Works.{ArePieces, AreTablesFor, IsNoted, IsFresh, IsLent, IsWorkFor, IsWorkOn, PutsAway, Tallied};
 
 use crate::gate::Gate;
 use crate::seat_watch::SeatWatch;
@@ -79,8 +79,7 @@ impl Worker {
         ensures pieces { result.view.pieces ≡ seat.view.pieces }
         ensures past { result.view.past ≡ seat.view.past }
         ensures held { result.view.held ≡ [] }
-        ensures holds { (members : List (List SerialOp)) → IsFoundIn job.now members piece found →
-            Tallied job.now members seat.view self.old result.view self.new }
+        ensures holds { IsNoted job.now piece found seat.view self.old result.view self.new }
     {
         let mut seat = seat;
         match found {

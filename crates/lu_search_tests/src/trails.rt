@@ -18,7 +18,8 @@ use std::test::Fail;
 /// Adds a call of the thread and its return.
 fn push_operation<T: SerialTree>(trail: &mut Trail<'_, T>, t: u8, number: u32)
     requires thread { t < 8 }
-    requires none { (calls t trail.old.history ≡ 0) × (length (outcomes t trail.old.history) ≡ 0) }
+    requires called { calls t trail.old.history ≡ 0 }
+    requires returned { length (outcomes t trail.old.history) ≡ 0 }
     ensures tree { trail.new.tree ≡ trail.old.tree }
     ensures history { trail.new.history ≡
         trail.old.history ++ Call t 0 ∷ Return t 0 (Ret number) ∷ [] }

@@ -292,8 +292,7 @@ fn sixteen_workers_meet(rt: HostRuntime) -> Result<(), Fail> {
 fn four_moves(rt: &impl AllocGlobal, case: &Fixture) -> Result<Vec<Schedule>, Fail>
     requires { CanRun case.now.component case.now.matrix }
     ensures few { IfOk result (λ pieces. vec_len pieces ≤ 65536) }
-    ensures pieces { IfOk result (λ pieces.
-        ArePieces case.now.component case.now.matrix 40 pieces.items) }
+    ensures pieces { IfOk result (λ p. ArePieces case.now.component case.now.matrix 40 p.items) }
 {
     Ok(frontier(rt.alloc(), &case.component, &case.matrix, 40, 4)?)
 }

@@ -9,6 +9,6 @@ pub push-requires-2 : goal.push-requires-2
 push-requires-2 g c =
     let t = c.args.t in
     let h = c.args.trail.now.history in
-    let called : calls t c.push.new.self.history ≡ 1 = omega (arith, ap (calls t) c.push.ensures.history, calls-append t h (Call t 0 ∷ []), calls_call t 0 [], c.requires.none.0) in
-    let returned : length (outcomes t c.push.new.self.history) ≡ 0 = omega (arith, ap (λ x. length (outcomes t x)) c.push.ensures.history, ap length (outcomes-append t h (Call t 0 ∷ []) ∙ append-nil (outcomes t h)), c.requires.none.1) in
+    let called : calls t c.push.new.self.history ≡ 1 = omega (arith, ap (calls t) c.push.ensures.history, calls-append t h (Call t 0 ∷ []), calls_call t 0 [], c.requires.called) in
+    let returned : length (outcomes t c.push.new.self.history) ≡ 0 = omega (arith, ap (λ x. length (outcomes t x)) c.push.ensures.history, ap length (outcomes-append t h (Call t 0 ∷ []) ∙ append-nil (outcomes t h)), c.requires.returned) in
     (c.requires.thread, omega arith, called, returned)
