@@ -23,7 +23,7 @@ use Rattle.lu_lang.specs.declared.fault.LangFaultKind.{LangFaultKind}
 use Rattle.lu_lang.specs.declared.fault.LangFaultKind.TheVariants.{Byte, Missing, Form, Number, Limit, Flow, Name}
 use Rattle.lu_component.specs.Component.{operation_place, AreDistinct, EndsWell, IsArray, IsComponent, IsInstr, IsOp}
 use Rattle.lu_lang.specs.Draft.{Begun, Drafted, nothing, named}
-use Rattle.lu_lang.specs.Grammar.{value, is_value, array_place, lock_place, component_line, local_line, array_line, lock_line, op_line, declaration, statement, sooner, place_fault, with_label, with_statement, placed, instr_line, labelled, are_there, is_last, ends_well, target, resolved, op_of, end_line, inside, by_state, closed, by_words, line_of, label_in}
+use Rattle.lu_lang.specs.Grammar.{value, is_value, array_place, lock_place, component_line, local_line, array_line, lock_line, op_line, declaration, statement, sooner, place_fault, with_label, with_statement, placed, instr_line, labelled, are_there, is_last, ends_well, target, resolved, op_of, end_line, by_label, by_name, closed, by_words, line_of, label_in}
 use Rattle.lu_lang.specs.Words.{keyword_in}
 use Rattle.lu_lang.specs.Sound.{IsStatement, IsBegun, IsSoundDraft}
 use Rattle.lu_text.proofs.Says.{NoneHold, said}
@@ -395,12 +395,12 @@ labelled_keeps : (d : Drafted) → IsSoundDraft d → (b : Begun) → IsBegun (l
 labelled_keeps d h b begun label [] = refused Form
 labelled_keeps d h b begun label (word ∷ words) = instr_keeps d h b begun (Some label) word words
 
-inside_keeps : (d : Drafted) → IsSoundDraft d → d.begun ≡ None → (b : Begun) → IsBegun (length d.arrays) (length d.locks) d.operations b → (label : Option Word) (word : Word) (words : List Word) → Keeps (inside d b label word words)
+inside_keeps : (d : Drafted) → IsSoundDraft d → d.begun ≡ None → (b : Begun) → IsBegun (length d.arrays) (length d.locks) d.operations b → (label : Option Word) (word : Word) (words : List Word) → Keeps (by_label d b label word words)
 inside_keeps d h none b begun (Some label) word words = labelled_keeps d h b begun label words
 inside_keeps d h none b begun None word words =
     keeps_if (bytes_eq word (codes "end")) (end_line d b words) (instr_line d b None word words) (end_keeps d h none b begun words) (instr_keeps d h b begun None word words)
 
-state_keeps : (d : Drafted) → IsSoundDraft d → d.begun ≡ None → (name : Option Word) (begun : Option Begun) → IfSome begun (IsBegun (length d.arrays) (length d.locks) d.operations) → (word : Word) (words : List Word) → Keeps (by_state d name begun word words)
+state_keeps : (d : Drafted) → IsSoundDraft d → d.begun ≡ None → (name : Option Word) (begun : Option Begun) → IfSome begun (IsBegun (length d.arrays) (length d.locks) d.operations) → (word : Word) (words : List Word) → Keeps (by_name d name begun word words)
 state_keeps d h none None begun is word words =
     keeps_if (bytes_eq word (codes "component")) (component_line d (exactly_one words)) (Err Missing) (component_keeps d h (exactly_one words)) (refused Missing)
 state_keeps d h none (Some name) None is word words = declaration_keeps d h none word words

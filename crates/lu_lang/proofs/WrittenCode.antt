@@ -22,7 +22,7 @@ use Rattle.lu_component.specs.Component.{Declarations, IsComponent, IsInstr, End
 use Rattle.lu_lang.specs.Draft.{Begun, Drafted}
 use Rattle.lu_lang.specs.Words.{keyword_word}
 use Rattle.lu_lang.specs.Grammar.{component_grammar, label_place, label_used, is_there, are_there, is_last, ends_well, target, resolved, op_of}
-use Rattle.lu_lang.specs.ComponentText.{label_word, leads_to, instr_words, instr_line_text, code_text, line_of_words}
+use Rattle.lu_lang.specs.ComponentText.{label_word, leads_to, instr_words, code_line, code_text, line_of_words}
 use Rattle.lu_component.proofs.Named.{is_found, find_first, find_later}
 use Rattle.lu_lang.proofs.WrittenWords.{is_keyword_word, is_name_word, label_name, labels_apart, label_text_is, label_again}
 use Rattle.lu_lang.proofs.WrittenLines.{so_far, said_local, line_reads}
@@ -111,21 +111,21 @@ labelled_reads c operations name args n statements labels i said is room fresh =
 record IsRead (c : Declarations) (operations : List Op) (name : Word) (args : ℕ) (code done rest : List Instr) (labels : Labels) : Type 0 where
   to : Labels
   are : AreLabels code (length code) to
-  reads : Reads component_grammar (in_op c operations (begun name args (map statement_of done) labels)) (flat_map (instr_line_text c code) (enumerate_from (length done) rest)) (in_op c operations (begun name args (map statement_of code) to))
+  reads : Reads component_grammar (in_op c operations (begun name args (map statement_of done) labels)) (flat_map (code_line c code) (enumerate_from (length done) rest)) (in_op c operations (begun name args (map statement_of code) to))
 
 more_read : (c : Declarations) (operations : List Op) (name : Word) (args : ℕ) (code done rest : List Instr) (i : Instr) (labels next : Labels)
-    → Reads component_grammar (in_op c operations (begun name args (map statement_of done) labels)) (instr_line_text c code (length done, i)) (in_op c operations (begun name args (map statement_of done ++ statement_of i ∷ []) next))
+    → Reads component_grammar (in_op c operations (begun name args (map statement_of done) labels)) (code_line c code (length done, i)) (in_op c operations (begun name args (map statement_of done ++ statement_of i ∷ []) next))
     → IsRead c operations name args code (done ++ i ∷ []) rest next → IsRead c operations name args code done (i ∷ rest) labels
 more_read c operations name args code done rest i labels next line is =
     let before : Drafted = in_op c operations (begun name args (map statement_of done) labels) in
     let between : Drafted = in_op c operations (begun name args (map statement_of done ++ statement_of i ∷ []) next) in
     let after : Drafted = in_op c operations (begun name args (map statement_of code) is.to) in
-    let rest_text : List ℕ = flat_map (instr_line_text c code) (enumerate_from (length done + 1) rest) in
+    let rest_text : List ℕ = flat_map (code_line c code) (enumerate_from (length done + 1) rest) in
     let others : Reads component_grammar between rest_text after = rw (map_push statement_of done i, length_push done i) at is.reads in
     record {
       to = is.to;
       are = is.are;
-      reads = reads_on component_grammar before between after (instr_line_text c code (length done, i)) rest_text line others;
+      reads = reads_on component_grammar before between after (code_line c code (length done, i)) rest_text line others;
     }
 
 code_read : (c : Declarations) (operations : List Op) (name : Word) (args : ℕ) (code done rest : List Instr) (labels : Labels) → code ≡ done ++ rest → AllByRecursion (IsSaid c operations) rest → length code ≤ 64 → AreLabels code (length done) labels

@@ -5,6 +5,7 @@ use Rattle.std.specs.List.{flat_map, join_with_byte, list_any, enumerate_from}
 use Rattle.std.specs.Option.{unwrap_or, option_map}
 use Rattle.std.specs.Fmt.{decimal}
 use Rattle.lu_text.specs.Words.{Word}
+use Rattle.lu_component.specs.declared.instr.Operand.{Operand}
 use Rattle.lu_component.specs.declared.instr.Instr.{Instr}
 use Rattle.lu_component.specs.declared.instr.Instr.TheVariants.{Set, Compute, Load, Store, Cas, Lock, Unlock, Await, AwaitNot, Pick, Jump, JumpIfZero, Return}
 use Rattle.lu_lang.specs.declared.keyword.Keyword.TheVariants as keyword
@@ -28,23 +29,24 @@ label_word place = codes "L" ++ decimal place
 
 -- ---- instructions
 
+-- a keyword, a cell of an array, and a value
+abbrev pub cell_words : Declarations → Word → ℕ → Operand → Operand → List Word
+cell_words c word array i v = word ∷ array_word c array ∷ operand_word i ∷ operand_word v ∷ []
+
 abbrev pub instr_words : Declarations → Instr → List Word
 instr_words c (Set to v) = keyword_word keyword.Set ∷ register_word to ∷ operand_word v ∷ []
 instr_words c (Compute by to a b) =
     keyword_word (keyword.Compute by) ∷ register_word to ∷ operand_word a ∷ operand_word b ∷ []
 instr_words c (Load to array i) =
     keyword_word keyword.Load ∷ register_word to ∷ array_word c array ∷ operand_word i ∷ []
-instr_words c (Store array i v) =
-    keyword_word keyword.Store ∷ array_word c array ∷ operand_word i ∷ operand_word v ∷ []
+instr_words c (Store array i v) = cell_words c (keyword_word keyword.Store) array i v
 instr_words c (Cas to array i old new) =
     keyword_word keyword.Cas ∷ register_word to ∷ array_word c array
     ∷ operand_word i ∷ operand_word old ∷ operand_word new ∷ []
 instr_words c (Lock lock) = keyword_word keyword.Lock ∷ lock_word c lock ∷ []
 instr_words c (Unlock lock) = keyword_word keyword.Unlock ∷ lock_word c lock ∷ []
-instr_words c (Await array i v) =
-    keyword_word keyword.Await ∷ array_word c array ∷ operand_word i ∷ operand_word v ∷ []
-instr_words c (AwaitNot array i v) =
-    keyword_word keyword.AwaitNot ∷ array_word c array ∷ operand_word i ∷ operand_word v ∷ []
+instr_words c (Await array i v) = cell_words c (keyword_word keyword.Await) array i v
+instr_words c (AwaitNot array i v) = cell_words c (keyword_word keyword.AwaitNot) array i v
 instr_words c (Pick to count) = keyword_word keyword.Pick ∷ register_word to ∷ decimal count ∷ []
 instr_words c (Jump target) = keyword_word keyword.Jump ∷ label_word target ∷ []
 instr_words c (JumpIfZero v target) =
@@ -54,6 +56,10 @@ instr_words c (Return v) = keyword_word keyword.Return ∷ operand_word v ∷ []
 -- one space between its words
 abbrev pub spelled : Declarations → Instr → List ℕ
 spelled c i = join_with_byte 32 (instr_words c i)
+
+-- the same of a keyword, a cell and a value
+abbrev pub cell_text : Declarations → Word → ℕ → Operand → Operand → List ℕ
+cell_text c word array i v = join_with_byte 32 (cell_words c word array i v)
 
 abbrev pub leads_to : ℕ → Instr → Bool
 leads_to place (Jump target) = target == place
@@ -83,11 +89,11 @@ abbrev pub lock_text : List ℕ → List ℕ
 lock_text name = line_of_words (codes "lock" ∷ name ∷ [])
 
 -- the line of the instruction at a place, behind its label
-abbrev pub instr_line_text : Declarations → List Instr → ℕ × Instr → List ℕ
-instr_line_text c code (place, instr) = label_text code place ++ line_of_words (instr_words c instr)
+abbrev pub code_line : Declarations → List Instr → ℕ × Instr → List ℕ
+code_line c code (place, instr) = label_text code place ++ line_of_words (instr_words c instr)
 
 abbrev pub code_text : Declarations → List Instr → List ℕ
-code_text c code = flat_map (instr_line_text c code) (enumerate_from 0 code)
+code_text c code = flat_map (code_line c code) (enumerate_from 0 code)
 
 abbrev pub op_text : Declarations → Op → List ℕ
 op_text c op =

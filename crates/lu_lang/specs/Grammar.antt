@@ -309,9 +309,13 @@ abbrev pub is_there : List Label → Option Word → Bool
 is_there labels None = true
 is_there labels (Some label) = is_some (label_place labels label)
 
+-- each label that these statements use is there
+abbrev pub all_there : List Label → List Statement → Bool
+all_there labels statements = list_all (λ s. is_there labels (label_used s)) statements
+
 -- each label that is used is there
 abbrev pub are_there : Begun → Bool
-are_there b = list_all (λ s. is_there b.labels (label_used s)) b.statements
+are_there b = all_there b.labels b.statements
 
 abbrev pub is_last : Option Statement → Bool
 is_last (Some (Jump label)) = true
@@ -344,22 +348,32 @@ end_line d b (word ∷ words) = Err Form
 
 -- ---- lines
 
-abbrev pub inside : Drafted → Begun → Option Word → Word → List Word → Result Drafted LangFaultKind
-inside d b None word words =
+-- by the label, or none, that the first word is
+abbrev pub by_label : Drafted → Begun → Option Word → Word → List Word
+    → Result Drafted LangFaultKind
+by_label d b None word words =
     if bytes_eq word (codes "end") then end_line d b words else instr_line d b None word words
-inside d b (Some label) word words = labelled d b label words
+by_label d b (Some label) word words = labelled d b label words
+
+-- a line inside an operation
+abbrev pub inside : Drafted → Begun → Word → List Word → Result Drafted LangFaultKind
+inside d b word words = by_label d b (label_in word) word words
 
 abbrev pub component_first : Drafted → Word → List Word → Result Drafted LangFaultKind
 component_first d word words =
     if bytes_eq word (codes "component") then component_line d (exactly_one words) else Err Missing
 
+-- by the component's name and the open operation, where they are there
+abbrev pub by_name : Drafted → Option Word → Option Begun → Word → List Word
+    → Result Drafted LangFaultKind
+by_name d None begun word words = component_first d word words
+by_name d (Some name) None word words = declaration d word words
+by_name d (Some name) (Some b) word words = inside d b word words
+
 -- The first line with words is the `component` line. Then come declarations, and in an open
 -- operation instructions.
-abbrev pub by_state : Drafted → Option Word → Option Begun → Word → List Word
-    → Result Drafted LangFaultKind
-by_state d None begun word words = component_first d word words
-by_state d (Some name) None word words = declaration d word words
-by_state d (Some name) (Some b) word words = inside d b (label_in word) word words
+abbrev pub by_state : Drafted → Option Begun → Word → List Word → Result Drafted LangFaultKind
+by_state d begun word words = by_name d d.name begun word words
 
 -- what is declared, without the open operation
 abbrev pub closed : Drafted → Drafted
@@ -367,7 +381,7 @@ closed d = record d { begun = None }
 
 abbrev pub by_words : Drafted → List Word → Result Drafted LangFaultKind
 by_words d [] = Ok d
-by_words d (word ∷ words) = by_state (closed d) d.name d.begun word words
+by_words d (word ∷ words) = by_state (closed d) d.begun word words
 
 unfoldable pub line_of : Drafted → List ℕ → Result Drafted LangFaultKind
 line_of d line = if list_all is_allowed line then by_words d (words_of line) else Err Byte

@@ -5,6 +5,7 @@ pub mod Grammar
 pub mod Sound
 pub mod ComponentText
 pub mod Laws
+pub mod Results
 pub mod Parts
 pub mod Going
 pub mod Mend

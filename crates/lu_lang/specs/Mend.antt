@@ -94,14 +94,17 @@ closes word next =
 
 -- ---- a line by its words, and by those of the next line
 
+-- an operation of no known name is begun, with this word's label, where it is one, and `return 0`
+abbrev pub with_missing_op : Drafted → Word → Drafted
+with_missing_op d word =
+    with_return d (op_labelled (op_begun (codes "_")) (label_in word))
+
 -- A line that begins no declaration, before a line of an operation: `op` was meant, or, where it is
 -- an instruction, an `op` line is missing before it.
 abbrev pub mend_other : Drafted → Word → List Word → List Word → Drafted
 mend_other d word words next =
     if not (begins_code next) || bytes_eq word (codes "end") then d
-    else (if is_code word
-    then with_return d (op_labelled (op_begun (codes "_")) (label_in word))
-    else with_op d (first_name words))
+    else (if is_code word then with_missing_op d word else with_op d (first_name words))
 
 -- outside an operation a declaration declares its name
 abbrev pub mend_outside : Drafted → Word → List Word → List Word → Drafted
@@ -132,26 +135,37 @@ abbrev pub mend_behind : Drafted → Begun → List Word → List Word → Draft
 mend_behind d b [] next = with_return d b
 mend_behind d b (word ∷ words) next = mend_inside d b (bare word) words next
 
--- with a label, or without one
-abbrev pub mend_labelled : Drafted → Begun → Option Word → Word → List Word → List Word → Drafted
-mend_labelled d b None word words next = mend_inside d b word words next
-mend_labelled d b (Some label) word words next =
+-- by the label, or none, that the first word is
+abbrev pub mend_by_label : Drafted → Begun → Option Word → Word → List Word → List Word → Drafted
+mend_by_label d b None word words next = mend_inside d b word words next
+mend_by_label d b (Some label) word words next =
     mend_behind d (op_labelled b (Some label)) words next
 
--- where there is no `component` line yet, the component is called `_`
-abbrev pub mend_by_state : Drafted → Option Word → Option Begun → Word → List Word → List Word
-    → Drafted
-mend_by_state d None begun word words next =
-    mend_outside (record d { name = Some (codes "_") }) word words next
-mend_by_state d (Some name) None word words next = mend_outside d word words next
-mend_by_state d (Some name) (Some b) word words next =
-    mend_labelled d b (label_in word) word words next
+-- with a label, or without one
+abbrev pub mend_labelled : Drafted → Begun → Word → List Word → List Word → Drafted
+mend_labelled d b word words next = mend_by_label d b (label_in word) word words next
 
-abbrev pub mend_words : Drafted → List Word → List Word → Drafted
-mend_words d [] next = d
-mend_words d (word ∷ words) next =
-    mend_by_state (closed d) d.name d.begun (bare word) words next
+-- where there is no `component` line yet, the component is called `_`
+abbrev pub mend_first : Drafted → Word → List Word → List Word → Drafted
+mend_first d word words next =
+    mend_outside (record d { name = Some (codes "_") }) word words next
+
+-- by the component's name and the open operation, where they are there
+abbrev pub mend_by_name : Drafted → Option Word → Option Begun → Word → List Word → List Word
+    → Drafted
+mend_by_name d None begun word words next = mend_first d word words next
+mend_by_name d (Some name) None word words next = mend_outside d word words next
+mend_by_name d (Some name) (Some b) word words next = mend_labelled d b word words next
+
+-- a line of this first word and these others
+abbrev pub mend_by_state : Drafted → Word → List Word → List Word → Drafted
+mend_by_state d word words next = mend_by_name (closed d) d.name d.begun word words next
+
+-- a line of these words, before these lines
+abbrev pub mend_words : Drafted → List Word → List (List ℕ) → Drafted
+mend_words d [] lines = d
+mend_words d (word ∷ words) lines = mend_by_state d (bare word) words (next_words lines)
 
 -- what a line with a fault leaves, before these lines
 abbrev pub mend : Drafted → List ℕ → List (List ℕ) → Drafted
-mend d line lines = mend_words d (words_of line) (next_words lines)
+mend d line lines = mend_words d (words_of line) lines

@@ -3,7 +3,7 @@
 use Rattle.std.specs.Prelude.{ℕ, ◌-◌, Bool, false, List, [], ◌∷◌, length, map, filter, Option, Some, None, codes, ◌||◌, not, if◌then◌else◌}
 use Rattle.std.specs.List.{enumerate_from}
 use Rattle.std.specs.Str.{bytes_eq}
-use Rattle.lu_text.specs.Lines.{words_of}
+use Rattle.lu_text.specs.Lines.{text_if, texts, words_of}
 use Rattle.lu_text.specs.Words.{Word}
 use Rattle.lu_lang.specs.declared.fault.LangFaultKind.{LangFaultKind}
 use Rattle.lu_lang.specs.declared.fault.LangFaultKind.TheVariants.{Name}
@@ -11,6 +11,7 @@ use Rattle.lu_lang.specs.declared.draft.Statement.{Statement}
 use Rattle.lu_lang.specs.Draft.{Begun, Drafted}
 use Rattle.lu_lang.specs.Grammar.{is_there, label_in, label_used}
 use Rattle.lu_lang.specs.Mend.{bare, closes, next_words}
+use denote.Ref.{Bor}
 
 -- this label is the one that is used
 abbrev pub is_used : Option Word → Option Word → Bool
@@ -47,22 +48,29 @@ closing_backs b label [] next = []
 closing_backs b label (word ∷ words) next =
     if closes (bare word) next then jump_backs b label else []
 
+-- the same of a label and words in memory
+abbrev pub closing_backs_of : Begun → Option (Bor Word) → List (Bor Word) → List (Bor Word)
+    → List ℕ
+closing_backs_of b label words next =
+    closing_backs b (text_if label) (texts words) (texts next)
+
 -- a line of these words, of which the first is this label, or none is
 abbrev pub labelled_backs : Begun → Option Word → Word → List Word → List Word → List ℕ
 labelled_backs b None word words next = closing_backs b None (word ∷ words) next
 labelled_backs b (Some label) word words next = closing_backs b (Some label) words next
 
-abbrev pub closed_backs : Option Begun → List Word → List Word → List ℕ
-closed_backs None words next = []
-closed_backs (Some b) [] next = []
-closed_backs (Some b) (word ∷ words) next =
-    labelled_backs b (label_in (bare word)) word words next
+-- a line of these words, before these lines, where an operation is open
+abbrev pub closed_backs : Option Begun → List Word → List (List ℕ) → List ℕ
+closed_backs None words lines = []
+closed_backs (Some b) [] lines = []
+closed_backs (Some b) (word ∷ words) lines =
+    labelled_backs b (label_in (bare word)) word words (next_words lines)
 
 -- By how many lines with words each jump to a label that is not there stands before a line, before
 -- these lines, that has a fault of another kind and closes the operation nevertheless.
 abbrev pub left_backs : Drafted → List ℕ → List (List ℕ) → LangFaultKind → List ℕ
 left_backs d line lines Name = []
-left_backs d line lines kind = closed_backs d.begun (words_of line) (next_words lines)
+left_backs d line lines kind = closed_backs d.begun (words_of line) lines
 
 -- the same before the end of the text, where an operation is open
 abbrev pub open_backs : Option Begun → List ℕ

@@ -2,19 +2,21 @@
 
 ghost use Rattle.std.specs.Prelude.{◌≡◌, IfOk, Some, is_some};
 ghost use Rattle.std.specs.Option.{option_copied, option_map};
-ghost use Rattle.lu_text.specs.Lines.{text_if, texts};
+ghost use Rattle.lu_text.specs.Lines.{texts};
 ghost use Rattle.lu_text.specs.Words.{exactly_one};
 ghost use Rattle.lu_lang.specs.Grammar as spec;
-ghost use Rattle.lu_lang.specs.Grammar.{component_grammar, fault_in, inside, instr_line};
+ghost use Rattle.lu_lang.specs.Grammar.{component_grammar, fault_in};
 ghost use Rattle.lu_lang.specs.Going.{HadMemory, going_on, kind_if};
+ghost use Rattle.lu_lang.specs.Parts.{code_read};
+ghost use Rattle.lu_lang.specs.Results.{Builds, KeepsAndTells, TellsFault};
 
 use crate::draft::{Draft, OpenOp};
 use crate::fault::{LangFault, LangFaultKind};
 use crate::instructions::statement;
 use crate::keyword::keyword_in;
 use crate::reading::{
-    are_there, array_in, ends_well, label_in, local_in, lock_in, name_in, op_in, place_fault,
-    read_line, sooner,
+    CodeLine, are_there, array_in, ends_well, label_in, local_in, lock_in, name_in, op_in,
+    place_fault, read_line, sooner,
 };
 use lu_text::{Fault, are_allowed, words_of};
 use std::alloc::{AllocError, Global};
@@ -38,8 +40,7 @@ fn declaration_fault(
     word: &[u8],
     words: &[&[u8]],
 ) -> Result<Option<LangFaultKind>, AllocError>
-    ensures { IfOk result (λ fault.
-        fault ≡ fault_in (spec.declaration draft.now word.now (texts words.now))) }
+    ensures { TellsFault result (spec.declaration draft.now word.now (texts words.now)) }
 {
     if word == b"word".as_slice() {
         kind_in(array_in(alloc, 1, draft, words))
@@ -59,35 +60,36 @@ fn instr_fault(
     alloc: Global,
     draft: &Draft,
     op: &OpenOp,
-    label: Option<&[u8]>,
-    word: &[u8],
-    rest: &[&[u8]],
+    code: CodeLine<'_>,
 ) -> Result<Option<LangFaultKind>, AllocError>
-    ensures { IfOk result (λ fault. fault ≡ fault_in
-        (instr_line draft.now op.now (text_if label.entry) word.now (texts rest.now))) }
+    ensures { TellsFault result (code_read draft.now op.now code.entry) }
 {
-    let fault = place_fault(op, label);
-    match statement(alloc, draft, keyword_in(word), rest)? {
+    let fault = place_fault(op, code.label);
+    match statement(alloc, draft, keyword_in(code.word), code.rest)? {
         Err(kind) => Ok(Some(sooner(fault, kind))),
         Ok(_) => Ok(fault),
     }
 }
 
 /// What is wrong with an instruction behind a label.
-fn labelled_fault(
+fn labelled_fault<'a>(
     alloc: Global,
     draft: &Draft,
     op: &OpenOp,
-    label: &[u8],
-    words: &[&[u8]],
+    label: &'a [u8],
+    words: &'a [&'a [u8]],
 ) -> Result<Option<LangFaultKind>, AllocError>
-    ensures { IfOk result (λ fault.
-        fault ≡ fault_in (spec.labelled draft.now op.now label.now (texts words.now))) }
+    ensures { TellsFault result (spec.labelled draft.now op.now label.now (texts words.now)) }
 {
-    match words.split_first() {
-        None => Ok(Some(LangFaultKind::Form)),
-        Some((word, rest)) => instr_fault(alloc, draft, op, Some(label), word, rest),
-    }
+    let Some((word, rest)) = words.split_first() else {
+        return Ok(Some(LangFaultKind::Form));
+    };
+    let code = CodeLine {
+        label: Some(label),
+        word,
+        rest,
+    };
+    instr_fault(alloc, draft, op, code)
 }
 
 /// What is wrong with `end`.
@@ -107,15 +109,14 @@ fn closing_fault(draft: &Draft, op: &OpenOp, words: &[&[u8]]) -> Option<LangFaul
 }
 
 /// What is wrong with a line inside an operation.
-fn inside_fault(
+fn inside_fault<'a>(
     alloc: Global,
     draft: &Draft,
     op: &OpenOp,
-    word: &[u8],
-    words: &[&[u8]],
+    word: &'a [u8],
+    words: &'a [&'a [u8]],
 ) -> Result<Option<LangFaultKind>, AllocError>
-    ensures { IfOk result (λ fault. fault ≡ fault_in
-        (inside draft.now op.now (spec.label_in word.now) word.now (texts words.now))) }
+    ensures { TellsFault result (spec.inside draft.now op.now word.now (texts words.now)) }
 {
     if let Some(label) = label_in(word) {
         return labelled_fault(alloc, draft, op, label, words);
@@ -123,7 +124,12 @@ fn inside_fault(
     if word == b"end".as_slice() {
         Ok(closing_fault(draft, op, words))
     } else {
-        instr_fault(alloc, draft, op, None, word, words)
+        let code = CodeLine {
+            label: None,
+            word,
+            rest: words,
+        };
+        instr_fault(alloc, draft, op, code)
     }
 }
 
@@ -135,8 +141,7 @@ fn first_fault(
     word: &[u8],
     words: &[&[u8]],
 ) -> Result<Option<LangFaultKind>, AllocError>
-    ensures { IfOk result (λ fault.
-        fault ≡ fault_in (spec.component_first draft.now word.now (texts words.now))) }
+    ensures { TellsFault result (spec.component_first draft.now word.now (texts words.now)) }
 {
     if word == b"component".as_slice() {
         kind_in(name_in(alloc, 1, words))
@@ -153,8 +158,7 @@ fn state_fault(
     word: &[u8],
     words: &[&[u8]],
 ) -> Result<Option<LangFaultKind>, AllocError>
-    ensures { IfOk result (λ fault. fault ≡ fault_in
-        (spec.by_state draft.now draft.now.name begun.now word.now (texts words.now))) }
+    ensures { TellsFault result (spec.by_state draft.now begun.now word.now (texts words.now)) }
 {
     if draft.name.is_none() {
         return first_fault(alloc, draft, word, words);
@@ -171,8 +175,7 @@ fn words_fault(
     mut draft: Draft,
     words: &[&[u8]],
 ) -> Result<(Draft, Option<LangFaultKind>), AllocError>
-    ensures { IfOk result (λ r. (r.0 ≡ draft) ×
-        (r.1 ≡ fault_in (spec.by_words draft (texts words.now)))) }
+    ensures { KeepsAndTells draft result (spec.by_words draft (texts words.now)) }
 {
     match words.split_first() {
         None => Ok((draft, None)),
@@ -192,8 +195,7 @@ fn line_fault(
     draft: Draft,
     text: &[u8],
 ) -> Result<(Draft, Option<LangFaultKind>), AllocError>
-    ensures { IfOk result (λ r. (r.0 ≡ draft) ×
-        (r.1 ≡ fault_in (spec.line_of draft text.now))) }
+    ensures { KeepsAndTells draft result (spec.line_of draft text.now) }
 {
     if !are_allowed(text) {
         return Ok((draft, Some(LangFaultKind::Byte)));
@@ -214,7 +216,7 @@ pub fn line_or_fault(
     draft: Draft,
     text: &[u8],
 ) -> Result<(Draft, Option<LangFaultKind>), AllocError>
-    ensures { IfOk result (λ r. r ≡ going_on draft (component_grammar.line draft text.now)) }
+    ensures { Builds result (going_on draft (component_grammar.line draft text.now)) }
 {
     let (draft, fault) = line_fault(alloc, draft, text)?;
     match fault {

@@ -1,11 +1,12 @@
 //! Reading of instructions.
 
-ghost use Rattle.std.specs.Prelude.{◌≡◌, IfOk, Some};
+ghost use Rattle.std.specs.Prelude.{◌≡◌, Some};
 ghost use Rattle.std.specs.List.{position};
 ghost use Rattle.std.specs.Str.{bytes_eq};
 ghost use Rattle.lu_text.specs.Lines.{texts};
 ghost use Rattle.lu_text.specs.Words.{exactly_one, exactly_two, exactly_three, exactly_five};
 ghost use Rattle.lu_lang.specs.Grammar as spec;
+ghost use Rattle.lu_lang.specs.Results.{Builds};
 
 use crate::draft::{Draft, Statement};
 use crate::fault::LangFaultKind;
@@ -199,7 +200,7 @@ fn pick_line(words: &[&[u8]]) -> Result<Statement, LangFaultKind>
 
 /// `jump LABEL`
 fn jump_line(alloc: Global, words: &[&[u8]]) -> Result<Result<Statement, LangFaultKind>, AllocError>
-    ensures { IfOk result (λ own. own ≡ spec.jump_line (exactly_one (texts words.now))) }
+    ensures { Builds result (spec.jump_line (exactly_one (texts words.now))) }
 {
     let Some(label) = exactly_one(words) else {
         return Ok(Err(LangFaultKind::Form));
@@ -218,7 +219,7 @@ fn jump_if_zero_line(
     alloc: Global,
     words: &[&[u8]],
 ) -> Result<Result<Statement, LangFaultKind>, AllocError>
-    ensures { IfOk result (λ own. own ≡ spec.jump_if_zero_line (exactly_two (texts words.now))) }
+    ensures { Builds result (spec.jump_if_zero_line (exactly_two (texts words.now))) }
 {
     let Some((value, label)) = exactly_two(words) else {
         return Ok(Err(LangFaultKind::Form));
@@ -300,7 +301,7 @@ pub fn statement(
     keyword: Option<Keyword>,
     words: &[&[u8]],
 ) -> Result<Result<Statement, LangFaultKind>, AllocError>
-    ensures { IfOk result (λ own. own ≡ spec.statement draft.now keyword (texts words.now)) }
+    ensures { Builds result (spec.statement draft.now keyword (texts words.now)) }
 {
     let Some(keyword) = keyword else {
         return Ok(Err(LangFaultKind::Form));

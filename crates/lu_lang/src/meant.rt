@@ -1,12 +1,13 @@
 //! Lines as their writer meant them: a declaration with a fault was to declare a name, and the
 //! lines behind it may use that name.
 
-ghost use Rattle.std.specs.Prelude.{◌≡◌, ◌≤◌, ◌<◌, ◌++◌, IfOk, length, nat_le, option_and_then, slice_get};
+ghost use Rattle.std.specs.Prelude.{◌≡◌, ◌≤◌, ◌<◌, ◌++◌, length, nat_le, option_and_then, slice_get};
 ghost use Rattle.std.specs.Option.{option_map, unwrap_or};
 ghost use Rattle.lu_text.specs.Lines.{text_if, texts};
 ghost use Rattle.lu_lang.specs.Going.{going_on};
 ghost use Rattle.lu_lang.specs.Meant as spec;
 ghost use Rattle.lu_lang.specs.Meant.{faulty_grammar, mend_faulty};
+ghost use Rattle.lu_lang.specs.Results.{Builds, BuildsLine, HasItems};
 ghost use Rattle.lu_lang.specs.declared.meant.Family.TheVariants.{Operation};
 
 use crate::draft::{Draft, OpenOp};
@@ -207,7 +208,7 @@ fn name_of_line(operation: usize, words: &[&[u8]]) -> Option<(Family, usize)>
 ///
 /// There is no memory for the words.
 pub fn with_spaced_words(mut text: Vec<u8>, words: &[&[u8]]) -> Result<Vec<u8>, AllocError>
-    ensures { IfOk result (λ next. next.items ≡ text.items ++ spec.spaced (texts words.now)) }
+    ensures { HasItems result (text.items ++ spec.spaced (texts words.now)) }
 {
     for word in words {
         text.extend_from_slice(word)?;
@@ -224,8 +225,7 @@ fn line_with(
     other: &[u8],
 ) -> Result<Vec<u8>, AllocError>
     requires { place < length words.now }
-    ensures { IfOk result (λ line.
-        line.items ≡ spec.line_with (texts words.now) place other.now) }
+    ensures { HasItems result (spec.line_with (texts words.now) place other.now) }
 {
     let mut text = with_spaced_words(Vec::new(alloc), &words[..place])?;
     text.extend_from_slice(other)?;
@@ -242,8 +242,7 @@ fn renamed(
     family: Family,
     place: usize,
 ) -> Result<Option<Vec<u8>>, AllocError>
-    ensures { IfOk result (λ line. option_map (λ l. l.items) line ≡
-        spec.renamed_at draft.now (texts words.now) (family, place)) }
+    ensures { BuildsLine result (spec.renamed_at draft.now (texts words.now) (family, place)) }
 {
     let Some(word) = words.get(place) else {
         return Ok(None);
@@ -262,8 +261,7 @@ fn renamed_words(
     draft: &FaultyDraft,
     words: &[&[u8]],
 ) -> Result<Option<Vec<u8>>, AllocError>
-    ensures { IfOk result (λ line.
-        option_map (λ l. l.items) line ≡ spec.renamed_words draft.now (texts words.now)) }
+    ensures { BuildsLine result (spec.renamed_words draft.now (texts words.now)) }
 {
     if draft.draft.begun.is_none() {
         return Ok(None);
@@ -285,8 +283,7 @@ pub fn meant_line(
     draft: &FaultyDraft,
     text: &[u8],
 ) -> Result<Option<Vec<u8>>, AllocError>
-    ensures { IfOk result (λ line.
-        option_map (λ l. l.items) line ≡ spec.meant_line draft.now text.now) }
+    ensures { BuildsLine result (spec.meant_line draft.now text.now) }
 {
     if draft.meant.is_empty() {
         return Ok(None);
@@ -320,7 +317,7 @@ pub fn read_or_fault(
     draft: FaultyDraft,
     text: &[u8],
 ) -> Result<(FaultyDraft, Option<LangFaultKind>), AllocError>
-    ensures { IfOk result (λ r. r ≡ going_on draft (faulty_grammar.line draft text.now)) }
+    ensures { Builds result (going_on draft (faulty_grammar.line draft text.now)) }
 {
     let line = meant_line(alloc, &draft, text)?;
     let FaultyDraft { draft, meant } = draft;
@@ -342,8 +339,7 @@ fn with_name(
     family: Family,
     word: &[u8],
 ) -> Result<Vec<MeantName>, AllocError>
-    ensures { IfOk result (λ next.
-        next.items ≡ spec.with_name draft.now meant.items family word.now) }
+    ensures { HasItems result (spec.with_name draft.now meant.items family word.now) }
 {
     if is_declared(draft, family, word) || has_most_meant(&meant) {
         return Ok(meant);
@@ -373,8 +369,7 @@ fn with_declared(
     family: Option<Family>,
     words: &[&[u8]],
 ) -> Result<Vec<MeantName>, AllocError>
-    ensures { IfOk result (λ next.
-        next.items ≡ spec.with_declared draft.now meant.items family (texts words.now)) }
+    ensures { HasItems result (spec.with_declared draft.now meant.items family (texts words.now)) }
 {
     match (family, words.split_first()) {
         (Some(family), Some((name, _))) => with_name(alloc, draft, meant, family, bare(name)),
@@ -389,8 +384,7 @@ fn with_label_name(
     meant: Vec<MeantName>,
     label: &[u8],
 ) -> Result<Vec<MeantName>, AllocError>
-    ensures { IfOk result (λ next.
-        next.items ≡ spec.with_label_name draft.now meant.items label.now) }
+    ensures { HasItems result (spec.with_label_name draft.now meant.items label.now) }
 {
     if draft.begun.is_some() {
         let family = Family::Label(draft.operations.len());
@@ -407,8 +401,7 @@ fn with_behind(
     meant: Vec<MeantName>,
     words: &[&[u8]],
 ) -> Result<Vec<MeantName>, AllocError>
-    ensures { IfOk result (λ next.
-        next.items ≡ spec.with_behind draft.now meant.items (texts words.now)) }
+    ensures { HasItems result (spec.with_behind draft.now meant.items (texts words.now)) }
 {
     match words.split_first() {
         None => Ok(meant),
@@ -426,8 +419,7 @@ fn with_names(
     meant: Vec<MeantName>,
     words: &[&[u8]],
 ) -> Result<Vec<MeantName>, AllocError>
-    ensures { IfOk result (λ next.
-        next.items ≡ spec.with_names draft.now meant.items (texts words.now)) }
+    ensures { HasItems result (spec.with_names draft.now meant.items (texts words.now)) }
 {
     match words.split_first() {
         None => Ok(meant),
@@ -458,8 +450,7 @@ fn with_open(
     draft: &Draft,
     meant: Vec<MeantName>,
 ) -> Result<Vec<MeantName>, AllocError>
-    ensures { IfOk result (λ next.
-        next.items ≡ spec.with_open draft.now meant.items draft.now.begun) }
+    ensures { HasItems result (spec.with_open draft.now meant.items draft.now.begun) }
 {
     match &draft.begun {
         None => Ok(meant),
@@ -475,8 +466,7 @@ fn with_operation(
     meant: Vec<MeantName>,
     before: usize,
 ) -> Result<Vec<MeantName>, AllocError>
-    ensures { IfOk result (λ next.
-        next.items ≡ spec.with_operation draft.now meant.items before) }
+    ensures { HasItems result (spec.with_operation draft.now meant.items before) }
 {
     if operations_begun(draft) == before {
         Ok(meant)
@@ -496,7 +486,7 @@ pub fn mended(
     text: &[u8],
     lines: &[&[u8]],
 ) -> Result<FaultyDraft, AllocError>
-    ensures { IfOk result (λ after. after ≡ mend_faulty draft text.now (texts lines.now)) }
+    ensures { Builds result (mend_faulty draft text.now (texts lines.now)) }
 {
     let FaultyDraft { draft, meant } = draft;
     let before = operations_begun(&draft);

@@ -1,12 +1,11 @@
 //! What a line with a fault leaves, so that the lines behind it are told for their own faults
 //! alone.
 
-ghost use Rattle.std.specs.Prelude.{◌≡◌, IfOk, Some, codes};
+ghost use Rattle.std.specs.Prelude.{◌≡◌, IfOk, Some};
 ghost use Rattle.lu_text.specs.Lines.{texts};
 ghost use Rattle.lu_lang.specs.Mend as spec;
-ghost use Rattle.lu_lang.specs.Mend.{mend};
-ghost use Rattle.lu_lang.specs.Grammar as grammar;
-ghost use Rattle.lu_lang.specs.Grammar.{closed};
+ghost use Rattle.lu_lang.specs.Mend.{mend, mend_inside, mend_labelled};
+ghost use Rattle.lu_lang.specs.Results.{Builds};
 
 use crate::draft::{Draft, Label, OpenOp, Statement};
 use crate::keyword::keyword_in;
@@ -31,7 +30,7 @@ pub(crate) fn bare(word: &[u8]) -> &[u8]
 
 /// The word, where it is a name, and else `_`.
 fn name_or_blank(alloc: Global, word: &[u8]) -> Result<Name, AllocError>
-    ensures { IfOk result (λ name. name ≡ spec.name_or_blank word.now) }
+    ensures { Builds result (spec.name_or_blank word.now) }
 {
     if has_name_form(word) && !is_long(word) {
         Name::new(alloc, word)
@@ -42,7 +41,7 @@ fn name_or_blank(alloc: Global, word: &[u8]) -> Result<Name, AllocError>
 
 /// The name that the first word is to be.
 fn first_name(alloc: Global, words: &[&[u8]]) -> Result<Name, AllocError>
-    ensures { IfOk result (λ name. name ≡ spec.first_name (texts words.now)) }
+    ensures { Builds result (spec.first_name (texts words.now)) }
 {
     match words.split_first() {
         None => Name::new(alloc, b"_"),
@@ -52,7 +51,7 @@ fn first_name(alloc: Global, words: &[&[u8]]) -> Result<Name, AllocError>
 
 /// The draft with an array of this name, where there is room.
 fn with_array(mut draft: Draft, name: Name) -> Result<Draft, AllocError>
-    ensures { IfOk result (λ next. next ≡ spec.with_array draft name) }
+    ensures { Builds result (spec.with_array draft name) }
 {
     if has_most_arrays(&draft) {
         return Ok(draft);
@@ -67,7 +66,7 @@ fn with_array(mut draft: Draft, name: Name) -> Result<Draft, AllocError>
 
 /// The draft with a lock of this name, where there is room.
 fn with_lock(mut draft: Draft, name: Name) -> Result<Draft, AllocError>
-    ensures { IfOk result (λ next. next ≡ spec.with_lock draft name) }
+    ensures { Builds result (spec.with_lock draft name) }
 {
     if has_most_locks(&draft) {
         return Ok(draft);
@@ -98,7 +97,7 @@ fn with_op(alloc: Global, mut draft: Draft, name: Name) -> Draft
 
 /// The draft with this operation closed.
 fn with_end(alloc: Global, mut draft: Draft, op: OpenOp) -> Result<Draft, AllocError>
-    ensures { IfOk result (λ next. next ≡ spec.with_end draft op) }
+    ensures { Builds result (spec.with_end draft op) }
 {
     draft.operations.push(op_of(alloc, op)?)?;
     Ok(draft)
@@ -106,7 +105,7 @@ fn with_end(alloc: Global, mut draft: Draft, op: OpenOp) -> Result<Draft, AllocE
 
 /// The operation with a line's label.
 fn op_labelled(alloc: Global, mut op: OpenOp, label: &[u8]) -> Result<OpenOp, AllocError>
-    ensures { IfOk result (λ next. next ≡ spec.op_labelled op (Some label.now)) }
+    ensures { Builds result (spec.op_labelled op (Some label.now)) }
 {
     if op.labels.len() < MOST_LABELS {
         let name = name_or_blank(alloc, label)?;
@@ -117,7 +116,7 @@ fn op_labelled(alloc: Global, mut op: OpenOp, label: &[u8]) -> Result<OpenOp, Al
 
 /// The draft with one more instruction of this operation.
 fn with_return(mut draft: Draft, mut op: OpenOp) -> Result<Draft, AllocError>
-    ensures { IfOk result (λ next. next ≡ spec.with_return draft op) }
+    ensures { Builds result (spec.with_return draft op) }
 {
     op.statements
         .push(Statement::Plain(Instr::Return(Operand::Num(0))))?;
@@ -176,9 +175,8 @@ pub(crate) fn closes(word: &[u8], next: &[&[u8]]) -> bool
 }
 
 /// The draft with an operation begun, which has one instruction.
-fn with_first(alloc: Global, draft: Draft, word: &[u8]) -> Result<Draft, AllocError>
-    ensures { IfOk result (λ next. next ≡ spec.with_return draft
-        (spec.op_labelled (spec.op_begun (codes "_")) (grammar.label_in word.now))) }
+fn with_missing_op(alloc: Global, draft: Draft, word: &[u8]) -> Result<Draft, AllocError>
+    ensures { Builds result (spec.with_missing_op draft word.now) }
 {
     let op = op_begun(alloc, Name::new(alloc, b"_")?);
     match label_in(word) {
@@ -198,13 +196,12 @@ fn mend_other(
     words: &[&[u8]],
     next: &[&[u8]],
 ) -> Result<Draft, AllocError>
-    ensures { IfOk result (λ after. after ≡
-        spec.mend_other draft word.now (texts words.now) (texts next.now)) }
+    ensures { Builds result (spec.mend_other draft word.now (texts words.now) (texts next.now)) }
 {
     if !begins_code(next) || word == b"end".as_slice() {
         Ok(draft)
     } else if is_code(word) {
-        with_first(alloc, draft, word)
+        with_missing_op(alloc, draft, word)
     } else {
         Ok(with_op(alloc, draft, first_name(alloc, words)?))
     }
@@ -217,8 +214,7 @@ fn mend_outside(
     words: &[&[u8]],
     next: &[&[u8]],
 ) -> Result<Draft, AllocError>
-    ensures { IfOk result (λ after. after ≡
-        spec.mend_outside draft word.now (texts words.now) (texts next.now)) }
+    ensures { Builds result (spec.mend_outside draft word.now (texts words.now) (texts next.now)) }
 {
     if word == b"word".as_slice() {
         with_array(draft, first_name(alloc, words)?)
@@ -239,8 +235,7 @@ fn mend_array_inside(
     words: &[&[u8]],
     next: &[&[u8]],
 ) -> Result<Draft, AllocError>
-    ensures { IfOk result (λ after. after ≡
-        spec.mend_array_inside draft op (texts words.now) (texts next.now)) }
+    ensures { Builds result (spec.mend_array_inside draft op (texts words.now) (texts next.now)) }
 {
     let name = first_name(alloc, words)?;
     if begins_outside(next) {
@@ -259,8 +254,7 @@ fn mend_inside(
     words: &[&[u8]],
     next: &[&[u8]],
 ) -> Result<Draft, AllocError>
-    ensures { IfOk result (λ after. after ≡
-        spec.mend_inside draft op word.now (texts words.now) (texts next.now)) }
+    ensures { Builds result (mend_inside draft op word.now (texts words.now) (texts next.now)) }
 {
     if word == b"op".as_slice() {
         let draft = with_end(alloc, draft, op)?;
@@ -282,8 +276,7 @@ fn mend_behind(
     words: &[&[u8]],
     next: &[&[u8]],
 ) -> Result<Draft, AllocError>
-    ensures { IfOk result (λ after. after ≡
-        spec.mend_behind draft op (texts words.now) (texts next.now)) }
+    ensures { Builds result (spec.mend_behind draft op (texts words.now) (texts next.now)) }
 {
     match words.split_first() {
         None => with_return(draft, op),
@@ -299,8 +292,7 @@ fn mend_labelled(
     words: &[&[u8]],
     next: &[&[u8]],
 ) -> Result<Draft, AllocError>
-    ensures { IfOk result (λ after. after ≡ spec.mend_labelled
-        draft op (grammar.label_in word.now) word.now (texts words.now) (texts next.now)) }
+    ensures { Builds result (mend_labelled draft op word.now (texts words.now) (texts next.now)) }
 {
     match label_in(word) {
         None => mend_inside(alloc, draft, op, word, words, next),
@@ -319,8 +311,7 @@ fn mend_first(
     words: &[&[u8]],
     next: &[&[u8]],
 ) -> Result<Draft, AllocError>
-    ensures { IfOk result (λ after. after ≡ spec.mend_outside
-        (record draft { name = Some (codes "_") }) word.now (texts words.now) (texts next.now)) }
+    ensures { Builds result (spec.mend_first draft word.now (texts words.now) (texts next.now)) }
 {
     draft.name = Some(Name::new(alloc, b"_")?);
     mend_outside(alloc, draft, word, words, next)
@@ -333,8 +324,7 @@ fn mend_by_state(
     words: &[&[u8]],
     next: &[&[u8]],
 ) -> Result<Draft, AllocError>
-    ensures { IfOk result (λ after. after ≡ spec.mend_by_state
-        (closed draft) draft.name draft.begun word.now (texts words.now) (texts next.now)) }
+    ensures { Builds result (spec.mend_by_state draft word.now (texts words.now) (texts next.now)) }
 {
     let begun = draft.begun.take();
     if draft.name.is_none() {
@@ -352,8 +342,7 @@ fn mend_words(
     words: &[&[u8]],
     lines: &[&[u8]],
 ) -> Result<Draft, AllocError>
-    ensures { IfOk result (λ after. after ≡
-        spec.mend_words draft (texts words.now) (spec.next_words (texts lines.now))) }
+    ensures { Builds result (spec.mend_words draft (texts words.now) (texts lines.now)) }
 {
     match words.split_first() {
         None => Ok(draft),
@@ -375,7 +364,7 @@ pub(crate) fn mended_draft(
     text: &[u8],
     lines: &[&[u8]],
 ) -> Result<Draft, AllocError>
-    ensures { IfOk result (λ after. after ≡ mend draft text.now (texts lines.now)) }
+    ensures { Builds result (mend draft text.now (texts lines.now)) }
 {
     let words = words_of(alloc, text)?;
     mend_words(alloc, draft, &words, lines)

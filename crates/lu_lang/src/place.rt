@@ -1,12 +1,12 @@
 //! Where the messages of a fault stand, where that is not the fault's line.
 
-ghost use Rattle.std.specs.Prelude.{◌≡◌, ◌-◌, IfOk, length, map, filter, None};
+ghost use Rattle.std.specs.Prelude.{◌≡◌, ◌-◌, length, map, filter, None};
 ghost use Rattle.std.specs.List.{enumerate_from};
 ghost use Rattle.lu_text.specs.Lines.{text_if, texts};
 ghost use Rattle.lu_lang.specs.Grammar as grammar;
-ghost use Rattle.lu_lang.specs.Mend.{next_words};
 ghost use Rattle.lu_lang.specs.Place as spec;
 ghost use Rattle.lu_lang.specs.Place.{backs};
+ghost use Rattle.lu_lang.specs.Results.{HasItems};
 
 use crate::draft::{Draft, OpenOp, Statement};
 use crate::fault::LangFaultKind;
@@ -36,7 +36,7 @@ fn leads_nowhere(op: &OpenOp, label: Option<&[u8]>, statement: &Statement) -> bo
 
 /// For each such jump, how many instructions stand from it on.
 fn jump_backs(alloc: Global, op: &OpenOp, label: Option<&[u8]>) -> Result<Vec<usize>, AllocError>
-    ensures { IfOk result (λ ns. ns.items ≡ spec.jump_backs op.now (text_if label.entry)) }
+    ensures { HasItems result (spec.jump_backs op.now (text_if label.entry)) }
 {
     let all = op.statements.len();
     op.statements
@@ -52,7 +52,7 @@ fn end_backs(
     begun: &Option<OpenOp>,
     words: &[&[u8]],
 ) -> Result<Vec<usize>, AllocError>
-    ensures { IfOk result (λ ns. ns.items ≡ spec.end_backs begun.now (texts words.now)) }
+    ensures { HasItems result (spec.end_backs begun.now (texts words.now)) }
 {
     match begun {
         None => Ok(Vec::new(alloc)),
@@ -82,7 +82,7 @@ pub fn message_backs(
     text: &[u8],
     kind: LangFaultKind,
 ) -> Result<Vec<usize>, AllocError>
-    ensures { IfOk result (λ ns. ns.items ≡ backs draft.now text.now kind) }
+    ensures { HasItems result (backs draft.now text.now kind) }
 {
     match kind {
         LangFaultKind::Name => {
@@ -101,8 +101,7 @@ fn closing_backs(
     words: &[&[u8]],
     next: &[&[u8]],
 ) -> Result<Vec<usize>, AllocError>
-    ensures { IfOk result (λ ns. ns.items ≡ spec.closing_backs
-        op.now (text_if label.entry) (texts words.now) (texts next.now)) }
+    ensures { HasItems result (spec.closing_backs_of op.now label.entry words.now next.now) }
 {
     match words.split_first() {
         None => Ok(Vec::new(alloc)),
@@ -122,8 +121,7 @@ fn closed_backs(
     words: &[&[u8]],
     lines: &[&[u8]],
 ) -> Result<Vec<usize>, AllocError>
-    ensures { IfOk result (λ ns. ns.items ≡
-        spec.closed_backs begun.now (texts words.now) (next_words (texts lines.now))) }
+    ensures { HasItems result (spec.closed_backs begun.now (texts words.now) (texts lines.now)) }
 {
     match begun {
         None => Ok(Vec::new(alloc)),
@@ -154,8 +152,7 @@ pub fn left_backs(
     lines: &[&[u8]],
     kind: LangFaultKind,
 ) -> Result<Vec<usize>, AllocError>
-    ensures { IfOk result (λ ns.
-        ns.items ≡ spec.left_backs draft.now text.now (texts lines.now) kind) }
+    ensures { HasItems result (spec.left_backs draft.now text.now (texts lines.now) kind) }
 {
     match kind {
         LangFaultKind::Name => Ok(Vec::new(alloc)),
@@ -173,7 +170,7 @@ pub fn left_backs(
 ///
 /// There is no memory for the numbers.
 pub fn open_backs(alloc: Global, draft: &Draft) -> Result<Vec<usize>, AllocError>
-    ensures { IfOk result (λ ns. ns.items ≡ spec.open_backs draft.now.begun) }
+    ensures { HasItems result (spec.open_backs draft.now.begun) }
 {
     match &draft.begun {
         None => Ok(Vec::new(alloc)),

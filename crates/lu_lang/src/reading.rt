@@ -1,17 +1,17 @@
 //! Reading of components, line by line.
 
-ghost use Rattle.std.specs.Prelude.{◌≡◌, ◌==◌, ◌<◌, ◌≤◌, ◌∷◌, ◌++◌, [], List, IfOk, Ok, Some, None, length, map, nat_le, is_some};
+ghost use Rattle.std.specs.Prelude.{◌≡◌, ◌==◌, ◌<◌, ◌≤◌, ◌∷◌, List, Ok, Some, None, length, map, nat_le, is_some};
 ghost use Rattle.std.specs.Option.{option_map};
 ghost use Rattle.std.specs.List.{position, list_all};
 ghost use Rattle.std.specs.Str.{bytes_eq};
 ghost use Rattle.lu_text.specs.Lines.{text_if, texts};
 ghost use Rattle.lu_text.specs.Words.{exactly_one, exactly_two, exactly_three};
 ghost use Rattle.lu_text.specs.Faults.{Gives, OnLine, TellsFirst, meaning_of, meaning_of_lines};
-ghost use Rattle.lu_lang.specs.Draft.{Drafted};
-ghost use Rattle.lu_lang.specs.Parts.{PutsOnLine};
+ghost use Rattle.lu_lang.specs.Parts.{ReadsArray, ReadsCode, ReadsEnd, ReadsLocal, ReadsLock, ReadsName, ReadsOp, code_read};
+ghost use Rattle.lu_lang.specs.Results.{Builds, HasItems};
 ghost use Rattle.lu_lang.specs.Sound.{IsSoundDraft};
 ghost use Rattle.lu_lang.specs.Grammar as spec;
-ghost use Rattle.lu_lang.specs.Grammar.{component_grammar, inside, instr_line};
+ghost use Rattle.lu_lang.specs.Grammar.{component_grammar};
 
 use crate::draft::{Draft, Label, OpenOp, Statement};
 use crate::fault::{LangFault, LangFaultKind};
@@ -29,8 +29,7 @@ use std::alloc::{AllocError, Global};
 
 /// The name of `component NAME`.
 pub(crate) fn name_in(alloc: Global, line: usize, words: &[&[u8]]) -> Result<Name, LangFault>
-    ensures { (d : Drafted) → PutsOnLine (λ name. record d { name = Some name })
-        line result (spec.component_line d (exactly_one (texts words.now))) }
+    ensures { ReadsName line result (texts words.now) }
 {
     let Some(name) = exactly_one(words) else {
         return Err(Fault::At(LangFaultKind::Form, line));
@@ -59,8 +58,7 @@ fn component_line(
 
 /// The number of `local L`.
 pub(crate) fn local_in(line: usize, draft: &Draft, words: &[&[u8]]) -> Result<u8, LangFault>
-    ensures { PutsOnLine (λ most. record draft.now { local = Some most })
-        line result (spec.local_line draft.now (exactly_one (texts words.now))) }
+    ensures { ReadsLocal draft.now line result (texts words.now) }
 {
     let Some(most) = exactly_one(words) else {
         return Err(Fault::At(LangFaultKind::Form, line));
@@ -98,8 +96,7 @@ pub(crate) fn array_in(
     draft: &Draft,
     words: &[&[u8]],
 ) -> Result<Array, LangFault>
-    ensures { PutsOnLine (λ array. record draft.now { arrays = draft.now.arrays ++ array ∷ [] })
-        line result (spec.array_line draft.now (exactly_three (texts words.now))) }
+    ensures { ReadsArray draft.now line result (texts words.now) }
 {
     let Some((name, len, init)) = exactly_three(words) else {
         return Err(Fault::At(LangFaultKind::Form, line));
@@ -150,8 +147,7 @@ pub(crate) fn lock_in(
     draft: &Draft,
     words: &[&[u8]],
 ) -> Result<Name, LangFault>
-    ensures { PutsOnLine (λ lock. record draft.now { locks = draft.now.locks ++ lock ∷ [] })
-        line result (spec.lock_line draft.now (exactly_one (texts words.now))) }
+    ensures { ReadsLock draft.now line result (texts words.now) }
 {
     let Some(name) = exactly_one(words) else {
         return Err(Fault::At(LangFaultKind::Form, line));
@@ -195,8 +191,7 @@ pub(crate) fn op_in(
     draft: &Draft,
     words: &[&[u8]],
 ) -> Result<OpenOp, LangFault>
-    ensures { PutsOnLine (λ op. record draft.now { begun = Some op })
-        line result (spec.op_line draft.now (exactly_two (texts words.now))) }
+    ensures { ReadsOp draft.now line result (texts words.now) }
 {
     let Some((name, args)) = exactly_two(words) else {
         return Err(Fault::At(LangFaultKind::Form, line));
@@ -319,8 +314,7 @@ pub(crate) fn place_fault(op: &OpenOp, label: Option<&[u8]>) -> Option<LangFault
 /// The open operation with the label of the instruction that comes next.
 fn with_label(alloc: Global, mut op: OpenOp, label: Option<&[u8]>) -> Result<OpenOp, AllocError>
     requires { spec.place_fault op (text_if label) ≡ None }
-    ensures { IfOk result (λ next.
-        next ≡ record op { labels = spec.with_label op (text_if label.entry) }) }
+    ensures { Builds result (record op { labels = spec.with_label op (text_if label.entry) }) }
 {
     if let Some(label) = label {
         let place = op.statements.len() as u8;
@@ -340,7 +334,7 @@ fn with_statement(
     statement: Statement,
 ) -> Result<OpenOp, AllocError>
     requires { spec.place_fault op (text_if label) ≡ None }
-    ensures { IfOk result (λ next. next ≡ spec.with_statement op (text_if label.entry) statement) }
+    ensures { Builds result (spec.with_statement op (text_if label.entry) statement) }
 {
     let mut op = with_label(alloc, op, label)?;
     op.statements.push(statement)?;
@@ -349,10 +343,10 @@ fn with_statement(
 
 /// A line of an operation: its label, where it has one, and the words of its instruction.
 #[derive(Clone, Copy, Drop)]
-struct CodeLine<'a> {
-    label: Option<&'a [u8]>,
-    word: &'a [u8],
-    rest: &'a [&'a [u8]],
+pub(crate) struct CodeLine<'a> {
+    pub label: Option<&'a [u8]>,
+    pub word: &'a [u8],
+    pub rest: &'a [&'a [u8]],
 }
 
 /// The open operation with the label and the instruction of a line.
@@ -363,9 +357,7 @@ fn with_instr(
     op: OpenOp,
     code: CodeLine<'_>,
 ) -> Result<OpenOp, LangFault>
-    ensures { PutsOnLine (λ next. record draft.now { begun = Some next }) line result
-        (instr_line draft.now op (text_if code.entry.label) code.entry.word.now
-        (texts code.entry.rest.now)) }
+    ensures { ReadsCode draft.now op line result code.entry }
 {
     let fault = place_fault(&op, code.label);
     match statement(alloc, draft, keyword_in(code.word), code.rest)? {
@@ -385,9 +377,7 @@ fn instr_line(
     op: OpenOp,
     code: CodeLine<'_>,
 ) -> Result<Draft, LangFault>
-    ensures { OnLine line result
-        (instr_line draft op (text_if code.entry.label) code.entry.word.now
-        (texts code.entry.rest.now)) }
+    ensures { OnLine line result (code_read draft op code.entry) }
 {
     draft.begun = Some(with_instr(alloc, line, &draft, op, code)?);
     Ok(draft)
@@ -446,7 +436,7 @@ pub(crate) fn is_there(labels: &[Label], statement: &Statement) -> bool
 }
 
 fn all_there(labels: &[Label], statements: &[Statement]) -> bool
-    ensures { result ≡ list_all (λ s. spec.is_there labels.now (spec.label_used s)) statements.now }
+    ensures { result ≡ spec.all_there labels.now statements.now }
 {
     statements
         .iter()
@@ -490,7 +480,7 @@ fn resolve_all(
     labels: &[Label],
     statements: &[Statement],
 ) -> Result<Vec<Instr>, AllocError>
-    ensures { IfOk result (λ instrs. instrs.items ≡ map (spec.resolved labels.now) statements.now) }
+    ensures { HasItems result (map (spec.resolved labels.now) statements.now) }
 {
     statements
         .iter()
@@ -499,7 +489,7 @@ fn resolve_all(
 }
 
 pub(crate) fn op_of(alloc: Global, op: OpenOp) -> Result<Op, AllocError>
-    ensures { IfOk result (λ done. done ≡ spec.op_of op) }
+    ensures { Builds result (spec.op_of op) }
 {
     let instrs = resolve_all(alloc, &op.labels, &op.statements)?;
     Ok(Op {
@@ -511,9 +501,7 @@ pub(crate) fn op_of(alloc: Global, op: OpenOp) -> Result<Op, AllocError>
 
 /// The operation that `end` closes.
 fn closed_op(alloc: Global, line: usize, op: OpenOp, words: &[&[u8]]) -> Result<Op, LangFault>
-    ensures { (d : Drafted) → PutsOnLine
-        (λ done. record d { operations = d.operations ++ done ∷ []; begun = None })
-        line result (spec.end_line d op (texts words.now)) }
+    ensures { ReadsEnd op line result (texts words.now) }
 {
     if !words.is_empty() {
         return Err(Fault::At(LangFaultKind::Form, line));
@@ -552,8 +540,7 @@ fn read_inside<'a>(
     words: &'a [&'a [u8]],
 ) -> Result<Draft, LangFault>
     requires { draft.begun ≡ None }
-    ensures { OnLine line result
-        (inside draft op (spec.label_in word.now) word.now (texts words.now)) }
+    ensures { OnLine line result (spec.inside draft op word.now (texts words.now)) }
 {
     if let Some(label) = label_in(word) {
         return read_labelled(alloc, line, draft, op, label, words);

@@ -1,10 +1,10 @@
 //! Writing of components: their canonical text.
 
-ghost use Rattle.std.specs.Prelude.{◌≡◌, ◌∷◌, [], IfOk, string_bytes};
-ghost use Rattle.std.specs.List.{list_any, flat_map, join_with_byte};
+ghost use Rattle.std.specs.Prelude.{◌≡◌, IfOk, string_bytes};
+ghost use Rattle.std.specs.List.{list_any, flat_map};
 ghost use Rattle.lu_text.specs.Writing.{IsTextOf, Writes};
-ghost use Rattle.lu_component.specs.Operands.{operand_word};
 ghost use Rattle.lu_lang.specs.ComponentText as spec;
+ghost use Rattle.lu_lang.specs.ComponentText.{cell_text, code_line};
 ghost use Rattle.lu_lang.specs.Grammar.{component_grammar};
 
 use lu_component::{Array, Component, Instr, Op, Operand};
@@ -43,9 +43,7 @@ fn write_cell(
     index: Operand,
     value: Operand,
 ) -> Result<(), AllocError>
-    ensures { Writes result text.old text.new (join_with_byte 32
-        (word.now ∷ spec.array_word component.now array
-        ∷ operand_word index ∷ operand_word value ∷ [])) }
+    ensures { Writes result text.old text.new (cell_text component.now word.now array index value) }
 {
     write!(
         text,
@@ -149,8 +147,7 @@ fn write_line(
     place: usize,
     instr: Instr,
 ) -> Result<(), AllocError>
-    ensures { Writes result text.old text.new
-        (spec.instr_line_text component.now code.now (place, instr)) }
+    ensures { Writes result text.old text.new (code_line component.now code.now (place, instr)) }
 {
     write_label(text, code, place)?;
     write_instr(text, component, instr)?;
