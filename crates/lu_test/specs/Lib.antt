@@ -6,3 +6,4 @@ pub mod MatrixText
 pub mod Laws
 pub mod MatrixGoing
 pub mod ScheduleGoing
+pub mod Results

@@ -9,7 +9,8 @@ use Rattle.lu_text.specs.Numbers.{value_in}
 use denote.Ref.{Bor}
 use Rattle.lu_text.specs.Lines.{texts, words_of, before_comment, is_allowed}
 use Rattle.lu_text.specs.Words.{Word}
-use Rattle.lu_text.specs.Faults.{Grammar, first_fault, or_else, says}
+use Rattle.lu_text.specs.declared.fault.Fault.{Fault}
+use Rattle.lu_text.specs.Faults.{Grammar, first_fault, meaning_of_lines, or_else, says}
 use Rattle.lu_component.specs.declared.component.Op.{Op}
 use Rattle.lu_component.specs.Component.{Declarations, operation_place}
 use Rattle.lu_test.specs.declared.matrix.Call.{Call}
@@ -137,6 +138,10 @@ by_parts operations draft ((word ∷ words) ∷ parts) =
 abbrev pub words_in : List (Bor (List ℕ)) → List (List Word)
 words_in parts = map words_of (texts parts)
 
+-- the same of a line's first part, which has these words, and its other parts
+abbrev pub all_words : List (Bor (List ℕ)) → List (Bor (List ℕ)) → List (List Word)
+all_words words others = texts words ∷ words_in others
+
 -- the words of each part of a line
 abbrev pub parts_in : List ℕ → List (List Word)
 parts_in line = map words_of (slice_split (λ b. b == 59) (before_comment line))
@@ -152,6 +157,10 @@ finished draft = says ((length draft.threads == 0, Limit) ∷ []) (matrix_of dra
 -- the text of a matrix of a component
 abbrev pub matrix_grammar : Declarations → Grammar MatrixFaultKind Drafted Matrix
 matrix_grammar c = record { nothing = nothing; line = line_of c.operations; finish = finished }
+
+-- the matrix of these lines, or their first fault
+abbrev pub matrix_said : Declarations → List (List ℕ) → Result Matrix (Fault MatrixFaultKind)
+matrix_said c lines = meaning_of_lines (matrix_grammar c) lines
 
 -- ---- the canonical text
 
@@ -195,6 +204,9 @@ abbrev pub setup_text : List Op → List Call → List ℕ
 setup_text operations [] = []
 setup_text operations (call ∷ calls) = line_text operations (codes "setup") (call ∷ calls)
 
+abbrev pub threads_text : List Op → List (List Call) → List ℕ
+threads_text operations threads = flat_map (thread_text operations) threads
+
 abbrev pub matrix_text : Declarations → Matrix → List ℕ
 matrix_text c matrix =
-    setup_text c.operations matrix.setup ++ flat_map (thread_text c.operations) matrix.threads
+    setup_text c.operations matrix.setup ++ threads_text c.operations matrix.threads

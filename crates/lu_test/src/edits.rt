@@ -1,8 +1,9 @@
 //! Matrices made from others: copies, and those with fewer calls.
 
-ghost use Rattle.std.specs.Prelude.{◌≡◌, ◌<◌, ◌≤◌, IfOk, length, remove, take};
+ghost use Rattle.std.specs.Prelude.{◌≡◌, ◌<◌, ◌≤◌, length, remove, take};
 ghost use Rattle.std.specs.List.{AllZip};
 ghost use Rattle.lu_test.specs.Matrix.{alone, calls_of, without, cut, IsMatrix};
+ghost use Rattle.lu_test.specs.Results.{Builds, HasItems};
 
 use crate::matrix::{Arguments, Call, Calls, Matrix};
 use std::alloc::{AllocError, Global};
@@ -13,7 +14,7 @@ use std::alloc::{AllocError, Global};
 ///
 /// There is no memory for the copy.
 pub fn copy_call(alloc: Global, call: &Call) -> Result<Call, AllocError>
-    ensures { IfOk result (λ copy. copy ≡ call.now) }
+    ensures { Builds result call.now }
 {
     let numbers = Vec::from_slice(alloc, call.args.as_slice())?;
     Ok(Call {
@@ -28,7 +29,7 @@ pub fn copy_call(alloc: Global, call: &Call) -> Result<Call, AllocError>
 ///
 /// There is no memory for the copy.
 pub fn copy_calls(alloc: Global, calls: &[Call]) -> Result<Calls, AllocError>
-    ensures { IfOk result (λ copy. copy ≡ calls.now) }
+    ensures { Builds result calls.now }
 {
     let mut copies = Vec::with_capacity(alloc, calls.len())?;
     for call in calls {
@@ -38,7 +39,7 @@ pub fn copy_calls(alloc: Global, calls: &[Call]) -> Result<Calls, AllocError>
 }
 
 fn copies_of(alloc: Global, threads: &[Calls]) -> Result<Vec<Calls>, AllocError>
-    ensures { IfOk result (λ copies. copies.items ≡ threads.now) }
+    ensures { HasItems result threads.now }
 {
     let mut copies = Vec::with_capacity(alloc, threads.len())?;
     for calls in threads {
@@ -53,7 +54,7 @@ fn copies_of(alloc: Global, threads: &[Calls]) -> Result<Vec<Calls>, AllocError>
 ///
 /// There is no memory for the copy.
 pub fn copy_matrix(alloc: Global, matrix: &Matrix) -> Result<Matrix, AllocError>
-    ensures { IfOk result (λ copy. copy ≡ matrix.now) }
+    ensures { Builds result matrix.now }
 {
     let setup = copy_calls(alloc, matrix.setup().as_slice())?;
     let threads = copies_of(alloc, matrix.as_slice())?;
@@ -68,7 +69,7 @@ pub fn copy_matrix(alloc: Global, matrix: &Matrix) -> Result<Matrix, AllocError>
 /// There is no memory for the smaller matrix.
 pub fn remove(alloc: Global, matrix: &Matrix, t: u8, k: u8) -> Result<Matrix, AllocError>
     requires { k < length (calls_of matrix.now t) }
-    ensures { IfOk result (λ smaller. smaller ≡ without matrix.now t k) }
+    ensures { Builds result (without matrix.now t k) }
 {
     let setup = copy_calls(alloc, matrix.setup().as_slice())?;
     let mut threads = copies_of(alloc, matrix.as_slice())?;
@@ -84,7 +85,7 @@ pub fn remove(alloc: Global, matrix: &Matrix, t: u8, k: u8) -> Result<Matrix, Al
 /// There is no memory for the smaller matrix.
 pub fn cut_to(alloc: Global, matrix: &Matrix, lengths: &[u8]) -> Result<Matrix, AllocError>
     requires { AllZip (λ calls n. n ≤ length calls) matrix.now.threads lengths.now }
-    ensures { IfOk result (λ smaller. smaller ≡ cut matrix.now lengths.now) }
+    ensures { Builds result (cut matrix.now lengths.now) }
 {
     let setup = copy_calls(alloc, matrix.setup().as_slice())?;
     let mut threads = Vec::with_capacity(alloc, lengths.len())?;
@@ -100,7 +101,7 @@ pub fn cut_to(alloc: Global, matrix: &Matrix, lengths: &[u8]) -> Result<Matrix, 
 ///
 /// There is no memory for the matrix.
 pub fn setup_alone(alloc: Global, matrix: &Matrix) -> Result<Matrix, AllocError>
-    ensures { IfOk result (λ first. first ≡ alone matrix.now.setup) }
+    ensures { Builds result (alone matrix.now.setup) }
 {
     let mut threads = Vec::with_capacity(alloc, 1)?;
     threads.push(copy_calls(alloc, matrix.setup().as_slice())?)?;

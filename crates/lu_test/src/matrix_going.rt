@@ -1,11 +1,11 @@
 //! Reading of a matrix that goes on behind a fault.
 
-ghost use Rattle.std.specs.Prelude.{◌≡◌, ◌∷◌, [], IfOk, Some};
-ghost use Rattle.lu_text.specs.Lines.{texts};
+ghost use Rattle.std.specs.Prelude.{◌≡◌, [], Some};
 ghost use Rattle.lu_test.specs.MatrixGoing.{fault_in, going_on, mend};
 ghost use Rattle.lu_test.specs.MatrixGoing as going;
 ghost use Rattle.lu_test.specs.MatrixText as spec;
-ghost use Rattle.lu_test.specs.MatrixText.{CanRead, IsDraft, by_parts, calls_after, matrix_grammar, words_in};
+ghost use Rattle.lu_test.specs.MatrixText.{CanRead, IsDraft, all_words, by_parts, calls_after, matrix_grammar, words_in};
+ghost use Rattle.lu_test.specs.Results.{Builds, TellsFault};
 
 use crate::matrix::{Calls, MOST_CALLS_OF_THREAD, MOST_THREADS};
 use crate::matrix_fault::MatrixFaultKind;
@@ -42,8 +42,7 @@ fn words_fault(
     more: &[&[u8]],
 ) -> Result<Option<MatrixFaultKind>, AllocError>
     requires { CanRead operations.now draft.now }
-    ensures { IfOk result (λ fault. fault ≡ fault_in
-        (by_parts operations.now draft.now (texts words.now ∷ words_in more.now))) }
+    ensures { TellsFault result (by_parts operations.now draft.now (all_words words.now more.now)) }
 {
     match words {
         [] => {
@@ -75,8 +74,7 @@ fn parts_fault(
     parts: &[&[u8]],
 ) -> Result<Option<MatrixFaultKind>, AllocError>
     requires { CanRead operations.now draft.now }
-    ensures { IfOk result (λ fault.
-        fault ≡ fault_in (by_parts operations.now draft.now (words_in parts.now))) }
+    ensures { TellsFault result (by_parts operations.now draft.now (words_in parts.now)) }
 {
     match parts {
         [] => Ok(None),
@@ -95,8 +93,7 @@ fn allowed_fault(
     text: &[u8],
 ) -> Result<Option<MatrixFaultKind>, AllocError>
     requires { CanRead operations.now draft.now }
-    ensures { IfOk result (λ fault. fault ≡ fault_in
-        (by_parts operations.now draft.now (spec.parts_in text.now))) }
+    ensures { TellsFault result (by_parts operations.now draft.now (spec.parts_in text.now)) }
 {
     let parts = parts_of(alloc, b';', before_comment(text))?;
     parts_fault(alloc, operations, draft, &parts)
@@ -111,8 +108,7 @@ fn line_fault(
     text: &[u8],
 ) -> Result<Option<MatrixFaultKind>, AllocError>
     requires { CanRead operations.now draft.now }
-    ensures { IfOk result (λ fault.
-        fault ≡ fault_in (spec.line_of operations.now draft.now text.now)) }
+    ensures { TellsFault result (spec.line_of operations.now draft.now text.now) }
 {
     if !are_allowed(text) {
         return Ok(Some(MatrixFaultKind::Byte));
@@ -134,7 +130,7 @@ pub fn line_or_fault(
     text: &[u8],
 ) -> Result<(Draft, Option<MatrixFaultKind>), AllocError>
     requires { CanRead operations.now draft }
-    ensures { IfOk result (λ r. r ≡ going_on draft (spec.line_of operations.now draft text.now)) }
+    ensures { Builds result (going_on draft (spec.line_of operations.now draft text.now)) }
 {
     let fault = line_fault(alloc, operations, &draft, text)?;
     match fault {
@@ -160,7 +156,7 @@ pub fn end_fault(draft: &Draft) -> Option<MatrixFaultKind>
 
 /// One more thread that makes no call, where there is room.
 fn with_empty(alloc: Global, mut draft: Draft) -> Result<Draft, AllocError>
-    ensures { IfOk result (λ next. next ≡ going.with_empty draft) }
+    ensures { Builds result (going.with_empty draft) }
 {
     if draft.threads.len() >= MOST_THREADS {
         return Ok(draft);
@@ -175,8 +171,7 @@ fn mend_words(
     words: &[&[u8]],
     more: &[&[u8]],
 ) -> Result<Draft, AllocError>
-    ensures { IfOk result (λ next.
-        next ≡ going.mend_parts draft (texts words.now ∷ words_in more.now)) }
+    ensures { Builds result (going.mend_parts draft (all_words words.now more.now)) }
 {
     match words {
         [] => {
@@ -198,7 +193,7 @@ fn mend_words(
 }
 
 fn mend_parts(alloc: Global, draft: Draft, parts: &[&[u8]]) -> Result<Draft, AllocError>
-    ensures { IfOk result (λ next. next ≡ going.mend_parts draft (words_in parts.now)) }
+    ensures { Builds result (going.mend_parts draft (words_in parts.now)) }
 {
     match parts {
         [] => Ok(draft),
@@ -215,7 +210,7 @@ fn mend_parts(alloc: Global, draft: Draft, parts: &[&[u8]]) -> Result<Draft, All
 ///
 /// There is no memory for what the line leaves.
 pub fn mended(alloc: Global, draft: Draft, text: &[u8]) -> Result<Draft, AllocError>
-    ensures { IfOk result (λ next. next ≡ mend draft text.now) }
+    ensures { Builds result (mend draft text.now) }
 {
     let parts = parts_of(alloc, b';', before_comment(text))?;
     mend_parts(alloc, draft, &parts)

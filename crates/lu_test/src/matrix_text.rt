@@ -6,11 +6,12 @@ ghost use Rattle.std.specs.List.{position, filter_map, list_all, slice_split};
 ghost use Rattle.std.specs.Str.{bytes_eq};
 ghost use Rattle.lu_text.specs.Lines.{texts, words_of};
 ghost use Rattle.lu_text.specs.Numbers.{value_in};
-ghost use Rattle.lu_text.specs.Faults.{Gives, OnLine, TellsFirst, meaning_of, meaning_of_lines};
+ghost use Rattle.lu_text.specs.Faults.{Gives, OnLine, TellsFirst, meaning_of};
 ghost use Rattle.lu_component.specs.Component.{operation_place};
 ghost use Rattle.lu_test.specs.Matrix.{AreThreads, IsMatrix, IsOf, IsOfSome};
 ghost use Rattle.lu_test.specs.MatrixText as spec;
-ghost use Rattle.lu_test.specs.MatrixText.{AreFew, CanRead, IsDraft, by_parts, calls_after, matrix_grammar, words_in};
+ghost use Rattle.lu_test.specs.MatrixText.{AreFew, CanRead, IsDraft, all_words, by_parts, calls_after, matrix_grammar, words_in};
+ghost use Rattle.lu_test.specs.Results.{Builds, HasItems};
 
 use crate::matrix::{
     Arguments, Call, Calls, MOST_CALLS, MOST_CALLS_OF_THREAD, MOST_THREADS, Matrix,
@@ -39,7 +40,7 @@ impl<'a> Model for Part<'a> {
 impl<'a> Part<'a> {
     /// The part's words.
     fn new(alloc: Global, text: &'a [u8]) -> Result<Part<'a>, AllocError>
-        ensures { IfOk result (λ part. part ≡ words_of text.entry.now) }
+        ensures { Builds result (words_of text.entry.now) }
     {
         Ok(Part {
             words: words_of(alloc, text)?,
@@ -135,7 +136,7 @@ fn all_have_values(parts: &[Part<'_>]) -> bool
 
 /// The numbers that the words are.
 fn values_of(alloc: Global, words: &[&[u8]]) -> Result<Vec<u32>, AllocError>
-    ensures { IfOk result (λ numbers. numbers.items ≡ filter_map (λ w. value_in w.now) words.now) }
+    ensures { HasItems result (filter_map (λ w. value_in w.now) words.now) }
 {
     words
         .iter()
@@ -144,7 +145,7 @@ fn values_of(alloc: Global, words: &[&[u8]]) -> Result<Vec<u32>, AllocError>
 }
 
 fn arguments_of(alloc: Global, part: &Part<'_>) -> Result<Arguments, AllocError>
-    ensures { IfOk result (λ arguments. arguments ≡ spec.arguments_in part.now) }
+    ensures { Builds result (spec.arguments_in part.now) }
 {
     let numbers = values_of(alloc, part.arguments())?;
     Ok(Arguments::new(numbers))
@@ -153,7 +154,7 @@ fn arguments_of(alloc: Global, part: &Part<'_>) -> Result<Arguments, AllocError>
 /// The calls that the parts say.
 fn calls_said(alloc: Global, operations: &[Op], parts: &[Part<'_>]) -> Result<Vec<Call>, AllocError>
     requires { AreFew operations.now }
-    ensures { IfOk result (λ calls. calls.items ≡ spec.calls_said operations.now parts.now) }
+    ensures { HasItems result (spec.calls_said operations.now parts.now) }
 {
     let mut calls = Vec::with_capacity(alloc, parts.len())?;
     for part in parts {
@@ -284,8 +285,7 @@ pub(crate) fn call_parts<'a>(
     words: &[&'a [u8]],
     others: &[&'a [u8]],
 ) -> Result<Vec<Part<'a>>, AllocError>
-    ensures { IfOk result (λ calls.
-        calls.items ≡ calls_after (texts words.now) (words_in others.now)) }
+    ensures { HasItems result (calls_after (texts words.now) (words_in others.now)) }
 {
     let mut calls = Vec::new(alloc);
     if words.is_empty() && others.is_empty() {
@@ -310,8 +310,7 @@ fn by_words(
     more: &[&[u8]],
 ) -> Result<Draft, MatrixFault>
     requires { CanRead operations.now draft }
-    ensures { OnLine line result
-        (by_parts operations.now draft (texts words.now ∷ words_in more.now)) }
+    ensures { OnLine line result (by_parts operations.now draft (all_words words.now more.now)) }
 {
     match words {
         [] => {
@@ -396,8 +395,7 @@ fn finish(alloc: Global, line: usize, draft: Draft) -> Result<Matrix, MatrixFaul
 }
 
 fn read_lines(alloc: Global, component: &Component, lines: &[&[u8]]) -> Result<Matrix, MatrixFault>
-    ensures exact { Gives result
-        (meaning_of_lines (matrix_grammar component.now) (texts lines.now)) }
+    ensures exact { Gives result (spec.matrix_said component.now (texts lines.now)) }
     ensures of { IfOk result (λ matrix. IsOf matrix component.now) }
 {
     let operations = component.operations();

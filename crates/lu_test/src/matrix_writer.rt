@@ -1,10 +1,10 @@
 //! Writing of matrices.
 
 ghost use Rattle.std.specs.Prelude.{◌≡◌, IfOk, string_bytes};
-ghost use Rattle.std.specs.List.{flat_map};
 ghost use Rattle.lu_text.specs.Writing.{IsTextOf, Writes};
 ghost use Rattle.lu_test.specs.Matrix.{IsOf};
 ghost use Rattle.lu_test.specs.MatrixText as spec;
+ghost use Rattle.lu_test.specs.MatrixText.{matrix_text};
 
 use crate::matrix::{Call, Calls, Matrix};
 use lu_component::{Component, Op};
@@ -100,8 +100,7 @@ fn put_setup(text: &mut String, operations: &[Op], calls: &[Call]) -> Result<(),
 }
 
 fn put_threads(text: &mut String, operations: &[Op], threads: &[Calls]) -> Result<(), AllocError>
-    ensures { Writes result text.old text.new
-        (flat_map (spec.thread_text operations.now) threads.now) }
+    ensures { Writes result text.old text.new (spec.threads_text operations.now threads.now) }
 {
     for calls in threads {
         put_line(text, operations, "thread", calls.as_slice())?;
@@ -124,7 +123,7 @@ pub fn write_matrix(
 ) -> Result<String, AllocError>
     requires { IsOf matrix.now component.now }
     ensures text { IfOk result (λ text.
-        string_bytes text ≡ spec.matrix_text component.now matrix.now) }
+        string_bytes text ≡ matrix_text component.now matrix.now) }
     ensures again { IfOk result (IsTextOf (spec.matrix_grammar component.now) matrix.now) }
 {
     let operations = component.operations();

@@ -1,8 +1,7 @@
 //! Reading of a schedule that goes on behind a fault.
 
-ghost use Rattle.std.specs.Prelude.{◌≡◌, IfOk, Some};
-ghost use Rattle.std.specs.Option.{option_map};
-ghost use Rattle.lu_text.specs.Lines.{texts};
+ghost use Rattle.std.specs.Prelude.{Some};
+ghost use Rattle.lu_test.specs.Results.{HasWords};
 ghost use Rattle.lu_test.specs.ScheduleGoing as spec;
 
 use crate::schedule_text::{has_form, line_in};
@@ -11,8 +10,7 @@ use std::alloc::{AllocError, Global};
 
 /// The words behind `schedule` of a line.
 fn words_by<'a>(alloc: Global, line: &'a [u8]) -> Result<Option<Vec<&'a [u8]>>, AllocError>
-    ensures { IfOk result (λ words. option_map (λ ws. texts ws.items) words ≡
-        spec.schedule_line_words (Some line.now)) }
+    ensures { HasWords result (spec.schedule_line_words (Some line.now)) }
 {
     let mut words = parts_of(alloc, b' ', line)?;
     if !has_form(&words) {
@@ -29,8 +27,7 @@ fn words_by<'a>(alloc: Global, line: &'a [u8]) -> Result<Option<Vec<&'a [u8]>>, 
 ///
 /// There is no memory for the words.
 pub fn schedule_words(alloc: Global, text: &[u8]) -> Result<Option<Vec<&[u8]>>, AllocError>
-    ensures { IfOk result (λ words. option_map (λ ws. texts ws.items) words ≡
-        spec.schedule_words text.now) }
+    ensures { HasWords result (spec.schedule_words text.now) }
 {
     match line_in(text) {
         None => Ok(None),
