@@ -40,6 +40,10 @@ pub record IsFirstBroken (h : List Event) (q : List SerialOp) (broken : Preceden
   pub first : IsBlocker h (take place q) broken.second broken.first
   pub before : IsInOrder h q place
 
+-- the first precedence of h that q breaks, or none
+abbrev pub TellsFirstBroken : List Event → List SerialOp → Option Precedence → Type 0
+TellsFirstBroken h q found = MatchOption found (IsInOrder h q (length q)) (IsFirstBroken h q)
+
 -- an order, as contracts see it, and the first precedence that it breaks
 pub record Ordered : Type 0 where
   pub order : List SerialOp
@@ -49,7 +53,7 @@ pub record Ordered : Type 0 where
 -- it breaks, or none
 pub record IsAnyOrder (Set : List SerialOp → Type 0) (h : List Event) (o : Ordered) : Type 0 where
   pub least : IsLeast (HasOutcomes Set h) o.order
-  pub broken : MatchOption o.broken (IsInOrder h o.order (length o.order)) (IsFirstBroken h o.order)
+  pub broken : TellsFirstBroken h o.order o.broken
 
 -- that, or no serial history has the outcomes of h
 abbrev pub TellsAnyOrder : (List SerialOp → Type 0) → List Event → Option Ordered → Type 0

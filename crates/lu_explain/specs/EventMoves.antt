@@ -1,5 +1,5 @@
 -- Which moves of a schedule have events.
-use Rattle.std.specs.Prelude.{◌≡◌, ℕ, suc, List, [], ◌∷◌, Option, Some, None}
+use Rattle.std.specs.Prelude.{◌≡◌, ℕ, suc, List, [], ◌∷◌, Option, Some, None, Result, IfOk, Vec}
 use Rattle.lu_component.specs.Component.{Declarations}
 use Rattle.lu_test.specs.declared.schedule.Move.{Move}
 use Rattle.lu_test.specs.Matrix.{Matrix}
@@ -26,3 +26,8 @@ LeadsNumbered s n (m ∷ u) end numbers =
 abbrev pub AreEventMoves : Declarations → Matrix → List Move → List ℕ → Type 0
 AreEventMoves c matrix u numbers =
     (start : State) × (end : State) × IsStart c matrix start × LeadsNumbered start 0 u end numbers
+
+-- these moves are told, unless memory ran out
+abbrev pub TellsEventMoves : {Z E : Type 0} → Declarations → Matrix → List Move
+    → Result (Vec ℕ Z) E → Type 0
+TellsEventMoves c matrix u result = IfOk result (λ numbers. AreEventMoves c matrix u numbers.items)

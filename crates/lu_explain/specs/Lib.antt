@@ -2,6 +2,8 @@ pub mod EventMoves
 pub mod Explanations
 pub mod AnyOrders
 pub mod Search
+pub mod Runs
+pub mod Results
 pub mod Laws
 pub mod Lines
 pub mod OrderLines

@@ -1,5 +1,5 @@
 -- The text of an order of the calls, precedence aside.
-use Rattle.std.specs.Prelude.{ℕ, Bool, false, ◌++◌, ◌==◌, ◌&&◌, if◌then◌else◌, List, [], ◌∷◌, codes, length, Option, Some, None}
+use Rattle.std.specs.Prelude.{ℕ, Bool, false, ◌++◌, ◌==◌, ◌&&◌, if◌then◌else◌, List, [], ◌∷◌, codes, Option, Some, None}
 use Rattle.std.specs.Option.{option_map_or}
 use Rattle.std.specs.Fmt.{decimal}
 use Rattle.lu_component.specs.Component.{Declarations}
@@ -10,7 +10,8 @@ use Rattle.lu_history.specs.declared.operation.OpId.{OpId}
 use Rattle.lu_history.specs.Parts.{is_return}
 use Rattle.lu_explain.specs.declared.orders.Precedence.{Precedence}
 use Rattle.lu_explain.specs.AnyOrders.{Ordered}
-use Rattle.lu_explain.specs.Lines.{first_lines, operation_words, order_line}
+use Rattle.lu_explain.specs.Lines.{operation_words, order_text}
+use Rattle.lu_explain.specs.Runs.{Run}
 
 -- the event is the call of the operation
 abbrev pub is_call : OpId → Event → Bool
@@ -39,15 +40,16 @@ abbrev pub called_words : List Event → List ℕ → OpId → List ℕ
 called_words h moves b =
     codes " when it was called (move " ++ decimal (number_of (is_call b) h moves) ++ codes ")"
 
--- a precedence that an order breaks, where each event of h has the number of its move
-abbrev pub broken_line : Declarations → Matrix → List Event → List ℕ → Precedence → List ℕ
-broken_line c matrix h moves broken =
-    stands_words c matrix broken ++ returned_words h moves broken.first
-    ++ called_words h moves broken.second ++ codes "\n"
+-- a precedence that an order breaks
+abbrev pub broken_line : Run → Precedence → List ℕ
+broken_line run broken =
+    stands_words run.component run.matrix broken
+    ++ returned_words run.events run.moves broken.first
+    ++ called_words run.events run.moves broken.second ++ codes "\n"
 
 -- the order, and the first precedence that it breaks, where there is such an order
-abbrev pub any_order_text : Declarations → Matrix → List Event → List ℕ → Option Ordered → List ℕ
-any_order_text c matrix h moves None = codes "no order of the calls has these outcomes\n"
-any_order_text c matrix h moves (Some o) =
-    codes "any order\n" ++ first_lines (order_line c matrix o.order) (length o.order)
-    ++ option_map_or (broken_line c matrix h moves) o.broken []
+abbrev pub any_order_text : Run → Option Ordered → List ℕ
+any_order_text run None = codes "no order of the calls has these outcomes\n"
+any_order_text run (Some o) =
+    codes "any order\n" ++ order_text run.component run.matrix o.order
+    ++ option_map_or (broken_line run) o.broken []

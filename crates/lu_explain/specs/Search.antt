@@ -1,5 +1,5 @@
 -- The words of the search for the longest partial witness.
-use Rattle.std.specs.Prelude.{◌≡◌, ℕ, ◌+◌, ◌==◌, if◌then◌else◌, ◌<◌, ◌≤◌, ◌++◌, List, [], ◌∷◌, length, drop, get_or, Option, None, MatchOption, slice_index_or}
+use Rattle.std.specs.Prelude.{◌≡◌, ℕ, ◌+◌, ◌==◌, if◌then◌else◌, ◌<◌, ◌≤◌, ◌++◌, List, [], ◌∷◌, length, drop, get_or, Option, Some, None, MatchOption, slice_get, slice_index_or}
 use Rattle.lu_machine.specs.declared.event.Event.{Event}
 use Rattle.lu_history.specs.declared.operation.OpId.{OpId}
 use Rattle.lu_history.specs.declared.serial.SerialOp.{SerialOp}
@@ -10,6 +10,7 @@ use Rattle.lu_history.specs.Parts.{part}
 use Rattle.lu_witness.specs.Witnesses.{IsMember, entries}
 use Rattle.lu_witness.specs.Search.{AreTaken, IsBeginning}
 use Rattle.lu_explain.specs.declared.explanation.Reason.{Reason}
+use Rattle.lu_explain.specs.declared.search.Way.{Way}
 use Rattle.lu_explain.specs.Explanations.{IsBeginningInSet, IsBlocker, IsFirstLongest, IsFree, IsLeastOutcome, IsReasonOrDone, HasFirst}
 
 -- how many operations are taken
@@ -39,6 +40,17 @@ abbrev pub FindsLongest : List (List SerialOp) → List Event → List ℕ → L
 FindsLongest members h taken order more rest =
     (p : List SerialOp) → AreTaken p taken → IsBeginning h p
     → IsLongestFrom members h p order more rest
+
+-- the same of a way in a tree, where this is what follows a place in the members
+abbrev pub IsLongestWay : {Place : Type 0} → (Place → List (List SerialOp)) → Place → List Event
+    → List ℕ → Way Place → Type 0
+IsLongestWay below place h taken way =
+    FindsLongest (below place) h taken way.order way.taken (below way.place)
+
+-- the operation has its thread's next outcome, where so many are taken
+abbrev pub IsNextOutcome : List ℕ → List Event → SerialOp → Type 0
+IsNextOutcome taken h op =
+    slice_get (part op.thread h) (get_or taken op.thread 0) ≡ Some op.outcome
 
 -- each thread has the outcomes that are left of its part, where so many are taken
 abbrev pub HasRestOfParts : List Event → List ℕ → List SerialOp → Type 0

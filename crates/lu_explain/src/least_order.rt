@@ -4,11 +4,10 @@
 //! label is taken where it is its thread's next outcome; the first way that comes to a member which
 //! leaves nothing is the least.
 
-ghost use Rattle.std.specs.Prelude.{◌≡◌, ◌↔◌, ◌+◌, [], ◌∷◌, ◌≤◌, ◌<◌, IfSome, IsTrue, Some, length, get_or, slice_get};
+ghost use Rattle.std.specs.Prelude.{◌≡◌, ◌↔◌, ◌+◌, [], ◌∷◌, ◌≤◌, ◌<◌, IfSome, IsTrue, length, get_or};
 ghost use Rattle.lu_history.specs.Histories.{IsWellFormed};
-ghost use Rattle.lu_history.specs.Parts.{part};
 ghost use Rattle.lu_explain.specs.AnyOrders.{TellsLeast};
-ghost use Rattle.lu_explain.specs.Search.{AreFewTaken, Completes, HasRestOfParts, number};
+ghost use Rattle.lu_explain.specs.Search.{AreFewTaken, Completes, HasRestOfParts, IsNextOutcome, number};
 
 use crate::order::Order;
 use crate::search::one_more;
@@ -83,8 +82,7 @@ fn is_nothing_left(history: &History, taken: &[u8; MOST_THREADS]) -> bool
 /// Whether the operation has its thread's next outcome.
 fn is_next_outcome(history: &History, taken: &[u8; MOST_THREADS], op: SerialOp) -> bool
     requires { IsWellFormed history.now }
-    ensures next { IsTrue result ↔
-        (slice_get (part op.thread history.now) (get_or taken.now op.thread 0) ≡ Some op.outcome) }
+    ensures next { IsTrue result ↔ IsNextOutcome taken.now history.now op }
     ensures room { IsTrue result → (op.thread < 8) × (get_or taken.now op.thread 0 < 8) }
 {
     if op.thread >= 8 {

@@ -27,6 +27,7 @@ mod moves;
 mod order;
 mod order_writing;
 mod orders;
+mod runs;
 mod search;
 mod standing;
 mod writing;

@@ -1,10 +1,9 @@
 //! Which moves of a schedule have events.
 
-ghost use Rattle.std.specs.Prelude.{◌≡◌, ◌++◌, [], IfOk, OnOk};
+ghost use Rattle.std.specs.Prelude.{◌≡◌, ◌++◌, [], OnOk};
 ghost use Rattle.lu_machine.specs.Schedules.{IsSchedule};
-ghost use Rattle.lu_machine.specs.States.{State};
-ghost use Rattle.lu_machine.specs.Starts.{CanRun, IsStart};
-ghost use Rattle.lu_explain.specs.EventMoves.{AreEventMoves, with_number};
+ghost use Rattle.lu_machine.specs.Starts.{CanRun, FromEachStart};
+ghost use Rattle.lu_explain.specs.EventMoves.{TellsEventMoves, with_number};
 
 use lu_component::Component;
 use lu_machine::{Event, Machine};
@@ -37,9 +36,8 @@ pub fn event_moves(
     schedule: &Schedule,
 ) -> Result<Vec<usize>, AllocError>
     requires of { CanRun component.now matrix.now }
-    requires leads { (s : State) → IsStart component.now matrix.now s → IsSchedule s schedule.now }
-    ensures { IfOk result (λ numbers.
-        AreEventMoves component.now matrix.now schedule.now numbers.items) }
+    requires leads { FromEachStart component.now matrix.now (λ s. IsSchedule s schedule.now) }
+    ensures { TellsEventMoves component.now matrix.now schedule.now result }
 {
     let mut machine = Machine::start(alloc, component, matrix)?;
     let mut numbers = Vec::new(alloc);

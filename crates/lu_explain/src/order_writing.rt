@@ -6,6 +6,7 @@ ghost use Rattle.lu_history.specs.Parts.{is_return};
 ghost use Rattle.lu_explain.specs.OrderLines as spec;
 
 use crate::orders::{AnyOrder, Precedence};
+use crate::runs::Run;
 use crate::writing::{write_operation, write_order};
 use lu_component::Component;
 use lu_history::OpId;
@@ -99,43 +100,32 @@ fn write_called(
     write!(text, "{})", called_at(b, events, moves))
 }
 
-/// Adds the line of a precedence that an order breaks, where each event has the number of its move.
-fn write_broken(
-    text: &mut String,
-    component: &Component,
-    matrix: &Matrix,
-    events: &[Event],
-    moves: &[usize],
-    broken: Precedence,
-) -> Result<(), AllocError>
-    ensures { Writes result text.old text.new
-        (spec.broken_line component.now matrix.now events.now moves.now broken) }
+/// Adds the line of a precedence that an order breaks.
+fn write_broken(text: &mut String, run: &Run<'_>, broken: Precedence) -> Result<(), AllocError>
+    ensures { Writes result text.old text.new (spec.broken_line run.now broken) }
 {
-    write_stands(text, component, matrix, broken)?;
-    write_returned(text, events, moves, broken.first)?;
-    write_called(text, events, moves, broken.second)?;
+    let events = run.history.events();
+    write_stands(text, run.component, run.matrix, broken)?;
+    write_returned(text, events, run.moves, broken.first)?;
+    write_called(text, events, run.moves, broken.second)?;
     text.push('\n')
 }
 
 /// Adds an order and the first precedence that it breaks, or that there is none.
 pub(crate) fn write_any_order(
     text: &mut String,
-    component: &Component,
-    matrix: &Matrix,
-    events: &[Event],
-    moves: &[usize],
+    run: &Run<'_>,
     found: &Option<AnyOrder>,
 ) -> Result<(), AllocError>
-    ensures { Writes result text.old text.new (spec.any_order_text component.now matrix.now
-        events.now moves.now found.now) }
+    ensures { Writes result text.old text.new (spec.any_order_text run.now found.now) }
 {
     let Some(found) = found else {
         return text.push_str("no order of the calls has these outcomes\n");
     };
     text.push_str("any order\n")?;
-    write_order(text, component, matrix, found.order())?;
+    write_order(text, run.component, run.matrix, found.order())?;
     match found.broken() {
         None => Ok(()),
-        Some(broken) => write_broken(text, component, matrix, events, moves, broken),
+        Some(broken) => write_broken(text, run, broken),
     }
 }

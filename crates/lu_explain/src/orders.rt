@@ -1,9 +1,9 @@
 //! Orders of the calls that have a history's outcomes, precedence aside.
 
-ghost use Rattle.std.specs.Prelude.{◌≡◌, MatchOption, length};
+ghost use Rattle.std.specs.Prelude.{◌≡◌};
 ghost use Rattle.lu_history.specs.Histories.{IsWellFormed};
 ghost use Rattle.lu_witness.specs.Witnesses.{IsMember};
-ghost use Rattle.lu_explain.specs.AnyOrders.{HasEachPart, IsFirstBroken, IsInOrder, TellsAnyOrder};
+ghost use Rattle.lu_explain.specs.AnyOrders.{HasEachPart, TellsAnyOrder, TellsFirstBroken};
 
 use crate::least_order::least;
 use crate::order::Order;
@@ -59,8 +59,7 @@ impl AnyOrder {
 fn first_broken(history: &History, order: &[SerialOp]) -> Option<Precedence>
     requires history { IsWellFormed history.now }
     requires parts { HasEachPart history.now order.now }
-    ensures { MatchOption result (IsInOrder history.now order.now (length order.now))
-        (IsFirstBroken history.now order.now) }
+    ensures { TellsFirstBroken history.now order.now result }
 {
     let mut taken = [0; MOST_THREADS];
     for op in order {

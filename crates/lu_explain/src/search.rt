@@ -7,7 +7,7 @@
 ghost use Rattle.std.specs.Prelude.{◌≡◌, ◌+◌, ◌<◌, ◌∷◌, IsTrue, length, get_or};
 ghost use Rattle.lu_history.specs.Histories.{IsWellFormed};
 ghost use Rattle.lu_witness.specs.Search.{TakesOne, TellsNext};
-ghost use Rattle.lu_explain.specs.Search.{AreFewTaken, FindsLongest, IsOneMoreTaken, number};
+ghost use Rattle.lu_explain.specs.Search.{AreFewTaken, IsLongestWay, IsOneMoreTaken, number};
 
 use crate::order::Order;
 use crate::standing::blocker;
@@ -36,8 +36,7 @@ pub(crate) fn longest<T: SerialTree>(
     ensures place { T.is_place tree.now result.place }
     ensures few { AreFewTaken result.taken }
     ensures count { length result.order + number taken.now ≡ number result.taken }
-    ensures longest { FindsLongest (T.below tree.now place) history.now taken.now result.order
-        result.taken (T.below tree.now result.place) }
+    ensures longest { IsLongestWay (T.below tree.now) place history.now taken.now result }
 {
     let mut best = Way {
         order: Order::new(),

@@ -3,7 +3,7 @@ use Rattle.std.specs.Prelude.{MatchBool, string_bytes}
 use Rattle.std.proofs.lemmas.Result.{IfOk-weaker}
 use Rattle.lu_witness.specs.Witnesses.{IsMember}
 use Rattle.lu_explain.specs.Blocks.{HasOrder, IsBlock, Run}
-use Rattle.lu_explain.specs.Lines.{explanation_text}
+use Rattle.lu_explain.specs.Lines.{explain_text}
 use Rattle.lu_explain.proofs.blocks.block.Goals as goal
 
 pub returns-else-is_witnessed : goal.returns-else-is_witnessed
@@ -12,9 +12,9 @@ returns-else-is_witnessed g c =
     let run = c.args.run.now in
     let part = c.args.part.now in
     let e = c.explain-explanation.result in
-    let explained = explanation_text run.component run.matrix part e in
+    let explained = explain_text run.component run.matrix part e in
     let none : e.witnessed ≡ false = sym c.is_witnessed.ensures ∙ c.if-is_witnessed.false in
-    let told = c.in_ok-text.ensures ∙ ap (λ (r : Run). explanation_text r.component r.matrix part e) c.run.view_is in
+    let told = c.in_ok-text.ensures ∙ ap (λ (r : Run). explain_text r.component r.matrix part e) c.run.view_is in
     IfOk-weaker c.with_any_order.result (λ grown. HasOrder Set run part (string_bytes c.in_ok-text.text) (string_bytes grown)) (λ grown. IsBlock Set run part (string_bytes grown))
     (λ grown has. (
       e,
