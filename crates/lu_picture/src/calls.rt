@@ -30,8 +30,7 @@ pub(crate) fn write_call(
     t: u8,
     k: u8,
 ) -> Result<(), AllocError>
-    ensures { Writes result text.old text.new
-        (spec.call_words machine.now.component machine.now.matrix t k) }
+    ensures { Writes result text.old text.new (spec.machine_call machine.now t k) }
 {
     let matrix = machine.matrix();
     if k < matrix.calls(t) {

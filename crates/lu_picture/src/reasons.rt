@@ -2,8 +2,8 @@
 
 ghost use Rattle.std.specs.Prelude.{◌≡◌, ◌<◌, length};
 ghost use Rattle.std.specs.Option.{option_copied};
-ghost use Rattle.lu_text.specs.Writing.{Writes};
 ghost use Rattle.lu_picture.specs.Reasons as spec;
+ghost use Rattle.lu_picture.specs.Written.{WritesReason, WritesWhy};
 
 use crate::mark::End;
 use lu_explain::{Explanation, count, write_outcome, write_reason};
@@ -75,8 +75,7 @@ fn write_reason_of(
     outcome: SerialOutcome,
 ) -> Result<(), AllocError>
     requires { t < 8 }
-    ensures { Writes result text.old text.new (spec.reason_said machine.now.component
-        machine.now.matrix explanation.now t k outcome) }
+    ensures { WritesReason result text.old text.new machine.now explanation.now t k outcome }
 {
     if usize::from(k) != count(explanation.order(), t) {
         return Ok(());
@@ -100,8 +99,7 @@ pub(crate) fn write_why(
     end: Option<End>,
 ) -> Result<(), AllocError>
     requires { t < 8 }
-    ensures { Writes result text.old text.new (spec.why_words machine.now.component
-        machine.now.matrix (option_copied explanation.entry) t k end) }
+    ensures { WritesWhy result text.old text.new machine.now explanation.entry t k end }
 {
     match explanation {
         None => Ok(()),
