@@ -6,6 +6,7 @@ ghost use Rattle.lu_witness.specs.declared.judgement.Why.{Why};
 ghost use Rattle.lu_report.specs.declared.version.Version.{Version as AVersion};
 ghost use Rattle.lu_report.specs.Parts.{IsThreadOf};
 ghost use Rattle.lu_report.specs.Text as spec;
+ghost use Rattle.lu_report.specs.Text.{fail_line, number_line};
 ghost use Rattle.lu_report.specs.Forms.{SaysEarlier};
 
 use crate::version::Version;
@@ -23,7 +24,8 @@ pub(crate) fn is_line(line: &[u8], text: &str) -> bool
 /// The version that the first line of a report says.
 pub(crate) fn version_in(line: &[u8]) -> Option<Version>
     ensures some { IfSome result (λ version. line.now ≡ spec.version_line version) }
-    ensures none { IfNone result ((version : AVersion) → line.now ≡ spec.version_line version → ⊥) }
+    ensures none { IfNone result ((version : AVersion) →
+        line.now ≡ spec.version_line version → ⊥) }
 {
     if is_line(line, "lineup report 1\n") {
         return Some(Version::One);
@@ -39,9 +41,9 @@ pub(crate) fn version_in(line: &[u8]) -> Option<Version>
 
 /// The number of a line that has one of at most `most` behind this front.
 pub(crate) fn number_behind(line: &[u8], front: &str, most: u64) -> Option<u64>
-    ensures some { IfSome result (λ n. (n ≤ most) × (line.now ≡ spec.number_line front.now n)) }
+    ensures some { IfSome result (λ n. (n ≤ most) × (line.now ≡ number_line front.now n)) }
     ensures none { IfNone result ((n : ℕ) →
-        n ≤ most → line.now ≡ spec.number_line front.now n → ⊥) }
+        n ≤ most → line.now ≡ number_line front.now n → ⊥) }
 {
     let word = line.strip_prefix(front.as_bytes())?.strip_suffix(b"\n")?;
     number_up_to(word, most)
@@ -50,7 +52,8 @@ pub(crate) fn number_behind(line: &[u8], front: &str, most: u64) -> Option<u64>
 /// The outcome that a line `earlier ..` says.
 pub(crate) fn earlier_in(line: &[u8]) -> Option<SerialOutcome>
     ensures some { IfSome result (SaysEarlier line.now) }
-    ensures none { IfNone result ((earlier : SerialOutcome) → SaysEarlier line.now earlier → ⊥) }
+    ensures none { IfNone result ((earlier : SerialOutcome) →
+        SaysEarlier line.now earlier → ⊥) }
 {
     if is_line(line, "earlier trap\n") {
         return Some(SerialOutcome::Trap);
@@ -64,9 +67,9 @@ pub(crate) fn earlier_in(line: &[u8]) -> Option<SerialOutcome>
 
 /// The reason that a line `fail ..` says.
 pub(crate) fn why_in(line: &[u8]) -> Option<Why>
-    ensures some { IfSome result (λ why. IsThreadOf why × (line.now ≡ spec.fail_line why)) }
+    ensures some { IfSome result (λ why. IsThreadOf why × (line.now ≡ fail_line why)) }
     ensures none { IfNone result ((why : Why) →
-        IsThreadOf why → line.now ≡ spec.fail_line why → ⊥) }
+        IsThreadOf why → line.now ≡ fail_line why → ⊥) }
 {
     if is_line(line, "fail complete\n") {
         return Some(Why::Complete);

@@ -6,6 +6,7 @@ ghost use Rattle.lu_test.specs.ScheduleText.{schedule_text};
 ghost use Rattle.lu_text.specs.Lines.{kept_lines};
 ghost use Rattle.lu_report.specs.declared.report.Report.{Report};
 ghost use Rattle.lu_report.specs.Text as spec;
+ghost use Rattle.lu_report.specs.Text.{earlier_line};
 ghost use Rattle.lu_report.specs.Parts.{IsJudgement, most_moves};
 ghost use Rattle.lu_history.specs.Serial.{IsOutcome};
 ghost use Rattle.lu_report.specs.Forms.{AreBehind, AreConflict, AreCountLines, AreCountsOf, AreFinding, AreJudgement, AreNone, AreReport, AreRun, Cuts, GivesReport, HasNo, IsBehind, IsConflictOf, IsEarlierLine, IsFault, IsFindingOf, IsNumberLine, IsScheduleLine, IsVersionLine, SaysNumber, Spells, Stops};
@@ -80,8 +81,7 @@ fn schedule_line(alloc: Global, text: &[u8]) -> Result<(Schedule, &[u8]), Unread
 
 /// The outcome on the first line, and what follows the line.
 fn earlier_line(text: &[u8]) -> Result<(SerialOutcome, &[u8]), Unread<'_>>
-    ensures found { IfOk result (λ p.
-        IsOutcome p.0 × Cuts text.now (spec.earlier_line p.0) p.1.now) }
+    ensures found { IfOk result (λ p. IsOutcome p.0 × Cuts text.now (earlier_line p.0) p.1.now) }
     ensures fault { IfErr result (HasNo IsEarlierLine text.now) }
 {
     let (first, rest) = cut_line(text);
@@ -105,7 +105,8 @@ fn end(text: &[u8]) -> Result<(), Unread<'_>>
 
 /// The schedule alone.
 fn run(alloc: Global, text: &[u8]) -> Result<Schedule, Unread<'_>>
-    ensures found { IfOk result (λ u. AreMoves u × (kept_lines text.now ≡ schedule_text u ∷ [])) }
+    ensures found { IfOk result (λ u.
+        AreMoves u × (kept_lines text.now ≡ schedule_text u ∷ [])) }
     ensures fault { IfErr result (Stops AreRun text.now) }
 {
     let (schedule, rest) = schedule_line(alloc, text)?;
