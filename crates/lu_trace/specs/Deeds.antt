@@ -126,19 +126,19 @@ awaited_lock s l =
     codes "waits for lock " ++ lock_word s.component l ++ owned_by (owner_of s l)
 
 -- the value that the cell has to become, and the one that it has
-abbrev pub awaited_value : State → Frame → ℕ → Operand → Operand → List ℕ
-awaited_value s f w i v =
+abbrev pub awaited_is : State → Frame → ℕ → Operand → Operand → List ℕ
+awaited_is s f w i v =
     codes "waits until " ++ cell_is s.component w (value_of f i) (value_of f v) ++ present
     (seen s f w i)
 
 -- the value that the cell has to lose
-abbrev pub awaited_other : Declarations → ℕ → ℕ → ℕ → List ℕ
-awaited_other c w i n = codes "waits until " ++ cell_is_not c w i n
+abbrev pub awaited_is_not : Declarations → ℕ → ℕ → ℕ → List ℕ
+awaited_is_not c w i n = codes "waits until " ++ cell_is_not c w i n
 
 -- What a blocked instruction of the operation f waits for, in the state s.
 abbrev pub awaited : State → Frame → Instr → List ℕ
 awaited s f (Lock l) = awaited_lock s l
-awaited s f (Await w i v) = awaited_value s f w i v
+awaited s f (Await w i v) = awaited_is s f w i v
 awaited s f (AwaitNot w i v) =
-    awaited_other s.component w (value_of f i) (value_of f v)
+    awaited_is_not s.component w (value_of f i) (value_of f v)
 awaited s f _ = []

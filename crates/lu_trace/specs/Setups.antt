@@ -91,9 +91,17 @@ abbrev pub lock_lines : State → ℕ → List ℕ
 lock_lines s zero = []
 lock_lines s (suc n) = lock_lines s n ++ lock_owner_line s n
 
+-- the lines of all arrays
+abbrev pub all_array_lines : State → List ℕ
+all_array_lines s = array_lines s (length s.component.arrays)
+
+-- the lines of all locks
+abbrev pub all_lock_lines : State → List ℕ
+all_lock_lines s = lock_lines s (length s.component.locks)
+
 -- the lines of all arrays, and of all locks
 abbrev pub found_lines : State → List ℕ
-found_lines s = array_lines s (length s.component.arrays) ++ lock_lines s (length s.component.locks)
+found_lines s = all_array_lines s ++ all_lock_lines s
 
 -- ---- the whole
 

@@ -1,5 +1,5 @@
 -- Traces: what a schedule does, line by line.
-use Rattle.std.specs.Prelude.{◌≡◌, ℕ, zero, suc, ◌+◌, ◌++◌, List, [], ◌∷◌, length, Option, Some, None, MatchBool, String, string_bytes}
+use Rattle.std.specs.Prelude.{◌≡◌, ℕ, zero, suc, ◌+◌, ◌++◌, List, [], ◌∷◌, length, Option, Some, None, MatchBool, Result, OnOk, String, string_bytes}
 use Rattle.lu_component.specs.Component.{Declarations}
 use Rattle.lu_test.specs.declared.schedule.Move.{Move}
 use Rattle.lu_test.specs.Matrix.{Matrix}
@@ -66,3 +66,8 @@ AddsLines Are old new = (lines : List ℕ) × Are lines × (new ≡ old ++ lines
 
 abbrev pub AddsText : {Z : Type 0} → (List ℕ → Type 0) → String Z → String Z → Type 0
 AddsText Are old new = AddsLines Are (string_bytes old) (string_bytes new)
+
+-- where it succeeds the text grows by such lines
+abbrev pub WritesLines : {T E Z : Type 0} → Result T E → String Z → String Z → (List ℕ → Type 0)
+    → Type 0
+WritesLines result old new Are = OnOk result (AddsText Are old new)

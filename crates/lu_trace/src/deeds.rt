@@ -4,7 +4,7 @@ ghost use Rattle.std.specs.Prelude.{◌≡◌, ◌<◌, length};
 ghost use Rattle.lu_text.specs.Writing.{Writes};
 ghost use Rattle.lu_component.specs.Component.{IsOperand};
 ghost use Rattle.lu_machine.specs.Layout.{IsSound};
-ghost use Rattle.lu_trace.specs.Deeds.{store_deed};
+ghost use Rattle.lu_trace.specs.Deeds.{load_deed, store_deed};
 ghost use Rattle.lu_trace.specs.Deeds as spec;
 
 use lu_component::{Component, Instr, Operand};
@@ -109,8 +109,7 @@ fn write_load(
 ) -> Result<(), AllocError>
     requires array { array < length machine.now.component.arrays }
     requires index { IsOperand index }
-    ensures { Writes result text.old text.new
-        (spec.load_deed machine.now frame.now to array index) }
+    ensures { Writes result text.old text.new (load_deed machine.now frame.now to array index) }
 {
     match value_in(machine, frame, array, index) {
         None => text.push_str("trap"),

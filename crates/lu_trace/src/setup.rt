@@ -1,9 +1,9 @@
 //! The writer of traces that begin with the setup.
 
-ghost use Rattle.std.specs.Prelude.{◌≡◌, ◌<◌, length, IfErr, IfOk, OnOk};
+ghost use Rattle.std.specs.Prelude.{◌≡◌, ◌<◌, length, IfErr, IfOk};
 ghost use Rattle.lu_text.specs.Writing.{Writes};
 ghost use Rattle.lu_machine.specs.Starts.{CanRun};
-ghost use Rattle.lu_trace.specs.Traces.{AddsText, IsTraceFault};
+ghost use Rattle.lu_trace.specs.Traces.{IsTraceFault, WritesLines};
 ghost use Rattle.lu_trace.specs.Setups.{AreSetupLines, IsTextFromSetup, LinesUpTo};
 ghost use Rattle.lu_trace.specs.Setups as spec;
 
@@ -47,8 +47,7 @@ fn write_setup_line(text: &mut String, machine: &Machine<'_>) -> Result<(), Allo
 /// Thread 0 makes calls and carries out instructions, each pick 0, as long as it can, up to
 /// [`MOST_LINES`] of them. Adds their lines.
 fn write_setup_lines(text: &mut String, machine: &mut Machine<'_>) -> Result<(), AllocError>
-    ensures { OnOk result
-        (AddsText (LinesUpTo 34952 machine.old machine.new) text.old text.new) }
+    ensures { WritesLines result text.old text.new (LinesUpTo 34952 machine.old machine.new) }
 {
     for _line in 0..MOST_LINES {
         if !machine.feasible(FIRST_MOVE) {
@@ -68,8 +67,7 @@ fn write_setup(
     matrix: &Matrix,
 ) -> Result<(), AllocError>
     requires { CanRun component.now matrix.now }
-    ensures { OnOk result
-        (AddsText (AreSetupLines component.now matrix.now.setup) text.old text.new) }
+    ensures { WritesLines result text.old text.new (AreSetupLines component.now matrix.now.setup) }
 {
     let alone = setup_alone(alloc, matrix)?;
     let mut machine = Machine::start(alloc, component, &alone)?;
@@ -131,8 +129,7 @@ fn write_array(text: &mut String, machine: &Machine<'_>, array: u8) -> Result<()
 
 /// Adds the lines of all arrays.
 fn write_arrays(text: &mut String, machine: &Machine<'_>) -> Result<(), AllocError>
-    ensures { Writes result text.old text.new
-        (spec.array_lines machine.now (length machine.now.component.arrays)) }
+    ensures { Writes result text.old text.new (spec.all_array_lines machine.now) }
 {
     let count = machine.component().arrays().len() as u8;
     for array in 0..count {
@@ -163,8 +160,7 @@ fn write_lock(text: &mut String, machine: &Machine<'_>, lock: u8) -> Result<(), 
 
 /// Adds the lines of all locks.
 fn write_locks(text: &mut String, machine: &Machine<'_>) -> Result<(), AllocError>
-    ensures { Writes result text.old text.new
-        (spec.lock_lines machine.now (length machine.now.component.locks)) }
+    ensures { Writes result text.old text.new (spec.all_lock_lines machine.now) }
 {
     let count = machine.component().locks().len() as u8;
     for lock in 0..count {

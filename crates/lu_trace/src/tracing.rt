@@ -1,9 +1,9 @@
 //! The writer of traces.
 
-ghost use Rattle.std.specs.Prelude.{IfErr, IfOk, OnOk};
+ghost use Rattle.std.specs.Prelude.{IfErr, IfOk};
 ghost use Rattle.lu_machine.specs.Starts.{CanRun};
 ghost use Rattle.lu_machine.specs.Steps.{IsFeasible};
-ghost use Rattle.lu_trace.specs.Traces.{AddsText, IsTraceFault, IsTraceText, LocalLines, MoveLines};
+ghost use Rattle.lu_trace.specs.Traces.{IsTraceFault, IsTraceText, LocalLines, MoveLines, WritesLines};
 
 use crate::fault::TraceFault;
 use crate::lines::{status_line, write_line};
@@ -22,7 +22,7 @@ fn run_on(
     t: u8,
     most: u8,
 ) -> Result<(), AllocError>
-    ensures { OnOk result (AddsText (LocalLines most machine.old t machine.new) text.old text.new) }
+    ensures { WritesLines result text.old text.new (LocalLines most machine.old t machine.new) }
 {
     if most == 0 {
         return Ok(());
@@ -45,8 +45,7 @@ fn write_move(
     next: Move,
 ) -> Result<(), AllocError>
     requires { IsFeasible machine.old next }
-    ensures { OnOk result
-        (AddsText (MoveLines number machine.old next machine.new) text.old text.new) }
+    ensures { WritesLines result text.old text.new (MoveLines number machine.old next machine.new) }
 {
     let more = machine.more_local(next.thread);
     write_line(alloc, text, machine, Some(number), next)?;

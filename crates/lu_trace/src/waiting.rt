@@ -4,9 +4,10 @@ ghost use Rattle.std.specs.Prelude.{◌<◌, length};
 ghost use Rattle.lu_text.specs.Writing.{Writes};
 ghost use Rattle.lu_component.specs.Component.{IsOperand};
 ghost use Rattle.lu_machine.specs.Layout.{IsSound};
-ghost use Rattle.lu_trace.specs.Deeds.{awaited_value};
+ghost use Rattle.lu_trace.specs.Deeds.{awaited_is, awaited_is_not};
 ghost use Rattle.lu_trace.specs.Deeds as words;
 ghost use Rattle.lu_trace.specs.Lines as spec;
+ghost use Rattle.lu_trace.specs.Lines.{waits};
 
 use crate::deeds::{value_in, write_cell};
 use crate::lines::{write_head, write_instr_text};
@@ -71,8 +72,7 @@ fn write_await(
     requires array { array < length machine.now.component.arrays }
     requires index { IsOperand index }
     requires value { IsOperand value }
-    ensures { Writes result text.old text.new
-        (awaited_value machine.now frame.now array index value) }
+    ensures { Writes result text.old text.new (awaited_is machine.now frame.now array index value) }
 {
     let component = machine.component();
     text.push_str("waits until ")?;
@@ -94,8 +94,7 @@ fn write_await_not(
     index: u32,
     value: u32,
 ) -> Result<(), AllocError>
-    ensures { Writes result text.old text.new
-        (words.awaited_other component.now array index value) }
+    ensures { Writes result text.old text.new (awaited_is_not component.now array index value) }
 {
     text.push_str("waits until ")?;
     write_other(text, component, array, index, value)
@@ -181,8 +180,7 @@ pub(crate) fn write_waits(
     text: &mut String,
     machine: &Machine<'_>,
 ) -> Result<(), AllocError>
-    ensures { Writes result text.old text.new
-        (spec.waits machine.now (length machine.now.threads)) }
+    ensures { Writes result text.old text.new (waits machine.now (length machine.now.threads)) }
 {
     for t in 0..machine.threads() {
         write_wait(alloc, text, machine, t)?;
