@@ -13,7 +13,7 @@ use Rattle.lu_spec.specs.Beginnings.{AddsBeginnings, IsClosureOf}
 use Rattle.lu_spec.specs.SpecText.{AreListed, HasConflictIn, IsFaultAmong, IsReadAs, SaysHistory, SaysNoHistory, first_line, history_line}
 use Rattle.lu_spec.specs.Specs.{FitsMatrix}
 use Rattle.lu_spec.specs.Reading.{IsGatheredDraft, IsNextOf}
-use Rattle.lu_spec.specs.EveryFault.{AddsFaults, AreFaultsFrom, AreFaultsOfLines, AreSpecFaults, IsFirstLineFault, IsJudgedAs, IsTakenOf, Judges, Leaves, LeavesDraft, TakesNone, first_line_fault}
+use Rattle.lu_spec.specs.EveryFault.{AddsFaults, AreFaultsFrom, AreFaultsOfLines, AreSpecFaults, IsFirstLineFault, IsJudgedAs, IsTaken, Judges, Leaves, LeavesDraft, TakesNone, first_line_fault}
 use Rattle.lu_spec.specs.Laws.{IsToldAsRead}
 use Rattle.lu_spec.proofs.Collected.{in_listed, in_set}
 use Rattle.lu_spec.proofs.Faultless.{no_fault}
@@ -23,7 +23,7 @@ use Rattle.lu_spec.proofs.Nexts.{gathered_more, listed_more, no_histories}
 
 -- ---- a line's history, by a set and by what it is the closure of
 
-taken_here : (matrix : Matrix) (gathered set : List (List SerialOp)) (line : List ℕ) (q : List SerialOp) → IsClosureOf gathered set → IsTakenOf matrix set line q → IsTakenOf matrix gathered line q
+taken_here : (matrix : Matrix) (gathered set : List (List SerialOp)) (line : List ℕ) (q : List SerialOp) → IsClosureOf gathered set → IsTaken matrix set line q → IsTaken matrix gathered line q
 taken_here matrix gathered set line q closure taken = record { says = taken.says; fits = taken.fits; apart = λ conflict. taken.apart (in_set gathered set q closure conflict) }
 
 pub none_left : (matrix : Matrix) (gathered : List (List SerialOp)) (line : List ℕ) (draft : ListedDraft) → TakesNone matrix draft.set line → IsGatheredDraft matrix gathered draft.set draft.last.items → LeavesDraft matrix gathered line draft
@@ -31,15 +31,15 @@ none_left matrix gathered line draft none are =
     (gathered, inr (λ q taken. none q (record { says = taken.says; fits = taken.fits; apart = λ conflict. taken.apart (in_listed gathered draft.set q are.closure conflict) }), refl), are)
 
 -- with one history more
-with_taken : (matrix : Matrix) (gathered : List (List SerialOp)) (line : List ℕ) (draft next : ListedDraft) (q : List SerialOp) → IsTakenOf matrix gathered line q → AddsBeginnings draft.set next.set q → next.last.items ≡ q → IsGatheredDraft matrix gathered draft.set draft.last.items → LeavesDraft matrix gathered line next
+with_taken : (matrix : Matrix) (gathered : List (List SerialOp)) (line : List ℕ) (draft next : ListedDraft) (q : List SerialOp) → IsTaken matrix gathered line q → AddsBeginnings draft.set next.set q → next.last.items ≡ q → IsGatheredDraft matrix gathered draft.set draft.last.items → LeavesDraft matrix gathered line next
 with_taken matrix gathered line draft next q taken adds last are =
     let more = gathered_more matrix gathered draft.set draft.last.items are q taken.says.0 taken.fits taken.apart next.set adds in
     (gathered ++ q ∷ [], inl (q, taken, refl), subst (IsGatheredDraft matrix (gathered ++ q ∷ []) next.set) (sym last) more)
 
-pub one_left : (matrix : Matrix) (gathered : List (List SerialOp)) (line : List ℕ) (draft next : ListedDraft) (q : List SerialOp) → IsTakenOf matrix draft.set line q → AddsBeginnings draft.set next.set q → next.last.items ≡ q → IsGatheredDraft matrix gathered draft.set draft.last.items → LeavesDraft matrix gathered line next
+pub one_left : (matrix : Matrix) (gathered : List (List SerialOp)) (line : List ℕ) (draft next : ListedDraft) (q : List SerialOp) → IsTaken matrix draft.set line q → AddsBeginnings draft.set next.set q → next.last.items ≡ q → IsGatheredDraft matrix gathered draft.set draft.last.items → LeavesDraft matrix gathered line next
 one_left matrix gathered line draft next q taken adds last are = with_taken matrix gathered line draft next q (taken_here matrix gathered draft.set line q are.closure taken) adds last are
 
-taken_next : (matrix : Matrix) (gathered : List (List SerialOp)) (line : List ℕ) (q : List SerialOp) → IsNextOf matrix gathered line q → IsTakenOf matrix gathered line q
+taken_next : (matrix : Matrix) (gathered : List (List SerialOp)) (line : List ℕ) (q : List SerialOp) → IsNextOf matrix gathered line q → IsTaken matrix gathered line q
 taken_next matrix gathered line q next = record { says = (next.is.1, next.is.0); fits = next.fits; apart = next.apart }
 
 pub next_left : (matrix : Matrix) (gathered : List (List SerialOp)) (line : List ℕ) (draft next : ListedDraft) (q : List SerialOp) → IsNextOf matrix gathered line q → AddsBeginnings draft.set next.set q → next.last.items ≡ q → IsGatheredDraft matrix gathered draft.set draft.last.items → LeavesDraft matrix gathered line next
@@ -52,7 +52,7 @@ module _ (matrix : Matrix) (set : List (List SerialOp)) (line : List ℕ) where
   says_none none q taken = none q taken.says.0 taken.says.1
 
   module _ (h : List SerialOp) (said : SaysHistory line h) where
-    same : (q : List SerialOp) → IsTakenOf matrix set line q → q ≡ h
+    same : (q : List SerialOp) → IsTaken matrix set line q → q ≡ h
     same q taken = line_same q h taken.says.0 said.0 (sym taken.says.1 ∙ said.1)
 
     pub not_fitting : (FitsMatrix matrix h → ⊥) → TakesNone matrix set line

@@ -11,6 +11,7 @@ use Rattle.lu_test.specs.Matrix.{Matrix}
 use Rattle.lu_trie.specs.Conflicts.{IsDeterministic}
 use Rattle.lu_spec.specs.declared.fault.SpecFaultKind.{SpecFaultKind}
 use Rattle.lu_spec.specs.declared.fault.SpecFaultKind.TheVariants.{Form, Foreign, Nondeterministic}
+use Rattle.lu_spec.specs.declared.collecting.CollectedDraft.{CollectedDraft}
 use Rattle.lu_spec.specs.Beginnings.{AddsBeginnings, IsClosureOf}
 use Rattle.lu_spec.specs.Specs.{FitsMatrix}
 use Rattle.lu_spec.specs.SpecText.{HasConflictIn, SayHistory, SayNoHistory}
@@ -122,3 +123,13 @@ abbrev pub IsLineRefusal : Matrix → Bool → List (List SerialOp) → List Wor
 IsLineRefusal matrix begun set words n (At kind number) =
     (lists begun words ≡ true) × (number ≡ n) × IsFaultOfWords matrix set words kind
 IsLineRefusal matrix begun set words n Memory = Unit {0}
+
+-- ---- one line behind the lines of a draft
+
+-- the next draft has the history that the line lists, where it lists one
+abbrev pub CollectsLine : Matrix → CollectedDraft → List Word → CollectedDraft → Type 0
+CollectsLine matrix draft words next = AddsLine matrix draft.begun draft.set words next.set
+
+-- the line's fault, which is line n, or want of memory
+abbrev pub RefusesLine : Matrix → CollectedDraft → List Word → ℕ → Fault SpecFaultKind → Type 0
+RefusesLine matrix draft words n fault = IsLineRefusal matrix draft.begun draft.set words n fault

@@ -12,20 +12,20 @@ use Rattle.lu_spec.specs.SpecText.{HasConflictIn, IsFaultOfLine, SaysHistory, fi
 use Rattle.lu_spec.specs.Reading.{IsGatheredDraft, IsNextOf}
 
 -- the line says a history of the matrix which conflicts with none of these
-pub record IsTakenOf (matrix : Matrix) (gathered : List (List SerialOp)) (line : List ℕ)
+pub record IsTaken (matrix : Matrix) (gathered : List (List SerialOp)) (line : List ℕ)
     (q : List SerialOp) : Type 0 where
   pub says : SaysHistory line q
   pub fits : FitsMatrix matrix q
   pub apart : HasConflictIn gathered q → ⊥
 
 abbrev pub TakesNone : Matrix → List (List SerialOp) → List ℕ → Type 0
-TakesNone matrix gathered line = (q : List SerialOp) → IsTakenOf matrix gathered line q → ⊥
+TakesNone matrix gathered line = (q : List SerialOp) → IsTaken matrix gathered line q → ⊥
 
 -- Behind a line its history is gathered, where it says such a one, in order or not. A line that
 -- says none is left out.
 abbrev pub Leaves : Matrix → List (List SerialOp) → List ℕ → List (List SerialOp) → Type 0
 Leaves matrix gathered line after =
-    ((q : List SerialOp) × IsTakenOf matrix gathered line q × (after ≡ gathered ++ q ∷ []))
+    ((q : List SerialOp) × IsTaken matrix gathered line q × (after ≡ gathered ++ q ∷ []))
     ⊎ TakesNone matrix gathered line × (after ≡ gathered)
 
 -- line n has no fault where it is that of a history that may stand there; else it has its fault

@@ -1,5 +1,5 @@
 -- The histories that a specification's text lists.
-use Rattle.std.specs.Prelude.{◌≡◌, ◌≢◌, ◌↔◌, List, [], ◌∷◌, ◌++◌, length, String, string_bytes}
+use Rattle.std.specs.Prelude.{◌≡◌, ◌≢◌, ◌↔◌, List, [], ◌∷◌, ◌++◌, length, Result, OnOk, String, string_bytes}
 use Rattle.std.specs.List.{AllByRecursion, flat_map}
 use Rattle.lu_history.specs.declared.serial.SerialOp.{SerialOp}
 use Rattle.lu_trie.specs.Branches.{branches_of}
@@ -44,12 +44,12 @@ pub record AreEnds (path : List SerialOp) (below listed : List (List SerialOp)) 
   pub are : (q : List SerialOp) → Has listed q ↔ IsEnd path below q
   pub rises : Rises listed
 
--- the text grows by the lines of those histories
-abbrev pub AddsEnds : {Z : Type 0} → List SerialOp → List (List SerialOp) → String Z → String Z
-    → Type 0
-AddsEnds path below old new =
-    (listed : List (List SerialOp)) × AreEnds path below listed
-    × (string_bytes new ≡ string_bytes old ++ flat_map history_line listed)
+-- where it succeeds the text grows by the lines of those histories
+abbrev pub WritesEnds : {T E Z : Type 0} → Result T E → String Z → String Z → List SerialOp
+    → List (List SerialOp) → Type 0
+WritesEnds result old new path below =
+    OnOk result ((listed : List (List SerialOp)) × AreEnds path below listed
+    × (string_bytes new ≡ string_bytes old ++ flat_map history_line listed))
 
 -- the path is a member that begins no other, and is not empty
 abbrev pub IsEndHere : List SerialOp → List (List SerialOp) → Type 0

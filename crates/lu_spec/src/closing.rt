@@ -21,8 +21,7 @@ pub(crate) fn add_below<A: Allocator + Clone, T: SerialTree>(
     requires serial { AreSerialBehind path.old.items (T.below tree.now place) }
     ensures path { OnOk result (path.new.items ≡ path.old.items) }
     ensures outcomes { OnOk result (AllHaveOutcomes (T.below tree.now place)) }
-    ensures added { OnOk result
-        (AddsBelow set.old set.new path.old.items (T.below tree.now place)) }
+    ensures adds { OnOk result (AddsBelow set.old set.new path.old.items (T.below tree.now place)) }
 {
     set.insert(path)?;
     for i in 0..tree.kid_count(place) {

@@ -6,7 +6,7 @@ ghost use Rattle.lu_text.specs.Lines.{texts};
 ghost use Rattle.lu_trie.specs.Conflicts.{IsDeterministic};
 ghost use Rattle.lu_spec.specs.Beginnings.{IsClosureOf};
 ghost use Rattle.lu_spec.specs.Specs.{AreOf};
-ghost use Rattle.lu_spec.specs.Collecting.{AddsLine, IsCollectFault, IsCollectedAs, IsLineRefusal, IsOneMore, IsWordsRefusal};
+ghost use Rattle.lu_spec.specs.Collecting.{CollectsLine, IsCollectFault, IsCollectedAs, IsOneMore, IsWordsRefusal, RefusesLine, has_begun};
 ghost use Rattle.lu_spec.specs.Collecting as spec;
 
 use crate::fault::{SpecFault, SpecFaultKind};
@@ -96,12 +96,9 @@ fn collect_line(
     number: usize,
 ) -> Result<CollectedDraft, SpecFault>
     requires { IsDeterministic draft.set }
-    ensures next { IfOk result (λ next.
-        AddsLine matrix.now draft.begun draft.set (texts words.now) next.set) }
-    ensures begun { IfOk result (λ next.
-        next.begun ≡ spec.has_begun draft.begun (texts words.now)) }
-    ensures fault { IfErr result
-        (IsLineRefusal matrix.now draft.begun draft.set (texts words.now) number) }
+    ensures next { IfOk result (CollectsLine matrix.now draft (texts words.now)) }
+    ensures begun { IfOk result (λ next. next.begun ≡ has_begun draft.begun (texts words.now)) }
+    ensures fault { IfErr result (RefusesLine matrix.now draft (texts words.now) number) }
 {
     let begun = has_begun(draft.begun, words);
     if !lists(draft.begun, words) {

@@ -4,7 +4,7 @@ ghost use Rattle.std.specs.Prelude.{◌≡◌, ◌++◌, IfOk, IfSome, IfNone};
 ghost use Rattle.std.specs.Option.{option_to_list};
 ghost use Rattle.lu_text.specs.Lines.{kept_lines};
 ghost use Rattle.lu_trie.specs.Conflicts.{IsDeterministic};
-ghost use Rattle.lu_spec.specs.EveryFault.{AddsFaults, AreSpecFaults, IsFirstLineFault, IsTakenOf, Judges, LeftBy, TakesNone};
+ghost use Rattle.lu_spec.specs.EveryFault.{AddsFaults, AreSpecFaults, IsFirstLineFault, IsTaken, Judges, LeftBy, TakesNone};
 ghost use Rattle.lu_spec.specs.Reading.{IsSomeGathering};
 
 use crate::fault::{SpecFaultKind, SpecLineFault};
@@ -25,9 +25,9 @@ fn taken_in(
     line: &[u8],
 ) -> Result<Option<Vec<SerialOp>>, AllocError>
     requires { IsDeterministic set.now }
-    ensures some { IfOk result (λ read.
-        IfSome read (λ q. IsTakenOf matrix.now set.now line.now q.items)) }
-    ensures none { IfOk result (λ read. IfNone read (TakesNone matrix.now set.now line.now)) }
+    ensures some { IfOk result (λ o.
+        IfSome o (λ q. IsTaken matrix.now set.now line.now q.items)) }
+    ensures none { IfOk result (λ o. IfNone o (TakesNone matrix.now set.now line.now)) }
 {
     match history_in(alloc, line)? {
         None => Ok(None),
@@ -113,8 +113,7 @@ fn with_faults(
     mut faults: Vec<SpecLineFault>,
     text: &[u8],
 ) -> Result<Vec<SpecLineFault>, AllocError>
-    ensures { IfOk result (λ all.
-        AddsFaults matrix.now (kept_lines text.now) faults.items all.items) }
+    ensures { IfOk result (λ a. AddsFaults matrix.now (kept_lines text.now) faults.items a.items) }
 {
     let mut draft = nothing_listed(alloc)?;
     let mut rest = text;

@@ -20,8 +20,7 @@ pub(crate) fn is_word(word: &[u8], text: &str) -> bool
 
 /// The outcome that a word says.
 fn outcome_in(word: &[u8]) -> Option<SerialOutcome>
-    ensures some { IfSome result (λ outcome.
-        IsOutcome outcome × (word.now ≡ listed_outcome_text outcome)) }
+    ensures some { IfSome result (λ o. IsOutcome o × (word.now ≡ listed_outcome_text o)) }
     ensures none { IfNone result (SaysNoOutcome word.now) }
 {
     if is_word(word, "trap") {
@@ -37,7 +36,8 @@ fn outcome_in(word: &[u8]) -> Option<SerialOutcome>
 /// The operation that a word says.
 fn entry_in(word: &[u8]) -> Option<SerialOp>
     ensures some { IfSome result (λ op. IsEntry op × (word.now ≡ entry_text op)) }
-    ensures none { IfNone result ((op : SerialOp) → IsEntry op → word.now ≡ entry_text op → ⊥) }
+    ensures none { IfNone result ((op : SerialOp) →
+        IsEntry op → word.now ≡ entry_text op → ⊥) }
 {
     match word {
         [digit, equals, outcome @ ..] => {
@@ -56,9 +56,8 @@ fn entry_in(word: &[u8]) -> Option<SerialOp>
 
 /// The operations that words say, where each says one.
 fn entries_in(alloc: Global, words: &[&[u8]]) -> Result<Option<Vec<SerialOp>>, AllocError>
-    ensures some { IfOk result (λ read.
-        IfSome read (λ ops. SayEntries (texts words.now) ops.items)) }
-    ensures none { IfOk result (λ read. IfNone read (SayNoEntries (texts words.now))) }
+    ensures some { IfOk result (λ o. IfSome o (λ q. SayEntries (texts words.now) q.items)) }
+    ensures none { IfOk result (λ o. IfNone o (SayNoEntries (texts words.now))) }
 {
     let mut entries = Vec::with_capacity(alloc, words.len())?;
     for word in words {

@@ -2,7 +2,7 @@
 
 ghost use Rattle.std.specs.Prelude.{◌≡◌, ◌↔◌, ◌∷◌, IsTrue, OnOk, IfOk};
 ghost use Rattle.lu_text.specs.Writing.{Writes};
-ghost use Rattle.lu_spec.specs.Listed.{AddsEnds, IsEndHere, IsSpecText};
+ghost use Rattle.lu_spec.specs.Listed.{IsEndHere, IsSpecText, WritesEnds};
 ghost use Rattle.lu_spec.specs.SpecText.{entry_text, history_line};
 
 use crate::spec::Spec;
@@ -50,8 +50,7 @@ fn write_below<T: SerialTree>(
     path: &mut Vec<SerialOp>,
 ) -> Result<(), AllocError>
     requires { T.is_place tree.now place }
-    ensures text { OnOk result
-        (AddsEnds path.old.items (T.below tree.now place) text.old text.new) }
+    ensures text { WritesEnds result text.old text.new path.old.items (T.below tree.now place) }
     ensures path { OnOk result (path.new.items ≡ path.old.items) }
 {
     if is_end(tree, place, path) {

@@ -39,15 +39,15 @@ loop-i-preserved g t c =
     let kid = g.T.SerialTree.below c.args.tree.now c.kid-below.result.1 in
     let pushed : c.push.new.self.items ≡ path ++ op ∷ [] = c.in_ok-push.ensures.items ∙ ap (λ (p : List SerialOp). p ++ op ∷ []) c.loop-i.invariant.path in
     let back : c.add_below.new.path.items ≡ path ++ op ∷ [] = c.in_ok-add_below.ensures.path ∙ pushed in
-    let added = subst (λ (p : List SerialOp). AddsBelow c.loop-i.set c.add_below.new.set p kid) pushed c.in_ok-add_below.ensures.added in
+    let added = subst (λ (p : List SerialOp). AddsBelow c.loop-i.set c.add_below.new.set p kid) pushed c.in_ok-add_below.ensures.adds in
     record {
       path = c.pop.ensures.rest ∙ popped path c.add_below.new.path.items op (vec_len c.add_below.new.path) back (c.add_below.new.path.ok.0);
       added = kid_added c.args.set.now c.loop-i.set c.add_below.new.set path below c.loop-i.i op kid law c.kid-below.ensures.kid c.loop-i.invariant.added added;
       outcomes = kid_outcomes below c.loop-i.i op kid c.kid-below.ensures.kid (search rules) c.in_ok-add_below.ensures.outcomes c.loop-i.invariant.outcomes;
     }
 
-pub returns-clause-added : goal.returns-clause-added
-returns-clause-added g t c =
+pub returns-clause-adds : goal.returns-clause-adds
+returns-clause-adds g t c =
     let law = g.met.T.SerialTree.branching c.args.tree.now c.args.place c.requires.place in
     all_added c.args.set.now c.loop-i.set c.args.path.now.items (g.T.SerialTree.below c.args.tree.now c.args.place) c.loop-i.i law (omega (arith, c.kid_count-i-end.ensures, c.loop-i-test.false)) c.loop-i.invariant.added
 

@@ -19,7 +19,7 @@ same-closed g c = refl
 
 pub invariant_of-result : goal.invariant_of-result
 invariant_of-result g c =
-    let from_nothing = subst (λ (x : List (List SerialOp)). AddsBelow x c.add_below.new.set c.new.result.items c.root.result.now) c.new-closed.ensures c.in_ok-add_below.ensures.added in
+    let from_nothing = subst (λ (x : List (List SerialOp)). AddsBelow x c.add_below.new.set c.new.result.items c.root.result.now) c.new-closed.ensures c.in_ok-add_below.ensures.adds in
     let at_root = subst (λ (p : List SerialOp). AddsBelow [] c.add_below.new.set p c.root.result.now) c.new.ensures.items from_nothing in
     let added = subst (λ (x : List (List SerialOp)). AddsBelow [] c.add_below.new.set [] x) c.root.ensures.all at_root in
     let outcomes = subst AllHaveOutcomes c.root.ensures.all c.in_ok-add_below.ensures.outcomes in
@@ -27,14 +27,14 @@ invariant_of-result g c =
 
 pub returns-clause-closure : goal.returns-clause-closure
 returns-clause-closure g c =
-    let from_nothing = subst (λ (x : List (List SerialOp)). AddsBelow x c.add_below.new.set c.new.result.items c.root.result.now) c.new-closed.ensures c.in_ok-add_below.ensures.added in
+    let from_nothing = subst (λ (x : List (List SerialOp)). AddsBelow x c.add_below.new.set c.new.result.items c.root.result.now) c.new-closed.ensures c.in_ok-add_below.ensures.adds in
     let at_root = subst (λ (p : List SerialOp). AddsBelow [] c.add_below.new.set p c.root.result.now) c.new.ensures.items from_nothing in
     let added = subst (λ (x : List (List SerialOp)). AddsBelow [] c.add_below.new.set [] x) c.root.ensures.all at_root in
     walked_closure c.args.set.now c.add_below.new.set added
 
 pub returns-clause-of : goal.returns-clause-of
 returns-clause-of g c =
-    let from_nothing = subst (λ (x : List (List SerialOp)). AddsBelow x c.add_below.new.set c.new.result.items c.root.result.now) c.new-closed.ensures c.in_ok-add_below.ensures.added in
+    let from_nothing = subst (λ (x : List (List SerialOp)). AddsBelow x c.add_below.new.set c.new.result.items c.root.result.now) c.new-closed.ensures c.in_ok-add_below.ensures.adds in
     let at_root = subst (λ (p : List SerialOp). AddsBelow [] c.add_below.new.set p c.root.result.now) c.new.ensures.items from_nothing in
     let added = subst (λ (x : List (List SerialOp)). AddsBelow [] c.add_below.new.set [] x) c.root.ensures.all at_root in
     closure_of c.args.set.now c.add_below.new.set (walked_closure c.args.set.now c.add_below.new.set added) c.args.matrix.now c.requires.of
