@@ -20,6 +20,7 @@ use Rattle.lu_witness.specs.Goodness.{IsBad, IsWhy}
 use Rattle.lu_report.specs.declared.report.Finding.{Finding}
 use Rattle.lu_report.specs.declared.report.Finding.TheVariants.{SerialCut, Nondeterministic, Fail, Pass}
 use Rattle.lu_report.specs.declared.report.Report.{Report}
+use Rattle.lu_replay.specs.declared.confirming.Claim.{Claim}
 
 -- u is bad, and this is why
 abbrev pub IsBadFor : (List SerialOp → Type 0) → State → ℕ → List Move → Why → Type 0
@@ -85,11 +86,15 @@ IsReason end verdict (Stuck t) = (end ≡ status.Stuck) × (verdict ≡ NoWitnes
 abbrev pub SaysWhether : {E : Type 0} → Result Bool E → Type 0 → Type 0
 SaysWhether result Holds = IfOk result (λ yes. IsTrue yes ↔ Holds)
 
--- whether the schedule is bad for the set with these members, as it is said
-abbrev pub SaysBad : {E : Type 0} → Declarations → Matrix → List (List SerialOp) → ℕ → List Move
-    → Why → Result Bool E → Type 0
-SaysBad c matrix members bound u why result =
-    FromEachStart c matrix (λ s. SaysWhether result (IsBadFor (IsMember members) s bound u why))
+-- the schedule is bad as it is claimed
+abbrev pub IsBadAs : (List SerialOp → Type 0) → State → Claim → Type 0
+IsBadAs Set s claim = IsBadFor Set s claim.bound claim.schedule.now claim.why
+
+-- whether the schedule is bad for the set with these members, as it is claimed
+abbrev pub SaysBad : {E : Type 0} → Declarations → Matrix → List (List SerialOp) → Claim
+    → Result Bool E → Type 0
+SaysBad c matrix members claim result =
+    FromEachStart c matrix (λ s. SaysWhether result (IsBadAs (IsMember members) s claim))
 
 -- whether the finding is shown, where the serial runs came to this
 abbrev pub SaysShown : {A E : Type 0} → Declarations → Matrix → Learnt A → ℕ → Finding
@@ -99,9 +104,9 @@ SaysShown c matrix learnt bound f result =
     → SaysWhether result (IsShown s bound serial f)
 
 -- whether the finding is shown against the set with these members
-abbrev pub SaysShownAgainst : {E : Type 0} → Declarations → Matrix → List (List SerialOp) → ℕ
+abbrev pub SaysShownBy : {E : Type 0} → Declarations → Matrix → List (List SerialOp) → ℕ
     → Finding → Result Bool E → Type 0
-SaysShownAgainst c matrix members bound f result =
+SaysShownBy c matrix members bound f result =
     FromEachStart c matrix (λ s. SaysWhether result (IsShownAgainst (IsMember members) s bound f))
 
 -- whether the report is confirmed against the set with these members

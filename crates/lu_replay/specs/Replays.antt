@@ -9,12 +9,17 @@ use Rattle.lu_machine.specs.States.{State}
 use Rattle.lu_machine.specs.Ends.{HasStatus}
 pub use Rattle.lu_machine.specs.Plays.{Plays, IsInfeasibleAt}
 use Rattle.lu_replay.specs.declared.fault.ReplayFault.{ReplayFault}
+use Rattle.lu_replay.specs.declared.shown.Replay.{Replay}
 use Rattle.lu_replay.specs.declared.fault.ReplayFault.TheVariants.{Infeasible, Memory}
 
 -- from the start the schedule leads to a state of this status, with this history
 abbrev pub PlaysToStatus : Declarations → Matrix → List Move → List Event → Status → Type 0
 PlaysToStatus c matrix u history status =
     (end : State) × Plays c matrix u end history × HasStatus end status
+
+-- the schedule leads to what is shown
+abbrev pub IsReplay : Declarations → Matrix → List Move → Replay → Type 0
+IsReplay c matrix u shown = PlaysToStatus c matrix u shown.history shown.status
 
 -- the fault of the schedule; want of memory can come with any
 abbrev pub IsReplayFault : Declarations → Matrix → List Move → ReplayFault → Type 0

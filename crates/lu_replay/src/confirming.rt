@@ -4,7 +4,7 @@ ghost use Rattle.std.specs.Prelude.{◌≡◌, ◌↔◌, IsTrue};
 ghost use Rattle.lu_machine.specs.Starts.{CanRun};
 ghost use Rattle.lu_serial.specs.declared.learning.Learnt.TheVariants.{Cut, Conflict};
 ghost use Rattle.lu_report.specs.Limits.{IsSerialBound};
-ghost use Rattle.lu_replay.specs.Confirmed.{IsConfirmed, IsReason, IsShownWith, SaysBad, SaysConfirmedAgainst, SaysShown, SaysShownAgainst, SaysWhether};
+ghost use Rattle.lu_replay.specs.Confirmed.{IsConfirmed, IsReason, IsShownWith, SaysBad, SaysConfirmedAgainst, SaysShown, SaysShownBy, SaysWhether};
 
 use crate::fault::ReplayFault;
 use crate::player::replay;
@@ -84,8 +84,7 @@ fn holds<T: SerialTree>(
     claim: Claim<'_>,
 ) -> Result<bool, AllocError>
     requires { CanRun component.now matrix.now }
-    ensures { SaysBad component.now matrix.now (T.members tree.now) claim.entry.bound
-        claim.entry.schedule.now claim.entry.why result }
+    ensures { SaysBad component.now matrix.now (T.members tree.now) claim.entry result }
 {
     if claim.schedule.moves().len() > usize::from(claim.bound) {
         return Ok(false);
@@ -166,8 +165,7 @@ fn is_shown_against<T: SerialTree>(
     finding: &Finding,
 ) -> Result<bool, AllocError>
     requires { CanRun component.now matrix.now }
-    ensures { SaysShownAgainst component.now matrix.now (T.members tree.now) bound
-        finding.now result }
+    ensures { SaysShownBy component.now matrix.now (T.members tree.now) bound finding.now result }
 {
     match finding {
         Finding::SerialCut(_) => Ok(false),

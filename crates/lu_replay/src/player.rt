@@ -4,7 +4,7 @@ ghost use Rattle.std.specs.Prelude.{◌≡◌, [], ◌++◌, IfOk, IfErr, IfSome
 ghost use Rattle.lu_machine.specs.Starts.{CanRun};
 ghost use Rattle.lu_machine.specs.Runs.{with_event};
 ghost use Rattle.lu_history.specs.Histories.{Fits, IsWellFormed};
-ghost use Rattle.lu_replay.specs.Replays.{IsReplayFault, PlaysToStatus};
+ghost use Rattle.lu_replay.specs.Replays.{IsReplay, IsReplayFault};
 
 use crate::fault::ReplayFault;
 use crate::shown::Replay;
@@ -24,8 +24,7 @@ pub fn replay(
     schedule: &Schedule,
 ) -> Result<Replay, ReplayFault>
     requires { CanRun component.now matrix.now }
-    ensures shows { IfOk result (λ r.
-        PlaysToStatus component.now matrix.now schedule.now r.history r.status) }
+    ensures shows { IfOk result (IsReplay component.now matrix.now schedule.now) }
     ensures well_formed { IfOk result (λ r. IsWellFormed r.history) }
     ensures fault { IfErr result (IsReplayFault component.now matrix.now schedule.now) }
 {

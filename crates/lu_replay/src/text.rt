@@ -26,7 +26,8 @@ fn status_line(status: Status) -> &'static str
 ///
 /// `AllocError` where memory was refused.
 pub fn write_replay(alloc: Global, replay: &Replay) -> Result<String, AllocError>
-    ensures { IfOk result (λ t. string_bytes t ≡ replay_text replay.now.history replay.now.status) }
+    ensures { IfOk result (λ t.
+        string_bytes t ≡ replay_text replay.now.history replay.now.status) }
 {
     let mut text = String::from_str(alloc, status_line(replay.status))?;
     let history = write_history(alloc, &replay.history)?;
