@@ -29,6 +29,10 @@ IsLinearizable c matrix Set =
     IsCutOf matrix smaller → IsStart c smaller s → Reaches s u (λ end _. IsEnded end)
     → Reaches s u (IsGoodAt Set)
 
+-- the same of the set with these members
+abbrev pub IsLinearizableTo : Declarations → Matrix → List (List SerialOp) → Type 0
+IsLinearizableTo c matrix members = IsLinearizable c matrix (IsMember members)
+
 -- u is ended, and not good for the set
 abbrev pub Refutes : (List SerialOp → Type 0) → State → List Move → Type 0
 Refutes Set s u = Reaches s u (λ end history. IsEnded end × (IsGoodAt Set end history → ⊥))

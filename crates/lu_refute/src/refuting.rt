@@ -8,7 +8,7 @@ ghost use Rattle.lu_witness.specs.Witnesses.{IsMember};
 ghost use Rattle.lu_report.specs.Limits.{IsSerialBound, most_moves};
 ghost use Rattle.lu_replay.specs.Confirmed.{IsShownWith};
 ghost use Rattle.lu_spec.specs.Specs.{AreOf};
-ghost use Rattle.lu_refute.specs.Linearizable.{IsCounterexampleTo, IsLinearizable};
+ghost use Rattle.lu_refute.specs.Linearizable.{IsCounterexampleTo, IsLinearizableTo};
 ghost use Rattle.lu_refute.specs.Answers.{IsAnswer, IsAnswerWith, IsConfirmedFailure, IsFailure, IsRefuteFault};
 ghost use Rattle.lu_refute.specs.Walks.{HasOutside, IsScheduleOfFailure, IsFromOutside, TellsRefutation};
 
@@ -164,8 +164,7 @@ pub fn refute(
     ensures fault { IfErr result (IsRefuteFault component.now matrix.now report.now) }
     ensures answer { IfOk result (IsAnswer component.now matrix.now report.now spec.now) }
     ensures counterexample { IfOk result (IsCounterexampleTo component.now matrix.now spec.now) }
-    ensures refuted { OnOk result
-        (IsLinearizable component.now matrix.now (IsMember spec.now) → ⊥) }
+    ensures refuted { OnOk result (IsLinearizableTo component.now matrix.now spec.now → ⊥) }
 {
     let Some(serial) = report.serial() else {
         return Err(RefuteFault::NotShown);
