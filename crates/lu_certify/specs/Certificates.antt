@@ -11,6 +11,7 @@ use Rattle.lu_report.specs.declared.report.Finding.TheVariants.{SerialCut, Nonde
 use Rattle.lu_report.specs.declared.report.Report.{Report}
 use Rattle.lu_replay.specs.Reports.{IsReport}
 pub use Rattle.lu_replay.specs.Confirmed.{IsFailure}
+use Rattle.lu_parallel.specs.Ranges.{Choice}
 use Rattle.lu_spec.specs.Beginnings.{Begins, Has}
 use Rattle.lu_refute.specs.Linearizable.{AreLengths}
 use Rattle.lu_certify.specs.declared.certificate.Certificate.{Certificate}
@@ -85,6 +86,11 @@ IsCertificate c matrix bound serial (NotLinearizable smaller r) =
     IsFirstOfCuts IsFailure c matrix bound serial smaller r
 IsCertificate c matrix bound serial (Undecided smaller r) =
     NoCuts IsFailure c matrix bound serial × IsFirstOfCuts IsUnclear c matrix bound serial smaller r
+
+-- within the bounds of a check's options
+abbrev pub IsCertificateWithin : Declarations → Matrix → Choice → Certificate → Type 0
+IsCertificateWithin c matrix choice certificate =
+    IsCertificate c matrix choice.bound choice.serial certificate
 
 -- the cut that it names, if any, is a matrix of the component
 abbrev pub NamesCutOf : Declarations → Certificate → Type 0

@@ -72,8 +72,7 @@ fn own_spec(
     requires of { CanRun component.now matrix.now }
     requires serial { IsSerialBound serial }
     requires none { IsWithoutOffence component.now matrix.now serial }
-    ensures { IfOk result (λ spec.
-        FromEachStart component.now matrix.now (λ s. AreBeginnings s spec)) }
+    ensures { IfOk result (λ q. FromEachStart component.now matrix.now (λ s. AreBeginnings s q)) }
 {
     match learn(alloc, alloc, component, matrix, serial)? {
         Learnt::Set(set) => Spec::closure(alloc, matrix, &set),

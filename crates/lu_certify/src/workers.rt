@@ -3,7 +3,7 @@
 ghost use Rattle.std.specs.Prelude.{◌≡◌, IfErr, IfOk};
 ghost use Rattle.lu_machine.specs.Starts.{CanRun};
 ghost use Rattle.lu_parallel.specs.declared.fault.CheckFault.TheVariants.{Memory};
-ghost use Rattle.lu_certify.specs.Certificates.{IsCertificate, NamesCutOf};
+ghost use Rattle.lu_certify.specs.Certificates.{IsCertificateWithin, NamesCutOf};
 ghost use Rattle.lu_certify.specs.Laws.{Decides};
 
 use crate::certificate::Certificate;
@@ -34,8 +34,7 @@ pub fn certify_by_workers<R: Threads + Wait, G: Gate>(
     options: Options,
 ) -> Result<Certificate, CheckFault>
     requires { CanRun component.now matrix.now }
-    ensures certificate { IfOk result
-        (IsCertificate component.now matrix.now options.bound options.serial) }
+    ensures certificate { IfOk result (IsCertificateWithin component.now matrix.now options) }
     ensures decides { IfOk result (Decides component.now matrix.now) }
     ensures of { IfOk result (NamesCutOf component.now) }
     ensures alone { IfErr result (λ fault. options.workers ≡ 1 → fault ≡ Memory) }
