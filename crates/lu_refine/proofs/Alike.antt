@@ -15,7 +15,7 @@ use Rattle.lu_refine.specs.declared.campaigns.Campaign.TheVariants.{AllPass, Fir
 use Rattle.lu_refine.specs.declared.campaigns.CampaignFault.{CampaignFault}
 use Rattle.lu_refine.specs.declared.campaigns.CampaignFault.TheVariants.{Candidates, Limit, Memory}
 use Rattle.lu_refine.specs.Choices.{AreEnough, IsChoice, IsChoiceIn, candidate_at, choice_count, filled}
-use Rattle.lu_refine.specs.Campaigns.{Campaigned, Chooses, IsCampaign, IsCampaignAnswer, IsChoiceOf, IsGrid, IsLimitFault, IsReportAt, PassesAt, campaigned, matrix_of_choice}
+use Rattle.lu_refine.specs.Campaigns.{Campaigned, Runs, IsCampaign, IsCampaignAnswer, IsChoiceOf, IsGrid, IsLimitFault, IsReportAt, PassesAt, campaigned, matrix_of_choice}
 use Rattle.lu_refine.specs.Roles.{AreWithinLimits, bases, chosen_calls, calls_per_thread}
 use Rattle.lu_refine.specs.ByThread.{Asked, IsFoundByThread, IsRoleChoice, IsRoleReport, IsRolesFault, IsThreadsAnswer, RolePasses, asked_for, bases_of, role_matrix}
 
@@ -118,7 +118,7 @@ alike_found asked (First matrix r) some is = record {
   before = λ other chosen earlier. passes_alike asked other some (is.before other (of_choice asked other some chosen) earlier);
 }
 
-pub alike_chosen : (c : Declarations) (setup candidates : List Call) (threads calls bound serial : ℕ) (result : Result Campaign CampaignFault) → AreEnough (length candidates) → IsGrid threads calls → IfOk result (IsThreadsAnswer (asked_for c setup (replicate threads candidates) calls bound serial)) → Chooses c setup candidates threads calls bound serial result
+pub alike_chosen : (c : Declarations) (setup candidates : List Call) (threads calls bound serial : ℕ) (result : Result Campaign CampaignFault) → AreEnough (length candidates) → IsGrid threads calls → IfOk result (IsThreadsAnswer (asked_for c setup (replicate threads candidates) calls bound serial)) → Runs c setup candidates threads calls bound serial result
 alike_chosen c setup candidates threads calls bound serial result enough grid is =
     let asked = campaigned c setup candidates threads calls bound serial in
     IfOk-weaker result (IsThreadsAnswer (by_thread asked)) (IsCampaignAnswer asked) (λ found answer. (enough, grid, alike_found asked found enough.0 answer.1)) is

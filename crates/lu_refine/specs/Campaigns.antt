@@ -90,10 +90,10 @@ abbrev pub IsCampaignAnswer : Campaigned → Campaign → Type 0
 IsCampaignAnswer asked found =
     AreEnough (length asked.candidates) × IsGrid asked.threads asked.calls × IsCampaign asked found
 
--- what a campaign answers that is asked for this, but for faults
-abbrev pub Chooses : Declarations → List Call → List Call → ℕ → ℕ → ℕ → ℕ
+-- what a campaign answers that runs with this, but for faults
+abbrev pub Runs : Declarations → List Call → List Call → ℕ → ℕ → ℕ → ℕ
     → Result Campaign CampaignFault → Type 0
-Chooses c setup candidates threads calls bound serial result =
+Runs c setup candidates threads calls bound serial result =
     IfOk result (IsCampaignAnswer (campaigned c setup candidates threads calls bound serial))
 
 -- not 1 to 8 candidates; else no grid within its limits; or memory was refused

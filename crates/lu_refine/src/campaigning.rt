@@ -5,7 +5,7 @@ ghost use Rattle.lu_test.specs.Matrix.{IsSetup};
 ghost use Rattle.lu_machine.specs.Starts.{AllEnd};
 ghost use Rattle.lu_replay.specs.Confirmed.{IsPass};
 ghost use Rattle.lu_refine.specs.Choices.{AreEnough, choice_count};
-ghost use Rattle.lu_refine.specs.Campaigns.{AreCallsOf, Chooses, HaveArguments, IsFoundOf, IsGrid, IsLimitFault};
+ghost use Rattle.lu_refine.specs.Campaigns.{AreCallsOf, HaveArguments, IsFoundOf, IsGrid, IsLimitFault, Runs};
 ghost use Rattle.lu_refine.specs.Roles.{AreWithinLimits, bases};
 ghost use Rattle.lu_refine.specs.ByThread.{CanAsk, IsRolesFault, IsSliceAnswer, IsThreadsAnswer, asked_of};
 
@@ -124,8 +124,7 @@ pub fn campaign(
     requires arguments { HaveArguments candidates.now }
     requires bound { bound ≤ 256 }
     requires serial { (1 ≤ serial) × (serial ≤ 256) }
-    ensures answer { Chooses component.now setup.now candidates.now threads calls
-        bound serial result }
+    ensures answer { Runs component.now setup.now candidates.now threads calls bound serial result }
     ensures of { IfOk result (IsFoundOf component.now) }
     ensures fault { IfErr result (IsLimitFault (length candidates.now) threads calls) }
 {
