@@ -1,7 +1,7 @@
 -- What is said of faults, one after the other.
 use Rattle.std.proofs.Common.{◌≡◌, ℕ, zero, suc, add-one, ◌+◌, ◌<◌, ◌≤◌, List, [], ◌∷◌, ◌++◌, length, get_or, drop, map, refl, sym, ap, ◌∙◌, arith}
 use Rattle.std.proofs.Math.ListN.{drop_of_length-le}
-use Rattle.std.proofs.lemmas.List.{append_assoc, append-nil}
+use Rattle.std.proofs.lemmas.List.{append_assoc, append-nil, map-append}
 use Rattle.lu_lint.specs.declared.remark.Said.{Said}
 
 module _ {A : Type 0} where
@@ -14,6 +14,15 @@ module _ {A : Type 0} where
   no_more [] i h = drop_of_length-le [] h
   no_more (x ∷ xs) zero h = absurd (omega arith)
   no_more (x ∷ xs) (suc i) h = no_more xs i (omega arith)
+
+-- one is said behind others
+pub push_more : {A : Type 0} (said : A → Said) (xs : List A) (x : A) (before now next : List Said) (one : Said) → now ≡ before ++ map said xs → one ≡ said x → next ≡ now ++ one ∷ [] → next ≡ before ++ map said (xs ++ x ∷ [])
+push_more said xs x before now next one so_far is more =
+    more
+    ∙ (ap (λ (y : List Said). y ++ one ∷ []) so_far
+    ∙ (append_assoc before (map said xs) (one ∷ [])
+    ∙ (ap (λ (y : Said). before ++ (map said xs ++ y ∷ [])) is
+    ∙ ap (λ (y : List Said). before ++ y) (sym (map-append said xs (x ∷ []))))))
 
 module _ {A : Type 0} (said : A → Said) (faults : List A) (i : ℕ) (before total : List Said) (so_far : before ++ map said (drop i faults) ≡ total) where
   -- one fault more

@@ -1,7 +1,7 @@
 -- Going on behind faults: the loop, and that the first fault is the reader's.
-use Rattle.std.proofs.Common.{arith, ◌≡◌, ℕ, ◌+◌, true, false, eqb, List, [], ◌∷◌, ◌++◌, length, map, drop, Option, Some, None, Result, Ok, Err, refl, sym, ap, subst, ◌∙◌}
+use Rattle.std.proofs.Common.{arith, ◌≡◌, ℕ, ◌+◌, ◌<◌, true, false, eqb, List, [], ◌∷◌, ◌++◌, length, get_or, map, take, drop, Option, Some, None, Result, Ok, Err, refl, sym, ap, subst, ◌∙◌}
 use Rattle.std.proofs.lemmas.Bool.{eqb-true, eqb-false}
-use Rattle.std.proofs.lemmas.List.{append_assoc, append-nil, drop-map, map-append}
+use Rattle.std.proofs.lemmas.List.{append_assoc, append-nil, drop-map, map-append, take_more}
 use Rattle.lu_text.specs.declared.fault.Fault.{Fault}
 use Rattle.lu_text.specs.declared.fault.Fault.TheVariants.{At}
 use Rattle.lu_text.specs.Faults.{on_line, then_lines, lines_after, meaning_of}
@@ -15,12 +15,13 @@ use Rattle.lu_lang.specs.declared.fault.LangFaultKind.{LangFaultKind}
 use Rattle.lu_test.specs.declared.matrix_fault.MatrixFaultKind.{MatrixFaultKind}
 use Rattle.lu_test.specs.MatrixGoing.{fault_in as matrix_fault}
 use Rattle.lu_test.specs.MatrixText.{matrix_grammar}
+use Rattle.lu_lint.specs.declared.remark.Position.{Position}
 use Rattle.lu_lint.specs.declared.remark.Said.{Said}
 use Rattle.lu_lint.specs.declared.remark.Remark.{Remark}
 use Rattle.lu_lint.specs.declared.remark.FaultKind.{FaultKind}
 use Rattle.lu_lint.specs.Said.{said_of, said_told, said_faults}
 use Rattle.lu_lint.specs.Lint.{Lint, Told, with_words, told, told_here, told_at, told_on, others_told, told_beside, left_by, end_told, end_faults, then_faults, faults_after, faults_in, AgreeOnText, draft_after, left_behind}
-use Rattle.lu_lint.specs.Component.{backs_beside, component_lint, faulty_end_others, jumps}
+use Rattle.lu_lint.specs.Component.{backs_beside, component_lint, faulty_end_others, jumps, jumps_said}
 use Rattle.lu_lint.specs.declared.remark.FaultKind.TheVariants as part
 use Rattle.lu_lang.specs.declared.fault.LangFaultKind.TheVariants.{Name}
 use Rattle.lu_lang.specs.Faulty.{Faulty}
@@ -140,6 +141,19 @@ each_jump seen n (back ∷ backs) = ap (λ (x : List (Told LangFaultKind)). told
 all_beside : (seen : List ℕ) (n : ℕ) (f : Faulty) (line : List ℕ) (lines : List (List ℕ)) (fault : Option LangFaultKind) → map (told_at seen n Name) (backs_beside f line lines fault) ≡ told_beside component_lint seen n f line lines fault
 all_beside seen n f line lines None = refl
 all_beside seen n f line lines (Some kind) = each_jump seen n (left_backs f.draft line lines kind)
+
+-- one jump more
+pub jump_more : (at : Position) (kind : LangFaultKind) (backs : List ℕ) (i d : ℕ) (before now next : List Said) (one : Said)
+    → i < length backs → now ≡ before ++ jumps_said at kind (take i backs) → one ≡ said_told part.Component at.above (told_at at.seen.items at.line kind (get_or backs i d)) → next ≡ now ++ one ∷ [] → next ≡ before ++ jumps_said at kind (take (i + 1) backs)
+jump_more at kind backs i d before now next one within so_far is more =
+    let front = map (told_at at.seen.items at.line kind) (take i backs) in
+    let last = told_at at.seen.items at.line kind (get_or backs i d) in
+    let split : map (told_at at.seen.items at.line kind) (take (i + 1) backs) ≡ front ++ last ∷ [] = rw (take_more backs i d within) (map-append (told_at at.seen.items at.line kind) (take i backs) (get_or backs i d ∷ [])) in
+    let said : jumps_said at kind (take (i + 1) backs) ≡ jumps_said at kind (take i backs) ++ one ∷ [] = ap (said_faults part.Component at.above) split ∙ (said_more part.Component at.above front (last ∷ []) ∙ ap (λ (x : Said). jumps_said at kind (take i backs) ++ x ∷ []) (sym is)) in
+    more
+    ∙ (ap (λ (x : List Said). x ++ one ∷ []) so_far
+    ∙ (append_assoc before (jumps_said at kind (take i backs)) (one ∷ [])
+    ∙ ap (λ (x : List Said). before ++ x) (sym said)))
 
 -- a line of a component is told or not, then the jumps beside its fault, and the rest is read
 pub component_goes_on : (above : ℕ) (seen : List ℕ) (n : ℕ) (d d1 next : Faulty) (fault : Option LangFaultKind) (line : List ℕ) (rest behind : List (List ℕ)) (backs : List ℕ) (before one two total : List Said)

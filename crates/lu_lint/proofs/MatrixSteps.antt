@@ -1,27 +1,29 @@
 -- Going on behind the faults of a matrix.
-use Rattle.std.proofs.Common.{◌≡◌, ℕ, ◌+◌, List, ◌∷◌, ◌++◌, append-nil, Option, Some, None, Result, Ok, Err, refl, sym, ap, ◌∙◌}
+use Rattle.std.proofs.Common.{◌≡◌, ℕ, ◌+◌, List, [], ◌∷◌, ◌++◌, append-nil, Option, Some, None, Result, Ok, Err, refl, sym, ap, ◌∙◌}
 use Rattle.lu_component.specs.Component.{Declarations, IsComponent}
 use Rattle.lu_lang.specs.Going as lang
 use Rattle.lu_test.specs.declared.matrix_fault.MatrixFaultKind.{MatrixFaultKind}
-use Rattle.lu_test.specs.MatrixText.{Drafted, line_of}
-use Rattle.lu_test.specs.MatrixGoing.{going_on}
+use Rattle.lu_test.specs.MatrixText.{Drafted, finished, line_of}
+use Rattle.lu_test.specs.MatrixGoing.{fault_in, going_on}
 use Rattle.lu_test.proofs.Threads.{line_limits, line_fits}
 use Rattle.lu_test.proofs.MatrixLeft.{IsKept, mend_kept}
 use Rattle.lu_lint.specs.declared.remark.Said.{Said}
 use Rattle.lu_lint.specs.Said.{said_faults}
 use Rattle.lu_lint.specs.declared.remark.FaultKind.TheVariants as part
-use Rattle.lu_lint.specs.Lint.{left_by, told_on, told_beside, faults_after, with_words}
+use Rattle.lu_lint.specs.declared.remark.Position.{Position}
+use Rattle.lu_lint.specs.Lint as lint
+use Rattle.lu_lint.specs.Lint.{end_told, told_on, told_beside, faults_after, with_words}
 use Rattle.lu_lint.proofs.Going as lines
 use Rattle.lu_lang.specs.Faulty.{Faulty}
-use Rattle.lu_lint.specs.Matrix.{judged_line, matrix_lint, matrix_mend}
+use Rattle.lu_lint.specs.Matrix.{fault_said, judged_line, left_by, matrix_lint, matrix_mend}
 
 pub same_going : {Kind Draft : Type 0} (d : Draft) (r : Result Draft Kind) → going_on d r ≡ lang.going_on d r
 same_going d (Ok next) = refl
 same_going d (Err kind) = refl
 
 -- the limits hold of what a line leaves
-pub step_kept : (c : Declarations) → IsComponent c → (d d1 next : Drafted) (fault : Option MatrixFaultKind) (faulty : Option Faulty) (line : List ℕ) (lines : List (List ℕ)) → IsKept c d → (d1, fault) ≡ going_on d (line_of c.operations d (judged_line faulty line)) → next ≡ left_by matrix_mend d1 line lines fault → IsKept c next
-step_kept c is d d1 next fault faulty line lines kept e left = go (line_of c.operations d (judged_line faulty line)) refl e
+pub step_kept : (c : Declarations) → IsComponent c → (d d1 next : Drafted) (fault : Option MatrixFaultKind) (faulty : Option Faulty) (line : List ℕ) → IsKept c d → (d1, fault) ≡ going_on d (line_of c.operations d (judged_line faulty line)) → next ≡ left_by d1 line fault → IsKept c next
+step_kept c is d d1 next fault faulty line kept e left = go (line_of c.operations d (judged_line faulty line)) refl e
   where
     go : (r : Result Drafted MatrixFaultKind) → line_of c.operations d (judged_line faulty line) ≡ r → (d1, fault) ≡ going_on d r → IsKept c next
     go (Ok y) read f =
@@ -38,13 +40,37 @@ alone : (c : Declarations) (faulty : Option Faulty) (seen : List ℕ) (n : ℕ) 
 alone c faulty seen n d line lines None above before = append-nil before
 alone c faulty seen n d line lines (Some kind) above before = append-nil before
 
+-- what stands behind the line says nothing of what it leaves
+left_same : (d : Drafted) (line : List ℕ) (lines : List (List ℕ)) (fault : Option MatrixFaultKind) → left_by d line fault ≡ lint.left_by matrix_mend d line lines fault
+left_same d line lines None = refl
+left_same d line lines (Some kind) = refl
+
+-- a fault is said of its line
+said_here : (c : Declarations) (faulty : Option Faulty) (at : Position) (d : Drafted) (line : List ℕ) (fault : Option MatrixFaultKind) → fault_said at fault ≡ said_faults part.Matrix at.above (told_on (matrix_lint c faulty) at.seen.items at.line d line fault)
+said_here c faulty at d line None = refl
+said_here c faulty at d line (Some kind) = refl
+
+said_at_end : (at : Position) (fault : Option MatrixFaultKind) → fault_said at fault ≡ said_faults part.Matrix at.above (end_told at.seen.items at.line [] fault)
+said_at_end at None = refl
+said_at_end at (Some kind) = refl
+
 -- a line is told or not, and the rest is read from the draft that it leaves
-pub goes_on : (c : Declarations) (faulty : Option Faulty) (above : ℕ) (seen : List ℕ) (n : ℕ) (d d1 next : Drafted) (fault : Option MatrixFaultKind) (line : List ℕ) (rest : List (List ℕ)) (before total : List Said)
-    → (d1, fault) ≡ going_on d (line_of c.operations d (judged_line faulty line)) → next ≡ left_by matrix_mend d1 line rest fault
-    → before ++ said_faults part.Matrix above (faults_after (matrix_lint c faulty) seen n d (line ∷ rest)) ≡ total → (before ++ said_faults part.Matrix above (told_on (matrix_lint c faulty) seen n d1 line fault)) ++ said_faults part.Matrix above (faults_after (matrix_lint c faulty) (with_words seen n line) (n + 1) next rest) ≡ total
-goes_on c faulty above seen n d d1 next fault line rest before total e left so_far =
+pub goes_on : (c : Declarations) (faulty : Option Faulty) (at : Position) (d d1 next : Drafted) (fault : Option MatrixFaultKind) (line : List ℕ) (rest : List (List ℕ)) (before now total : List Said)
+    → (d1, fault) ≡ going_on d (line_of c.operations d (judged_line faulty line)) → next ≡ left_by d1 line fault → now ≡ before ++ fault_said at fault
+    → before ++ said_faults part.Matrix at.above (faults_after (matrix_lint c faulty) at.seen.items at.line d (line ∷ rest)) ≡ total → now ++ said_faults part.Matrix at.above (faults_after (matrix_lint c faulty) (with_words at.seen.items at.line line) (at.line + 1) next rest) ≡ total
+goes_on c faulty at d d1 next fault line rest before now total e left more so_far =
     let l = matrix_lint c faulty in
-    let told = before ++ said_faults part.Matrix above (told_on l seen n d1 line fault) in
-    let others = said_faults part.Matrix above (faults_after l (with_words seen n line) (n + 1) next rest) in
-    ap (λ (x : List Said). x ++ others) (sym (alone c faulty seen n d1 line rest fault above told))
-    ∙ lines.goes_on l part.Matrix above seen n d d1 next fault line rest rest before total (e ∙ same_going d (l.grammar.line d line)) left refl so_far
+    let told = before ++ said_faults part.Matrix at.above (told_on l at.seen.items at.line d1 line fault) in
+    let others = said_faults part.Matrix at.above (faults_after l (with_words at.seen.items at.line line) (at.line + 1) next rest) in
+    let is : now ≡ told = more ∙ ap (λ (x : List Said). before ++ x) (said_here c faulty at d1 line fault) in
+    ap (λ (x : List Said). x ++ others) (is ∙ sym (alone c faulty at.seen.items at.line d1 line rest fault at.above told))
+    ∙ lines.goes_on l part.Matrix at.above at.seen.items at.line d d1 next fault line rest rest before total (e ∙ same_going d (l.grammar.line d line)) (left ∙ left_same d1 line rest fault) refl so_far
+
+-- no line is left
+pub is_done : (c : Declarations) (faulty : Option Faulty) (at : Position) (n : ℕ) (d : Drafted) (before now total : List Said)
+    → n ≡ at.line → now ≡ before ++ fault_said at (fault_in (finished d)) → before ++ said_faults part.Matrix at.above (faults_after (matrix_lint c faulty) at.seen.items n d []) ≡ total → now ≡ total
+is_done c faulty at n d before now total e more so_far =
+    let fault = fault_in (finished d) in
+    more
+    ∙ (ap (λ (x : List Said). before ++ x) (said_at_end at fault)
+    ∙ lines.is_done (matrix_lint c faulty) part.Matrix at.above at.seen.items n at.line d fault before total e (λ r. lines.matrix_end at.seen.items n [] fault (finished d) r refl) so_far)

@@ -15,27 +15,23 @@ use Rattle.lu_lint.specs.declared.remark.Said.{Said}
 use Rattle.lu_lint.specs.declared.remark.FaultKind.TheVariants as part
 use Rattle.lu_lint.specs.Lint.{told_here}
 use Rattle.lu_lint.specs.Said.{said_faults}
-use Rattle.lu_lint.specs.Schedule.{fault_of, word_faults, length_faults, words_faults, form_faults, schedule_faults, schedule_told, AgreeOn}
+use Rattle.lu_lint.specs.Schedule.{fault_of, word_faults, length_faults, words_faults, form_faults, schedule_faults, schedule_said, schedule_told, AgreeOn}
 use Rattle.lu_lint.proofs.Going.{said_more}
 use denote.Ref.{Bor}
 
--- what is said of faults of a schedule
-abbrev pub said : ℕ → List ScheduleFault → List Said
-said above faults = said_faults part.Schedule above (schedule_told faults)
-
-pub said_both : (above : ℕ) (xs ys : List ScheduleFault) → said above (xs ++ ys) ≡ said above xs ++ said above ys
+pub said_both : (above : ℕ) (xs ys : List ScheduleFault) → schedule_said above (xs ++ ys) ≡ schedule_said above xs ++ schedule_said above ys
 said_both above xs ys = ap (said_faults part.Schedule above) (map-append (told_here 1) xs ys) ∙ said_more part.Schedule above (schedule_told xs) (schedule_told ys)
 
 -- one word more
-pub goes_on : (words : List (Bor (List ℕ))) (i : ℕ) (d : Bor (List ℕ)) (above : ℕ) (before next total : List Said) → i < length words → next ≡ before ++ said above (word_faults (get_or words i d).now)
-    → before ++ said above (flat_map word_faults (drop i (texts words))) ≡ total → next ++ said above (flat_map word_faults (drop (i + 1) (texts words))) ≡ total
+pub goes_on : (words : List (Bor (List ℕ))) (i : ℕ) (d : Bor (List ℕ)) (above : ℕ) (before next total : List Said) → i < length words → next ≡ before ++ schedule_said above (word_faults (get_or words i d).now)
+    → before ++ schedule_said above (flat_map word_faults (drop i (texts words))) ≡ total → next ++ schedule_said above (flat_map word_faults (drop (i + 1) (texts words))) ≡ total
 goes_on words i d above before next total within more so_far =
     let word = (get_or words i d).now in
     let others = flat_map word_faults (drop (i + 1) (texts words)) in
-    rw more (append_assoc before (said above (word_faults word)) (said above others) ∙ ap (λ (x : List Said). before ++ x) (sym (said_both above (word_faults word) others)) ∙ (rw (text_more words i d within) at so_far))
+    rw more (append_assoc before (schedule_said above (word_faults word)) (schedule_said above others) ∙ ap (λ (x : List Said). before ++ x) (sym (said_both above (word_faults word) others)) ∙ (rw (text_more words i d within) at so_far))
 
 -- no word is left
-pub ends : (words : List (Bor (List ℕ))) (i above : ℕ) (before total : List Said) → length words ≤ i → before ++ said above (flat_map word_faults (drop i (texts words))) ≡ total → before ≡ total
+pub ends : (words : List (Bor (List ℕ))) (i above : ℕ) (before total : List Said) → length words ≤ i → before ++ schedule_said above (flat_map word_faults (drop i (texts words))) ≡ total → before ≡ total
 ends words i above before total within so_far = sym (append-nil before) ∙ (rw (texts_end words i within) at so_far)
 
 -- the first words
@@ -46,9 +42,9 @@ pub some_first : (words front : List (Bor (List ℕ))) → front ≡ take 4113 w
 some_first words front e = ap texts e ∙ sym (take-map (λ (w : Bor (List ℕ)). w.now) 4113 words)
 
 -- of the words, and then of their number
-pub both : (above : ℕ) (all one two : List Said) (front words : List (List ℕ)) → one ≡ all ++ said above (flat_map word_faults front) → front ≡ take 4113 words → two ≡ one ++ said above (length_faults words) → two ≡ all ++ said above (words_faults words)
+pub both : (above : ℕ) (all one two : List Said) (front words : List (List ℕ)) → one ≡ all ++ schedule_said above (flat_map word_faults front) → front ≡ take 4113 words → two ≡ one ++ schedule_said above (length_faults words) → two ≡ all ++ schedule_said above (words_faults words)
 both above all one two front words first is then =
-    rw (then, first, is) (append_assoc all (said above (flat_map word_faults (take 4113 words))) (said above (length_faults words)) ∙ ap (λ (x : List Said). all ++ x) (sym (said_both above (flat_map word_faults (take 4113 words)) (length_faults words))))
+    rw (then, first, is) (append_assoc all (schedule_said above (flat_map word_faults (take 4113 words))) (schedule_said above (length_faults words)) ∙ ap (λ (x : List Said). all ++ x) (sym (said_both above (flat_map word_faults (take 4113 words)) (length_faults words))))
 
 -- ---- the reader's fault is the first
 

@@ -10,7 +10,7 @@ use Rattle.lu_trie.specs.Branches.{Branch, IsBranching, branches_of, joined, mem
 use Rattle.lu_spec.proofs.Sets.{joined_next}
 use Rattle.lu_lint.specs.declared.remark.Ending.{Ending}
 use Rattle.lu_lint.specs.declared.remark.SerialHint.{SerialHint}
-use Rattle.lu_lint.specs.Runs.{ending_of, hint_of, hints_behind, history_hints, op_hints, with_histories_behind, with_firsts, with_hint}
+use Rattle.lu_lint.specs.Runs.{ending_of, hint_of, hints_behind, history_hints, op_hints, with_set, with_firsts, with_hint}
 
 -- ---- the first of each call and ending
 
@@ -53,40 +53,40 @@ kid_hints path op (h ∷ hs) =
     ∙ sym (flat_map-cons (λ x. history_hints ((path ++ op ∷ []) ++ x)) h hs)))
 
 -- the path, where it is a history
-pub here : (told next : List SerialHint) (path : List SerialOp) (ends : Bool) → ends ≡ true → next ≡ with_firsts told (history_hints path) → next ≡ with_histories_behind told path (empty_if ends)
+pub here : (told next : List SerialHint) (path : List SerialOp) (ends : Bool) → ends ≡ true → next ≡ with_firsts told (history_hints path) → next ≡ with_set told path (empty_if ends)
 here told next path ends e is =
     let one : flat_map (λ h. history_hints (path ++ h)) ([] ∷ []) ≡ history_hints path = flat_map-cons (λ h. history_hints (path ++ h)) [] [] ∙ (append-nil (history_hints (path ++ [])) ∙ ap history_hints (append-nil path)) in
     rw e (is ∙ ap (with_firsts told) (sym one))
 
-pub not_here : (told : List SerialHint) (path : List SerialOp) (ends : Bool) → ends ≡ false → told ≡ with_histories_behind told path (empty_if ends)
+pub not_here : (told : List SerialHint) (path : List SerialOp) (ends : Bool) → ends ≡ false → told ≡ with_set told path (empty_if ends)
 unfolding with_firsts
 not_here told path ends e = rw e refl
 
 -- the histories of the first i kids
 abbrev pub of_kids : List SerialHint → List SerialOp → List (List SerialOp) → ℕ → List SerialHint
-of_kids told path hs i = with_histories_behind told path (members_from (contains hs []) (take i (branches_of hs)))
+of_kids told path hs i = with_set told path (members_from (contains hs []) (take i (branches_of hs)))
 
-behind-append : (told : List SerialHint) (path : List SerialOp) (xs ys : List (List SerialOp)) → with_histories_behind told path (xs ++ ys) ≡ with_histories_behind (with_histories_behind told path xs) path ys
+behind-append : (told : List SerialHint) (path : List SerialOp) (xs ys : List (List SerialOp)) → with_set told path (xs ++ ys) ≡ with_set (with_set told path xs) path ys
 behind-append told path xs ys =
     ap (with_firsts told) (flat_map-append (λ h. history_hints (path ++ h)) xs ys)
     ∙ firsts-append told (flat_map (λ h. history_hints (path ++ h)) xs) (flat_map (λ h. history_hints (path ++ h)) ys)
 
-pub no_kid : (told : List SerialHint) (path : List SerialOp) (hs : List (List SerialOp)) → with_histories_behind told path (empty_if (contains hs [])) ≡ of_kids told path hs 0
-no_kid told path hs = ap (with_histories_behind told path) (sym (append-nil (empty_if (contains hs []))))
+pub no_kid : (told : List SerialHint) (path : List SerialOp) (hs : List (List SerialOp)) → with_set told path (empty_if (contains hs [])) ≡ of_kids told path hs 0
+no_kid told path hs = ap (with_set told path) (sym (append-nil (empty_if (contains hs []))))
 
-pub kid_more : (told so_far next : List SerialHint) (path : List SerialOp) (hs : List (List SerialOp)) (i : ℕ) (op : SerialOp) (kid : List (List SerialOp)) → slice_get (branches_of hs) i ≡ Some (op, kid) → so_far ≡ of_kids told path hs i → next ≡ with_histories_behind so_far (path ++ op ∷ []) kid → next ≡ of_kids told path hs (i + 1)
+pub kid_more : (told so_far next : List SerialHint) (path : List SerialOp) (hs : List (List SerialOp)) (i : ℕ) (op : SerialOp) (kid : List (List SerialOp)) → slice_get (branches_of hs) i ≡ Some (op, kid) → so_far ≡ of_kids told path hs i → next ≡ with_set so_far (path ++ op ∷ []) kid → next ≡ of_kids told path hs (i + 1)
 kid_more told so_far next path hs i op kid at is more =
     let ends = empty_if (contains hs []) in
     let before = joined (take i (branches_of hs)) in
     let all : ends ++ joined (take (i + 1) (branches_of hs)) ≡ (ends ++ before) ++ behind op kid = ap (λ (x : List (List SerialOp)). ends ++ x) (joined_next (branches_of hs) i op kid at) ∙ sym (append_assoc ends before (behind op kid)) in
     more
     ∙ (ap (with_firsts so_far) (sym (kid_hints path op kid))
-    ∙ (ap (λ (x : List SerialHint). with_histories_behind x path (behind op kid)) is
+    ∙ (ap (λ (x : List SerialHint). with_set x path (behind op kid)) is
     ∙ (sym (behind-append told path (ends ++ before) (behind op kid))
-    ∙ ap (with_histories_behind told path) (sym all))))
+    ∙ ap (with_set told path) (sym all))))
 
-pub all_kids : (told so_far : List SerialHint) (path : List SerialOp) (hs : List (List SerialOp)) (i : ℕ) → IsBranching hs → length (branches_of hs) ≤ i → so_far ≡ of_kids told path hs i → so_far ≡ with_histories_behind told path hs
+pub all_kids : (told so_far : List SerialHint) (path : List SerialOp) (hs : List (List SerialOp)) (i : ℕ) → IsBranching hs → length (branches_of hs) ≤ i → so_far ≡ of_kids told path hs i → so_far ≡ with_set told path hs
 all_kids told so_far path hs i law past is =
     is
-    ∙ (ap (λ (x : List Branch). with_histories_behind told path (members_from (contains hs []) x)) (take_all i (branches_of hs) past)
-    ∙ ap (with_histories_behind told path) (sym law.parted))
+    ∙ (ap (λ (x : List Branch). with_set told path (members_from (contains hs []) x)) (take_all i (branches_of hs) past)
+    ∙ ap (with_set told path) (sym law.parted))

@@ -5,18 +5,16 @@ use Rattle.lu_text.specs.Lines.{texts}
 use Rattle.lu_text.proofs.Reading.{text_more, texts_end}
 use Rattle.lu_component.specs.Component.{Declarations}
 use Rattle.lu_lang.specs.Draft.{Drafted}
-use Rattle.lu_lang.specs.Going.{going_on}
-use Rattle.lu_lang.specs.Grammar.{component_grammar}
 use Rattle.lu_lint.specs.declared.remark.Said.{Said}
 use Rattle.lu_lint.specs.declared.warning.FoundHint.{FoundHint}
 use Rattle.lu_lint.specs.Lint.{with_words}
 use Rattle.lu_lang.specs.Draft.{Begun}
-use Rattle.lu_lint.specs.Warnings.{line_hints, next_returns, returns_within, warned, warnings_after}
+use Rattle.lu_lint.specs.Warnings.{draft_behind, line_hints, next_returns, returns_within, warned, warnings_after}
 use denote.Ref.{Bor}
 
 -- one line more
 pub goes_on : (c : Declarations) (lines : List (Bor (List ℕ))) (i : ℕ) (b : Bor (List ℕ)) (seen seen2 : List ℕ) (d d2 : Drafted) (hints : List FoundHint) (before next total : List Said)
-    → i < length lines → next ≡ before ++ map (warned seen (i + 1)) hints → hints ≡ line_hints c d (get_or lines i b).now → d2 ≡ (going_on d (component_grammar.line d (get_or lines i b).now)).0 → seen2 ≡ with_words seen (i + 1) (get_or lines i b).now
+    → i < length lines → next ≡ before ++ map (warned seen (i + 1)) hints → hints ≡ line_hints c d (get_or lines i b).now → d2 ≡ draft_behind d (get_or lines i b).now → seen2 ≡ with_words seen (i + 1) (get_or lines i b).now
     → before ++ warnings_after c seen (i + 1) d (drop i (texts lines)) ≡ total → next ++ warnings_after c seen2 (i + 1 + 1) d2 (drop (i + 1) (texts lines)) ≡ total
 unfolding warnings_after
 goes_on c lines i b seen seen2 d d2 hints before next total within more found left words so_far =

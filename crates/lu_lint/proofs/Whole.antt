@@ -3,7 +3,7 @@ use Rattle.std.proofs.Common.{◌≡◌, ℕ, List, ◌++◌, subst, ap, ◌∙�
 use Rattle.lu_text.specs.Lines.{kept_lines}
 use Rattle.lu_lint.specs.declared.remark.Said.{Said}
 use Rattle.lu_lint.specs.Bundle.{BundleSaid, RunsOfParts, ThirdOf, lines_said, parts_by_meant}
-use Rattle.lu_lint.specs.Third.{SaysFurther}
+use Rattle.lu_lint.specs.Said.{SaysFurther}
 
 -- what is said without the third part, of the third part, and by runs
 pub joined : (bound : ℕ) (bundle : List ℕ) (lines parts : List (List ℕ)) (first texts found : List Said) → lines ≡ kept_lines bundle → parts ≡ parts_by_meant (kept_lines bundle) → first ≡ lines_said lines → SaysFurther (ThirdOf parts) first texts → SaysFurther (RunsOfParts bound parts) texts found → BundleSaid bound bundle found

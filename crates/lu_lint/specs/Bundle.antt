@@ -8,17 +8,15 @@ use Rattle.lu_text.specs.Lines.{is_blank, kept_lines}
 use Rattle.lu_component.specs.Component.{Declarations}
 use Rattle.lu_lang.specs.Grammar.{component_grammar}
 use Rattle.lu_lint.specs.declared.remark.Said.{Said}
-use Rattle.lu_lint.specs.declared.remark.FaultKind.TheVariants as part
 use Rattle.lu_lint.specs.declared.remark.Cause.TheVariants.{Separator}
 use Rattle.lu_test.specs.Matrix.{Matrix}
 use Rattle.lu_test.specs.MatrixText.{matrix_grammar}
-use Rattle.lu_lint.specs.Lint.{faults_in}
-use Rattle.lu_lint.specs.Third.{SaysFurther, ThirdSaid, third_of}
+use Rattle.lu_lint.specs.Third.{ThirdSaid, third_of}
 use Rattle.lu_lint.specs.Component.{component_lint}
 use Rattle.lu_lang.specs.Faulty.{Faulty}
 use Rattle.lu_lint.specs.Matrix.{matrix_lint}
 use Rattle.lu_lint.specs.Outline.{faulty_end, outline_text}
-use Rattle.lu_lint.specs.Said.{line_below, said_faults}
+use Rattle.lu_lint.specs.Said.{SaysFurther, line_below, said_of_text}
 use Rattle.lu_lint.specs.Warnings.{warnings_in}
 use Rattle.lu_lint.specs.Runs.{RunsSaid}
 
@@ -74,7 +72,7 @@ matrix_read (Some c) text = result_ok (meaning_of (matrix_grammar c) text)
 abbrev pub outline_said : Faulty → Option Declarations → ℕ → List ℕ → List Said
 outline_said f None above text = []
 outline_said f (Some c) above text =
-    said_faults part.Matrix above (faults_in (matrix_lint c (Some f)) text)
+    said_of_text (matrix_lint c (Some f)) above text
 
 abbrev pub faulty_said : Faulty → ℕ → List ℕ → List Said
 faulty_said f above text = outline_said f (component_read (outline_text f.draft)) above text
@@ -82,8 +80,7 @@ faulty_said f above text = outline_said f (component_read (outline_text f.draft)
 -- what is said of a matrix, by its component's text
 abbrev pub judged_said : Option Declarations → List ℕ → ℕ → List ℕ → List Said
 judged_said None component above text = faulty_said (faulty_end component) above text
-judged_said (Some c) component above text =
-    said_faults part.Matrix above (faults_in (matrix_lint c None) text)
+judged_said (Some c) component above text = said_of_text (matrix_lint c None) above text
 
 abbrev pub matrix_said : List ℕ → ℕ → List ℕ → List Said
 matrix_said component above text = judged_said (component_read component) component above text
@@ -96,14 +93,16 @@ warnings_said (Some c) text = warnings_in c text
 -- what is said of a component
 abbrev pub component_said : List ℕ → List Said
 component_said text =
-    said_faults part.Component 0 (faults_in component_lint text)
-    ++ warnings_said (component_read text) text
+    said_of_text component_lint 0 text ++ warnings_said (component_read text) text
+
+-- what is said of the matrix right behind a component
+abbrev pub second_said : List ℕ → List ℕ → List Said
+second_said component matrix = matrix_said component (above_next 0 component) matrix
 
 -- what is said of the parts behind a component, without the third part
 abbrev pub behind_component : List ℕ → List (List ℕ) → List Said
 behind_component component [] = []
-behind_component component (matrix ∷ parts) =
-    matrix_said component (above_next 0 component) matrix
+behind_component component (matrix ∷ parts) = second_said component matrix
 
 abbrev pub parts_said : List (List ℕ) → List Said
 parts_said [] = []
@@ -126,11 +125,14 @@ ThirdOf (component ∷ []) said = said ≡ []
 ThirdOf (component ∷ matrix ∷ []) said = said ≡ []
 ThirdOf (component ∷ matrix ∷ third ∷ parts) said = ThirdOfParts component matrix third said
 
+-- what runs show of the text of a matrix behind a component, where both are read
+abbrev pub RunsBehind : ℕ → Option Declarations → ℕ → List ℕ → List Said → Type 0
+RunsBehind bound c above text said = RunsSaid bound c (matrix_read c text) above text said
+
 -- what runs show of these texts of a component and a matrix
 abbrev pub RunsOfTexts : ℕ → List ℕ → List ℕ → List Said → Type 0
 RunsOfTexts bound component matrix said =
-    RunsSaid bound (component_read component) (matrix_read (component_read component) matrix)
-    (above_next 0 component) matrix said
+    RunsBehind bound (component_read component) (above_next 0 component) matrix said
 
 -- the same, where there is a matrix
 abbrev pub RunsOfParts : ℕ → List (List ℕ) → List Said → Type 0

@@ -4,9 +4,15 @@ use Rattle.lu_component.specs.Component.{Declarations}
 use Rattle.lu_lang.specs.declared.fault.LangFaultKind.{LangFaultKind}
 use Rattle.lu_lang.specs.declared.fault.LangFaultKind.TheVariants.{Name}
 use Rattle.lu_lang.specs.Faulty.{Faulty}
+use Rattle.lu_lang.specs.Grammar.{fault_in}
 use Rattle.lu_lang.specs.Meant.{faulty_grammar, mend_faulty}
 use Rattle.lu_lang.specs.Place.{backs, left_backs, open_backs}
-use Rattle.lu_lint.specs.Lint.{Lint}
+use Rattle.lu_lint.specs.declared.remark.Position.{Position}
+use Rattle.lu_lint.specs.declared.remark.Said.{Said}
+use Rattle.lu_lint.specs.declared.remark.FaultKind.TheVariants as part
+use Rattle.lu_lint.specs.Lint as lint
+use Rattle.lu_lint.specs.Lint.{Lint, end_told, told_at, told_on}
+use Rattle.lu_lint.specs.Said.{said_faults}
 
 abbrev pub faulty_backs : Faulty → List ℕ → LangFaultKind → List ℕ
 faulty_backs f line kind = backs f.draft line kind
@@ -31,9 +37,33 @@ component_lint = record {
   backs = faulty_backs;
   others = faulty_others;
   end_others = faulty_end_others;
+  of = part.Component;
 }
 
 -- by how many lines with words the jumps stand before a line that are told beside its fault
 abbrev pub backs_beside : Faulty → List ℕ → List (List ℕ) → Option LangFaultKind → List ℕ
 backs_beside f line lines None = []
 backs_beside f line lines (Some kind) = left_backs f.draft line lines kind
+
+-- the draft from which the lines behind a line are read, where the line left this or has a fault
+abbrev pub left_by : Faulty → List ℕ → List (List ℕ) → Option LangFaultKind → Faulty
+left_by f line lines fault = lint.left_by mend_faulty f line lines fault
+
+-- ---- what is said, of a line that stands here
+
+-- of jumps to labels that are not there, so many lines with words before it
+abbrev pub jumps_said : Position → LangFaultKind → List ℕ → List Said
+jumps_said at kind backs =
+    said_faults part.Component at.above (map (told_at at.seen.items at.line kind) backs)
+
+-- of the line, where it has a fault
+abbrev pub line_said : Position → Faulty → List ℕ → Option LangFaultKind → List Said
+line_said at f line fault =
+    said_faults part.Component at.above
+    (told_on component_lint at.seen.items at.line f line fault)
+
+-- of the end of the text, where it has a fault
+abbrev pub end_said : Position → Faulty → List Said
+end_said at f =
+    said_faults part.Component at.above
+    (end_told at.seen.items at.line (faulty_end_others f) (fault_in (faulty_grammar.finish f)))

@@ -1,3 +1,4 @@
+pub mod Items
 pub mod Lint
 pub mod Component
 pub mod Outline

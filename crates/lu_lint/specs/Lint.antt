@@ -5,6 +5,7 @@ use Rattle.lu_text.specs.declared.fault.Fault.{Fault}
 use Rattle.lu_text.specs.declared.fault.Fault.TheVariants.{At}
 use Rattle.lu_text.specs.Lines.{lines_of, words_of}
 use Rattle.lu_text.specs.Faults.{Grammar}
+use Rattle.lu_lint.specs.declared.remark.FaultKind.{FaultKind}
 
 -- A fault, the line that it is a fault of, and the line that its message stands on.
 pub record Told (Kind : Type 0) : Type 0 where
@@ -16,13 +17,14 @@ pub record Told (Kind : Type 0) : Type 0 where
 -- before it, of the line, and of the lines behind it. Each message stands one of `backs` lines with
 -- words before the line; one stands on the line itself where that is empty. Beside the fault
 -- `others` are told, each a kind, and by how many lines with words its message stands before the
--- line; and `end_others` beside a fault of the end.
+-- line; and `end_others` beside a fault of the end. `of` says of which part such a fault is.
 pub record Lint (Kind Draft Value : Type 0) : Type 0 where
   pub grammar : Grammar Kind Draft Value
   pub mend : Draft → List ℕ → List (List ℕ) → Draft
   pub backs : Draft → List ℕ → Kind → List ℕ
   pub others : Draft → List ℕ → List (List ℕ) → Kind → List (Kind × ℕ)
   pub end_others : Draft → List (Kind × ℕ)
+  pub of : Kind → FaultKind
 
 -- the lines with words so far, with line n
 abbrev pub with_words : List ℕ → ℕ → List ℕ → List ℕ
@@ -32,12 +34,17 @@ with_words seen n line = if length (words_of line) == 0 then seen else seen ++ n
 abbrev pub line_before : List ℕ → ℕ → ℕ → ℕ
 line_before seen n back = unwrap_or (slice_get seen (length seen - back)) n
 
-abbrev pub told_at : {Kind : Type 0} → List ℕ → ℕ → Kind → ℕ → Told Kind
-told_at seen n kind back = record { kind = kind; line = n; place = line_before seen n back }
+-- a fault of line n that is told on line `place`
+abbrev pub told_there : {Kind : Type 0} → ℕ → Kind → ℕ → Told Kind
+told_there n kind place = record { kind = kind; line = n; place = place }
 
--- a fault of line n that is told on its line
+-- on the line so many lines with words before it
+abbrev pub told_at : {Kind : Type 0} → List ℕ → ℕ → Kind → ℕ → Told Kind
+told_at seen n kind back = told_there n kind (line_before seen n back)
+
+-- on its line
 abbrev pub told_here : {Kind : Type 0} → ℕ → Kind → Told Kind
-told_here n kind = record { kind = kind; line = n; place = n }
+told_here n kind = told_there n kind n
 
 -- what is told of a fault of line n
 abbrev pub told : {Kind : Type 0} → List ℕ → ℕ → Kind → List ℕ → List (Told Kind)

@@ -1,5 +1,6 @@
 -- The faults of a matrix's text: each message stands on its fault's line.
-use Rattle.std.specs.Prelude.{ℕ, List, [], Option, Some, None}
+use Rattle.std.specs.Prelude.{ℕ, List, [], ◌∷◌, Option, Some, None, Result}
+use Rattle.std.specs.Option.{option_copied}
 use Rattle.lu_component.specs.Component.{Declarations}
 use Rattle.lu_lang.specs.Faulty.{Faulty}
 use Rattle.lu_text.specs.Faults.{Grammar}
@@ -7,8 +8,13 @@ use Rattle.lu_test.specs.declared.matrix_fault.MatrixFaultKind.{MatrixFaultKind}
 use Rattle.lu_test.specs.Matrix.{Matrix}
 use Rattle.lu_test.specs.MatrixText.{Drafted, line_of, matrix_grammar}
 use Rattle.lu_test.specs.MatrixGoing.{mend}
-use Rattle.lu_lint.specs.Lint.{Lint}
+use Rattle.lu_lint.specs.declared.matrix.Basis.{Basis}
+use Rattle.lu_lint.specs.declared.remark.Position.{Position}
+use Rattle.lu_lint.specs.declared.remark.Said.{Said}
+use Rattle.lu_lint.specs.declared.remark.FaultKind.TheVariants as part
+use Rattle.lu_lint.specs.Lint.{Lint, told_here}
 use Rattle.lu_lint.specs.Outline.{sure_line}
+use Rattle.lu_lint.specs.Said.{said_told}
 
 -- what a line with a fault leaves, whatever stands behind it
 abbrev pub matrix_mend : Drafted → List ℕ → List (List ℕ) → Drafted
@@ -31,4 +37,23 @@ matrix_lint c faulty =
       backs = λ d line kind. [];
       others = λ d line lines kind. [];
       end_others = λ d. [];
+      of = part.Matrix;
     }
+
+-- how a matrix is read that is judged by this
+abbrev pub lint_on : Basis → Lint MatrixFaultKind Drafted Matrix
+lint_on basis = matrix_lint basis.component.now (option_copied basis.faulty)
+
+-- what a line makes of a draft, as it is judged
+abbrev pub judged_by : Basis → Drafted → List ℕ → Result Drafted MatrixFaultKind
+judged_by basis d line = (lint_on basis).grammar.line d line
+
+-- the draft from which the lines behind a line are read, where the line left this or has a fault
+abbrev pub left_by : Drafted → List ℕ → Option MatrixFaultKind → Drafted
+left_by d line None = d
+left_by d line (Some kind) = mend d line
+
+-- what is said of a fault of the line that stands here, where it has one
+abbrev pub fault_said : Position → Option MatrixFaultKind → List Said
+fault_said at None = []
+fault_said at (Some kind) = said_told part.Matrix at.above (told_here at.line kind) ∷ []

@@ -19,9 +19,13 @@ use Rattle.lu_lint.specs.Component.{component_lint}
 
 -- ---- the operations
 
--- what the lines of a component's text leave, each read as it was meant
+-- what the lines of a component leave, each read as it was meant
+abbrev pub faulty_of_lines : List (List ℕ) → Faulty
+faulty_of_lines lines = draft_after component_lint component_lint.grammar.nothing lines
+
+-- and those of its text
 abbrev pub faulty_end : List ℕ → Faulty
-faulty_end text = draft_after component_lint component_lint.grammar.nothing (lines_of text)
+faulty_end text = faulty_of_lines (lines_of text)
 
 -- an operation as its calls see it
 abbrev pub head_text : List ℕ → ℕ → List ℕ

@@ -1,5 +1,5 @@
 -- Warnings by runs: what the setup's run and the serial runs show.
-use Rattle.std.specs.Prelude.{◌≡◌, ◌⊎◌, ℕ, ◌+◌, ◌-◌, Bool, true, false, List, [], ◌∷◌, ◌++◌, length, map, filter, replicate, Option, Some, None, slice_get, codes, ◌==◌, ◌&&◌, if◌then◌else◌}
+use Rattle.std.specs.Prelude.{◌≡◌, ◌⊎◌, ℕ, ◌+◌, ◌-◌, Bool, true, false, List, [], ◌∷◌, ◌++◌, length, map, filter, replicate, Option, Some, None, Result, IfOk, Vec, slice_get, codes, ◌==◌, ◌&&◌, if◌then◌else◌}
 use Rattle.std.specs.List.{flat_map, list_any}
 use Rattle.std.specs.List.Sorted.{IsStrictlySortedBy}
 use Rattle.std.specs.Option.{unwrap_or}
@@ -29,6 +29,7 @@ use Rattle.lu_lint.specs.declared.remark.Ending.TheVariants.{Trap as Trapped, St
 use Rattle.lu_lint.specs.declared.remark.SerialHint.{SerialHint}
 use Rattle.lu_lint.specs.declared.remark.RunHint.{RunHint}
 use Rattle.lu_lint.specs.declared.remark.RunHint.TheVariants.{SetupGoesOn, SetupTraps, Serial}
+use Rattle.lu_lint.specs.declared.runs.Test.{Test}
 use Rattle.lu_lint.specs.Said.{line_below}
 
 -- ---- the setup
@@ -115,11 +116,9 @@ with_firsts told (hint ∷ hints) = with_firsts (with_hint told hint) hints
 abbrev pub set_hints : List (List SerialOp) → List SerialHint
 set_hints histories = with_firsts [] (flat_map history_hints histories)
 
--- these hints with those of the histories, each behind the path
-abbrev pub with_histories_behind : List SerialHint → List SerialOp → List (List SerialOp)
-    → List SerialHint
-with_histories_behind told path histories =
-    with_firsts told (flat_map (λ h. history_hints (path ++ h)) histories)
+-- these hints with those of the set's histories, each behind the path
+abbrev pub with_set : List SerialHint → List SerialOp → List (List SerialOp) → List SerialHint
+with_set told path set = with_firsts told (flat_map (λ h. history_hints (path ++ h)) set)
 
 -- ---- a schedule that is cut
 
@@ -167,6 +166,12 @@ ShownByNone s bound hints =
 abbrev pub ShownSerially : ℕ → List SerialHint → State → Type 0
 ShownSerially bound hints s =
     ShownBySet s bound hints ⊎ ShownByCut s bound hints ⊎ ShownByNone s bound hints
+
+-- where it succeeds, its items are shown from each start
+abbrev pub ShowsFromEachStart : {T E Z : Type 0} → Result (Vec T Z) E → Declarations → Matrix
+    → (List T → State → Type 0)
+    → Type 0
+ShowsFromEachStart result c matrix P = IfOk result (λ v. FromEachStart c matrix (P v.items))
 
 -- ---- a component and a matrix
 
@@ -233,6 +238,11 @@ abbrev pub RunsOf : ℕ → Declarations → Matrix → ℕ → List ℕ → Lis
 RunsOf bound c matrix above text said =
     (hints : List RunHint) × Show c matrix bound hints
     × (said ≡ all_shown above text hints)
+
+-- those of a test
+abbrev pub RunsOfTest : Test → ℕ → List ℕ → List Said → Type 0
+RunsOfTest test above text said =
+    RunsOf test.bound test.component.now test.matrix.now above text said
 
 -- the same, where both are read
 abbrev pub RunsSaid : ℕ → Option Declarations → Option Matrix → ℕ → List ℕ → List Said → Type 0

@@ -5,7 +5,10 @@ use Rattle.lu_test.specs.declared.schedule_fault.ScheduleFault.{ScheduleFault}
 use Rattle.lu_test.specs.declared.schedule_fault.ScheduleFault.TheVariants.{Form, Limit}
 use Rattle.lu_test.specs.ScheduleText.{move_of}
 use Rattle.lu_test.specs.ScheduleGoing.{schedule_words}
+use Rattle.lu_lint.specs.declared.remark.Said.{Said}
+use Rattle.lu_lint.specs.declared.remark.FaultKind.TheVariants as part
 use Rattle.lu_lint.specs.Lint.{Told, told_here}
+use Rattle.lu_lint.specs.Said.{said_faults}
 
 abbrev pub fault_of : {A : Type 0} → Result A ScheduleFault → List ScheduleFault
 fault_of (Ok x) = []
@@ -18,9 +21,13 @@ word_faults word = fault_of (move_of word)
 abbrev pub length_faults : List (List ℕ) → List ScheduleFault
 length_faults words = if nat_lt 4112 (length words) then Limit ∷ [] else []
 
+-- of each word
+abbrev pub faults_of_each : List (List ℕ) → List ScheduleFault
+faults_of_each words = flat_map word_faults words
+
 -- of each word up to the first that is too many, and that there are too many
 abbrev pub words_faults : List (List ℕ) → List ScheduleFault
-words_faults words = flat_map word_faults (take 4113 words) ++ length_faults words
+words_faults words = faults_of_each (take 4113 words) ++ length_faults words
 
 abbrev pub form_faults : Option (List (List ℕ)) → List ScheduleFault
 form_faults None = Form ∷ []
@@ -33,6 +40,10 @@ schedule_faults text = form_faults (schedule_words text)
 -- all are told on its first line
 abbrev pub schedule_told : List ScheduleFault → List (Told ScheduleFault)
 schedule_told faults = map (told_here 1) faults
+
+-- what is said of them
+abbrev pub schedule_said : ℕ → List ScheduleFault → List Said
+schedule_said above faults = said_faults part.Schedule above (schedule_told faults)
 
 -- a text is read where it has no fault, and else its first fault is the reader's
 abbrev pub AgreeOn : {A : Type 0} → Result A ScheduleFault → List ScheduleFault → Type 0

@@ -1,5 +1,5 @@
 -- The third part of a bundle: a specification, a report or a schedule, as its first words say.
-use Rattle.std.specs.Prelude.{◌≡◌, ℕ, List, [], ◌++◌, map, Option, Some, None, codes, take, if◌then◌else◌}
+use Rattle.std.specs.Prelude.{◌≡◌, ℕ, List, [], map, Option, Some, None, codes, take, if◌then◌else◌}
 use Rattle.std.specs.Str.{bytes_eq}
 use Rattle.lu_text.specs.Lines.{kept_lines}
 use Rattle.lu_test.specs.Matrix.{Matrix}
@@ -13,18 +13,14 @@ use Rattle.lu_lint.specs.declared.remark.FaultKind.TheVariants as part
 use Rattle.lu_lint.specs.declared.third.Third.{Third}
 use Rattle.lu_lint.specs.declared.third.Third.TheVariants.{Specification, Report, Schedule}
 use Rattle.lu_lint.specs.Lint.{told_here}
-use Rattle.lu_lint.specs.Said.{said_faults, said_told}
-use Rattle.lu_lint.specs.Schedule.{schedule_faults, schedule_told}
+use Rattle.lu_lint.specs.Said.{said_told}
+use Rattle.lu_lint.specs.Schedule.{schedule_faults, schedule_said}
 
 -- what a part is to be
 abbrev pub third_of : List ℕ → Third
 third_of text =
     if bytes_eq (take 11 text) (codes "lineup spec") then Specification
     else (if bytes_eq (take 6 text) (codes "lineup") then Report else Schedule)
-
--- These are said behind what was said before.
-abbrev pub SaysFurther : (List Said → Type 0) → List Said → List Said → Type 0
-SaysFurther P before after = (said : List Said) × P said × (after ≡ before ++ said)
 
 -- a fault of a report is said of its own line
 abbrev pub report_said : ℕ → ReportLineFault → Said
@@ -54,8 +50,7 @@ SaidOfSome (Some matrix) above text said = SpecificationSaid matrix above text s
 
 -- what is said of a schedule
 abbrev pub ScheduleSaid : ℕ → List ℕ → List Said → Type 0
-ScheduleSaid above text said =
-    said ≡ said_faults part.Schedule above (schedule_told (schedule_faults text))
+ScheduleSaid above text said = said ≡ schedule_said above (schedule_faults text)
 
 -- what is said of a third part, behind a matrix that is read or not
 abbrev pub ThirdSaid : Third → Option Matrix → ℕ → List ℕ → List Said → Type 0

@@ -97,10 +97,13 @@ abbrev pub jumps_to_label : Word → Option Word → Bool
 jumps_to_label name None = false
 jumps_to_label name (Some label) = bytes_eq label name
 
+-- a jump leads to the label of this name
+abbrev pub is_used : List Statement → Word → Bool
+is_used statements name = list_any (λ s. jumps_to_label name (label_used s)) statements
+
 -- no jump of the operation leads to the label
 abbrev pub is_unused : List Statement → Label → Bool
-is_unused statements label =
-    not (list_any (λ s. jumps_to_label label.name (label_used s)) statements)
+is_unused statements label = not (is_used statements label.name)
 
 abbrev pub label_hints : Begun → List FoundHint
 label_hints b =
@@ -192,13 +195,16 @@ line_hints c d line = words_hints c d (words_of line)
 abbrev pub warned : List ℕ → ℕ → FoundHint → Said
 warned seen n f = record { place = line_before seen n f.back; cause = Warning f.hint }
 
+-- the draft behind a line, which has no fault
+abbrev pub draft_behind : Drafted → List ℕ → Drafted
+draft_behind d line = (going_on d (component_grammar.line d line)).0
+
 -- the warnings of these lines, of which the first is line n
 unfoldable pub warnings_after : Declarations → List ℕ → ℕ → Drafted → List (List ℕ) → List Said
 warnings_after c seen n d [] = []
 warnings_after c seen n d (line ∷ lines) =
     map (warned seen n) (line_hints c d line)
-    ++ warnings_after c (with_words seen n line) (n + 1)
-    ((going_on d (component_grammar.line d line)).0) lines
+    ++ warnings_after c (with_words seen n line) (n + 1) (draft_behind d line) lines
 
 abbrev pub warnings_of_lines : Declarations → List (List ℕ) → List Said
 warnings_of_lines c lines = warnings_after c [] 1 nothing lines

@@ -1,11 +1,11 @@
 //! The parts of a bundle.
 
-ghost use Rattle.std.specs.Prelude.{◌≡◌, ◌==◌, ◌||◌, ◌++◌, IfOk};
+ghost use Rattle.std.specs.Prelude.{◌≡◌, ◌==◌, ◌||◌, IfOk};
 ghost use Rattle.lu_text.specs.Lines as lines;
 ghost use Rattle.lu_text.specs.Lines.{kept_lines, texts};
 ghost use Rattle.lu_lint.specs.Bundle as spec;
 ghost use Rattle.lu_lint.specs.Bundle.{parts_by_meant, separators_from};
-ghost use Rattle.lu_lint.specs.Said.{said_of};
+ghost use Rattle.lu_lint.specs.Said.{SaysAlso};
 
 use crate::remark::{Cause, Remark, Said, line_below, with_remark};
 use lu_text::cut_line;
@@ -108,8 +108,7 @@ fn with_separator(
     number: usize,
     line: &[u8],
 ) -> Result<Vec<Remark>, AllocError>
-    ensures { IfOk result (λ next.
-        said_of next.items ≡ said_of all.items ++ spec.separator_said number line.now) }
+    ensures { SaysAlso result all (spec.separator_said number line.now) }
 {
     if !is_blurred(line) {
         return Ok(all);
@@ -127,8 +126,7 @@ pub(crate) fn with_separators(
     mut all: Vec<Remark>,
     lines: &[&[u8]],
 ) -> Result<Vec<Remark>, AllocError>
-    ensures { IfOk result (λ next.
-        said_of next.items ≡ said_of all.items ++ separators_from 1 (texts lines.now)) }
+    ensures { SaysAlso result all (separators_from 1 (texts lines.now)) }
 {
     for (before, line) in lines.iter().enumerate() {
         all = with_separator(alloc, all, before + 1, line)?;

@@ -1,13 +1,12 @@
 //! The faults of a component's text.
 
-ghost use Rattle.std.specs.Prelude.{◌≡◌, ◌++◌, IfOk, map};
-ghost use Rattle.lu_lang.specs.Grammar.{fault_in};
-ghost use Rattle.lu_lang.specs.Meant.{faulty_grammar, mend_faulty};
-ghost use Rattle.lu_lint.specs.Component.{backs_beside, component_lint, faulty_end_others};
-ghost use Rattle.lu_lint.specs.Lint as spec;
+ghost use Rattle.std.specs.Prelude.{◌≡◌, IfOk, Some};
+ghost use Rattle.lu_lint.specs.Component as spec;
+ghost use Rattle.lu_lint.specs.Component.{component_lint};
+ghost use Rattle.lu_lint.specs.Items.{HasItems};
+ghost use Rattle.lu_lint.specs.Lint.{told_there};
 ghost use Rattle.lu_lint.specs.Outline as outline;
-ghost use Rattle.lu_lint.specs.Lint.{end_told, faults_in, faults_of_lines, told_on};
-ghost use Rattle.lu_lint.specs.Said.{said_faults, said_of, said_told};
+ghost use Rattle.lu_lint.specs.Said.{SaysAlso, said_of_lines, said_of_text, said_told};
 ghost use Rattle.lu_lint.specs.declared.remark.FaultKind.TheVariants as part;
 ghost use Rattle.lu_text.specs.Lines.{texts};
 
@@ -25,7 +24,7 @@ use std::alloc::{AllocError, Global};
 /// What is said of a fault of a component, whose message stands on line `place` of it.
 fn said(at: &Position, kind: LangFaultKind, place: usize) -> Said
     ensures { result ≡ said_told part.Component at.now.above
-        (record { kind = kind; line = at.now.line; place = place }) }
+        (told_there at.now.line kind place) }
 {
     Said {
         place: line_below(at.above, place),
@@ -42,9 +41,7 @@ fn with_jumps(
     kind: LangFaultKind,
     backs: &[usize],
 ) -> Result<Vec<Remark>, AllocError>
-    ensures { IfOk result (λ next. said_of next.items ≡ said_of all.items
-        ++ said_faults part.Component at.now.above
-        (map (spec.told_at at.now.seen.items at.now.line kind) backs.now)) }
+    ensures { SaysAlso result all (spec.jumps_said at.now kind backs.now) }
 {
     for back in backs {
         let words = jump_wording(alloc, draft, *back)?;
@@ -76,9 +73,7 @@ fn with_fault(
     kind: LangFaultKind,
     text: &[u8],
 ) -> Result<Vec<Remark>, AllocError>
-    ensures { IfOk result (λ next. said_of next.items ≡ said_of all.items
-        ++ said_faults part.Component at.now.above
-        (told_on component_lint at.now.seen.items at.now.line draft.now text.now (Some kind))) }
+    ensures { SaysAlso result all (spec.line_said at.now draft.now text.now (Some kind)) }
 {
     let backs = message_backs(alloc, &draft.draft, text, kind)?;
     if backs.is_empty() {
@@ -99,9 +94,7 @@ fn with_line(
     fault: Option<LangFaultKind>,
     text: &[u8],
 ) -> Result<Vec<Remark>, AllocError>
-    ensures { IfOk result (λ next. said_of next.items ≡ said_of all.items
-        ++ said_faults part.Component at.now.above
-        (told_on component_lint at.now.seen.items at.now.line draft.now text.now fault)) }
+    ensures { SaysAlso result all (spec.line_said at.now draft.now text.now fault) }
 {
     match fault {
         None => Ok(all),
@@ -118,8 +111,7 @@ fn backs_beside(
     text: &[u8],
     lines: &[&[u8]],
 ) -> Result<Vec<usize>, AllocError>
-    ensures { IfOk result (λ ns.
-        ns.items ≡ backs_beside draft.now text.now (texts lines.now) fault) }
+    ensures { HasItems result (spec.backs_beside draft.now text.now (texts lines.now) fault) }
 {
     match fault {
         None => Ok(Vec::new(alloc)),
@@ -136,7 +128,7 @@ fn left_by(
     lines: &[&[u8]],
 ) -> Result<FaultyDraft, AllocError>
     ensures { IfOk result (λ next.
-        next ≡ spec.left_by mend_faulty draft text.now (texts lines.now) fault) }
+        next ≡ spec.left_by draft text.now (texts lines.now) fault) }
 {
     match fault {
         None => Ok(draft),
@@ -152,10 +144,7 @@ fn with_end(
     at: &Position,
     draft: &FaultyDraft,
 ) -> Result<Vec<Remark>, AllocError>
-    ensures { IfOk result (λ next. said_of next.items ≡ said_of all.items
-        ++ said_faults part.Component at.now.above
-        (end_told at.now.seen.items at.now.line (faulty_end_others draft.now)
-        (fault_in (faulty_grammar.finish draft.now)))) }
+    ensures { SaysAlso result all (spec.end_said at.now draft.now) }
 {
     match end_fault(&draft.draft) {
         None => Ok(all),
@@ -175,8 +164,7 @@ fn faults_of_lines(
     above: usize,
     lines: &[&[u8]],
 ) -> Result<Vec<Remark>, AllocError>
-    ensures { IfOk result (λ next. said_of next.items ≡ said_of all.items
-        ++ said_faults part.Component above (faults_of_lines component_lint (texts lines.now))) }
+    ensures { SaysAlso result all (said_of_lines component_lint above (texts lines.now)) }
 {
     let mut draft = FaultyDraft::new(alloc);
     let mut seen = Vec::new(alloc);
@@ -215,8 +203,7 @@ pub(crate) fn with_component(
     above: usize,
     text: &[u8],
 ) -> Result<Vec<Remark>, AllocError>
-    ensures { IfOk result (λ next. said_of next.items ≡
-        said_of all.items ++ said_faults part.Component above (faults_in component_lint text.now)) }
+    ensures { SaysAlso result all (said_of_text component_lint above text.now) }
 {
     let lines = lines_of(alloc, text)?;
     faults_of_lines(alloc, all, above, &lines)
@@ -224,8 +211,7 @@ pub(crate) fn with_component(
 
 /// What these lines leave, each read as it was meant.
 fn draft_of_lines(alloc: Global, lines: &[&[u8]]) -> Result<FaultyDraft, AllocError>
-    ensures { IfOk result (λ draft. draft ≡
-        spec.draft_after component_lint component_lint.grammar.nothing (texts lines.now)) }
+    ensures { IfOk result (λ draft. draft ≡ outline.faulty_of_lines (texts lines.now)) }
 {
     let mut draft = FaultyDraft::new(alloc);
     for (before, text) in lines.iter().enumerate() {

@@ -1,16 +1,14 @@
 //! What lint says of a bundle.
 
-ghost use Rattle.std.specs.Prelude.{◌≡◌, ◌≤◌, ◌++◌, ◌∷◌, IfOk, Some, string_bytes};
-ghost use Rattle.std.specs.List.{list_any};
+ghost use Rattle.std.specs.Prelude.{◌≡◌, ◌≤◌, ◌∷◌, IfOk, Some, string_bytes};
 ghost use Rattle.std.specs.List.Sorted.{IsNonDecreasingBy};
 ghost use Rattle.lu_text.specs.Lines.{texts};
 ghost use Rattle.lu_lint.specs.Bundle as spec;
-ghost use Rattle.lu_lint.specs.Bundle.{BundleSaid, IsSaidOf, RunsOfParts, RunsOfTexts, ThirdOf, ThirdOfParts, parts_by_meant, parts_said};
-ghost use Rattle.lu_lint.specs.Third.{SaysFurther};
-ghost use Rattle.lu_lint.specs.Runs.{RunsSaid};
+ghost use Rattle.lu_lint.specs.Bundle.{BundleSaid, IsSaidOf, RunsBehind, RunsOfParts, RunsOfTexts, ThirdOf, ThirdOfParts, parts_by_meant, parts_said};
 ghost use Rattle.lu_lint.specs.Messages.{remarks_text};
 ghost use Rattle.lu_lint.specs.Outline.{faulty_end};
-ghost use Rattle.lu_lint.specs.Said.{is_fault, said_of};
+ghost use Rattle.lu_lint.specs.Said as said;
+ghost use Rattle.lu_lint.specs.Said.{SaysAlso, SaysSuch, said_of};
 
 use crate::bundle::{above_next, kept_in, parts_in, with_separators};
 use crate::component::{faulty_end, with_component};
@@ -89,8 +87,7 @@ fn with_matrix_by(
     above: usize,
     text: &[u8],
 ) -> Result<Vec<Remark>, AllocError>
-    ensures { IfOk result (λ next. said_of next.items ≡
-        said_of all.items ++ spec.faulty_said faulty.now above text.now) }
+    ensures { SaysAlso result all (spec.faulty_said faulty.now above text.now) }
 {
     let outline = outline_text(alloc, &faulty.draft)?;
     match component_read(alloc, outline.as_bytes())? {
@@ -114,8 +111,7 @@ fn with_matrix_behind(
     above: usize,
     text: &[u8],
 ) -> Result<Vec<Remark>, AllocError>
-    ensures { IfOk result (λ next. said_of next.items ≡
-        said_of all.items ++ spec.faulty_said (faulty_end component.now) above text.now) }
+    ensures { SaysAlso result all (spec.faulty_said (faulty_end component.now) above text.now) }
 {
     let faulty = faulty_end(alloc, component)?;
     let all = with_matrix_by(alloc, all, &faulty, above, text)?;
@@ -129,8 +125,7 @@ fn with_second(
     component: &[u8],
     matrix: &[u8],
 ) -> Result<Vec<Remark>, AllocError>
-    ensures { IfOk result (λ next. said_of next.items ≡ said_of all.items
-        ++ spec.matrix_said component.now (spec.above_next 0 component.now) matrix.now) }
+    ensures { SaysAlso result all (spec.second_said component.now matrix.now) }
 {
     let above = above_next(alloc, 0, component)?;
     match component_read(alloc, component)? {
@@ -153,8 +148,7 @@ fn behind(
     component: &[u8],
     parts: &[&[u8]],
 ) -> Result<Vec<Remark>, AllocError>
-    ensures { IfOk result (λ next. said_of next.items ≡
-        said_of all.items ++ spec.behind_component component.now (texts parts.now)) }
+    ensures { SaysAlso result all (spec.behind_component component.now (texts parts.now)) }
 {
     match parts.split_first() {
         None => Ok(all),
@@ -169,8 +163,7 @@ fn with_warnings_of(
     component: &Option<Component>,
     text: &[u8],
 ) -> Result<Vec<Remark>, AllocError>
-    ensures { IfOk result (λ next. said_of next.items ≡
-        said_of all.items ++ spec.warnings_said component.now text.now) }
+    ensures { SaysAlso result all (spec.warnings_said component.now text.now) }
 {
     match component {
         None => Ok(all),
@@ -184,8 +177,7 @@ fn with_component_part(
     all: Vec<Remark>,
     text: &[u8],
 ) -> Result<Vec<Remark>, AllocError>
-    ensures { IfOk result (λ next. said_of next.items ≡
-        said_of all.items ++ spec.component_said text.now) }
+    ensures { SaysAlso result all (spec.component_said text.now) }
 {
     let all = with_component(alloc, all, 0, text)?;
     let read = component_read(alloc, text)?;
@@ -200,8 +192,7 @@ fn with_first(
     component: &[u8],
     parts: &[&[u8]],
 ) -> Result<Vec<Remark>, AllocError>
-    ensures { IfOk result (λ next. said_of next.items ≡
-        said_of all.items ++ parts_said (component.now ∷ texts parts.now)) }
+    ensures { SaysAlso result all (parts_said (component.now ∷ texts parts.now)) }
 {
     let all = with_component_part(alloc, all, component)?;
     let all = behind(alloc, all, component, parts)?;
@@ -210,8 +201,7 @@ fn with_first(
 
 /// The remarks with those on the parts, of which the first is a component, without the third.
 fn with_parts(alloc: Global, all: Vec<Remark>, parts: &[&[u8]]) -> Result<Vec<Remark>, AllocError>
-    ensures { IfOk result (λ next.
-        said_of next.items ≡ said_of all.items ++ parts_said (texts parts.now)) }
+    ensures { SaysAlso result all (parts_said (texts parts.now)) }
 {
     match parts.split_first() {
         None => Ok(all),
@@ -227,8 +217,7 @@ fn with_third_part(
     matrix: &[u8],
     text: &[u8],
 ) -> Result<Vec<Remark>, AllocError>
-    ensures { IfOk result (λ next. SaysFurther (ThirdOfParts component.now matrix.now text.now)
-        (said_of all.items) (said_of next.items)) }
+    ensures { SaysSuch result all (ThirdOfParts component.now matrix.now text.now) }
 {
     let read = component_read(alloc, component)?;
     let read = matrix_read(alloc, &read, matrix)?;
@@ -246,9 +235,7 @@ fn third_behind(
     matrix: &[u8],
     parts: &[&[u8]],
 ) -> Result<Vec<Remark>, AllocError>
-    ensures { IfOk result (λ next.
-        SaysFurther (ThirdOf (component.now ∷ matrix.now ∷ texts parts.now))
-        (said_of all.items) (said_of next.items)) }
+    ensures { SaysSuch result all (ThirdOf (component.now ∷ matrix.now ∷ texts parts.now)) }
 {
     match parts.split_first() {
         None => Ok(all),
@@ -263,8 +250,7 @@ fn second_behind(
     component: &[u8],
     parts: &[&[u8]],
 ) -> Result<Vec<Remark>, AllocError>
-    ensures { IfOk result (λ next. SaysFurther (ThirdOf (component.now ∷ texts parts.now))
-        (said_of all.items) (said_of next.items)) }
+    ensures { SaysSuch result all (ThirdOf (component.now ∷ texts parts.now)) }
 {
     match parts.split_first() {
         None => Ok(all),
@@ -274,8 +260,7 @@ fn second_behind(
 
 /// The remarks with those on the third part, where there is one.
 fn with_last(alloc: Global, all: Vec<Remark>, parts: &[&[u8]]) -> Result<Vec<Remark>, AllocError>
-    ensures { IfOk result (λ next. SaysFurther (ThirdOf (texts parts.now))
-        (said_of all.items) (said_of next.items)) }
+    ensures { SaysSuch result all (ThirdOf (texts parts.now)) }
 {
     match parts.split_first() {
         None => Ok(all),
@@ -294,10 +279,7 @@ fn with_matrix_runs(
 ) -> Result<Vec<Remark>, AllocError>
     requires some { 1 ≤ bound }
     requires few { bound ≤ 256 }
-    ensures { IfOk result (λ next.
-        SaysFurther (RunsSaid bound (Some component.now)
-        (spec.matrix_read (Some component.now) text.now) above text.now)
-        (said_of all.items) (said_of next.items)) }
+    ensures { SaysSuch result all (RunsBehind bound (Some component.now) above text.now) }
 {
     match read_matrix(alloc, component, text) {
         Ok(matrix) => {
@@ -324,10 +306,7 @@ fn with_runs_where(
 ) -> Result<Vec<Remark>, AllocError>
     requires some { 1 ≤ bound }
     requires few { bound ≤ 256 }
-    ensures { IfOk result (λ next.
-        SaysFurther (RunsSaid bound component.now
-        (spec.matrix_read component.now text.now) above text.now)
-        (said_of all.items) (said_of next.items)) }
+    ensures { SaysSuch result all (RunsBehind bound component.now above text.now) }
 {
     match component {
         None => Ok(all),
@@ -345,9 +324,7 @@ fn with_runs_of_texts(
 ) -> Result<Vec<Remark>, AllocError>
     requires some { 1 ≤ bound }
     requires few { bound ≤ 256 }
-    ensures { IfOk result (λ next.
-        SaysFurther (RunsOfTexts bound component.now matrix.now)
-        (said_of all.items) (said_of next.items)) }
+    ensures { SaysSuch result all (RunsOfTexts bound component.now matrix.now) }
 {
     let read = component_read(alloc, component)?;
     let above = above_next(alloc, 0, component)?;
@@ -365,9 +342,7 @@ fn runs_behind(
 ) -> Result<Vec<Remark>, AllocError>
     requires some { 1 ≤ bound }
     requires few { bound ≤ 256 }
-    ensures { IfOk result (λ next.
-        SaysFurther (RunsOfParts bound (component.now ∷ texts parts.now))
-        (said_of all.items) (said_of next.items)) }
+    ensures { SaysSuch result all (RunsOfParts bound (component.now ∷ texts parts.now)) }
 {
     match parts.split_first() {
         None => Ok(all),
@@ -384,9 +359,7 @@ fn with_runs(
 ) -> Result<Vec<Remark>, AllocError>
     requires some { 1 ≤ bound }
     requires few { bound ≤ 256 }
-    ensures { IfOk result (λ next.
-        SaysFurther (RunsOfParts bound (texts parts.now))
-        (said_of all.items) (said_of next.items)) }
+    ensures { SaysSuch result all (RunsOfParts bound (texts parts.now)) }
 {
     match parts.split_first() {
         None => Ok(all),
@@ -424,7 +397,7 @@ fn remarks_on(alloc: Global, bundle: &[u8], bound: u16) -> Result<Vec<Remark>, A
 
 /// Whether one of the remarks is a fault.
 fn have_fault(remarks: &[Remark]) -> bool
-    ensures { result ≡ list_any (λ r. is_fault r.said.cause) remarks.now }
+    ensures { result ≡ said.have_fault remarks.now }
 {
     remarks.iter().any(|remark| remark.said.cause.is_fault())
 }
@@ -457,8 +430,7 @@ pub fn lint(alloc: Global, bundle: &[u8], serial: u16) -> Result<Linted, AllocEr
     ensures ordered { IfOk result (λ l. IsNonDecreasingBy (λ r. r.said.place) l.remarks.items) }
     // The text says it, in the words of the remarks.
     ensures text { IfOk result (λ l. string_bytes l.text ≡ remarks_text l.remarks.items) }
-    ensures faults { IfOk result (λ l.
-        l.faults ≡ list_any (λ r. is_fault r.said.cause) l.remarks.items) }
+    ensures faults { IfOk result (λ l. l.faults ≡ said.have_fault l.remarks.items) }
 {
     let mut remarks = remarks_on(alloc, bundle, serial)?;
     remarks.sort_by_key(|remark| remark.said.place)?;

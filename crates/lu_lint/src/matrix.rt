@@ -1,16 +1,14 @@
 //! The faults of a matrix's text.
 
-ghost use Rattle.std.specs.Prelude.{◌≡◌, ◌++◌, ℕ, List, [], IfOk, OnOk, Option};
-ghost use Rattle.std.specs.Option.{option_copied};
-ghost use Rattle.lu_component.specs.Component.{Declarations, IsComponent};
-ghost use Rattle.lu_lang.specs.Faulty.{Faulty};
-ghost use Rattle.lu_lint.specs.Lint as spec;
-ghost use Rattle.lu_lint.specs.Lint.{end_told, faults_in, faults_of_lines, told_on};
-ghost use Rattle.lu_lint.specs.Matrix.{judged_line, matrix_lint, matrix_mend};
-ghost use Rattle.lu_lint.specs.Said.{said_faults, said_of, said_told};
+ghost use Rattle.std.specs.Prelude.{◌≡◌, IfOk, OnOk};
+ghost use Rattle.lu_component.specs.Component.{IsComponent};
+ghost use Rattle.lu_lint.specs.Lint.{told_here};
+ghost use Rattle.lu_lint.specs.Matrix as spec;
+ghost use Rattle.lu_lint.specs.Matrix.{fault_said, judged_by, lint_on};
+ghost use Rattle.lu_lint.specs.Said.{SaysAlso, said_of_lines, said_of_text, said_told};
 ghost use Rattle.lu_lint.specs.declared.remark.FaultKind.TheVariants as part;
 ghost use Rattle.lu_test.specs.MatrixGoing.{fault_in, going_on};
-ghost use Rattle.lu_test.specs.MatrixText.{IsDraft, finished, line_of, nothing};
+ghost use Rattle.lu_test.specs.MatrixText.{IsDraft, finished, nothing};
 ghost use Rattle.lu_text.specs.Lines.{texts};
 
 use crate::matrix_wording::{end_wording, matrix_wording};
@@ -36,7 +34,7 @@ fn no_lines(alloc: Global) -> Draft
 
 /// What is said of a fault of a matrix.
 fn said(above: usize, kind: MatrixFaultKind, line: usize) -> Said
-    ensures { result ≡ said_told part.Matrix above (spec.told_here line kind) }
+    ensures { result ≡ said_told part.Matrix above (told_here line kind) }
 {
     Said {
         place: line_below(above, line),
@@ -87,9 +85,8 @@ fn judged(
     text: &[u8],
 ) -> Result<(Draft, Option<MatrixFaultKind>), AllocError>
     requires { IsDraft draft }
-    ensures judged { IfOk result (λ r. r ≡ going_on draft (line_of
-        basis.now.component.now.operations draft
-        (judged_line (option_copied basis.now.faulty) text.now))) }
+    ensures judged { IfOk result (λ r.
+        r ≡ going_on draft (judged_by basis.now draft text.now)) }
     ensures sound { OnOk result (IsComponent basis.now.component.now) }
 {
     let operations = basis.component.operations();
@@ -111,10 +108,7 @@ fn with_line(
     next: Next<'_>,
     fault: Option<MatrixFaultKind>,
 ) -> Result<Vec<Remark>, AllocError>
-    ensures { (of : Declarations) (faulty : Option Faulty) → IfOk result (λ more.
-        said_of more.items ≡ said_of all.items ++ said_faults part.Matrix at.now.above
-        (told_on (matrix_lint of faulty) at.now.seen.items at.now.line
-        next.entry.draft.now next.entry.text.now fault)) }
+    ensures { SaysAlso result all (fault_said at.now fault) }
 {
     match fault {
         None => Ok(all),
@@ -132,8 +126,7 @@ fn left_by(
     fault: Option<MatrixFaultKind>,
     text: &[u8],
 ) -> Result<Draft, AllocError>
-    ensures { (lines : List (List ℕ)) → IfOk result (λ next.
-        next ≡ spec.left_by matrix_mend draft text.now lines fault) }
+    ensures { IfOk result (λ next. next ≡ spec.left_by draft text.now fault) }
 {
     match fault {
         None => Ok(draft),
@@ -148,9 +141,7 @@ fn with_end(
     at: &Position,
     draft: &Draft,
 ) -> Result<Vec<Remark>, AllocError>
-    ensures { IfOk result (λ next. said_of next.items ≡ said_of all.items
-        ++ said_faults part.Matrix at.now.above
-        (end_told at.now.seen.items at.now.line [] (fault_in (finished draft.now)))) }
+    ensures { SaysAlso result all (fault_said at.now (fault_in (finished draft.now))) }
 {
     match end_fault(draft) {
         None => Ok(all),
@@ -168,10 +159,7 @@ fn faults_of_lines(
     above: usize,
     lines: &[&[u8]],
 ) -> Result<Vec<Remark>, AllocError>
-    ensures { IfOk result (λ next. said_of next.items ≡ said_of all.items
-        ++ said_faults part.Matrix above (faults_of_lines
-        (matrix_lint basis.now.component.now (option_copied basis.now.faulty))
-        (texts lines.now))) }
+    ensures { SaysAlso result all (said_of_lines (lint_on basis.now) above (texts lines.now)) }
 {
     let mut draft = no_lines(alloc);
     let mut seen = Vec::new(alloc);
@@ -209,9 +197,7 @@ pub(crate) fn with_matrix(
     above: usize,
     text: &[u8],
 ) -> Result<Vec<Remark>, AllocError>
-    ensures { IfOk result (λ next. said_of next.items ≡ said_of all.items
-        ++ said_faults part.Matrix above (faults_in
-        (matrix_lint basis.now.component.now (option_copied basis.now.faulty)) text.now)) }
+    ensures { SaysAlso result all (said_of_text (lint_on basis.now) above text.now) }
 {
     let lines = lines_of(alloc, text)?;
     faults_of_lines(alloc, basis, all, above, &lines)

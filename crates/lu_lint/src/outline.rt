@@ -1,11 +1,12 @@
 //! What the calls of a matrix are judged by where its component has faults.
 
-ghost use Rattle.std.specs.Prelude.{◌≡◌, ◌++◌, IfOk, string_bytes, take};
+ghost use Rattle.std.specs.Prelude.{◌≡◌, IfOk, string_bytes, take};
 ghost use Rattle.std.specs.List.{flat_map};
 ghost use Rattle.lu_text.specs.Lines.{texts, words_of};
 ghost use Rattle.lu_lang.specs.Meant.{spaced};
 ghost use Rattle.lu_test.specs.MatrixText.{words_in};
 ghost use Rattle.lu_text.specs.Writing.{Writes};
+ghost use Rattle.lu_lint.specs.Items.{Extends, HasItems};
 ghost use Rattle.lu_lint.specs.Outline as spec;
 
 use lu_component::{MOST_OPS, Op, operation_place};
@@ -104,8 +105,7 @@ pub(crate) fn outline_text(alloc: Global, draft: &Draft) -> Result<String, Alloc
 
 /// The text with a call, without its arguments where these are not looked at.
 fn with_call(text: Vec<u8>, faulty: &FaultyDraft, words: &[&[u8]]) -> Result<Vec<u8>, AllocError>
-    ensures { IfOk result (λ next.
-        next.items ≡ text.items ++ spaced (spec.sure_call faulty.now (texts words.now))) }
+    ensures { Extends result text (spaced (spec.sure_call faulty.now (texts words.now))) }
 {
     match words.split_first() {
         None => Ok(text),
@@ -125,8 +125,7 @@ fn with_first(
     faulty: &FaultyDraft,
     words: &[&[u8]],
 ) -> Result<Vec<u8>, AllocError>
-    ensures { IfOk result (λ next.
-        next.items ≡ text.items ++ spaced (spec.sure_first faulty.now (texts words.now))) }
+    ensures { Extends result text (spaced (spec.sure_first faulty.now (texts words.now))) }
 {
     match words.split_first() {
         None => Ok(text),
@@ -145,8 +144,7 @@ fn with_other(
     faulty: &FaultyDraft,
     part: &[u8],
 ) -> Result<Vec<u8>, AllocError>
-    ensures { IfOk result (λ next.
-        next.items ≡ text.items ++ spec.sure_other faulty.now (words_of part.now)) }
+    ensures { Extends result text (spec.sure_other faulty.now (words_of part.now)) }
 {
     text.push(b';')?;
     let words = words_of(alloc, part)?;
@@ -160,8 +158,7 @@ fn with_others(
     faulty: &FaultyDraft,
     parts: &[&[u8]],
 ) -> Result<Vec<u8>, AllocError>
-    ensures { IfOk result (λ next. next.items ≡ text.items
-        ++ flat_map (spec.sure_other faulty.now) (words_in parts.now)) }
+    ensures { Extends result text (flat_map (spec.sure_other faulty.now) (words_in parts.now)) }
 {
     for part in parts {
         text = with_other(alloc, text, faulty, part)?;
@@ -171,7 +168,7 @@ fn with_others(
 
 /// A line of these parts.
 fn sure_parts(alloc: Global, faulty: &FaultyDraft, parts: &[&[u8]]) -> Result<Vec<u8>, AllocError>
-    ensures { IfOk result (λ line. line.items ≡ spec.sure_parts faulty.now (words_in parts.now)) }
+    ensures { HasItems result (spec.sure_parts faulty.now (words_in parts.now)) }
 {
     match parts.split_first() {
         None => Ok(Vec::new(alloc)),
@@ -193,7 +190,7 @@ pub(crate) fn sure_line(
     faulty: &FaultyDraft,
     text: &[u8],
 ) -> Result<Vec<u8>, AllocError>
-    ensures { IfOk result (λ line. line.items ≡ spec.sure_line faulty.now text.now) }
+    ensures { HasItems result (spec.sure_line faulty.now text.now) }
 {
     if !are_allowed(text) {
         return Vec::from_slice(alloc, text);

@@ -1,10 +1,11 @@
 //! What lint says of a bundle.
 
-ghost use Rattle.std.specs.Prelude.{◌≡◌, ◌++◌, ◌∷◌, [], IfOk};
+ghost use Rattle.std.specs.Prelude.{◌≡◌, ◌∷◌, []};
+ghost use Rattle.lu_lint.specs.Items.{HasItems};
 ghost use Rattle.lu_lint.specs.Lint as spec;
 ghost use Rattle.lu_lint.specs.Messages.{refusal_code, fault_part};
 ghost use Rattle.lu_lint.specs.Said as said;
-ghost use Rattle.lu_lint.specs.Said.{said_of};
+ghost use Rattle.lu_lint.specs.Said.{SaysAlso};
 
 use lu_history::SerialOp;
 use lu_lang::LangFaultKind;
@@ -225,7 +226,7 @@ pub(crate) fn with_remark(
     said: Said,
     words: String,
 ) -> Result<Vec<Remark>, AllocError>
-    ensures { IfOk result (λ next. said_of next.items ≡ said_of all.items ++ said ∷ []) }
+    ensures { SaysAlso result all (said ∷ []) }
 {
     all.push(Remark { said, words })?;
     Ok(all)
@@ -238,7 +239,7 @@ pub(crate) fn with_words(
     line: usize,
     text: &[u8],
 ) -> Result<Vec<usize>, AllocError>
-    ensures { IfOk result (λ next. next.items ≡ spec.with_words seen.items line text.now) }
+    ensures { HasItems result (spec.with_words seen.items line text.now) }
 {
     let words = words_of(alloc, text)?;
     if words.is_empty() {

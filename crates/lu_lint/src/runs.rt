@@ -1,6 +1,6 @@
 //! Warnings by runs of the setup and by the serial runs.
 
-ghost use Rattle.std.specs.Prelude.{◌≡◌, ◌≤◌, ◌++◌, ◌∷◌, [], IfOk, map};
+ghost use Rattle.std.specs.Prelude.{◌≡◌, ◌≤◌, ◌∷◌, [], IfOk, map};
 ghost use Rattle.std.specs.List.{flat_map, list_any};
 ghost use Rattle.std.specs.List.Sorted.{IsStrictlySortedBy};
 ghost use Rattle.lu_test.specs.Matrix.{IsOf};
@@ -8,11 +8,11 @@ ghost use Rattle.lu_machine.specs.Runs as runs;
 ghost use Rattle.lu_machine.specs.Starts.{CanRun, FromEachStart};
 ghost use Rattle.lu_trie.specs.Members.{empty_if, history_cmp};
 ghost use Rattle.lu_serial.specs.Serial as serial;
+ghost use Rattle.lu_lint.specs.Items.{Extends, HasItems};
 ghost use Rattle.lu_lint.specs.Runs as spec;
-ghost use Rattle.lu_lint.specs.Runs.{AreShownHints, CanPlay, HintsOfCut, ShowsHistory, RunsOf, Show, ShownBySetup, ShownSerially, history_hints, set_hints, with_firsts};
+ghost use Rattle.lu_lint.specs.Runs.{AreShownHints, CanPlay, HintsOfCut, RunsOfTest, Show, ShownBySetup, ShownSerially, ShowsFromEachStart, ShowsHistory, history_hints, set_hints, with_firsts, with_set};
 ghost use Rattle.lu_lint.specs.declared.remark.RunHint.TheVariants.{Serial, SetupGoesOn};
-ghost use Rattle.lu_lint.specs.Said.{said_of};
-ghost use Rattle.lu_lint.specs.Third.{SaysFurther};
+ghost use Rattle.lu_lint.specs.Said.{SaysAlso, SaysSuch};
 ghost use Rattle.lu_text.specs.Lines.{texts};
 
 use crate::remark::{
@@ -39,8 +39,7 @@ fn with_event_hint(
     mut hints: Vec<RunHint>,
     event: Option<Event>,
 ) -> Result<Vec<RunHint>, AllocError>
-    ensures { IfOk result (λ next.
-        next.items ≡ hints.items ++ flat_map spec.event_hints (runs.with_event event [])) }
+    ensures { Extends result hints (flat_map spec.event_hints (runs.with_event event [])) }
 {
     if let Some(
         Event::Return {
@@ -138,7 +137,7 @@ fn hint_of(
 
 /// The hints with this one, unless there is one of its call and its ending.
 fn with_hint(mut told: Vec<SerialHint>, hint: SerialHint) -> Result<Vec<SerialHint>, AllocError>
-    ensures { IfOk result (λ next. next.items ≡ spec.with_hint told.items hint) }
+    ensures { HasItems result (spec.with_hint told.items hint) }
 {
     if have_like(&told, &hint) {
         return Ok(told);
@@ -154,8 +153,7 @@ fn with_op(
     before: &[SerialOp],
     op: SerialOp,
 ) -> Result<Vec<SerialHint>, AllocError>
-    ensures { IfOk result (λ next.
-        next.items ≡ with_firsts told.items (spec.op_hints before.now op)) }
+    ensures { HasItems result (with_firsts told.items (spec.op_hints before.now op)) }
 {
     match ending_of(op.outcome) {
         None => Ok(told),
@@ -169,8 +167,7 @@ fn with_history(
     mut told: Vec<SerialHint>,
     history: &[SerialOp],
 ) -> Result<Vec<SerialHint>, AllocError>
-    ensures { IfOk result (λ next.
-        next.items ≡ with_firsts told.items (history_hints history.now)) }
+    ensures { HasItems result (with_firsts told.items (history_hints history.now)) }
 {
     for (place, op) in history.iter().enumerate() {
         let (before, _) = history.split_at(place);
@@ -186,8 +183,7 @@ fn with_end(
     ends: bool,
     path: &[SerialOp],
 ) -> Result<Vec<SerialHint>, AllocError>
-    ensures { IfOk result (λ next.
-        next.items ≡ spec.with_histories_behind told.items path.now (empty_if ends)) }
+    ensures { HasItems result (with_set told.items path.now (empty_if ends)) }
 {
     if ends {
         with_history(alloc, told, path)
@@ -205,9 +201,7 @@ fn with_below<T: SerialTree>(
     path: &mut Vec<SerialOp>,
 ) -> Result<Vec<SerialHint>, AllocError>
     requires { T.is_place tree.now place }
-    ensures hints { IfOk result (λ next.
-        next.items
-        ≡ spec.with_histories_behind told.items path.old.items (T.below tree.now place)) }
+    ensures hints { HasItems result (with_set told.items path.old.items (T.below tree.now place)) }
     ensures path { IfOk result (λ next. path.new.items ≡ path.old.items) }
 {
     told = with_end(alloc, told, tree.ends(place), path)?;
@@ -223,7 +217,7 @@ fn with_below<T: SerialTree>(
 /// What the histories of a set show.
 fn set_hints(alloc: Global, set: &Trie<Global>) -> Result<Vec<SerialHint>, AllocError>
     ensures sorted { IsStrictlySortedBy history_cmp set.now }
-    ensures hints { IfOk result (λ hints. hints.items ≡ set_hints set.now) }
+    ensures hints { HasItems result (set_hints set.now) }
 {
     // That the members stand in order is known where they are counted.
     let _members = set.len();
@@ -235,7 +229,7 @@ fn set_hints(alloc: Global, set: &Trie<Global>) -> Result<Vec<SerialHint>, Alloc
 
 /// The history with this event, or none.
 fn with_event(mut history: Vec<Event>, event: Option<Event>) -> Result<Vec<Event>, AllocError>
-    ensures { IfOk result (λ next. next.items ≡ history.items ++ runs.with_event event []) }
+    ensures { Extends result history (runs.with_event event []) }
 {
     if let Some(event) = event {
         history.push(event)?;
@@ -252,8 +246,7 @@ fn played(
 ) -> Result<Vec<Event>, AllocError>
     requires run { CanRun component.now matrix.now }
     requires feasible { FromEachStart component.now matrix.now (CanPlay schedule.now) }
-    ensures { IfOk result (λ history.
-        FromEachStart component.now matrix.now (ShowsHistory schedule.now history.items)) }
+    ensures { ShowsFromEachStart result component.now matrix.now (ShowsHistory schedule.now) }
 {
     let mut machine = Machine::start(alloc, component, matrix)?;
     let mut history = Vec::new(alloc);
@@ -266,7 +259,7 @@ fn played(
 
 /// The serial operations with that which an event ends, if it is a return.
 fn with_entry(mut entries: Vec<SerialOp>, event: Event) -> Result<Vec<SerialOp>, AllocError>
-    ensures { IfOk result (λ next. next.items ≡ entries.items ++ serial.entry_of event) }
+    ensures { Extends result entries (serial.entry_of event) }
 {
     if let Event::Return { t, outcome, k: _ } = event {
         entries.push(SerialOp {
@@ -279,7 +272,7 @@ fn with_entry(mut entries: Vec<SerialOp>, event: Event) -> Result<Vec<SerialOp>,
 
 /// The serial operations of a history.
 fn entries_of(alloc: Global, history: &[Event]) -> Result<Vec<SerialOp>, AllocError>
-    ensures { IfOk result (λ entries. entries.items ≡ serial.entries_of history.now) }
+    ensures { HasItems result (serial.entries_of history.now) }
 {
     let mut entries = Vec::new(alloc);
     for event in history {
@@ -294,7 +287,7 @@ fn last_hints(
     before: &[SerialOp],
     last: Option<Event>,
 ) -> Result<Vec<SerialHint>, AllocError>
-    ensures { IfOk result (λ hints. hints.items ≡ spec.last_hints before.now last) }
+    ensures { HasItems result (spec.last_hints before.now last) }
 {
     let mut hints = Vec::new(alloc);
     if let Some(Event::Call { t, .. }) = last {
@@ -305,7 +298,7 @@ fn last_hints(
 
 /// What a schedule that is cut shows, by its history.
 fn cut_hints(alloc: Global, history: &[Event]) -> Result<Vec<SerialHint>, AllocError>
-    ensures { IfOk result (λ hints. hints.items ≡ spec.cut_hints history.now) }
+    ensures { HasItems result (spec.cut_hints history.now) }
 {
     let before = entries_of(alloc, history)?;
     last_hints(alloc, &before, history.last().copied())
@@ -320,8 +313,7 @@ fn hints_of_cut(
 ) -> Result<Vec<SerialHint>, AllocError>
     requires run { CanRun component.now matrix.now }
     requires feasible { FromEachStart component.now matrix.now (CanPlay schedule.now) }
-    ensures { IfOk result (λ hints.
-        FromEachStart component.now matrix.now (HintsOfCut schedule.now hints.items)) }
+    ensures { ShowsFromEachStart result component.now matrix.now (HintsOfCut schedule.now) }
 {
     let history = played(alloc, component, matrix, schedule)?;
     let hints = cut_hints(alloc, &history)?;
@@ -338,8 +330,7 @@ fn serial_hints(
     requires of { CanRun component.now matrix.now }
     requires some { 1 ≤ bound }
     requires few { bound ≤ 256 }
-    ensures { IfOk result (λ hints.
-        FromEachStart component.now matrix.now (ShownSerially bound hints.items)) }
+    ensures { ShowsFromEachStart result component.now matrix.now (ShownSerially bound) }
 {
     let learnt = learn(alloc, alloc, component, matrix, bound)?;
     match learnt {
@@ -351,7 +342,7 @@ fn serial_hints(
 
 /// The hints of the setup, and then those of the serial runs.
 fn all_hints(mut setup: Vec<RunHint>, serial: Vec<SerialHint>) -> Result<Vec<RunHint>, AllocError>
-    ensures { IfOk result (λ hints. hints.items ≡ setup.items ++ map Serial serial.items) }
+    ensures { Extends result setup (map Serial serial.items) }
 {
     for hint in serial {
         setup.push(RunHint::Serial(hint))?;
@@ -379,7 +370,7 @@ fn settled_hints(
 
 /// That this call of the setup does not end.
 fn unsettled_hints(alloc: Global, call: u8) -> Result<Vec<RunHint>, AllocError>
-    ensures { IfOk result (λ hints. hints.items ≡ SetupGoesOn call ∷ []) }
+    ensures { HasItems result (SetupGoesOn call ∷ []) }
 {
     let mut hints = Vec::new(alloc);
     hints.push(RunHint::SetupGoesOn(call))?;
@@ -422,8 +413,7 @@ fn with_line(
     number: usize,
     line: &[u8],
 ) -> Result<Vec<usize>, AllocError>
-    ensures { IfOk result (λ next.
-        next.items ≡ found.items ++ spec.line_if word.now number line.now) }
+    ensures { Extends result found (spec.line_if word.now number line.now) }
 {
     let words = words_of(alloc, line)?;
     if begin_with(word, &words) {
@@ -433,7 +423,7 @@ fn with_line(
 }
 
 fn lines_from(alloc: Global, word: &[u8], lines: &[&[u8]]) -> Result<Vec<usize>, AllocError>
-    ensures { IfOk result (λ found. found.items ≡ spec.lines_from word.now 1 (texts lines.now)) }
+    ensures { HasItems result (spec.lines_from word.now 1 (texts lines.now)) }
 {
     let mut found = Vec::new(alloc);
     for (before, line) in lines.iter().enumerate() {
@@ -444,7 +434,7 @@ fn lines_from(alloc: Global, word: &[u8], lines: &[&[u8]]) -> Result<Vec<usize>,
 
 /// The numbers of the lines of a text that begin with this word.
 fn lines_with(alloc: Global, word: &[u8], text: &[u8]) -> Result<Vec<usize>, AllocError>
-    ensures { IfOk result (λ found. found.items ≡ spec.lines_with word.now text.now) }
+    ensures { HasItems result (spec.lines_with word.now text.now) }
 {
     let lines = lines_of(alloc, text)?;
     lines_from(alloc, word, &lines)
@@ -497,8 +487,7 @@ fn with_hints(
     text: &[u8],
     hints: Vec<RunHint>,
 ) -> Result<Vec<Remark>, AllocError>
-    ensures { IfOk result (λ next. said_of next.items ≡
-        said_of all.items ++ spec.all_shown above text.now hints.items) }
+    ensures { SaysAlso result all (spec.all_shown above text.now hints.items) }
 {
     let setup = lines_with(alloc, b"setup", text)?;
     let threads = lines_with(alloc, b"thread", text)?;
@@ -520,10 +509,7 @@ pub(crate) fn with_runs_of(
     requires of { IsOf test.matrix.now test.component.now }
     requires some { 1 ≤ test.bound }
     requires few { test.bound ≤ 256 }
-    ensures { IfOk result (λ next.
-        SaysFurther (RunsOf test.entry.bound test.entry.component.now test.entry.matrix.now
-        above text.now)
-        (said_of all.items) (said_of next.items)) }
+    ensures { SaysSuch result all (RunsOfTest test.entry above text.now) }
 {
     let hints = hints_of(alloc, test.component, test.matrix, test.bound)?;
     with_hints(alloc, all, test, above, text, hints)

@@ -1,11 +1,10 @@
 //! The faults of a schedule's text.
 
-ghost use Rattle.std.specs.Prelude.{◌≡◌, ◌++◌, IfOk, take};
-ghost use Rattle.std.specs.List.{flat_map};
+ghost use Rattle.std.specs.Prelude.{◌≡◌, take};
 ghost use Rattle.lu_lint.specs.Lint as lint;
-ghost use Rattle.lu_lint.specs.Said.{said_faults, said_of, said_told};
+ghost use Rattle.lu_lint.specs.Said.{SaysAlso, said_told};
 ghost use Rattle.lu_lint.specs.Schedule as spec;
-ghost use Rattle.lu_lint.specs.Schedule.{schedule_faults, schedule_told};
+ghost use Rattle.lu_lint.specs.Schedule.{schedule_faults, schedule_said};
 ghost use Rattle.lu_lint.specs.declared.remark.FaultKind.TheVariants as part;
 ghost use Rattle.lu_text.specs.Lines.{texts};
 
@@ -31,8 +30,7 @@ fn with_word(
     above: usize,
     word: &[u8],
 ) -> Result<Vec<Remark>, AllocError>
-    ensures { IfOk result (λ next. said_of next.items ≡ said_of all.items
-        ++ said_faults part.Schedule above (schedule_told (spec.word_faults word.now))) }
+    ensures { SaysAlso result all (schedule_said above (spec.word_faults word.now)) }
 {
     match move_in(word) {
         Ok(_) => Ok(all),
@@ -50,9 +48,7 @@ fn with_length(
     above: usize,
     words: &[&[u8]],
 ) -> Result<Vec<Remark>, AllocError>
-    ensures { IfOk result (λ next. said_of next.items ≡ said_of all.items
-        ++ said_faults part.Schedule above
-        (schedule_told (spec.length_faults (texts words.now)))) }
+    ensures { SaysAlso result all (schedule_said above (spec.length_faults (texts words.now))) }
 {
     if words.len() <= MOST_MOVES {
         return Ok(all);
@@ -68,9 +64,7 @@ fn with_each(
     above: usize,
     words: &[&[u8]],
 ) -> Result<Vec<Remark>, AllocError>
-    ensures { IfOk result (λ next. said_of next.items ≡ said_of all.items
-        ++ said_faults part.Schedule above
-        (schedule_told (flat_map spec.word_faults (texts words.now)))) }
+    ensures { SaysAlso result all (schedule_said above (spec.faults_of_each (texts words.now))) }
 {
     for word in words {
         all = with_word(alloc, all, above, word)?;
@@ -95,9 +89,7 @@ fn with_words(
     above: usize,
     words: &[&[u8]],
 ) -> Result<Vec<Remark>, AllocError>
-    ensures { IfOk result (λ next. said_of next.items ≡ said_of all.items
-        ++ said_faults part.Schedule above
-        (schedule_told (spec.words_faults (texts words.now)))) }
+    ensures { SaysAlso result all (schedule_said above (spec.words_faults (texts words.now))) }
 {
     let all = with_each(alloc, all, above, first_words(words))?;
     let all = with_length(alloc, all, above, words)?;
@@ -117,8 +109,7 @@ pub(crate) fn with_schedule(
     above: usize,
     text: &[u8],
 ) -> Result<Vec<Remark>, AllocError>
-    ensures { IfOk result (λ next. said_of next.items ≡ said_of all.items
-        ++ said_faults part.Schedule above (schedule_told (schedule_faults text.now))) }
+    ensures { SaysAlso result all (schedule_said above (schedule_faults text.now)) }
 {
     match schedule_words(alloc, text)? {
         None => {

@@ -1,10 +1,10 @@
 //! The third part of a bundle: a specification, a report or a schedule.
 
-ghost use Rattle.std.specs.Prelude.{◌≡◌, ◌++◌, IfOk, codes, map, take};
+ghost use Rattle.std.specs.Prelude.{◌≡◌, codes, map, take};
 ghost use Rattle.std.specs.Str.{bytes_eq};
-ghost use Rattle.lu_lint.specs.Said.{said_of};
+ghost use Rattle.lu_lint.specs.Said.{SaysAlso, SaysSuch};
 ghost use Rattle.lu_lint.specs.Third as spec;
-ghost use Rattle.lu_lint.specs.Third.{SaysFurther, ReportSaid, SpecificationSaid, ThirdSaid};
+ghost use Rattle.lu_lint.specs.Third.{ReportSaid, SpecificationSaid, ThirdSaid};
 
 use crate::bundle::kept_in;
 use crate::remark::{Cause, FaultKind, Remark, Said, line_below, with_remark};
@@ -71,8 +71,7 @@ fn with_report_faults(
     lines: &[&[u8]],
     faults: &[ReportLineFault],
 ) -> Result<Vec<Remark>, AllocError>
-    ensures { IfOk result (λ next.
-        said_of next.items ≡ said_of all.items ++ map (spec.report_said above) faults.now) }
+    ensures { SaysAlso result all (map (spec.report_said above) faults.now) }
 {
     for fault in faults {
         let words = report_wording(alloc, fault, line_of(lines, fault.line))?;
@@ -88,8 +87,7 @@ fn with_report(
     above: usize,
     text: &[u8],
 ) -> Result<Vec<Remark>, AllocError>
-    ensures { IfOk result (λ next.
-        SaysFurther (ReportSaid above text.now) (said_of all.items) (said_of next.items)) }
+    ensures { SaysSuch result all (ReportSaid above text.now) }
 {
     let lines = kept_in(alloc, text)?;
     let faults = report_faults(alloc, &lines)?;
@@ -116,8 +114,7 @@ fn with_specification_faults(
     lines: &[&[u8]],
     faults: &[SpecLineFault],
 ) -> Result<Vec<Remark>, AllocError>
-    ensures { IfOk result (λ next. said_of next.items ≡
-        said_of all.items ++ map (spec.specification_said above) faults.now) }
+    ensures { SaysAlso result all (map (spec.specification_said above) faults.now) }
 {
     for fault in faults {
         let words = specification_wording(alloc, matrix, fault, line_of(lines, fault.line))?;
@@ -134,8 +131,7 @@ fn with_specification(
     above: usize,
     text: &[u8],
 ) -> Result<Vec<Remark>, AllocError>
-    ensures { IfOk result (λ next. SaysFurther (SpecificationSaid matrix.now above text.now)
-        (said_of all.items) (said_of next.items)) }
+    ensures { SaysSuch result all (SpecificationSaid matrix.now above text.now) }
 {
     let lines = kept_in(alloc, text)?;
     let faults = spec_faults(alloc, matrix, text)?;
@@ -151,8 +147,7 @@ fn with_specification_of(
     above: usize,
     text: &[u8],
 ) -> Result<Vec<Remark>, AllocError>
-    ensures { IfOk result (λ next. SaysFurther (spec.SaidOfSome matrix.now above text.now)
-        (said_of all.items) (said_of next.items)) }
+    ensures { SaysSuch result all (spec.SaidOfSome matrix.now above text.now) }
 {
     match matrix {
         None => Ok(all),
@@ -167,8 +162,7 @@ fn with_third_schedule(
     above: usize,
     text: &[u8],
 ) -> Result<Vec<Remark>, AllocError>
-    ensures { IfOk result (λ next. SaysFurther (spec.ScheduleSaid above text.now)
-        (said_of all.items) (said_of next.items)) }
+    ensures { SaysSuch result all (spec.ScheduleSaid above text.now) }
 {
     let all = with_schedule(alloc, all, above, text)?;
     Ok(all)
@@ -182,9 +176,7 @@ pub(crate) fn with_third(
     above: usize,
     text: &[u8],
 ) -> Result<Vec<Remark>, AllocError>
-    ensures { IfOk result (λ next.
-        SaysFurther (ThirdSaid (spec.third_of text.now) matrix.now above text.now)
-        (said_of all.items) (said_of next.items)) }
+    ensures { SaysSuch result all (ThirdSaid (spec.third_of text.now) matrix.now above text.now) }
 {
     match third_of(text) {
         Third::Specification => with_specification_of(alloc, all, matrix, above, text),

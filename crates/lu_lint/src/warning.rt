@@ -1,11 +1,11 @@
 //! Warnings of a component that is read.
 
-ghost use Rattle.std.specs.Prelude.{◌≡◌, ◌++◌, false, IfOk, Some, None, length, map, take, drop};
+ghost use Rattle.std.specs.Prelude.{◌≡◌, false, IfOk, Some, None, length, map, take, drop};
 ghost use Rattle.std.specs.List.{list_all, list_any};
 ghost use Rattle.lu_lang.specs.declared.draft.Statement.TheVariants.{Plain};
-ghost use Rattle.lu_lang.specs.Going.{going_on};
-ghost use Rattle.lu_lang.specs.Grammar.{component_grammar, label_used};
-ghost use Rattle.lu_lint.specs.Said.{said_of};
+ghost use Rattle.lu_lang.specs.Grammar.{label_used};
+ghost use Rattle.lu_lint.specs.Items.{HasItems};
+ghost use Rattle.lu_lint.specs.Said.{SaysAlso};
 ghost use Rattle.lu_lint.specs.Warnings as spec;
 ghost use Rattle.lu_lint.specs.Warnings.{warnings_in, warnings_of_lines};
 ghost use Rattle.lu_text.specs.Lines.{texts};
@@ -150,7 +150,7 @@ fn returns_by(op: &OpenOp, row: &[bool], place: usize, statement: &Statement) ->
 }
 
 fn next_returns(alloc: Global, op: &OpenOp, row: &[bool]) -> Result<Vec<bool>, AllocError>
-    ensures { IfOk result (λ next. next.items ≡ spec.next_returns op.now row.now) }
+    ensures { HasItems result (spec.next_returns op.now row.now) }
 {
     op.statements
         .iter()
@@ -160,15 +160,14 @@ fn next_returns(alloc: Global, op: &OpenOp, row: &[bool]) -> Result<Vec<bool>, A
 }
 
 fn no_row(alloc: Global, op: &OpenOp) -> Result<Vec<bool>, AllocError>
-    ensures { IfOk result (λ row. row.items ≡ map (λ s. false) op.now.statements) }
+    ensures { HasItems result (map (λ s. false) op.now.statements) }
 {
     op.statements.iter().map(|_| false).collect(alloc)
 }
 
 /// From which places a return is reached.
 fn returns_from(alloc: Global, op: &OpenOp) -> Result<Vec<bool>, AllocError>
-    ensures { IfOk result (λ row.
-        row.items ≡ spec.returns_within op.now (length op.now.statements)) }
+    ensures { HasItems result (spec.returns_within op.now (length op.now.statements)) }
 {
     let mut row = no_row(alloc, op)?;
     for _round in 0..op.statements.len() {
@@ -179,7 +178,7 @@ fn returns_from(alloc: Global, op: &OpenOp) -> Result<Vec<bool>, AllocError>
 
 /// That no return is reached, on the operation's `op` line.
 fn return_hints(alloc: Global, op: &OpenOp) -> Result<Vec<FoundHint>, AllocError>
-    ensures { IfOk result (λ hints. hints.items ≡ spec.return_hints op.now) }
+    ensures { HasItems result (spec.return_hints op.now) }
 {
     let row = returns_from(alloc, op)?;
     let mut hints = Vec::new(alloc);
@@ -203,7 +202,7 @@ fn jumps_to_label(name: &[u8], statement: &Statement) -> bool
 }
 
 fn is_used(statements: &[Statement], name: &[u8]) -> bool
-    ensures { result ≡ list_any (λ s. spec.jumps_to_label name.now (label_used s)) statements.now }
+    ensures { result ≡ spec.is_used statements.now name.now }
 {
     statements
         .iter()
@@ -219,7 +218,7 @@ fn is_unused(statements: &[Statement], label: &Label) -> bool
 
 /// The labels to which no jump of the operation leads.
 fn label_hints(alloc: Global, op: &OpenOp) -> Result<Vec<FoundHint>, AllocError>
-    ensures { IfOk result (λ hints. hints.items ≡ spec.label_hints op.now) }
+    ensures { HasItems result (spec.label_hints op.now) }
 {
     let all = op.statements.len();
     op.labels
@@ -358,7 +357,7 @@ fn spins_at(op: &OpenOp, place: usize, statement: &Statement) -> bool
 
 /// The jumps back without waiting.
 fn spin_hints(alloc: Global, op: &OpenOp) -> Result<Vec<FoundHint>, AllocError>
-    ensures { IfOk result (λ hints. hints.items ≡ spec.spin_hints op.now) }
+    ensures { HasItems result (spec.spin_hints op.now) }
 {
     let all = op.statements.len();
     op.statements
@@ -374,7 +373,7 @@ fn spin_hints(alloc: Global, op: &OpenOp) -> Result<Vec<FoundHint>, AllocError>
 
 /// The hints at the `end` of an operation.
 fn end_hints(alloc: Global, op: &OpenOp) -> Result<Vec<FoundHint>, AllocError>
-    ensures { IfOk result (λ hints. hints.items ≡ spec.end_hints op.now) }
+    ensures { HasItems result (spec.end_hints op.now) }
 {
     let mut labels = label_hints(alloc, op)?;
     let spins = spin_hints(alloc, op)?;
@@ -386,7 +385,7 @@ fn end_hints(alloc: Global, op: &OpenOp) -> Result<Vec<FoundHint>, AllocError>
 
 /// The hint, unless what it is about is named.
 fn unless(alloc: Global, named: bool, hint: Hint) -> Result<Vec<FoundHint>, AllocError>
-    ensures { IfOk result (λ hints. hints.items ≡ spec.unless named hint) }
+    ensures { HasItems result (spec.unless named hint) }
 {
     let mut hints = Vec::new(alloc);
     if !named {
@@ -402,8 +401,7 @@ fn outside_hints(
     draft: &Draft,
     word: &[u8],
 ) -> Result<Vec<FoundHint>, AllocError>
-    ensures { IfOk result (λ hints.
-        hints.items ≡ spec.state_hints component.now draft.now None word.now) }
+    ensures { HasItems result (spec.state_hints component.now draft.now None word.now) }
 {
     if word == b"word".as_slice() {
         let named = is_array_named(component, draft.arrays.len());
@@ -423,8 +421,7 @@ fn state_hints(
     draft: &Draft,
     word: &[u8],
 ) -> Result<Vec<FoundHint>, AllocError>
-    ensures { IfOk result (λ hints.
-        hints.items ≡ spec.state_hints component.now draft.now draft.now.begun word.now) }
+    ensures { HasItems result (spec.state_hints component.now draft.now draft.now.begun word.now) }
 {
     match &draft.begun {
         None => outside_hints(alloc, component, draft, word),
@@ -444,8 +441,7 @@ fn words_hints(
     draft: &Draft,
     words: &[&[u8]],
 ) -> Result<Vec<FoundHint>, AllocError>
-    ensures { IfOk result (λ hints.
-        hints.items ≡ spec.words_hints component.now draft.now (texts words.now)) }
+    ensures { HasItems result (spec.words_hints component.now draft.now (texts words.now)) }
 {
     match words.split_first() {
         None => Ok(Vec::new(alloc)),
@@ -460,8 +456,7 @@ fn line_hints(
     draft: &Draft,
     text: &[u8],
 ) -> Result<Vec<FoundHint>, AllocError>
-    ensures { IfOk result (λ hints.
-        hints.items ≡ spec.line_hints component.now draft.now text.now) }
+    ensures { HasItems result (spec.line_hints component.now draft.now text.now) }
 {
     let words = words_of(alloc, text)?;
     words_hints(alloc, component, draft, &words)
@@ -476,8 +471,7 @@ fn with_found(
     text: &[u8],
     hints: &[FoundHint],
 ) -> Result<Vec<Remark>, AllocError>
-    ensures { IfOk result (λ next. said_of next.items ≡
-        said_of all.items ++ map (spec.warned at.now.seen.items at.now.line) hints.now) }
+    ensures { SaysAlso result all (map (spec.warned at.now.seen.items at.now.line) hints.now) }
 {
     for found in hints {
         let words = warning_wording(alloc, draft, text, found.hint, found.back)?;
@@ -492,8 +486,7 @@ fn with_found(
 
 /// The draft behind a line, which has no fault.
 fn draft_behind(alloc: Global, draft: Draft, text: &[u8]) -> Result<Draft, AllocError>
-    ensures { IfOk result (λ next.
-        next ≡ (going_on draft (component_grammar.line draft text.now)).0) }
+    ensures { IfOk result (λ next. next ≡ spec.draft_behind draft text.now) }
 {
     let (next, _) = line_or_fault(alloc, draft, text)?;
     Ok(next)
@@ -505,8 +498,7 @@ fn warnings_of_lines(
     mut all: Vec<Remark>,
     lines: &[&[u8]],
 ) -> Result<Vec<Remark>, AllocError>
-    ensures { IfOk result (λ next. said_of next.items ≡
-        said_of all.items ++ warnings_of_lines component.now (texts lines.now)) }
+    ensures { SaysAlso result all (warnings_of_lines component.now (texts lines.now)) }
 {
     let mut draft = Draft::new(alloc);
     let mut seen = Vec::new(alloc);
@@ -535,8 +527,7 @@ pub(crate) fn with_warnings(
     all: Vec<Remark>,
     text: &[u8],
 ) -> Result<Vec<Remark>, AllocError>
-    ensures { IfOk result (λ next. said_of next.items ≡
-        said_of all.items ++ warnings_in component.now text.now) }
+    ensures { SaysAlso result all (warnings_in component.now text.now) }
 {
     let lines = lines_of(alloc, text)?;
     warnings_of_lines(alloc, component, all, &lines)

@@ -1,12 +1,9 @@
-use Rattle.std.proofs.Common.{◌+◌, [], drop, refl, arith}
+use Rattle.std.proofs.Common.{◌+◌, length, refl, arith}
 use Rattle.std.specs.Option.{option_copied}
-use Rattle.lu_text.specs.Lines.{texts}
 use Rattle.lu_text.proofs.Reading.{text_more, texts_end}
 use Rattle.lu_test.proofs.Threads.{nothing_limits, nothing_fits}
-use Rattle.lu_lint.specs.Matrix.{matrix_lint}
-use Rattle.lu_lint.specs.declared.remark.FaultKind.TheVariants as part
-use Rattle.lu_lint.proofs.Going.{is_done, matrix_end}
-use Rattle.lu_lint.proofs.MatrixSteps.{goes_on, step_kept}
+use Rattle.lu_lint.specs.declared.remark.Position.{Position}
+use Rattle.lu_lint.proofs.MatrixSteps.{goes_on, is_done, step_kept}
 use Rattle.lu_lint.proofs.matrix.faults_of_lines.Goals as goal
 
 pub loop-before-init : goal.loop-before-init
@@ -19,19 +16,18 @@ pub loop-before-preserved : goal.loop-before-preserved
 loop-before-preserved c =
     let of = c.args.basis.now.component.now in
     let faulty = option_copied c.args.basis.now.faulty in
+    let place : Position = record { above = c.args.above; line = c.loop-before.before + 1; seen = c.loop-before.seen } in
     let step = text_more c.args.lines.now c.loop-before.before _ (omega arith) in
     let went = c.in_ok-read.ensures.judged in
-    let behind = drop (c.loop-before.before + 1) (texts c.args.lines.now) in
-    let left = c.in_ok-draft.ensures behind in
-    let kept = step_kept of c.in_ok-read.ensures.sound _ _ _ _ faulty _ behind c.loop-before.invariant.kept went left in
     record {
-      kept = kept;
-      told = rw (c.in_ok-all.ensures of faulty, c.in_ok-seen.ensures) (goes_on of faulty c.args.above _ _ _ _ _ _ _ _ _ _ went left (rw step at c.loop-before.invariant.told));
+      kept = step_kept of c.in_ok-read.ensures.sound _ _ _ _ faulty _ c.loop-before.invariant.kept went c.in_ok-draft.ensures;
+      told = rw c.in_ok-seen.ensures (goes_on of faulty place _ _ _ _ _ _ _ _ _ went c.in_ok-draft.ensures c.in_ok-all.ensures (rw step at c.loop-before.invariant.told));
     }
 
 pub returns : goal.returns
 returns c =
     let of = c.args.basis.now.component.now in
     let faulty = option_copied c.args.basis.now.faulty in
+    let place : Position = record { above = c.args.above; line = length c.args.lines.now + 1; seen = c.loop-before.seen } in
     let so_far = rw (texts_end c.args.lines.now c.loop-before.before (omega arith)) at c.loop-before.invariant.told in
-    rw c.in_ok-all-2.ensures (is_done (matrix_lint of faulty) part.Matrix c.args.above _ _ _ _ _ _ _ (omega arith) (λ r. matrix_end c.loop-before.seen.items _ [] _ _ r refl) so_far)
+    is_done of faulty place _ _ _ _ _ (omega arith) c.in_ok-all-2.ensures so_far

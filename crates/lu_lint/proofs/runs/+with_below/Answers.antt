@@ -2,7 +2,7 @@ use Rattle.std.proofs.Common.{rules, ◌≡◌, ◌++◌, ◌∷◌, ◌∙◌, 
 use Rattle.lu_machine.proofs.Orders.{popped}
 use Rattle.lu_history.specs.declared.serial.SerialOp.{SerialOp}
 use Rattle.lu_trie.proofs.Trees.{branch_lighter}
-use Rattle.lu_lint.specs.Runs.{with_histories_behind}
+use Rattle.lu_lint.specs.Runs.{with_set}
 use Rattle.lu_lint.proofs.Shown.{kid_more}
 use Rattle.lu_lint.proofs.runs.+with_below.Goals as goal
 
@@ -21,5 +21,5 @@ loop-i-preserved g t c =
     let back : c.with_below.new.path.items ≡ path ++ op ∷ [] = c.in_ok-told-2.ensures.path ∙ pushed in
     record {
       path = c.pop.ensures.rest ∙ popped path c.with_below.new.path.items op (vec_len c.with_below.new.path) back (c.with_below.new.path.ok.0);
-      hints = kid_more c.args.told.items c.loop-i.told.items c.in_ok-told-2.told.items path below c.loop-i.i op kid c.kid-below.ensures.kid c.loop-i.invariant.hints (c.in_ok-told-2.ensures.hints ∙ ap (λ (p : List SerialOp). with_histories_behind c.loop-i.told.items p kid) pushed);
+      hints = kid_more c.args.told.items c.loop-i.told.items c.in_ok-told-2.told.items path below c.loop-i.i op kid c.kid-below.ensures.kid c.loop-i.invariant.hints (c.in_ok-told-2.ensures.hints ∙ ap (λ (p : List SerialOp). with_set c.loop-i.told.items p kid) pushed);
     }

@@ -1,0 +1,13 @@
+use Rattle.std.proofs.Common.{ℕ, ◌∙◌, ap, arith}
+use Rattle.lu_lint.specs.Lint.{told_there}
+use Rattle.lu_lint.specs.Said.{said_told}
+use Rattle.lu_lint.specs.declared.remark.FaultKind.TheVariants as part
+use Rattle.lu_lint.proofs.Going.{jump_more}
+use Rattle.lu_lint.proofs.component.with_jumps.Goals as goal
+
+pub loop-back-preserved : goal.loop-back-preserved
+loop-back-preserved c =
+    let at = c.args.at.now in
+    let place = rw c.deref.ensures.value at c.line_before-place.ensures in
+    let said = c.said.ensures ∙ ap (λ (n : ℕ). said_told part.Component at.above (told_there at.line c.args.kind n)) place in
+    jump_more at c.args.kind c.args.backs.now c.loop-back.back-index 0 _ _ _ c.said.result (omega arith) c.loop-back.invariant said c.in_ok-all.ensures
