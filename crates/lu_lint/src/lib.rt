@@ -7,6 +7,7 @@ mod laws;
 mod linting;
 mod matrix;
 mod matrix_wording;
+mod near;
 mod outline;
 mod remark;
 mod run_wording;

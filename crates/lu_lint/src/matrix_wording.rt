@@ -1,6 +1,7 @@
 //! The words for a fault of a matrix's line: what stands there, and what was wanted.
 
-use crate::wording::{hint, is_near, is_register, shown, unknown_byte};
+use crate::near::{is_near, near};
+use crate::wording::{hint, is_register, shown, unknown_byte};
 use lu_component::{Component, Op};
 use lu_test::{Draft, MatrixFaultKind};
 use lu_text::{before_comment, has_name_form, parts_of, value_in, words_of};
@@ -26,14 +27,14 @@ fn operation<'a>(component: &'a Component, name: &[u8]) -> Option<&'a Op> {
     component.operations().iter().find(|op| op.name.is(name))
 }
 
-fn near_operation<'a>(component: &'a Component, word: &[u8]) -> Option<&'a str> {
-    match component
-        .operations()
-        .iter()
-        .find(|op| is_near(word, op.name.as_bytes()))
-    {
-        None => None,
-        Some(op) => Some(op.name.as_str()),
+/// The first word of a matrix's line for which this may be a slip.
+fn near_first(word: &[u8]) -> Option<&'static str> {
+    if is_near(word, b"thread") {
+        Some("thread")
+    } else if is_near(word, b"setup") {
+        Some("setup")
+    } else {
+        None
     }
 }
 
@@ -52,14 +53,7 @@ fn form(alloc: Global, draft: &Draft, first: &[u8], is_empty: bool) -> Result<St
             "beside a `;` stands nothing; a `;` parts calls and ends none, and a call is an operation's name and its arguments",
         );
     }
-    let near = if is_near(first, b"thread") {
-        Some("thread")
-    } else if is_near(first, b"setup") {
-        Some("setup")
-    } else {
-        None
-    };
-    let (hint, first) = (hint(alloc, near)?, shown(first));
+    let (hint, first) = (hint(alloc, near_first(first))?, shown(first));
     format!(in alloc;
         "{first} begins no line of a matrix; its lines are `thread CALL; CALL ..` and, first of all, `setup CALL; ..`{hint}"
     )
@@ -79,7 +73,7 @@ fn names(alloc: Global, component: &Component) -> Result<String, AllocError> {
 
 fn no_operation(alloc: Global, component: &Component, name: &[u8]) -> Result<String, AllocError> {
     let said = shown(name);
-    match near_operation(component, name) {
+    match near(component.operations(), name) {
         Some(near) => format!(in alloc; "the component has no operation {said}; is it {near}?"),
         None => {
             let names = names(alloc, component)?;
@@ -88,12 +82,15 @@ fn no_operation(alloc: Global, component: &Component, name: &[u8]) -> Result<Str
     }
 }
 
+/// `one`, or `many` for another number.
+fn counted(count: usize, one: &'static str, many: &'static str) -> &'static str {
+    if count == 1 { one } else { many }
+}
+
 fn arguments(alloc: Global, op: &Op, given: usize) -> Result<String, AllocError> {
     let (name, takes) = (op.name.as_str(), op.args);
-    let (many, are) = (
-        if takes == 1 { "argument" } else { "arguments" },
-        if given == 1 { "is" } else { "are" },
-    );
+    let many = counted(usize::from(takes), "argument", "arguments");
+    let are = counted(given, "is", "are");
     format!(in alloc; "{name} takes {takes} {many}, here {are} {given}")
 }
 
@@ -169,6 +166,21 @@ fn limit(alloc: Global, draft: &Draft, first: &[u8], calls: usize) -> Result<Str
     )
 }
 
+/// The words of the first of these parts of a line.
+fn first_words<'a>(alloc: Global, parts: &[&'a [u8]]) -> Result<Vec<&'a [u8]>, AllocError> {
+    match parts.split_first() {
+        None => Ok(Vec::new(alloc)),
+        Some((part, _)) => words_of(alloc, part),
+    }
+}
+
+fn first_word<'a>(words: &[&'a [u8]]) -> &'a [u8] {
+    match words.split_first() {
+        None => b"",
+        Some((word, _)) => *word,
+    }
+}
+
 /// The words for a fault of this kind on a line, behind this draft.
 pub(crate) fn matrix_wording(
     alloc: Global,
@@ -178,14 +190,8 @@ pub(crate) fn matrix_wording(
     text: &[u8],
 ) -> Result<String, AllocError> {
     let parts = parts_of(alloc, b';', before_comment(text))?;
-    let first = match parts.first() {
-        None => Vec::new(alloc),
-        Some(part) => words_of(alloc, part)?,
-    };
-    let word: &[u8] = match first.first() {
-        None => b"",
-        Some(word) => word,
-    };
+    let first = first_words(alloc, &parts)?;
+    let word = first_word(&first);
     match kind {
         MatrixFaultKind::Byte => unknown_byte(alloc, text),
         MatrixFaultKind::Form => form(alloc, draft, word, first.is_empty()),

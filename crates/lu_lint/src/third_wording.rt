@@ -15,17 +15,27 @@ fn printed<'a>(word: &'a [u8], other: &'a str) -> &'a str {
     shown(word)
 }
 
-/// The words for a text that has not the form of a schedule.
-pub(crate) fn schedule_form_wording(alloc: Global, text: &[u8]) -> Result<String, AllocError> {
-    let here = if !text.starts_with(b"schedule") {
-        "the text begins otherwise"
-    } else if text.iter().any(|byte| *byte == b'\t') {
-        "a tab stands in it"
-    } else if text.iter().any(|byte| *byte == b'\r') {
-        "a CR stands in it"
-    } else if text.windows(2).any(|pair| pair == b"  ".as_slice()) {
-        "two spaces stand side by side"
-    } else if text.ends_with(b" \n") || text.ends_with(b" ") {
+/// Whether two spaces stand side by side.
+fn has_two_spaces(text: &[u8]) -> bool {
+    text.windows(2).any(|pair| pair == b"  ".as_slice())
+}
+
+/// What is wrong with the bytes of a schedule, where it is one of these.
+fn wrong_bytes(text: &[u8]) -> Option<&'static str> {
+    if text.contains(&b'\t') {
+        Some("a tab stands in it")
+    } else if text.contains(&b'\r') {
+        Some("a CR stands in it")
+    } else if has_two_spaces(text) {
+        Some("two spaces stand side by side")
+    } else {
+        None
+    }
+}
+
+/// What is wrong with the end of a schedule.
+fn wrong_end(text: &[u8]) -> &'static str {
+    if text.ends_with(b" \n") || text.ends_with(b" ") {
         "a space stands behind the last move"
     } else if !text.ends_with(b"\n") {
         "the LF is missing"
@@ -33,7 +43,23 @@ pub(crate) fn schedule_form_wording(alloc: Global, text: &[u8]) -> Result<String
         "there is a second line"
     } else {
         "the first word is another"
-    };
+    }
+}
+
+/// Why a text has not the form of a schedule.
+fn no_schedule(text: &[u8]) -> &'static str {
+    if !text.starts_with(b"schedule") {
+        return "the text begins otherwise";
+    }
+    match wrong_bytes(text) {
+        None => wrong_end(text),
+        Some(wrong) => wrong,
+    }
+}
+
+/// The words for a text that has not the form of a schedule.
+pub(crate) fn schedule_form_wording(alloc: Global, text: &[u8]) -> Result<String, AllocError> {
+    let here = no_schedule(text);
     format!(in alloc;
         "a schedule is one line, `schedule` and its moves, with one space before each and LF behind the last; here {here}"
     )
@@ -150,32 +176,40 @@ pub(crate) fn report_wording(
     }
 }
 
-/// The words for a line that lists no history where it stands.
-fn history_wording(alloc: Global, line: &[u8]) -> Result<String, AllocError> {
-    let Some(line) = line.strip_suffix(b"\n") else {
-        return String::from_str(alloc, "the last line lacks its LF");
-    };
-    let Some(entries) = line.strip_prefix(b"history ") else {
-        return String::from_str(
-            alloc,
-            "a line of a specification is `history`, and its entries with one space before each",
-        );
-    };
-    let mut count: usize = 0;
+/// Whether this is an entry of a history.
+fn is_entry(entry: &[u8]) -> bool {
+    match entry {
+        [b'0'..=b'7', b'=', outcome @ ..] => outcome == b"trap".as_slice()
+            || outcome == b"stuck".as_slice()
+            || number_up_to(outcome, 4_294_967_295).is_some(),
+        _ => false,
+    }
+}
+
+/// The first of these words that is no entry of a history.
+fn no_entry(entries: &[u8]) -> Option<&[u8]> {
     for entry in entries.split(|byte| *byte == b' ') {
-        count = count.saturating_add(1);
-        let (thread, outcome) = match entry {
-            [b'0'..=b'7', b'=', outcome @ ..] => (true, outcome),
-            _ => (false, entry),
-        };
-        let ends = outcome == b"trap".as_slice() || outcome == b"stuck".as_slice();
-        if !thread || !ends && number_up_to(outcome, 4_294_967_295).is_none() {
-            let entry = printed(entry, "this");
-            return format!(in alloc;
-                "{entry} is no entry; one is t=n, t=trap or t=stuck, t a thread from 0 to 7, n at most 4294967295"
-            );
+        if !is_entry(entry) {
+            return Some(entry);
         }
     }
+    None
+}
+
+fn entry_wording(alloc: Global, entry: &[u8]) -> Result<String, AllocError> {
+    let entry = printed(entry, "this");
+    format!(in alloc;
+        "{entry} is no entry; one is t=n, t=trap or t=stuck, t a thread from 0 to 7, n at most 4294967295"
+    )
+}
+
+/// The words for a line of these entries that lists no history where it stands.
+fn entries_wording(alloc: Global, entries: &[u8]) -> Result<String, AllocError> {
+    let count = entries
+        .iter()
+        .filter(|byte| **byte == b' ')
+        .count()
+        .saturating_add(1);
     if count > 16 {
         return format!(in alloc; "a history has at most 16 entries, and here are {count}");
     }
@@ -189,6 +223,23 @@ fn history_wording(alloc: Global, line: &[u8]) -> Result<String, AllocError> {
         alloc,
         "this history is not above the one before it, or begins as that one does; histories rise",
     )
+}
+
+/// The words for a line that lists no history where it stands.
+fn history_wording(alloc: Global, line: &[u8]) -> Result<String, AllocError> {
+    let Some(line) = line.strip_suffix(b"\n") else {
+        return String::from_str(alloc, "the last line lacks its LF");
+    };
+    let Some(entries) = line.strip_prefix(b"history ") else {
+        return String::from_str(
+            alloc,
+            "a line of a specification is `history`, and its entries with one space before each",
+        );
+    };
+    match no_entry(entries) {
+        Some(entry) => entry_wording(alloc, entry),
+        None => entries_wording(alloc, entries),
+    }
 }
 
 /// The words for a fault of a specification of this matrix, on this line.

@@ -28,6 +28,22 @@ fn label_at(op: &OpenOp, back: usize) -> &str {
     }
 }
 
+/// The name of the open operation.
+fn operation_name(draft: &Draft) -> &str {
+    match &draft.begun {
+        None => "an operation",
+        Some(op) => op.name.as_str(),
+    }
+}
+
+/// The label at the instruction of the open operation that so many of it follow with it.
+fn open_label_at(draft: &Draft, back: usize) -> &str {
+    match &draft.begun {
+        None => "of this line",
+        Some(op) => label_at(op, back),
+    }
+}
+
 /// The words of a warning that is found at a line behind this draft, and stands so many lines with
 /// words before it.
 pub(crate) fn warning_wording(
@@ -37,10 +53,7 @@ pub(crate) fn warning_wording(
     hint: Hint,
     back: usize,
 ) -> Result<String, AllocError> {
-    let name = match &draft.begun {
-        None => "an operation",
-        Some(op) => op.name.as_str(),
-    };
+    let name = operation_name(draft);
     match hint {
         Hint::UnnamedArray => {
             let array = shown(second_word(alloc, text)?);
@@ -51,10 +64,7 @@ pub(crate) fn warning_wording(
             format!(in alloc; "no instruction names the lock {lock}")
         }
         Hint::UnusedLabel => {
-            let label = match &draft.begun {
-                None => "of this line",
-                Some(op) => label_at(op, back),
-            };
+            let label = open_label_at(draft, back);
             format!(in alloc; "no jump of {name} leads to the label {label}")
         }
         Hint::NoReturn => format!(in alloc; "{name} reaches no return, so no call of it returns"),

@@ -1,5 +1,6 @@
 //! The words for a fault of a component's line: what stands there, and what was wanted.
 
+use crate::near::near;
 use crate::shape::{Shape, declaration, instruction, near_declaration, near_instruction};
 use lu_lang::{Draft, LangFaultKind, OpenOp, Statement};
 use lu_text::{Name, are_allowed, has_name_form, is_long, value_in, words_of};
@@ -14,70 +15,10 @@ pub(crate) fn shown(word: &[u8]) -> &str {
     }
 }
 
-/// How many bytes two words have in common before they differ.
-fn common_front(left: &[u8], right: &[u8]) -> usize {
-    for (i, (one, other)) in left.iter().zip(right.iter()).enumerate() {
-        if !one.eq_ignore_ascii_case(other) {
-            return i;
-        }
-    }
-    left.len().min(right.len())
-}
-
-fn common_back(left: &[u8], right: &[u8]) -> usize {
-    for (i, (one, other)) in left.iter().rev().zip(right.iter().rev()).enumerate() {
-        if !one.eq_ignore_ascii_case(other) {
-            return i;
-        }
-    }
-    left.len().min(right.len())
-}
-
-/// Whether one word may be a slip for the other: capitals apart, one byte more, less or other, or
-/// two neighbours in the wrong order.
-pub fn is_near(word: &[u8], meant: &[u8]) -> bool {
-    if word.eq_ignore_ascii_case(meant) {
-        return true;
-    }
-    let most = word.len().max(meant.len());
-    let slack = if word.len() == meant.len() { 2 } else { 1 };
-    let left = most.saturating_sub(common_front(word, meant));
-    most > slack && left.saturating_sub(common_back(word, meant)) <= slack
-}
-
 pub(crate) fn hint(alloc: Global, near: Option<&str>) -> Result<String, AllocError> {
     match near {
         None => Ok(String::new(alloc)),
         Some(name) => format!(in alloc; "; is it {name}?"),
-    }
-}
-
-fn near_name<'a>(names: &'a [Name], word: &[u8]) -> Option<&'a str> {
-    match names.iter().find(|name| is_near(word, name.as_bytes())) {
-        None => None,
-        Some(name) => Some(name.as_str()),
-    }
-}
-
-fn near_array<'a>(draft: &'a Draft, word: &[u8]) -> Option<&'a str> {
-    match draft
-        .arrays
-        .iter()
-        .find(|array| is_near(word, array.name.as_bytes()))
-    {
-        None => None,
-        Some(array) => Some(array.name.as_str()),
-    }
-}
-
-fn near_label<'a>(op: &'a OpenOp, word: &[u8]) -> Option<&'a str> {
-    match op
-        .labels
-        .iter()
-        .find(|label| is_near(word, label.name.as_bytes()))
-    {
-        None => None,
-        Some(label) => Some(label.name.as_str()),
     }
 }
 
@@ -109,15 +50,19 @@ pub(crate) fn unknown_byte(alloc: Global, text: &[u8]) -> Result<String, AllocEr
     }
 }
 
+/// That so many words stand somewhere.
+fn are_words(alloc: Global, count: usize) -> Result<String, AllocError> {
+    match count {
+        0 => String::from_str(alloc, "is nothing"),
+        1 => String::from_str(alloc, "is 1 word"),
+        _ => format!(in alloc; "are {count} words"),
+    }
+}
+
 fn count_of(alloc: Global, shape: &Shape, given: usize) -> Result<String, AllocError> {
     let (word, takes, form) = (shape.word, shape.takes, shape.form);
-    match given {
-        0 => format!(in alloc; "{word} takes {takes}, as in `{form}`; here is nothing behind it"),
-        1 => format!(in alloc; "{word} takes {takes}, as in `{form}`; here is 1 word behind it"),
-        _ => format!(in alloc;
-            "{word} takes {takes}, as in `{form}`; here are {given} words behind it"
-        ),
-    }
+    let words = are_words(alloc, given)?;
+    format!(in alloc; "{word} takes {takes}, as in `{form}`; here {words} behind it")
 }
 
 fn no_name(alloc: Global, words: &[&[u8]]) -> Result<String, AllocError> {
@@ -132,6 +77,45 @@ fn no_name(alloc: Global, words: &[&[u8]]) -> Result<String, AllocError> {
     }
 }
 
+/// Outside an operation, a line of no form that begins as a declaration.
+fn form_declaration(
+    alloc: Global,
+    draft: &Draft,
+    shape: &Shape,
+    rest: &[&[u8]],
+) -> Result<String, AllocError> {
+    if shape.word == "component" && draft.name.is_some() {
+        return String::from_str(
+            alloc,
+            "component stands once, on the first line; this component has its name",
+        );
+    }
+    if rest.len() != shape.count {
+        return count_of(alloc, shape, rest.len());
+    }
+    if shape.word == "local" {
+        return match draft.local {
+            Some(most) => format!(in alloc; "local stands once, and it was {most} before"),
+            None => String::from_str(alloc, "local stands before the first op"),
+        };
+    }
+    no_name(alloc, rest)
+}
+
+/// Outside an operation, a line that begins with no declaration.
+fn no_declaration(alloc: Global, word: &[u8]) -> Result<String, AllocError> {
+    let said = shown(word);
+    if instruction(word).is_some() {
+        return format!(in alloc;
+            "{said} stands inside an operation, and none is open; `op NAME ARGS` begins one"
+        );
+    }
+    let hint = hint(alloc, near_declaration(word))?;
+    format!(in alloc;
+        "{said} begins no declaration; outside an operation stand word, lock, op and local{hint}"
+    )
+}
+
 /// Outside an operation, a line of no form.
 fn form_outside(
     alloc: Global,
@@ -139,37 +123,59 @@ fn form_outside(
     word: &[u8],
     rest: &[&[u8]],
 ) -> Result<String, AllocError> {
-    let said = shown(word);
     match declaration(word) {
-        Some(shape) => {
-            if word == b"component".as_slice() && draft.name.is_some() {
-                return String::from_str(
-                    alloc,
-                    "component stands once, on the first line; this component has its name",
-                );
-            }
-            if rest.len() != shape.count {
-                return count_of(alloc, shape, rest.len());
-            }
-            if word == b"local".as_slice() {
-                return match draft.local {
-                    Some(most) => format!(in alloc; "local stands once, and it was {most} before"),
-                    None => String::from_str(alloc, "local stands before the first op"),
-                };
-            }
-            no_name(alloc, rest)
-        }
-        None => match instruction(word) {
-            Some(_) => format!(in alloc;
-                "{said} stands inside an operation, and none is open; `op NAME ARGS` begins one"
-            ),
-            None => {
-                let hint = hint(alloc, near_declaration(word))?;
-                format!(in alloc;
-                    "{said} begins no declaration; outside an operation stand word, lock, op and local{hint}"
-                )
-            }
-        },
+        Some(shape) => form_declaration(alloc, draft, shape, rest),
+        None => no_declaration(alloc, word),
+    }
+}
+
+/// Inside an operation, a line that begins with no instruction.
+fn no_instruction(alloc: Global, op: &OpenOp, word: &[u8]) -> Result<String, AllocError> {
+    let said = shown(word);
+    if declaration(word).is_some() {
+        let name = op.name.as_str();
+        return format!(in alloc;
+            "{said} stands outside operations, and {name} is open: its `end` is missing"
+        );
+    }
+    let hint = hint(alloc, near_instruction(word))?;
+    format!(in alloc;
+        "{said} is no instruction; docs/LANGUAGE.md lists the 17 that there are{hint}"
+    )
+}
+
+fn no_register(alloc: Global, shape: &Shape, first: &[u8]) -> Result<String, AllocError> {
+    let (word, first) = (shape.word, shown(first));
+    format!(in alloc; "{word} writes to a register, r0 to r7; here stands {first}")
+}
+
+/// An instruction with no name where its array or its label is to be.
+fn no_place(alloc: Global, shape: &Shape, first: &[u8]) -> Result<String, AllocError> {
+    let (array, word, form) = (shown(first), shape.word, shape.form);
+    if form.as_bytes().contains(&b'W') {
+        return format!(in alloc;
+            "{word} names an array, and one of its words in a name's place is none; it is `{form}`"
+        );
+    }
+    format!(in alloc;
+        "{word} {array} goes on at a label, and the word in its place is no name; it is `{form}`"
+    )
+}
+
+/// An instruction of no form, with as many words behind it as it takes.
+fn form_of_words(alloc: Global, shape: &Shape, rest: &[&[u8]]) -> Result<String, AllocError> {
+    let Some((first, _)) = rest.split_first() else {
+        return String::from_str(
+            alloc,
+            "a label stands before an instruction, and `end` is none",
+        );
+    };
+    if shape.form.as_bytes().contains(&b'D') && !is_register(first) {
+        return no_register(alloc, shape, first);
+    }
+    match shape.word {
+        "lock" | "unlock" | "jump" => no_name(alloc, rest),
+        _ => no_place(alloc, shape, first),
     }
 }
 
@@ -179,56 +185,13 @@ fn form_instruction(
     word: &[u8],
     rest: &[&[u8]],
 ) -> Result<String, AllocError> {
-    let said = shown(word);
     let Some(shape) = instruction(word) else {
-        if declaration(word).is_some() {
-            let name = op.name.as_str();
-            return format!(in alloc;
-                "{said} stands outside operations, and {name} is open: its `end` is missing"
-            );
-        }
-        let hint = hint(alloc, near_instruction(word))?;
-        return format!(in alloc;
-            "{said} is no instruction; docs/LANGUAGE.md lists the 17 that there are{hint}"
-        );
+        return no_instruction(alloc, op, word);
     };
     if rest.len() != shape.count {
         return count_of(alloc, shape, rest.len());
     }
-    match rest {
-        [first, ..] => {
-            if shape.form.as_bytes().contains(&b'D') && !is_register(first) {
-                let first = shown(first);
-                let word = shape.word;
-                return format!(in alloc;
-                    "{word} writes to a register, r0 to r7; here stands {first}"
-                );
-            }
-        }
-        [] => {}
-    }
-    if shape.word == "lock" || shape.word == "unlock" || shape.word == "jump" {
-        return no_name(alloc, rest);
-    }
-    match rest {
-        [array, ..] => {
-            let (array, word) = (shown(array), shape.word);
-            if shape.form.as_bytes().contains(&b'W') {
-                return format!(in alloc;
-                    "{word} names an array, and one of its words in a name's place is none; it is `{}`",
-                    shape.form
-                );
-            }
-            format!(in alloc;
-                "{word} {array} goes on at a label, and the word in its place is no name; it is `{}`",
-                shape.form
-            )
-        }
-        [] => String::from_str(
-            alloc,
-            "a label stands before an instruction, and `end` is none",
-        ),
-    }
+    form_of_words(alloc, shape, rest)
 }
 
 fn no_number(alloc: Global, words: &[&[u8]]) -> Result<String, AllocError> {
@@ -245,12 +208,12 @@ fn no_number(alloc: Global, words: &[&[u8]]) -> Result<String, AllocError> {
 
 /// The operands among the words behind an instruction's first.
 fn operands<'a, 'b>(word: &[u8], rest: &'b [&'a [u8]]) -> &'b [&'a [u8]] {
-    match rest {
-        [_, _, operands @ ..] if word == b"load".as_slice() || word == b"cas".as_slice() =>
-            operands,
-        [_, operands @ ..] if word != b"return".as_slice() && word != b"jz".as_slice() => operands,
-        _ => rest,
-    }
+    let others = match shown(word) {
+        "load" | "cas" => 2,
+        "return" | "jz" => 0,
+        _ => 1,
+    };
+    rest.split_at(others.min(rest.len())).1
 }
 
 fn no_operand(alloc: Global, word: &[u8], rest: &[&[u8]]) -> Result<String, AllocError> {
@@ -282,67 +245,111 @@ fn without_colon<'a>(word: &'a [u8]) -> &'a [u8] {
     }
 }
 
+fn long_name(alloc: Global, word: &[u8]) -> Result<String, AllocError> {
+    let (length, word) = (word.len(), shown(word));
+    format!(in alloc; "the name {word} has {length} bytes; a name has at most 32")
+}
+
+/// The second of these words, which is to be a number.
+fn second<'a>(words: &[&'a [u8]]) -> &'a str {
+    match words {
+        [_, number, ..] => shown(number),
+        _ => "0"
+    }
+}
+
+fn array_limit(alloc: Global, draft: &Draft, rest: &[&[u8]]) -> Result<String, AllocError> {
+    if draft.arrays.len() >= 16 {
+        return String::from_str(alloc, "there are 16 arrays, and no component may have more");
+    }
+    let len = second(rest);
+    format!(in alloc; "an array has 1 to 64 cells, and here are to be {len}")
+}
+
+fn operation_limit(alloc: Global, draft: &Draft, rest: &[&[u8]]) -> Result<String, AllocError> {
+    if draft.operations.len() >= 16 {
+        return String::from_str(
+            alloc,
+            "there are 16 operations, and no component may have more",
+        );
+    }
+    let args = second(rest);
+    format!(in alloc; "an operation has at most 4 arguments, and here are to be {args}")
+}
+
+/// Outside an operation, a line for which there is no room.
+fn limit_outside(
+    alloc: Global,
+    draft: &Draft,
+    word: &[u8],
+    rest: &[&[u8]],
+) -> Result<String, AllocError> {
+    match shown(word) {
+        "word" => array_limit(alloc, draft, rest),
+        "lock" => String::from_str(alloc, "there are 8 locks, and no component may have more"),
+        "op" => operation_limit(alloc, draft, rest),
+        _ => String::from_str(alloc, "local takes a number from 0 to 16"),
+    }
+}
+
+/// Inside an operation, a line for which there is no room.
+fn limit_inside(alloc: Global, op: &OpenOp) -> Result<String, AllocError> {
+    if op.statements.len() >= 64 {
+        let name = op.name.as_str();
+        return format!(in alloc; "{name} has 64 instructions, and no operation may have more");
+    }
+    String::from_str(alloc, "pick takes a number of choices from 1 to 8")
+}
+
 fn limit(alloc: Global, draft: &Draft, words: &[&[u8]]) -> Result<String, AllocError> {
     if let Some(word) = words
         .iter()
         .map(|word| without_colon(word))
         .find(|word| has_name_form(word) && is_long(word))
     {
-        let (length, word) = (word.len(), shown(word));
-        return format!(in alloc; "the name {word} has {length} bytes; a name has at most 32");
+        return long_name(alloc, word);
     }
     let Some((word, rest)) = words.split_first() else {
         return String::from_str(alloc, "a limit is passed");
     };
     match &draft.begun {
-        Some(op) => {
-            let name = op.name.as_str();
-            if op.statements.len() >= 64 {
-                return format!(in alloc;
-                    "{name} has 64 instructions, and no operation may have more"
-                );
-            }
-            String::from_str(alloc, "pick takes a number of choices from 1 to 8")
-        }
-        None => {
-            if *word == b"word".as_slice() {
-                if draft.arrays.len() >= 16 {
-                    return String::from_str(
-                        alloc,
-                        "there are 16 arrays, and no component may have more",
-                    );
-                }
-                let len = match rest {
-                    [_, len, ..] => shown(len),
-                    _ => "0"
-                };
-                return format!(in alloc; "an array has 1 to 64 cells, and here are to be {len}");
-            }
-            if *word == b"lock".as_slice() {
-                return String::from_str(alloc, "there are 8 locks, and no component may have more");
-            }
-            if *word == b"op".as_slice() {
-                if draft.operations.len() >= 16 {
-                    return String::from_str(
-                        alloc,
-                        "there are 16 operations, and no component may have more",
-                    );
-                }
-                let args = match rest {
-                    [_, args, ..] => shown(args),
-                    _ => "0"
-                };
-                return format!(in alloc;
-                    "an operation has at most 4 arguments, and here are to be {args}"
-                );
-            }
-            String::from_str(alloc, "local takes a number from 0 to 16")
-        }
+        Some(op) => limit_inside(alloc, op),
+        None => limit_outside(alloc, draft, word, rest),
     }
 }
 
 fn is_declared(names: &[Name], word: &[u8]) -> bool {
     names.iter().any(|name| name.is(word))
+}
+
+fn declared_before(alloc: Global, kind: &[u8], name: &[u8]) -> Result<String, AllocError> {
+    let (kind, name) = (shown(kind), shown(name));
+    format!(in alloc; "{kind} {name} is declared before; each name stands once among its kind")
+}
+
+fn no_lock(alloc: Global, draft: &Draft, lock: &[u8]) -> Result<String, AllocError> {
+    let (hint, lock) = (hint(alloc, near(&draft.locks, lock))?, shown(lock));
+    format!(in alloc;
+        "there is no lock {lock}; `lock {lock}` declares it, on a line before the operations that use it{hint}"
+    )
+}
+
+fn no_array(alloc: Global, draft: &Draft, array: &str) -> Result<String, AllocError> {
+    if is_declared(&draft.locks, array.as_bytes()) {
+        return format!(in alloc; "{array} is a lock, and an array is wanted here");
+    }
+    let hint = hint(alloc, near(&draft.arrays, array.as_bytes()))?;
+    format!(in alloc;
+        "there is no array {array}; `word {array} LEN INIT` declares it, on a line before the operations that use it{hint}"
+    )
+}
+
+/// Where an array stands in an instruction, of which this is the second word.
+fn array_named<'a>(words: &[&'a [u8]], second: &'a [u8]) -> &'a str {
+    match words {
+        [_, to, array, ..] if is_register(to) => shown(array),
+        _ => shown(second),
+    }
 }
 
 /// A name that is there already, or is not there.
@@ -352,40 +359,21 @@ fn name(alloc: Global, draft: &Draft, words: &[&[u8]]) -> Result<String, AllocEr
         [first] => (*first, *first),
         [] => return String::from_str(alloc, "a name is not as it should be"),
     };
-    let (said, other) = (shown(first), shown(second));
-    match &draft.begun {
-        None => format!(in alloc;
-            "{said} {other} is declared before; each name stands once among its kind"
-        ),
-        Some(op) => {
-            if first == b"lock".as_slice() || first == b"unlock".as_slice() {
-                let hint = hint(alloc, near_name(&draft.locks, second))?;
-                return format!(in alloc;
-                    "there is no lock {other}; `lock {other}` declares it, on a line before the operations that use it{hint}"
-                );
-            }
-            let array = match words {
-                [_, to, array, ..] if is_register(to) => shown(array),
-                _ => other,
-            };
-            if is_declared(&draft.locks, array.as_bytes()) {
-                return format!(in alloc; "{array} is a lock, and an array is wanted here");
-            }
-            let hint = hint(alloc, near_array(draft, array.as_bytes()))?;
-            format!(in alloc;
-                "there is no array {array}; `word {array} LEN INIT` declares it, on a line before the operations that use it{hint}"
-            )
-        }
+    if draft.begun.is_none() {
+        return declared_before(alloc, first, second);
+    }
+    match shown(first) {
+        "lock" | "unlock" => no_lock(alloc, draft, second),
+        _ => no_array(alloc, draft, array_named(words, second)),
     }
 }
 
-/// A fault of a name on a line with a label.
+/// A fault of a name on a line with a label, before these words.
 fn labelled_name(
     alloc: Global,
     draft: &Draft,
     label: &[u8],
-    word: &[u8],
-    rest: &[&[u8]],
+    words: &[&[u8]],
 ) -> Result<String, AllocError> {
     if let Some(op) = &draft.begun {
         if op.labels.iter().any(|other| other.name.is(label)) {
@@ -395,12 +383,124 @@ fn labelled_name(
             );
         }
     }
-    let mut words = Vec::new(alloc);
-    words.push(word)?;
-    for other in rest {
-        words.push(*other)?;
+    name(alloc, draft, words)
+}
+
+/// A line's label, where an operation is open and more words follow, and the words behind it.
+fn behind_label<'a, 'b>(
+    draft: &Draft,
+    words: &'b [&'a [u8]],
+) -> (Option<&'a [u8]>, &'b [&'a [u8]]) {
+    let Some((first, rest)) = words.split_first() else {
+        return (None, words);
+    };
+    match *first {
+        [label @ .., b':'] if draft.begun.is_some() && !rest.is_empty() => (Some(label), rest),
+        _ => (None, words),
     }
-    name(alloc, draft, &words)
+}
+
+fn comma(alloc: Global, word: &[u8]) -> Result<String, AllocError> {
+    let word = shown(word);
+    format!(in alloc;
+        "{word} ends with a sign that parts nothing here; words are parted by blanks alone"
+    )
+}
+
+fn missing(alloc: Global, word: &[u8]) -> Result<String, AllocError> {
+    let word = shown(word);
+    format!(in alloc; "the first line with words is `component NAME`; here stands {word}")
+}
+
+/// Inside an operation, a line of no form behind its label.
+fn form_inside(
+    alloc: Global,
+    op: &OpenOp,
+    word: &[u8],
+    rest: &[&[u8]],
+) -> Result<String, AllocError> {
+    match word {
+        [_front @ .., b':'] => {
+            let word = shown(word);
+            format!(in alloc;
+                "the label {word} stands alone; a label stands before an instruction, on its line"
+            )
+        }
+        _ => form_instruction(alloc, op, word, rest),
+    }
+}
+
+fn form(
+    alloc: Global,
+    draft: &Draft,
+    label: Option<&[u8]>,
+    word: &[u8],
+    rest: &[&[u8]],
+) -> Result<String, AllocError> {
+    match &draft.begun {
+        None => form_outside(alloc, draft, word, rest),
+        Some(op) => match label {
+            Some(label) if !has_name_form(label) => no_name(alloc, &[label]),
+            _ => form_inside(alloc, op, word, rest),
+        },
+    }
+}
+
+fn number(alloc: Global, draft: &Draft, word: &[u8], rest: &[&[u8]]) -> Result<String, AllocError> {
+    if draft.begun.is_some() || declaration(word).is_none() {
+        return no_operand(alloc, word, rest);
+    }
+    match rest {
+        [_, numbers @ ..] if word != b"local".as_slice() => no_number(alloc, numbers),
+        _ => no_number(alloc, rest),
+    }
+}
+
+fn flow(alloc: Global, draft: &Draft) -> Result<String, AllocError> {
+    match &draft.begun {
+        Some(op) if op.statements.is_empty() => {
+            let name = op.name.as_str();
+            format!(in alloc; "{name} has no instruction; the least is `return 0`")
+        }
+        _ => String::from_str(
+            alloc,
+            "the last instruction is neither return nor jump, so what comes behind it is not said; write `return 0` before `end`",
+        ),
+    }
+}
+
+/// A word with a comma or a semicolon at its end, which is told before other faults.
+fn comma_in<'a>(kind: LangFaultKind, words: &[&'a [u8]]) -> Option<&'a [u8]> {
+    if kind == LangFaultKind::Missing {
+        return None;
+    }
+    words.iter().find(|word| is_comma(word)).copied()
+}
+
+/// The words for a fault of this kind on a line of these words.
+fn wording_of_words(
+    alloc: Global,
+    draft: &Draft,
+    kind: LangFaultKind,
+    text: &[u8],
+    words: &[&[u8]],
+) -> Result<String, AllocError> {
+    let (label, behind) = behind_label(draft, words);
+    let Some((word, rest)) = behind.split_first() else {
+        return String::from_str(alloc, "this line has a fault");
+    };
+    match kind {
+        LangFaultKind::Byte => unknown_byte(alloc, text),
+        LangFaultKind::Missing => missing(alloc, word),
+        LangFaultKind::Form => form(alloc, draft, label, word, rest),
+        LangFaultKind::Number => number(alloc, draft, word, rest),
+        LangFaultKind::Limit => limit(alloc, draft, words),
+        LangFaultKind::Flow => flow(alloc, draft),
+        LangFaultKind::Name => match label {
+            Some(label) => labelled_name(alloc, draft, label, behind),
+            None => name(alloc, draft, behind),
+        },
+    }
 }
 
 /// The words for a fault of this kind on a line, behind this draft.
@@ -414,71 +514,9 @@ pub fn wording(
         return unknown_byte(alloc, text);
     }
     let words = words_of(alloc, text)?;
-    let Some((first, rest)) = words.split_first() else {
-        return String::from_str(alloc, "this line has a fault");
-    };
-    let (label, word, rest) = match (*first, rest) {
-        ([label @ .., b':'], [word, more @ ..]) if draft.begun.is_some() => (
-            Some(label),
-            *word,
-            more,
-        ),
-        (word, rest) => (None, word, rest),
-    };
-    if kind != LangFaultKind::Missing {
-        if let Some(word) = words.iter().find(|word| is_comma(word)) {
-            let word = shown(word);
-            return format!(in alloc;
-                "{word} ends with a sign that parts nothing here; words are parted by blanks alone"
-            );
-        }
-    }
-    match kind {
-        LangFaultKind::Byte => unknown_byte(alloc, text),
-        LangFaultKind::Missing => {
-            let word = shown(word);
-            format!(in alloc; "the first line with words is `component NAME`; here stands {word}")
-        }
-        LangFaultKind::Form => match &draft.begun {
-            None => form_outside(alloc, draft, word, rest),
-            Some(op) => match label {
-                Some(label) if !has_name_form(label) => no_name(alloc, &[label]),
-                _ => match word {
-                    [_front @ .., b':'] => {
-                        let word = shown(word);
-                        format!(in alloc;
-                            "the label {word} stands alone; a label stands before an instruction, on its line"
-                        )
-                    }
-                    _ => form_instruction(alloc, op, word, rest),
-                },
-            },
-        },
-        LangFaultKind::Number => match declaration(word) {
-            Some(_) if draft.begun.is_none() => no_number(
-                alloc,
-                match rest {
-                    [_, numbers @ ..] if word != b"local".as_slice() => numbers,
-                    _ => rest
-                },
-            ),
-            _ => no_operand(alloc, word, rest),
-        },
-        LangFaultKind::Limit => limit(alloc, draft, &words),
-        LangFaultKind::Flow => match &draft.begun {
-            Some(op) if op.statements.is_empty() => {
-                let name = op.name.as_str();
-                format!(in alloc; "{name} has no instruction; the least is `return 0`")
-            }
-            _ => String::from_str(
-                alloc,
-                "the last instruction is neither return nor jump, so what comes behind it is not said; write `return 0` before `end`",
-            ),
-        },
-        LangFaultKind::Name => match label {
-            Some(label) => labelled_name(alloc, draft, label, word, rest),
-            None => name(alloc, draft, &words),
-        },
+    match comma_in(kind, &words) {
+        Some(word) => comma(alloc, word),
+        None => wording_of_words(alloc, draft, kind, text, &words),
     }
 }
 
@@ -501,7 +539,7 @@ pub(crate) fn jump_wording(
 }
 
 fn no_label(alloc: Global, op: &OpenOp, label: &Name) -> Result<String, AllocError> {
-    let hint = hint(alloc, near_label(op, label.as_bytes()))?;
+    let hint = hint(alloc, near(&op.labels, label.as_bytes()))?;
     let (name, label) = (op.name.as_str(), label.as_str());
     format!(in alloc; "{name} jumps to the label {label}, which is not there{hint}")
 }
