@@ -19,9 +19,11 @@ use Rattle.lu_spec.specs.Codes.{spec_code_of}
 use Rattle.lu_spec.specs.SpecText.{IsSpecFault}
 use Rattle.lu_refute.specs.Linearizable.{IsCounterexample}
 use Rattle.lu_cli.specs.declared.refusal.Refusal.{Refusal}
-use Rattle.lu_cli.specs.Refusals.{Answered, SaysResult, line_answer, refusal_answer}
+use Rattle.lu_cli.specs.declared.texts.Fault.{Fault as TextsFault}
+use Rattle.lu_cli.specs.declared.texts.Fault.TheVariants as variant
+use Rattle.lu_cli.specs.Refusals.{Answered, SaysResult, line_answer, refusal_answer, texts_answer}
 use Rattle.lu_cli.specs.Replies.{Answer, ToReport, ToSpec, ToTexts}
-use Rattle.lu_cli.specs.Texts.{AreSettled}
+use Rattle.lu_cli.specs.Texts.{AreSettled, IsFaultOfTexts}
 
 -- the calls of a cut are the component's
 first_of : (c : Declarations) (threads : List (List Call)) (lengths : List ℕ) → All (λ calls. All (IsCallOf c) calls) threads → All (λ calls. All (IsCallOf c) calls) (first_calls threads lengths)
@@ -61,3 +63,13 @@ spec_refused matrix text Memory IsAnswer is = tt
 pub texts_answered : (component matrix : List ℕ) (c : Declarations) (m : Matrix) (IsAnswer : Declarations → Matrix → Answer → Type 0) → AreSettled component matrix c m → (result : Result Answer Refusal) → Answered (IsAnswer c m) result → Answered (ToTexts component matrix IsAnswer) result
 texts_answered component matrix c m IsAnswer are result is =
     answered_more (IsAnswer c m) (ToTexts component matrix IsAnswer) (λ a h. rw (are.0.0, are.0.1) (inl (are.1, h))) result is
+
+-- the fault of the texts is what is said of them
+pub texts_refused : (component matrix : List ℕ) (fault : TextsFault) (IsAnswer : Declarations → Matrix → Answer → Type 0) → IsFaultOfTexts component matrix fault → IfSome (texts_answer fault) (ToTexts component matrix IsAnswer)
+texts_refused component matrix (variant.Component (At kind n)) IsAnswer is = rw is refl
+texts_refused component matrix (variant.Component Memory) IsAnswer is = tt
+texts_refused component matrix (variant.Matrix (At kind n)) IsAnswer is = rw (is.1, is.2) refl
+texts_refused component matrix (variant.Matrix Memory) IsAnswer is = tt
+texts_refused component matrix (variant.Setup k) IsAnswer (c, m, are, stays) = rw (are.0, are.1) (inr (k, stays, refl))
+texts_refused component matrix (variant.Spec fault) IsAnswer is = absurd is
+texts_refused component matrix (variant.Check fault) IsAnswer is = absurd is

@@ -57,7 +57,7 @@ use Rattle.lu_cli.specs.declared.explaining.Target.TheVariants as target
 use Rattle.lu_cli.specs.Explaining.{IsExplained, IsExplainedBy, IsExplainedSchedule, IsExplainedSerially, IsPicturedBy, IsPresentedBy, ToEnded, ToFinding, is_report, status_by, unexplained}
 use Rattle.lu_cli.specs.Bundle.{bundle_parts}
 use Rattle.lu_report.specs.Limits.{Limits}
-use Rattle.lu_cli.specs.Replies.{Answer, Answers, IsAnswerFrom, IsAnswerIn, IsAnswerOf, IsAnswerToOrder, IsAnswerToAlike, IsAnswerToPart, IsByThreadAnswer, IsCampaignAlike, IsCampaignReply, IsCampaignBy, IsCampaignFrom, IsCertified, IsCheckAgainstFrom, IsCheckAgainstOf, IsChecked, IsCheckedAgainst, IsCollected, IsCountAnswer, IsDrawn, IsExplainAgainstOf, IsExplainOf, IsExplainedAgainst, IsExplainedText, IsLinted, IsRefuted, IsRefutedBy, IsRefuteOf, IsReplayed, IsRunSerially, IsShrinkAnswer, IsSliceReply, IsSpecOf, IsTraced, IsTracedFromSetup, ShowsCertificate, Tells, ToMatrix, ToParts, ToReport, ToSchedule, ToSettled, ToShown, ToSpec, ToTarget, ToTexts, ToValue, found_answer, lists_of, no_command, no_device, no_memory, or_schedule, refused, reported, status_of, with_matrix}
+use Rattle.lu_cli.specs.Replies.{Answer, Answers, IsAnswerFrom, IsAnswerIn, IsAnswerOf, IsAnswerToOrder, IsAnswerToAlike, IsAnswerToPart, IsByThreadAnswer, IsCampaignAlike, IsTriedAll, IsCampaignBy, IsCampaignFrom, IsCertified, IsCheckAgainstFrom, IsCheckAgainstOf, IsChecked, IsCheckedAgainst, IsCollected, IsCountAnswer, IsDrawn, IsExplainAgainstOf, IsExplainOf, IsExplainedAgainst, IsExplainedText, IsLinted, IsRefuted, IsRefutedBy, IsRefuteOf, IsReplayed, IsRunSerially, IsShrinkAnswer, IsSliceReply, IsSpecOf, IsTraced, IsTracedFromSetup, ShowsCertificate, Tells, ToMatrix, ToParts, ToReport, ToSchedule, ToSettled, ToShown, ToSpec, ToTarget, ToTexts, ToValue, found_answer, lists_of, no_command, no_device, no_memory, or_schedule, refused, reported, status_of, with_matrix}
 
 -- an answer that was made and said
 pub said : (IsAnswer : Answer → Type 0) (answer : Answer) (text : List ℕ) (old new : Option (List ℕ)) (status : ℕ) → IsAnswer answer → text ≡ answer.text → Appends old new text × (status ≡ answer.status) → Answers IsAnswer old new status
@@ -264,9 +264,9 @@ explanation_else : (by : Presentation) (members : List (List SerialOp)) (c : Dec
 explanation_else by members c m (target.Schedule u) answer is = explained_else by members c m u answer is
 explanation_else by members c m (target.Report r) answer is = finding_else (IsExplainedSchedule by members c m) r.finding answer (λ u more. explained_else by members c m u answer more) is
 
-serially_else : (by : Presentation) (serial : ℕ) (c : Declarations) (m : Matrix) (t : Target) (answer : Answer) → IsExplainedSerially by serial c m t answer → IsElse answer
-serially_else by serial c m t answer (inl is) = explanation_else by is.1 c m t answer is.4
-serially_else by serial c m t answer (inr is) = finding_else (λ v a. ⊥) is.0 answer (λ u never. absurd never) is.2
+serially_else : (by : Presentation) (limits : Limits) (c : Declarations) (m : Matrix) (t : Target) (answer : Answer) → IsExplainedSerially by limits c m t answer → IsElse answer
+serially_else by limits c m t answer (inl is) = explanation_else by is.1 c m t answer is.4
+serially_else by limits c m t answer (inr is) = finding_else (λ v a. ⊥) is.0 answer (λ u never. absurd never) is.2
 
 target_else : (text : List ℕ) (IsAnswer : Target → Answer → Type 0) (answer : Answer) → ((t : Target) → IsAnswer t answer → IsElse answer) → ToTarget text IsAnswer answer → IsElse answer
 target_else text IsAnswer answer h is = go (is_report text) is
@@ -279,7 +279,7 @@ explain_else : (by : Presentation) (limits : Limits) (parts : List (List ℕ)) (
 explain_else by limits parts answer is =
     parts_else (exactly_three parts) (λ p. ToTexts p.0 p.1 (λ c m. IsExplainedText by limits c m p.2)) answer
     (λ p more. texts_else p.0 p.1 (λ c m. IsExplainedText by limits c m p.2) answer
-    (λ c m from. target_else p.2 (IsExplainedSerially by limits.serial c m) answer (λ t last. serially_else by limits.serial c m t answer last) from) more) is
+    (λ c m from. target_else p.2 (IsExplainedSerially by limits c m) answer (λ t last. serially_else by limits c m t answer last) from) more) is
 
 explain_against_else : (parts : List (List ℕ)) (answer : Answer) → IsExplainAgainstOf parts answer → IsElse answer
 explain_against_else parts answer is =
@@ -292,7 +292,7 @@ found_else : (c : Declarations) (found : Campaign) (answer : Answer) → answer 
 found_else c (AllPass count) answer is = status_else answer 0 (ap (λ (a : Answer). a.status) is) (λ e. omega arith)
 found_else c (First m r) answer is = matrix_else c m r answer is
 
-campaign_else : (c : Declarations) (options : CampaignOptions) (setup candidates : List Call) (threads : ℕ) (answer : Answer) → IsCampaignReply c setup candidates threads options answer → IsElse answer
+campaign_else : (c : Declarations) (options : CampaignOptions) (setup candidates : List Call) (threads : ℕ) (answer : Answer) → IsTriedAll c setup candidates threads options answer → IsElse answer
 campaign_else c options setup candidates threads answer (inl is) = found_else c is.0 answer is.2
 campaign_else c options setup candidates threads answer (inr is) = refused_else _ answer is.3
 

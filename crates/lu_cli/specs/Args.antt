@@ -1,12 +1,13 @@
 -- The commands of the program, and what words ask for.
-use Rattle.std.specs.Prelude.{◌≡◌, ℕ, ◌^◌, ◌&&◌, ◌==◌, Bool, true, false, pos, List, [], ◌∷◌, length, Option, Some, None, option_and_then, codes, nat_lt, if◌then◌else◌}
+use Rattle.std.specs.Prelude.{◌≡◌, ℕ, ◌^◌, ◌&&◌, ◌==◌, Bool, true, false, pos, List, [], ◌∷◌, length, map, Option, Some, None, Result, IfOk, option_and_then, codes, nat_lt, if◌then◌else◌}
 use Rattle.std.specs.List.{list_all}
 use Rattle.std.specs.Option.{option_map}
 use Rattle.std.specs.Str.{bytes_eq}
 use Rattle.std.specs.Char.{digit_value}
 use Rattle.std.specs.Str.Parse.{digits_value, without_leading_plus}
-use Rattle.clap.specs.Words.{App, Row, Rule, Text, app_of, new_app, new_rule, with_rule, with_subcommand, subcommand_of, fault_of}
+use Rattle.clap.specs.Words.{App, Row, Rule, Text, app_of, new_app, new_rule, rule_of, with_rule, with_subcommand, subcommand_of, fault_of}
 pub use Rattle.clap.specs.Words.{one_of}
+use Rattle.clap.specs.declared.builder.arg.Arg.{Arg}
 use Rattle.clap.specs.declared.builder.action.ArgAction.TheVariants.{SetTrue}
 use Rattle.clap.specs.declared.builder.command.Command.{Command}
 use Rattle.clap.specs.declared.builder.command.Command.TheViews.{out-Command}
@@ -35,6 +36,19 @@ most_long = 18446744073709551615
 pub record IsApp (app : App) (command : Command) : Type 0 where
   pub shape : app_of command ≡ app
   pub local : (out-Command command).has_globals ≡ false
+
+-- where there was a command, it has the rule of one more option now
+abbrev pub AddsRule : {E : Type 0} → Result Command E → Arg → Result Command E → Type 0
+AddsRule old option new =
+    (app : App) (rule : Rule) → IfOk old (IsApp app) → rule_of option ≡ rule
+    → IfOk new (IsApp (with_rule app rule))
+
+-- where there were a program and a command, the program has the command now
+abbrev pub AddsCommand : {E : Type 0} → Result Command E → Result Command E → Result Command E
+    → Type 0
+AddsCommand old command new =
+    (app sub : App) → IfOk old (IsApp app) → IfOk command (IsApp sub)
+    → IfOk new (IsApp (with_subcommand app sub.top))
 
 -- an option `--NAME N`
 abbrev pub number_option : Text → ℕ → ℕ → Text → Rule
@@ -339,3 +353,7 @@ request_without (k ∷ kinds) request = None
 abbrev pub request_of : List Text → Option Request
 request_of words =
     request_without (fault_of lineup words) (request_in (subcommand_of lineup words))
+
+-- the same of words in memory, by the text of each
+abbrev pub request_said : {S : Type 0} → (S → List ℕ) → List S → Option Request
+request_said text words = request_of (map text words)

@@ -1,5 +1,7 @@
 -- What `draw` answers.
-use Rattle.std.specs.Prelude.{◌≡◌, ◌⊎◌, ℕ, ◌<◌, true, false, List, Option}
+use Rattle.std.specs.Prelude.{◌≡◌, ◌⊎◌, ℕ, ◌<◌, true, false, List, Option, String}
+use denote.Ref.{Bor}
+use Rattle.std.specs.Option.{option_copied}
 use Rattle.lu_component.specs.Component.{Declarations}
 use Rattle.lu_test.specs.declared.schedule.Move.{Move}
 use Rattle.lu_test.specs.Matrix.{Matrix}
@@ -12,7 +14,7 @@ use Rattle.lu_witness.specs.declared.judgement.Verdict.TheVariants.{Good, NoWitn
 use Rattle.lu_witness.specs.Witnesses.{IsMember, IsVerdict}
 use Rattle.lu_explain.specs.Explanations.{Explained, IsExplanation}
 use Rattle.lu_replay.specs.Replays.{IsInfeasibleAt}
-use Rattle.lu_picture.specs.Pictures.{IsPicture}
+use Rattle.lu_picture.specs.Pictures.{IsPicture, IsPictureText}
 use Rattle.lu_cli.specs.Outcomes.{Answer, infeasible}
 
 -- the picture of the schedule, with this explanation or none, or where it is infeasible
@@ -21,6 +23,15 @@ IsDrawnWith why c matrix u answer =
     ((text : List ℕ) × IsPicture c matrix u why text
     × (answer ≡ record { text = text; status = 0 }))
     ⊎ ((i : ℕ) × IsInfeasibleAt c matrix u i × (answer ≡ infeasible i))
+
+-- the picture of the schedule, with the explanation that is lent, or none
+abbrev pub IsPictureOf : {Z : Type 0} → Option (Bor Explained) → Declarations → Matrix → List Move
+    → String Z → Type 0
+IsPictureOf why c matrix u text = IsPictureText c matrix u (option_copied why) text
+
+-- the same, or where the schedule is infeasible
+abbrev pub IsDrawnOf : Option (Bor Explained) → Declarations → Matrix → List Move → Answer → Type 0
+IsDrawnOf why c matrix u answer = IsDrawnWith (option_copied why) c matrix u answer
 
 -- ---- of a stuck history one pending call is explained
 

@@ -1,5 +1,5 @@
 -- What `explain` answers.
-use Rattle.std.specs.Prelude.{◌≡◌, ◌⊎◌, ℕ, List, [], ◌++◌, Some, codes, Bool, nat_eq}
+use Rattle.std.specs.Prelude.{◌≡◌, ◌⊎◌, ℕ, List, [], ◌++◌, Some, Result, IfOk, codes, Bool, nat_eq}
 use Rattle.std.specs.List.{starts_with}
 use Rattle.lu_component.specs.Component.{Declarations}
 use Rattle.lu_test.specs.declared.schedule.Move.{Move}
@@ -17,6 +17,7 @@ use Rattle.lu_witness.specs.declared.judgement.Verdict.TheVariants.{Good, NoWitn
 use Rattle.lu_witness.specs.Witnesses.{IsMember, IsVerdict}
 use Rattle.lu_report.specs.declared.report.Finding.{Finding}
 use Rattle.lu_report.specs.declared.report.Finding.TheVariants.{SerialCut, Nondeterministic, Fail, Pass}
+use Rattle.lu_report.specs.Limits.{Limits}
 pub use Rattle.lu_report.specs.Parts.{IsOfOffence}
 use Rattle.lu_replay.specs.Replays.{IsInfeasibleAt, PlaysToStatus}
 use Rattle.lu_replay.specs.Reports.{IsFinding}
@@ -26,6 +27,7 @@ use Rattle.lu_explain.specs.Explanations.{Explained}
 use Rattle.lu_cli.specs.declared.explaining.Presentation.{Presentation}
 use Rattle.lu_cli.specs.declared.explaining.Presentation.TheVariants.{Words, Picture}
 use Rattle.lu_cli.specs.Drawing.{IsDrawnWith, IsShownExplanation}
+use Rattle.lu_cli.specs.declared.explaining.ShownSchedule.{ShownSchedule}
 use Rattle.lu_cli.specs.declared.explaining.Target.{Target}
 use Rattle.lu_cli.specs.declared.explaining.Target.TheVariants as target
 use Rattle.lu_cli.specs.Outcomes.{Answer, infeasible}
@@ -97,12 +99,42 @@ IsOffenceOf c m serial f =
     IsOfOffence f × ((bound : ℕ) → FromEachStart c m (λ s. IsFinding s bound serial f))
 
 -- by the serial histories, where no serial run offends; else that one does
-abbrev pub IsExplainedSerially : Presentation → ℕ → Declarations → Matrix → Target → Answer
+abbrev pub IsExplainedSerially : Presentation → Limits → Declarations → Matrix → Target → Answer
     → Type 0
-IsExplainedSerially by serial c m explained answer =
-    ((s : State) × (members : List (List SerialOp)) × IsStart c m s × IsSetOf s serial members
+IsExplainedSerially by limits c m explained answer =
+    ((s : State) × (members : List (List SerialOp)) × IsStart c m s × IsSetOf s limits.serial members
     × IsExplained by members c m explained answer)
-    ⊎ ((f : Finding) × IsOffenceOf c m serial f × ToFinding (λ v a. ⊥) f answer)
+    ⊎ ((f : Finding) × IsOffenceOf c m limits.serial f × ToFinding (λ v a. ⊥) f answer)
+
+-- ---- by the serial histories of a tree, which `members` gives
+
+-- the schedule leads to what is shown
+abbrev pub IsPlayed : Declarations → Matrix → ShownSchedule → Type 0
+IsPlayed c m run = PlaysToStatus c m run.schedule.now run.shown.now.history run.shown.now.status
+
+-- the answer, where there is one, presents the history of an ended schedule
+abbrev pub Presents : {T E : Type 0} → Presentation → (T → List (List SerialOp)) → T → Declarations
+    → Matrix → ShownSchedule → Result Answer E → Type 0
+Presents by members tree c m run result =
+    IfOk result (IsPresentedBy by (members tree) c m run.schedule.now run.shown.now.history)
+
+-- it explains a schedule
+abbrev pub ExplainsSchedule : {T E : Type 0} → Presentation → (T → List (List SerialOp)) → T
+    → Declarations → Matrix → List Move → Result Answer E → Type 0
+ExplainsSchedule by members tree c m u result =
+    IfOk result (IsExplainedSchedule by (members tree) c m u)
+
+-- the schedule of a finding
+abbrev pub ExplainsFinding : {T E : Type 0} → Presentation → (T → List (List SerialOp)) → T
+    → Declarations → Matrix → Finding → Result Answer E → Type 0
+ExplainsFinding by members tree c m f result =
+    IfOk result (ToFinding (IsExplainedSchedule by (members tree) c m) f)
+
+-- a schedule, or that of a report
+abbrev pub Explains : {T E : Type 0} → Presentation → (T → List (List SerialOp)) → T → Declarations
+    → Matrix → Target → Result Answer E → Type 0
+Explains by members tree c m explained result =
+    IfOk result (IsExplained by (members tree) c m explained)
 
 -- the text begins as a report does
 abbrev pub is_report : List ℕ → Bool

@@ -1,6 +1,5 @@
--- What is read and written.
-use Rattle.std.specs.Prelude.{◌≡◌, ℕ, ◌<◌, Bool, List, length, Option, IfSome, IsTrue}
-use Rattle.std.specs.Io.KnownBytes.{Appends}
+-- What is read.
+use Rattle.std.specs.Prelude.{◌≡◌, ℕ, ◌<◌, List, length, Option, IfSome}
 
 -- the most bytes that are read
 abbrev pub most_bytes : ℕ
@@ -13,7 +12,3 @@ IsWholeInput known bytes = IfSome known (λ given. bytes ≡ given)
 -- they are too many, where they are known
 abbrev pub IsTooLong : Option (List ℕ) → Type 0
 IsTooLong known = IfSome known (λ given. most_bytes < length given)
-
--- where all went well, the bytes were written
-abbrev pub WritesIf : Bool → Option (List ℕ) → Option (List ℕ) → List ℕ → Type 0
-WritesIf well old new bytes = IsTrue well → Appends old new bytes

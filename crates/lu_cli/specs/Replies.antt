@@ -1,5 +1,5 @@
 -- What the program writes, and its status.
-use Rattle.std.specs.Prelude.{◌≡◌, ◌≢◌, ◌⊎◌, ◌↔◌, ℕ, List, [], ◌∷◌, ◌++◌, length, map, replicate, Option, Some, None, Result, Ok, Err, MatchBool, IfSome, codes, nat_lt, if◌then◌else◌}
+use Rattle.std.specs.Prelude.{◌≡◌, ◌≢◌, ◌⊎◌, ◌↔◌, ℕ, List, [], ◌∷◌, ◌++◌, length, replicate, Option, Some, None, Result, Ok, Err, MatchBool, IfSome, codes, nat_lt, if◌then◌else◌}
 use Rattle.std.specs.Fmt.{decimal}
 use Rattle.std.specs.Io.KnownBytes.{Appends}
 use Rattle.lu_text.specs.declared.fault.Fault.{Fault}
@@ -84,7 +84,8 @@ use Rattle.lu_cli.specs.declared.explaining.Target.{Target}
 use Rattle.lu_cli.specs.declared.explaining.Target.TheVariants as target
 use Rattle.lu_cli.specs.Explaining.{IsExplained, IsExplainedSerially, is_report}
 use Rattle.lu_cli.specs.Bundle.{bundle_parts}
-use Rattle.lu_cli.specs.Args.{request_of}
+use Rattle.lu_cli.specs.Args.{request_said}
+use Rattle.lu_cli.specs.Counted.{AppendsCounted, GoesWell, IsUnfailed, Lent, new_of, old_of}
 use Rattle.lu_cli.specs.Inputs.{most_bytes}
 use Rattle.lu_report.specs.Limits.{Limits}
 pub use Rattle.lu_cli.specs.Outcomes.{Answer, refused, refused_on_line, infeasible, no_memory, no_command, no_device, no_worker, unsettled}
@@ -356,7 +357,7 @@ IsTargetRefusal text refused =
 
 abbrev pub IsExplainedText : Presentation → Limits → Declarations → Matrix → List ℕ → Answer
     → Type 0
-IsExplainedText by limits c m text = ToTarget text (IsExplainedSerially by limits.serial c m)
+IsExplainedText by limits c m text = ToTarget text (IsExplainedSerially by limits c m)
 
 -- the schedule or the report is read first, and then the specification
 abbrev pub IsExplainedAgainst : Declarations → Matrix → List ℕ → List ℕ → Answer → Type 0
@@ -384,9 +385,9 @@ options_of c setup candidates threads o =
 
 -- what the campaign of so many threads over these calls finds, with this setup, or why there is
 -- none
-abbrev pub IsCampaignReply : Declarations → List Call → List Call → ℕ → CampaignOptions → Answer
+abbrev pub IsTriedAll : Declarations → List Call → List Call → ℕ → CampaignOptions → Answer
     → Type 0
-IsCampaignReply c setup candidates threads o answer =
+IsTriedAll c setup candidates threads o answer =
     ((found : Campaign) × IsFound (options_of c setup candidates threads o) found
     × (answer ≡ found_answer c found))
     ⊎ ((fault : CampaignFault) × (fault ≢ NoMemory)
@@ -435,21 +436,21 @@ abbrev pub IsListsAnswer : Declarations → List Call → List (List Call) → C
 IsListsAnswer c setup candidates o = IsAnswerToPart o.part (lists_of c setup candidates o)
 
 -- what is answered where so many threads have the same, and a part is asked for
-abbrev pub IsPartAnswer : Declarations → List Call → List Call → ℕ → CampaignOptions → Answer
+abbrev pub IsTriedPart : Declarations → List Call → List Call → ℕ → CampaignOptions → Answer
     → Type 0
-IsPartAnswer c setup candidates threads o = IsListsAnswer c setup (replicate threads candidates) o
+IsTriedPart c setup candidates threads o = IsListsAnswer c setup (replicate threads candidates) o
 
 abbrev pub IsAnswerToAlike : CampaignPart → Declarations → List Call → List Call → ℕ
     → CampaignOptions → Answer → Type 0
-IsAnswerToAlike Whole c setup candidates threads o = IsCampaignReply c setup candidates threads o
+IsAnswerToAlike Whole c setup candidates threads o = IsTriedAll c setup candidates threads o
 IsAnswerToAlike (Slice from upto) c setup candidates threads o =
-    IsPartAnswer c setup candidates threads o
-IsAnswerToAlike Count c setup candidates threads o = IsPartAnswer c setup candidates threads o
+    IsTriedPart c setup candidates threads o
+IsAnswerToAlike Count c setup candidates threads o = IsTriedPart c setup candidates threads o
 
 -- what is answered where so many threads have the same
-abbrev pub IsAlikeAnswer : Declarations → List Call → List Call → ℕ → CampaignOptions → Answer
+abbrev pub IsTriedSame : Declarations → List Call → List Call → ℕ → CampaignOptions → Answer
     → Type 0
-IsAlikeAnswer c setup candidates threads o = IsAnswerToAlike o.part c setup candidates threads o
+IsTriedSame c setup candidates threads o = IsAnswerToAlike o.part c setup candidates threads o
 
 -- the calls of the one thread are the candidates
 abbrev pub ToCandidates : List (List Call) → (List Call → Answer → Type 0) → Answer → Type 0
@@ -460,7 +461,7 @@ ToCandidates threads IsAnswer answer = answer ≡ refused (codes "G2")
 abbrev pub IsCampaignAlike : Declarations → ℕ → CampaignOptions → Matrix → Answer → Type 0
 IsCampaignAlike c threads o matrix =
     ToCandidates matrix.threads
-    (λ candidates. IsAlikeAnswer c matrix.setup candidates threads o)
+    (λ candidates. IsTriedSame c matrix.setup candidates threads o)
 
 abbrev pub IsCampaignBy : CampaignThreads → Declarations → CampaignOptions → Matrix → Answer
     → Type 0
@@ -602,9 +603,9 @@ IsAnswerFrom request known answer =
     (input : List ℕ) × IfSome known (λ all. input ≡ all) × IsAnswerOf request input answer
 
 -- the answer to what these words ask for, where they ask for something, and to what was read
-abbrev pub IsAnswerFor : List (List ℕ) → Option (List ℕ) → Answer → Type 0
-IsAnswerFor words known answer =
-    (request : Request) → request_of words ≡ Some request → IsAnswerFrom request known answer
+abbrev pub IsAnswerFor : {S : Type 0} → (S → List ℕ) → List S → Option (List ℕ) → Answer → Type 0
+IsAnswerFor text words known answer =
+    (request : Request) → request_said text words ≡ Some request → IsAnswerFrom request known answer
 
 -- the answer went out, and the status is the answer's
 abbrev pub Tells : Answer → Option (List ℕ) → Option (List ℕ) → ℕ → Type 0
@@ -618,53 +619,44 @@ Answers IsAnswer old new status =
 
 -- ---- what a run does to its reader and its writer, whose bytes `remaining` and `contents` give
 
--- no call failed meanwhile
-abbrev pub IsUnfailed : {D : Type 0} → Counted D → Counted D → Type 0
-IsUnfailed old new = new.failures ≡ old.failures
-
 -- where no write failed, the text went out, and the status is this one
 abbrev pub Sends : {W : Type 0} → (W → Option (List ℕ)) → List ℕ → ℕ → Counted W → Counted W → ℕ
     → Type 0
 Sends contents text status old new result =
-    IsUnfailed old new → Appends (contents old.inner) (contents new.inner) text × (result ≡ status)
+    IsUnfailed old new → AppendsCounted contents old new text × (result ≡ status)
 
 -- such an answer went out or, where memory ran out, that
-abbrev pub Says : {W : Type 0} → (W → Option (List ℕ)) → (Answer → Type 0) → Counted W → Counted W
-    → ℕ → Type 0
-Says contents IsAnswer old new status =
-    Answers IsAnswer (contents old.inner) (contents new.inner) status
+abbrev pub Says : {W : Type 0} → (W → Option (List ℕ)) → (Answer → Type 0) → Lent W → ℕ → Type 0
+Says contents IsAnswer output status =
+    Answers IsAnswer (contents (old_of output).inner) (contents (new_of output).inner) status
 
 -- where the words ask for something and no read and no write failed, the answer to what was read
 -- goes out
-abbrev pub SaysAnswer : {S R W : Type 0} → (S → List ℕ) → List S → (R → Option (List ℕ))
-    → (W → Option (List ℕ)) → Counted R → Counted R → Counted W → Counted W → ℕ → Type 0
-SaysAnswer text words remaining contents read_old read_new old new status =
-    (request : Request) → request_of (map text words) ≡ Some request
-    → IsUnfailed read_old read_new → IsUnfailed old new
-    → Says contents (IsAnswerFrom request (remaining read_old.inner)) old new status
+abbrev pub SaysAnswer : {S R W : Type 0} → (S → List ℕ) → List S → (R → Option (List ℕ)) → Lent R
+    → (W → Option (List ℕ)) → Lent W → ℕ → Type 0
+SaysAnswer text words remaining input contents output status =
+    (request : Request) → request_said text words ≡ Some request → GoesWell input → GoesWell output
+    → Says contents (IsAnswerFrom request (remaining (old_of input).inner)) output status
 
 -- where they ask for nothing and no write failed, that is said
-abbrev pub SaysNoCommand : {S W : Type 0} → (S → List ℕ) → List S → (W → Option (List ℕ))
-    → Counted W → Counted W → ℕ → Type 0
-SaysNoCommand text words contents old new status =
-    request_of (map text words) ≡ None → IsUnfailed old new
-    → Says contents (λ answer. answer ≡ no_command) old new status
+abbrev pub SaysNoCommand : {S W : Type 0} → (S → List ℕ) → List S → (W → Option (List ℕ)) → Lent W
+    → ℕ → Type 0
+SaysNoCommand text words contents output status =
+    request_said text words ≡ None → GoesWell output
+    → Says contents (λ answer. answer ≡ no_command) output status
 
 -- this went out
-abbrev pub TellsOf : {W : Type 0} → Answer → (W → Option (List ℕ)) → Counted W → Counted W → ℕ
-    → Type 0
-TellsOf answer contents old new status =
-    Tells answer (contents old.inner) (contents new.inner) status
+abbrev pub TellsOf : {W : Type 0} → Answer → (W → Option (List ℕ)) → Lent W → ℕ → Type 0
+TellsOf answer contents output status =
+    Tells answer (contents (old_of output).inner) (contents (new_of output).inner) status
 
 -- where no write failed, a read that failed is told
-abbrev pub TellsUnread : {R W : Type 0} → (W → Option (List ℕ)) → Counted R → Counted R → Counted W
-    → Counted W → ℕ → Type 0
-TellsUnread contents read_old read_new old new status =
-    IsUnfailed old new → IsUnfailed read_old read_new ⊎ TellsOf no_device contents old new status
+abbrev pub TellsUnread : {R W : Type 0} → (W → Option (List ℕ)) → Lent R → Lent W → ℕ → Type 0
+TellsUnread contents input output status =
+    GoesWell output → GoesWell input ⊎ TellsOf no_device contents output status
 
 -- where no write and no read failed, something else is told
-abbrev pub TellsElse : {R W : Type 0} → (W → Option (List ℕ)) → Counted R → Counted R → Counted W
-    → Counted W → ℕ → Type 0
-TellsElse contents read_old read_new old new status =
-    IsUnfailed old new → IsUnfailed read_old read_new
-    → (a : Answer) × (a ≢ no_device) × TellsOf a contents old new status
+abbrev pub TellsElse : {R W : Type 0} → (W → Option (List ℕ)) → Lent R → Lent W → ℕ → Type 0
+TellsElse contents input output status =
+    GoesWell output → GoesWell input
+    → (a : Answer) × (a ≢ no_device) × TellsOf a contents output status

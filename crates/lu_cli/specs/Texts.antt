@@ -33,9 +33,9 @@ IsReportOfTexts component matrix choice r =
     × IsReport c m choice.bound choice.serial r
 
 -- its text
-abbrev pub IsReportOf : List ℕ → List ℕ → Choice → List ℕ → Type 0
+abbrev pub IsReportOf : {Z : Type 0} → List ℕ → List ℕ → Choice → String Z → Type 0
 IsReportOf component matrix choice text =
-    (r : Parts) × IsReportOfTexts component matrix choice r × (text ≡ report_text r)
+    (r : Parts) × IsReportOfTexts component matrix choice r × (string_bytes text ≡ report_text r)
 
 -- the fault of the first text that has one; or the number of the first call of the setup that does
 -- not end
@@ -100,13 +100,13 @@ IsFaultOnceSettled component matrix spec choice fault =
     × IsFaultAgainst c m spec choice fault
 
 -- the fault of the first text that has one, or of the setup; or that of the check
-abbrev pub IsFaultOfThree : List ℕ → List ℕ → List ℕ → Choice → TextsFault → Type 0
-IsFaultOfThree component matrix spec choice (Component fault) =
+abbrev pub IsFaultIn : List ℕ → List ℕ → List ℕ → Choice → TextsFault → Type 0
+IsFaultIn component matrix spec choice (Component fault) =
     IsFaultOfTexts component matrix (Component fault)
-IsFaultOfThree component matrix spec choice (Matrix fault) =
+IsFaultIn component matrix spec choice (Matrix fault) =
     IsFaultOfTexts component matrix (Matrix fault)
-IsFaultOfThree component matrix spec choice (Setup k) = IsFaultOfTexts component matrix (Setup k)
-IsFaultOfThree component matrix spec choice (Spec fault) =
+IsFaultIn component matrix spec choice (Setup k) = IsFaultOfTexts component matrix (Setup k)
+IsFaultIn component matrix spec choice (Spec fault) =
     IsFaultOnceSettled component matrix spec choice (Spec fault)
-IsFaultOfThree component matrix spec choice (Check fault) =
+IsFaultIn component matrix spec choice (Check fault) =
     IsFaultOnceSettled component matrix spec choice (Check fault)

@@ -5,7 +5,7 @@ ghost use Rattle.lu_test.specs.Matrix.{IsOf};
 ghost use Rattle.lu_certify.specs.Certificates.{NamesCutOf};
 ghost use Rattle.lu_cli.specs.Refusals.{refusal_answer};
 ghost use Rattle.lu_cli.specs.Replies as spec;
-ghost use Rattle.lu_cli.specs.Replies.{IsListed};
+ghost use Rattle.lu_cli.specs.Replies.{IsListed, two_texts};
 
 use crate::refusal::Refusal;
 use crate::texts::Fault as TextsFault;
@@ -97,8 +97,7 @@ fn write_both(
     report: &Report,
 ) -> Result<String, AllocError>
     requires { IsOf matrix.now component.now }
-    ensures { IfOk result (λ text.
-        string_bytes text ≡ spec.two_texts component.now matrix.now report.now) }
+    ensures { IfOk result (λ t. string_bytes t ≡ two_texts component.now matrix.now report.now) }
 {
     let mut text = write_matrix(alloc, component, matrix)?;
     text.push_str("---\n")?;
@@ -114,8 +113,7 @@ pub fn show_matrix(
     report: &Report,
 ) -> Result<Answer, AllocError>
     requires { IsOf matrix.now component.now }
-    ensures { IfOk result (λ answer.
-        answer ≡ spec.with_matrix component.now matrix.now report.now) }
+    ensures { IfOk result (λ a. a ≡ spec.with_matrix component.now matrix.now report.now) }
 {
     Ok(Answer {
         text: write_both(alloc, component, matrix, report)?,
@@ -196,7 +194,8 @@ pub fn show_schedule(
     schedule: &Schedule,
 ) -> Result<Answer, AllocError>
     requires { IsOf matrix.now component.now }
-    ensures { IfOk result (λ a. a ≡ spec.with_schedule component.now (matrix.now, schedule.now)) }
+    ensures { IfOk result (λ a.
+        a ≡ spec.with_schedule component.now (matrix.now, schedule.now)) }
 {
     let mut text = write_matrix(alloc, component, matrix)?;
     text.push_str("---\n")?;

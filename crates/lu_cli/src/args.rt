@@ -1,10 +1,11 @@
 //! What the command line asks for.
 
-ghost use Rattle.std.specs.Prelude.{◌≡◌, ◌≤◌, false, pos, IfOk, IsErrOf, Some, None, map};
-ghost use Rattle.clap.specs.Words.{App, Rule, found_of, new_app, rows_of, rule_of, subcommand_rows_of, with_rule, with_subcommand};
+ghost use Rattle.std.specs.Prelude.{◌≡◌, ◌≤◌, false, pos, IfOk, IsErrOf, Some, None};
+ghost use Rattle.clap.specs.Words.{found_of, new_app, rows_of, rule_of, subcommand_rows_of};
 ghost use Rattle.clap.specs.declared.builder.value_parser.ValueParser.TheVariants.{Signed};
+ghost use Rattle.lu_cli.specs.declared.order.ArgsFault.TheVariants.{Refused};
 ghost use Rattle.lu_cli.specs.Args as spec;
-ghost use Rattle.lu_cli.specs.Args.{IsApp, lineup, request_of};
+ghost use Rattle.lu_cli.specs.Args.{AddsCommand, AddsRule, IsApp, lineup, request_said};
 ghost use Rattle.lu_cli.specs.Orders.{choice_of};
 
 use crate::order::{
@@ -38,7 +39,8 @@ fn number_option<'a>(
     default: &'a str,
 ) -> Arg<'a>
     requires { least ≤ most }
-    ensures rule { rule_of result ≡ spec.number_option name.entry.now least most default.entry.now }
+    ensures rule { rule_of result ≡
+        spec.number_option name.entry.now least most default.entry.now }
     ensures local { result.global ≡ false }
 {
     Arg::new(alloc, name)
@@ -83,8 +85,7 @@ fn with_option<'a>(
     option: Arg<'a>,
 ) -> Result<Command<'a>, AllocError>
     requires local { option.global ≡ false }
-    ensures { (app : App) → (rule : Rule) → IfOk command.entry (IsApp app)
-        → rule_of option.entry ≡ rule → IfOk result (IsApp (with_rule app rule)) }
+    ensures { AddsRule command.entry option.entry result }
 {
     command?.arg(option)
 }
@@ -94,8 +95,7 @@ fn with_command<'a>(
     program: Result<Command<'a>, AllocError>,
     command: Result<Command<'a>, AllocError>,
 ) -> Result<Command<'a>, AllocError>
-    ensures { (app sub : App) → IfOk program.entry (IsApp app) → IfOk command.entry (IsApp sub)
-        → IfOk result (IsApp (with_subcommand app sub.top)) }
+    ensures { AddsCommand program.entry command.entry result }
 {
     program?.subcommand(command?)
 }
@@ -481,10 +481,8 @@ fn request_in(matches: &ArgMatches<'_>) -> Option<Request>
 /// What the words behind the program's name ask for. The definitions of the command line are those
 /// of `clap`.
 pub fn read_request<'a, S: AsStr>(alloc: Global, words: &'a [S]) -> Result<Request, ArgsFault>
-    ensures found { IfOk result (λ request.
-        request_of (map S.text words.entry.now) ≡ Some request) }
-    ensures refused { IsErrOf result ArgsFault.Refused →
-        request_of (map S.text words.entry.now) ≡ None }
+    ensures found { IfOk result (λ request. request_said S.text words.entry.now ≡ Some request) }
+    ensures refused { IsErrOf result Refused → request_said S.text words.entry.now ≡ None }
 {
     let Ok(command) = lineup_command(alloc) else {
         return Err(ArgsFault::Memory);

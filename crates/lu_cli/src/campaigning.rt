@@ -7,8 +7,10 @@ ghost use Rattle.lu_machine.specs.Starts.{AllEnd, CanRun};
 ghost use Rattle.lu_refine.specs.Campaigns.{AreCallsOf, HaveArguments, IsFoundOf};
 ghost use Rattle.lu_refine.specs.Roles.{AllCallsOf, AllHaveArguments};
 ghost use Rattle.lu_refine.specs.ByThread.{CanAsk, asked_of};
+ghost use Rattle.lu_cli.specs.declared.order.CampaignThreads.TheVariants.{Own};
 ghost use Rattle.lu_cli.specs.Refusals.{Answered};
 ghost use Rattle.lu_cli.specs.Replies as spec;
+ghost use Rattle.lu_cli.specs.Replies.{IsTriedAll, IsTriedPart, IsTriedSame};
 
 use crate::answer::{Answer, show_count, show_matrix, show_number};
 use crate::order::{CampaignOptions, CampaignPart, CampaignThreads};
@@ -48,8 +50,7 @@ fn try_matrices(
     requires settles { AllEnd component.now setup.now }
     requires of { AreCallsOf component.now candidates.now }
     requires arguments { HaveArguments candidates.now }
-    ensures { Answered
-        (spec.IsCampaignReply component.now setup.now candidates.now threads options) result }
+    ensures { Answered (IsTriedAll component.now setup.now candidates.now threads options) result }
 {
     let bounds = options.bounds;
     let found = campaign(
@@ -136,8 +137,7 @@ fn try_part(
     requires settles { AllEnd component.now setup.now }
     requires of { AreCallsOf component.now candidates.now }
     requires arguments { HaveArguments candidates.now }
-    ensures { Answered
-        (spec.IsPartAnswer component.now setup.now candidates.now threads options) result }
+    ensures { Answered (IsTriedPart component.now setup.now candidates.now threads options) result }
 {
     let lists = same_lists(alloc, candidates, threads)?;
     try_lists(alloc, component, setup, &lists, options)
@@ -157,8 +157,7 @@ fn try_alike(
     requires settles { AllEnd component.now setup.now }
     requires of { AreCallsOf component.now candidates.now }
     requires arguments { HaveArguments candidates.now }
-    ensures { Answered
-        (spec.IsAlikeAnswer component.now setup.now candidates.now threads options) result }
+    ensures { Answered (IsTriedSame component.now setup.now candidates.now threads options) result }
 {
     match options.part {
         CampaignPart::Whole => {
@@ -205,8 +204,7 @@ fn try_lines(
     options: CampaignOptions,
 ) -> Result<Answer, Refusal>
     requires { CanRun component.now matrix.now }
-    ensures { Answered
-        (spec.IsListsAnswer component.now matrix.now.setup matrix.now.threads options) result }
+    ensures { Answered (spec.IsCampaignBy Own component.now options matrix.now) result }
 {
     try_lists(alloc, component, matrix.setup(), matrix.as_slice(), options)
 }

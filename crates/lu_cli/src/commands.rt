@@ -8,6 +8,7 @@ ghost use Rattle.lu_report.specs.Parts.{IsOfOffence};
 ghost use Rattle.lu_spec.specs.Specs.{AreOf};
 ghost use Rattle.lu_cli.specs.Refusals.{Answered, SaysResult};
 ghost use Rattle.lu_cli.specs.Replies as spec;
+ghost use Rattle.lu_cli.specs.Replies.{IsRefuted, IsRefutedBy};
 
 use crate::answer::{
     Answer, infeasible, show_certificate, show_matrix, show_refusal, show_report, show_schedule,
@@ -19,10 +20,10 @@ use crate::explaining::{Presentation, answer_explain, answer_explain_against};
 use crate::order::BundleCommand;
 use crate::refusal::Refusal;
 use crate::shown::read_shown;
-use crate::texts::read_texts;
+use crate::texts::{read_texts, report_against};
 use lu_certify::certify_by_workers;
 use lu_lang::Component;
-use lu_parallel::{OpenGate, Options, check, check_against};
+use lu_parallel::{OpenGate, Options, check};
 use lu_refine::{ShrinkFault, shrink};
 use lu_refute::refute;
 use lu_replay::{ReplayFault, replay, set_or_offence, write_replay};
@@ -258,9 +259,7 @@ fn answer_check_against<X: AllocGlobal + Threads + Wait>(
     let (component, matrix, specification) = exactly_three(parts).ok_or(Refusal::Parts)?;
     let case = read_texts(rt.alloc(), component, matrix)?;
     let (component, matrix) = (&case.component, &case.matrix);
-    let specification = read_spec(rt.alloc(), matrix, specification)?;
-    let tree = specification.tree();
-    let report = check_against(rt, rt.alloc(), &OpenGate, component, matrix, &tree, options)?;
+    let report = report_against(rt, rt.alloc(), component, matrix, specification, options)?;
     Ok(show_report(rt.alloc(), &report)?)
 }
 
@@ -302,8 +301,7 @@ fn refute_spec(
 ) -> Result<Answer, Refusal>
     requires component { CanRun component.now matrix.now }
     requires spec { AreOf matrix.now specification.now }
-    ensures { Answered
-        (spec.IsRefuted component.now matrix.now report.now specification.now) result }
+    ensures { Answered (IsRefuted component.now matrix.now report.now specification.now) result }
 {
     let (smaller, schedule) = refute(alloc, component, matrix, report, specification)?;
     Ok(show_schedule(alloc, component, &smaller, &schedule)?)
@@ -318,8 +316,7 @@ fn refute_texts(
     specification: &[u8],
 ) -> Result<Answer, Refusal>
     requires { CanRun component.now matrix.now }
-    ensures { Answered
-        (spec.IsRefutedBy component.now matrix.now report.now specification.now) result }
+    ensures { Answered (IsRefutedBy component.now matrix.now report.now specification.now) result }
 {
     let report = read_report(alloc, report)?;
     let specification = read_spec(alloc, matrix, specification)?;

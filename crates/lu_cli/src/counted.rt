@@ -1,9 +1,9 @@
 //! Readers and writers that count the calls that failed.
 
-ghost use Rattle.std.specs.Prelude.{◌≡◌, ◌<◌, length, is_err};
+ghost use Rattle.std.specs.Prelude.{◌≡◌, ◌<◌, is_err};
 ghost use Rattle.std.specs.Io.{ReadsAtMost, WritesAtMost};
-ghost use Rattle.std.specs.Io.KnownBytes.{ReadConsumes as Consumes, WriteAppends as Adds, Keeps};
-ghost use Rattle.lu_cli.specs.Counted.{after_write, counts};
+ghost use Rattle.std.specs.Io.KnownBytes.{Keeps};
+ghost use Rattle.lu_cli.specs.Counted.{AddsCounted, ConsumesCounted, after_write, counts};
 
 use std::io;
 use std::io::{Read, Write};
@@ -44,8 +44,7 @@ impl<R: Read> Read for Counted<R> {
 
     fn read(&mut self, buf: &mut [u8]) -> io::Result<usize>
         ensures bound { ReadsAtMost result buf.new }
-        ensures bytes { Consumes (R.remaining self.old.inner)
-            (R.remaining self.new.inner) result buf.new }
+        ensures bytes { ConsumesCounted R.remaining self.old self.new result buf.new }
         ensures counted { self.new.failures ≡ counts (is_err result) self.old.failures }
     {
         let result = self.inner.read(buf);
@@ -61,10 +60,8 @@ impl<W: Write> Write for Counted<W> {
 
     fn write(&mut self, buf: &[u8]) -> io::Result<usize>
         ensures bound { WritesAtMost result buf.now }
-        ensures bytes { Adds (W.contents self.old.inner)
-            (W.contents self.new.inner) result buf.now }
-        ensures counted { self.new.failures ≡
-            after_write result (length buf.now) self.old.failures }
+        ensures bytes { AddsCounted W.contents self.old self.new result buf.now }
+        ensures counted { self.new.failures ≡ after_write result buf.now self.old.failures }
     {
         let result = self.inner.write(buf);
         let failed = match &result {

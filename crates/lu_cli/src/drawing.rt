@@ -1,11 +1,9 @@
 //! Pictures of schedules.
 
 ghost use Rattle.std.specs.Prelude.{IfErr, IfOk};
-ghost use Rattle.std.specs.Option.{option_copied};
 ghost use Rattle.lu_machine.specs.Starts.{CanRun};
 ghost use Rattle.lu_trace.specs.Traces.{IsTraceFault};
-ghost use Rattle.lu_picture.specs.Pictures.{IsPictureText};
-ghost use Rattle.lu_cli.specs.Drawing.{IsDrawnWith};
+ghost use Rattle.lu_cli.specs.Drawing.{IsDrawnOf, IsPictureOf};
 
 use crate::answer::{Answer, infeasible};
 use lu_component::Component;
@@ -21,18 +19,15 @@ fn picture(
     component: &Component,
     matrix: &Matrix,
     schedule: &Schedule,
-    explanation: Option<&Explanation>,
+    why: Option<&Explanation>,
 ) -> Result<String, TraceFault>
     requires { CanRun component.now matrix.now }
-    ensures picture { IfOk result (IsPictureText component.now matrix.now schedule.now
-        (option_copied explanation.entry)) }
+    ensures picture { IfOk result (IsPictureOf why.entry component.now matrix.now schedule.now) }
     ensures fault { IfErr result (IsTraceFault component.now matrix.now schedule.now) }
 {
-    match explanation {
+    match why {
         None => write_picture(alloc, component, matrix, schedule),
-        Some(explanation) => {
-            write_explained_picture(alloc, component, matrix, schedule, explanation)
-        }
+        Some(why) => write_explained_picture(alloc, component, matrix, schedule, why),
     }
 }
 
@@ -42,13 +37,12 @@ pub(crate) fn draw(
     component: &Component,
     matrix: &Matrix,
     schedule: &Schedule,
-    explanation: Option<&Explanation>,
+    why: Option<&Explanation>,
 ) -> Result<Answer, AllocError>
     requires { CanRun component.now matrix.now }
-    ensures { IfOk result (IsDrawnWith (option_copied explanation.entry) component.now matrix.now
-        schedule.now) }
+    ensures { IfOk result (IsDrawnOf why.entry component.now matrix.now schedule.now) }
 {
-    match picture(alloc, component, matrix, schedule, explanation) {
+    match picture(alloc, component, matrix, schedule, why) {
         Ok(text) => Ok(Answer { text, status: 0 }),
         Err(TraceFault::Infeasible(index)) => infeasible(alloc, index),
         Err(TraceFault::Memory) => Err(AllocError),

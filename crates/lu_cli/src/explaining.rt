@@ -3,10 +3,11 @@
 ghost use Rattle.std.specs.Prelude.{◌≡◌, ◌<◌, IfErr, IfOk};
 ghost use Rattle.lu_text.specs.Lines.{texts};
 ghost use Rattle.lu_machine.specs.Starts.{CanRun};
-ghost use Rattle.lu_replay.specs.Replays.{PlaysToStatus};
 ghost use Rattle.lu_cli.specs.Refusals.{Answered};
 ghost use Rattle.lu_cli.specs.Drawing.{IsLeastPending, IsShownExplanation, IsShownThread};
 ghost use Rattle.lu_cli.specs.Explaining as spec;
+ghost use Rattle.lu_cli.specs.Explaining.{Explains, ExplainsFinding, ExplainsSchedule, IsPlayed, Presents};
+ghost use Rattle.lu_cli.specs.declared.explaining.Presentation.TheVariants.{Words, Picture};
 ghost use Rattle.lu_cli.specs.Replies.{IsExplainAgainstOf, IsExplainOf, IsExplainedAgainst, IsExplainedText, IsTarget, IsTargetRefusal};
 
 use crate::answer::{Answer, infeasible};
@@ -59,8 +60,7 @@ fn say(alloc: Global, why: &str, schedule: &str) -> Result<Answer, AllocError>
 
 /// The same, with a schedule that shows it.
 fn say_with(alloc: Global, why: &str, schedule: &Schedule) -> Result<Answer, AllocError>
-    ensures { IfOk result (λ answer.
-        answer ≡ spec.unexplained why.now (spec.schedule_text schedule.now)) }
+    ensures { IfOk result (λ a. a ≡ spec.unexplained why.now (spec.schedule_text schedule.now)) }
 {
     let text = write_schedule(alloc, schedule)?;
     say(alloc, why, text.as_str())
@@ -76,21 +76,26 @@ fn status_by(verdict: Verdict) -> u8
     }
 }
 
+/// A schedule, and what it shows.
+#[derive(Clone, Copy)]
+struct ShownSchedule<'a> {
+    schedule: &'a Schedule,
+    shown: &'a Replay,
+}
+
 /// The history of an ended schedule, explained by the serial histories of a tree.
 fn explain_by<T: SerialTree>(
     alloc: Global,
     component: &Component,
     matrix: &Matrix,
     tree: &T,
-    schedule: &Schedule,
-    shown: &Replay,
+    run: ShownSchedule<'_>,
 ) -> Result<Answer, AllocError>
     requires run { CanRun component.now matrix.now }
-    requires shows { PlaysToStatus component.now matrix.now schedule.now shown.now.history
-        shown.now.status }
-    ensures { IfOk result (spec.IsExplainedBy (T.members tree.now) component.now matrix.now
-        schedule.now shown.now.history) }
+    requires shows { IsPlayed component.now matrix.now run }
+    ensures { Presents Words T.members tree.now component.now matrix.now run.entry result }
 {
+    let ShownSchedule { schedule, shown } = run;
     let moves = event_moves(alloc, component, matrix, schedule)?;
     let text = write_explanations(alloc, component, matrix, tree, &shown.history, &moves)?;
     Ok(Answer {
@@ -139,22 +144,14 @@ fn picture_by<T: SerialTree>(
     component: &Component,
     matrix: &Matrix,
     tree: &T,
-    schedule: &Schedule,
-    history: &History,
+    run: ShownSchedule<'_>,
 ) -> Result<Answer, AllocError>
     requires { CanRun component.now matrix.now }
-    ensures { IfOk result (spec.IsPicturedBy (T.members tree.now) component.now matrix.now
-        schedule.now history.now) }
+    ensures { Presents Picture T.members tree.now component.now matrix.now run.entry result }
 {
-    let explanation = explanation_shown(tree, history)?;
+    let ShownSchedule { schedule, shown } = run;
+    let explanation = explanation_shown(tree, &shown.history)?;
     draw(alloc, component, matrix, schedule, Some(&explanation))
-}
-
-/// A schedule, and what it shows.
-#[derive(Clone, Copy)]
-struct ShownSchedule<'a> {
-    schedule: &'a Schedule,
-    shown: &'a Replay,
 }
 
 /// The history of an ended schedule, explained in words or in a picture.
@@ -167,17 +164,12 @@ fn present<T: SerialTree>(
     by: Presentation,
 ) -> Result<Answer, AllocError>
     requires of { CanRun component.now matrix.now }
-    requires shows { PlaysToStatus component.now matrix.now run.schedule.now
-        run.shown.now.history run.shown.now.status }
-    ensures { IfOk result (spec.IsPresentedBy by (T.members tree.now) component.now matrix.now
-        run.entry.schedule.now run.entry.shown.now.history) }
+    requires shows { IsPlayed component.now matrix.now run }
+    ensures { Presents by T.members tree.now component.now matrix.now run.entry result }
 {
-    let ShownSchedule { schedule, shown } = run;
     match by {
-        Presentation::Words => explain_by(alloc, component, matrix, tree, schedule, shown),
-        Presentation::Picture => {
-            picture_by(alloc, component, matrix, tree, schedule, &shown.history)
-        }
+        Presentation::Words => explain_by(alloc, component, matrix, tree, run),
+        Presentation::Picture => picture_by(alloc, component, matrix, tree, run),
     }
 }
 
@@ -204,8 +196,7 @@ fn explain_schedule<T: SerialTree>(
     by: Presentation,
 ) -> Result<Answer, AllocError>
     requires { CanRun component.now matrix.now }
-    ensures { IfOk result (spec.IsExplainedSchedule by (T.members tree.now) component.now matrix.now
-        schedule.now) }
+    ensures { ExplainsSchedule by T.members tree.now component.now matrix.now schedule.now result }
 {
     match replay(alloc, component, matrix, schedule) {
         Ok(shown) => match shown.status {
@@ -237,8 +228,7 @@ fn explain_finding<T: SerialTree>(
     by: Presentation,
 ) -> Result<Answer, AllocError>
     requires { CanRun component.now matrix.now }
-    ensures { IfOk result (spec.ToFinding
-        (spec.IsExplainedSchedule by (T.members tree.now) component.now matrix.now) finding.now) }
+    ensures { ExplainsFinding by T.members tree.now component.now matrix.now finding.now result }
 {
     match finding {
         Finding::SerialCut(schedule) => say_with(alloc, "serial-cut", schedule),
@@ -260,8 +250,7 @@ fn explain<T: SerialTree>(
     by: Presentation,
 ) -> Result<Answer, AllocError>
     requires { CanRun component.now matrix.now }
-    ensures { IfOk result (spec.IsExplained by (T.members tree.now) component.now matrix.now
-        target.now) }
+    ensures { Explains by T.members tree.now component.now matrix.now target.now result }
 {
     match target {
         Target::Schedule(schedule) => {
@@ -283,8 +272,7 @@ fn explain_serially(
     by: Presentation,
 ) -> Result<Answer, AllocError>
     requires { CanRun component.now matrix.now }
-    ensures { IfOk result
-        (spec.IsExplainedSerially by bounds.serial component.now matrix.now target.now) }
+    ensures { IfOk result (spec.IsExplainedSerially by bounds component.now matrix.now target.now) }
 {
     match set_or_offence(learn(alloc, alloc, component, matrix, bounds.serial())?) {
         Ok(set) => explain(alloc, component, matrix, &&set, target, by),
@@ -347,14 +335,13 @@ fn explain_against(
     component: &Component,
     matrix: &Matrix,
     target: &[u8],
-    specification: &[u8],
+    spec: &[u8],
 ) -> Result<Answer, Refusal>
     requires { CanRun component.now matrix.now }
-    ensures { Answered
-        (IsExplainedAgainst component.now matrix.now target.now specification.now) result }
+    ensures { Answered (IsExplainedAgainst component.now matrix.now target.now spec.now) result }
 {
     let target = read_target(alloc, target)?;
-    let specification = read_spec(alloc, matrix, specification)?;
+    let specification = read_spec(alloc, matrix, spec)?;
     let tree = &specification.tree();
     Ok(explain(alloc, component, matrix, tree, &target, Presentation::Words)?)
 }

@@ -1,6 +1,7 @@
 //! All that a reader gives, up to a limit.
 
 ghost use Rattle.std.specs.Prelude.{◌≡◌, ◌⊎◌, ◌<◌, ◌≤◌, ◌-◌, ◌^◌, length, IfOk, IsErrOf};
+ghost use Rattle.lu_cli.specs.Counted.{IsUnfailed};
 ghost use Rattle.lu_cli.specs.Inputs.{IsTooLong, IsWholeInput, most_bytes};
 ghost use Rattle.lu_cli.specs.declared.input.InputFault.TheVariants.{Memory};
 
@@ -34,8 +35,7 @@ pub fn read_input<R: Read>(alloc: Global, input: &mut Counted<R>) -> Result<Vec<
     ensures short { IfOk result (λ bytes. length bytes.items ≤ most_bytes) }
     ensures long { IsErrOf result InputFault.TooLong → IsTooLong (R.remaining input.old.inner) }
     ensures device { IsErrOf result InputFault.Device → input.old.failures < input.new.failures }
-    ensures unfailed { IsErrOf result InputFault.Device ⊎
-        (input.new.failures ≡ input.old.failures) }
+    ensures unfailed { IsErrOf result InputFault.Device ⊎ IsUnfailed input.old input.new }
 {
     let mut bytes = Vec::new(alloc);
     let mut piece = [0; 4096];

@@ -1,8 +1,9 @@
 //! The whole program over a reader and a writer.
 
-ghost use Rattle.std.specs.Prelude.{◌≡◌, ◌≢◌, ◌<◌, ◌≤◌, ◌-◌, ◌^◌, ◌⊎◌, Some, None, map, IfOk, IsErrOf};
+ghost use Rattle.std.specs.Prelude.{◌≡◌, ◌≢◌, ◌<◌, ◌≤◌, ◌-◌, ◌^◌, ◌⊎◌, Some, None, IfOk, IsErrOf};
 ghost use Rattle.lu_cli.specs.declared.program.Failure.TheVariants.{Memory};
-ghost use Rattle.lu_cli.specs.Args.{request_of};
+ghost use Rattle.lu_cli.specs.Args.{request_said};
+ghost use Rattle.lu_cli.specs.Counted.{IsUnfailed};
 ghost use Rattle.lu_cli.specs.Replies.{IsAnswerFor, IsAnswerFrom, IsLinted, SaysAnswer, SaysNoCommand, Sends, TellsElse, TellsUnread, no_command, no_device};
 
 use crate::answer::{Answer, refused};
@@ -60,7 +61,7 @@ fn answer_in<X: AllocGlobal + Threads + Wait, R: Read>(
     ensures answer { IfOk result (IsAnswerFrom request (R.remaining input.old.inner)) }
     ensures blames_none { IfOk result (λ r. r ≢ no_device) }
     ensures device { IsErrOf result Failure.Device → input.old.failures < input.new.failures }
-    ensures unfailed { IsErrOf result Failure.Device ⊎ (input.new.failures ≡ input.old.failures) }
+    ensures unfailed { IsErrOf result Failure.Device ⊎ IsUnfailed input.old input.new }
 {
     let bundle = match read_input(rt.alloc(), input) {
         Ok(bytes) => bytes,
@@ -84,13 +85,13 @@ fn answer_for<X: AllocGlobal + Threads + Wait, S: AsStr, R: Read>(
     input: &mut Counted<R>,
 ) -> Result<Answer, Failure>
     requires { input.old.failures < 2 ^ 64 - 1 }
-    ensures answer { IfOk result
-        (IsAnswerFor (map S.text words.now) (R.remaining input.old.inner)) }
-    ensures refused { IfOk result (λ r. request_of (map S.text words.now) ≡ None → r ≡ no_command) }
+    ensures answer { IfOk result (IsAnswerFor S.text words.now (R.remaining input.old.inner)) }
+    ensures refused { IfOk result (λ r.
+        request_said S.text words.now ≡ None → r ≡ no_command) }
     ensures blames_none { IfOk result (λ r. r ≢ no_device) }
-    ensures early { request_of (map S.text words.now) ≡ None → input.new ≡ input.old }
+    ensures early { request_said S.text words.now ≡ None → input.new ≡ input.old }
     ensures device { IsErrOf result Failure.Device → input.old.failures < input.new.failures }
-    ensures unfailed { IsErrOf result Failure.Device ⊎ (input.new.failures ≡ input.old.failures) }
+    ensures unfailed { IsErrOf result Failure.Device ⊎ IsUnfailed input.old input.new }
 {
     match read_request(rt.alloc(), words) {
         Ok(request) => answer_in(rt, request, input),
@@ -122,18 +123,17 @@ pub fn run<X: AllocGlobal + Threads + Wait, S: AsStr, R: Read, W: Write>(
     requires reads { input.old.failures < 2 ^ 64 - 1 }
     requires writes { output.old.failures < 2 ^ 64 - 1 }
     // Where the command line was accepted and no read and no write failed, the answer goes out.
-    ensures answer { SaysAnswer S.text words.now R.remaining W.contents input.old input.new
-        output.old output.new result }
+    ensures answer { SaysAnswer S.text words.now R.remaining input W.contents output result }
     // Where it was refused, that is said, and nothing is read.
-    ensures refused { SaysNoCommand S.text words.now W.contents output.old output.new result }
+    ensures refused { SaysNoCommand S.text words.now W.contents output result }
     // The command line is judged before anything is read.
-    ensures early { request_of (map S.text words.now) ≡ None → input.new ≡ input.old }
+    ensures early { request_said S.text words.now ≡ None → input.new ≡ input.old }
     // A write that failed shows in the status.
     ensures unwritten { output.old.failures < output.new.failures → result ≡ 4 }
     // A read that failed is told.
-    ensures unread { TellsUnread W.contents input.old input.new output.old output.new result }
+    ensures unread { TellsUnread W.contents input output result }
     // And it is told only then.
-    ensures blamed { TellsElse W.contents input.old input.new output.old output.new result }
+    ensures blamed { TellsElse W.contents input output result }
 {
     match answer_for(rt, words, input) {
         Ok(answer) => say(output, answer.text.as_str(), answer.status),

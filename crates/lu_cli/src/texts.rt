@@ -1,10 +1,10 @@
 //! Checks of texts.
 
-ghost use Rattle.std.specs.Prelude.{◌≡◌, IfErr, IfOk, string_bytes};
+ghost use Rattle.std.specs.Prelude.{◌≡◌, IfErr, IfOk};
 ghost use Rattle.lu_text.specs.declared.fault.Fault.TheVariants.{Memory};
 ghost use Rattle.lu_test.specs.Matrix.{IsOf};
 ghost use Rattle.lu_machine.specs.Starts.{CanRun, IsFirstUnsettled};
-ghost use Rattle.lu_cli.specs.Texts.{AreSettled, IsFaultAgainst, IsCheckFault, IsFaultOfTexts, IsFaultOfThree, IsReportIn, IsReportOf, IsReportOfTexts, IsReportRead};
+ghost use Rattle.lu_cli.specs.Texts.{AreSettled, IsFaultAgainst, IsCheckFault, IsFaultIn, IsFaultOfTexts, IsReportIn, IsReportOf, IsReportOfTexts, IsReportRead};
 
 use lu_lang::{Component, LangFault, read_component};
 use lu_machine::settles;
@@ -122,9 +122,8 @@ fn find_unsettled(
 /// [`Fault::Component`] or [`Fault::Matrix`] with the fault of the first text that has one.
 /// [`Fault::Setup`] where both are read, and the setup does not settle.
 pub(crate) fn read_texts(alloc: Global, component: &[u8], matrix: &[u8]) -> Result<Case, Fault>
-    ensures read { IfOk result (λ case.
-        AreSettled component.now matrix.now case.component case.matrix) }
-    ensures runs { IfOk result (λ case. CanRun case.component case.matrix) }
+    ensures read { IfOk result (λ c. AreSettled component.now matrix.now c.component c.matrix) }
+    ensures runs { IfOk result (λ c. CanRun c.component c.matrix) }
     ensures fault { IfErr result (IsFaultOfTexts component.now matrix.now) }
 {
     let component = read_component(alloc, component)?;
@@ -151,8 +150,7 @@ pub fn check_texts<X: Threads + Wait>(
     matrix: &[u8],
     options: Options,
 ) -> Result<String, Fault>
-    ensures report { IfOk result (λ t.
-        IsReportOf component.now matrix.now options (string_bytes t)) }
+    ensures report { IfOk result (IsReportOf component.now matrix.now options) }
     ensures fault { IfErr result (IsCheckFault component.now matrix.now options) }
 {
     let case = read_texts(alloc, component, matrix)?;
@@ -165,20 +163,19 @@ pub fn check_texts<X: Threads + Wait>(
 /// # Errors
 ///
 /// [`Fault::Spec`] and [`Fault::Check`], as those of [`check_texts_against`].
-fn report_against<X: Threads + Wait>(
+pub(crate) fn report_against<X: Threads + Wait>(
     rt: &X,
     alloc: Global,
     component: &Component,
     matrix: &Matrix,
-    specification: &[u8],
+    spec: &[u8],
     options: Options,
 ) -> Result<Report, Fault>
     requires { CanRun component.now matrix.now }
-    ensures report { IfOk result (IsReportRead component.now matrix.now specification.now options) }
-    ensures fault { IfErr result
-        (IsFaultAgainst component.now matrix.now specification.now options) }
+    ensures report { IfOk result (IsReportRead component.now matrix.now spec.now options) }
+    ensures fault { IfErr result (IsFaultAgainst component.now matrix.now spec.now options) }
 {
-    let specification = read_spec(alloc, matrix, specification)?;
+    let specification = read_spec(alloc, matrix, spec)?;
     let tree = specification.tree();
     let report = check_against(rt, alloc, &OpenGate, component, matrix, &tree, options)?;
     Ok(report)
@@ -204,8 +201,7 @@ pub fn check_texts_against<X: Threads + Wait>(
     options: Options,
 ) -> Result<String, Fault>
     ensures report { IfOk result (IsReportIn component.now matrix.now specification.now options) }
-    ensures fault { IfErr result
-        (IsFaultOfThree component.now matrix.now specification.now options) }
+    ensures fault { IfErr result (IsFaultIn component.now matrix.now specification.now options) }
 {
     let case = read_texts(alloc, component, matrix)?;
     let report = report_against(

@@ -17,7 +17,7 @@ returns-in-Ok c =
     let there = start_there component matrix c.requires.settles in
     let set = c.in-Ok.ensures.set there.0 c.serial.result (c.in_ok-learn.ensures.learnt there.0 there.1) in
     let own : IsSetOf there.0 serial c.in-Ok.set = rw (← c.serial.ensures.serial) set in
-    IfOk-weaker c.explain.result (IsExplained c.args.by c.in-Ok.set component matrix target) (IsExplainedSerially c.args.by serial component matrix target)
+    IfOk-weaker c.explain.result (IsExplained c.args.by c.in-Ok.set component matrix target) (IsExplainedSerially c.args.by c.args.bounds component matrix target)
     (λ answer is. inl (there.0, c.in-Ok.set, there.1, own, is)) c.explain.ensures
 
 pub returns-in-Err : goal.returns-in-Err
@@ -27,5 +27,5 @@ returns-in-Err c =
     let target = c.args.target.now in
     let serial = c.args.bounds.serial in
     let offends : IsOffenceOf component matrix serial c.in-Err.offence = (c.in-Err.ensures.serial, λ bound s start. (let finding = c.in-Err.ensures.offence s bound c.serial.result (c.in_ok-learn.ensures.learnt s start) in rw (← c.serial.ensures.serial) finding)) in
-    IfOk-weaker c.tell_offence.result (ToFinding (λ v a. ⊥) c.in-Err.offence) (IsExplainedSerially c.args.by serial component matrix target)
+    IfOk-weaker c.tell_offence.result (ToFinding (λ v a. ⊥) c.in-Err.offence) (IsExplainedSerially c.args.by c.args.bounds component matrix target)
     (λ answer is. inr (c.in-Err.offence, offends, is)) c.tell_offence.ensures

@@ -8,7 +8,7 @@ pub returns : goal.returns
 returns g c =
     let component = c.args.component.now in
     let matrix = c.args.matrix.now in
-    let schedule = c.args.schedule.now in
+    let schedule = c.args.run.schedule.now in
     let e = c.in_ok-explanation.explanation in
-    IfOk-weaker c.draw.result (IsDrawnWith (Some e) component matrix schedule) (IsPicturedBy (g.T.SerialTree.members c.args.tree.now) component matrix schedule c.args.history.now)
+    IfOk-weaker c.draw.result (IsDrawnWith (Some e) component matrix schedule) (IsPicturedBy (g.T.SerialTree.members c.args.tree.now) component matrix schedule c.args.run.shown.now.history)
     (λ answer is. (e, c.in_ok-explanation.ensures, is)) c.draw.ensures
