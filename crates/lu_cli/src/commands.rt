@@ -20,10 +20,10 @@ use crate::explaining::{Presentation, answer_explain, answer_explain_against};
 use crate::order::BundleCommand;
 use crate::refusal::Refusal;
 use crate::shown::read_shown;
-use crate::texts::{read_texts, report_against};
+use crate::texts::read_texts;
 use lu_certify::certify_by_workers;
 use lu_lang::Component;
-use lu_parallel::{OpenGate, Options, check};
+use lu_parallel::{OpenGate, Options, check, check_against};
 use lu_refine::{ShrinkFault, shrink};
 use lu_refute::refute;
 use lu_replay::{ReplayFault, replay, set_or_offence, write_replay};
@@ -259,7 +259,9 @@ fn answer_check_against<X: AllocGlobal + Threads + Wait>(
     let (component, matrix, specification) = exactly_three(parts).ok_or(Refusal::Parts)?;
     let case = read_texts(rt.alloc(), component, matrix)?;
     let (component, matrix) = (&case.component, &case.matrix);
-    let report = report_against(rt, rt.alloc(), component, matrix, specification, options)?;
+    let specification = read_spec(rt.alloc(), matrix, specification)?;
+    let tree = specification.tree();
+    let report = check_against(rt, rt.alloc(), &OpenGate, component, matrix, &tree, options)?;
     Ok(show_report(rt.alloc(), &report)?)
 }
 

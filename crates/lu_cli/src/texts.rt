@@ -163,7 +163,7 @@ pub fn check_texts<X: Threads + Wait>(
 /// # Errors
 ///
 /// [`Fault::Spec`] and [`Fault::Check`], as those of [`check_texts_against`].
-pub(crate) fn report_against<X: Threads + Wait>(
+fn report_against<X: Threads + Wait>(
     rt: &X,
     alloc: Global,
     component: &Component,
