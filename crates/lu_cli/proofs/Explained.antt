@@ -26,7 +26,7 @@ use Rattle.lu_cli.specs.declared.refusal.Refusal.{Refusal}
 use Rattle.lu_cli.specs.declared.refusal.Refusal.TheVariants as refusal
 use Rattle.lu_cli.specs.Refusals.{refusal_answer, schedule_answer}
 use Rattle.lu_cli.specs.Explaining.{is_report}
-use Rattle.lu_cli.specs.Replies.{Answer, IsScheduleIn, IsShownRefusal, IsTarget, IsTargetRefusal, ToReport, ToSchedule, ToShown, ToTarget, or_schedule}
+use Rattle.lu_cli.specs.Replies.{Answer, IsTextOfSchedule, IsShownRefusal, IsTarget, IsTargetRefusal, ToReport, ToSchedule, ToShown, ToTarget, or_schedule}
 use Rattle.lu_cli.proofs.Refuted.{report_refused}
 
 -- what shows something is a schedule from each start
@@ -51,7 +51,7 @@ module _ (text : List ℕ) (IsAnswer : List Move → Answer → Type 0) where
   shown_refused refused (inr e) = subst (λ (r : Refusal). IfSome (refusal_answer r) (ToShown text IsAnswer)) (sym e) tt
 
   -- what is answered to the schedule that is read is the answer
-  pub shown_answered : (u : List Move) → IsScheduleIn text u → (answer : Answer) → IsAnswer u answer → ToShown text IsAnswer answer
+  pub shown_answered : (u : List Move) → IsTextOfSchedule text u → (answer : Answer) → IsAnswer u answer → ToShown text IsAnswer answer
   shown_answered u (found, of, read) answer says = (found, of, rw read says)
 
 module _ (text : List ℕ) (IsAnswer : Target → Answer → Type 0) where

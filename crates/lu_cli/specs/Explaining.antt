@@ -131,9 +131,9 @@ ExplainsFinding by members tree c m f result =
     IfOk result (ToFinding (IsExplainedSchedule by (members tree) c m) f)
 
 -- a schedule, or that of a report
-abbrev pub Explains : {T E : Type 0} → Presentation → (T → List (List SerialOp)) → T → Declarations
-    → Matrix → Target → Result Answer E → Type 0
-Explains by members tree c m explained result =
+abbrev pub ExplainsTarget : {T E : Type 0} → Presentation → (T → List (List SerialOp)) → T
+    → Declarations → Matrix → Target → Result Answer E → Type 0
+ExplainsTarget by members tree c m explained result =
     IfOk result (IsExplained by (members tree) c m explained)
 
 -- the text begins as a report does

@@ -313,8 +313,8 @@ ToShown text IsAnswer answer =
     × ToSchedule (or_schedule found text) IsAnswer answer
 
 -- what is read of such a text
-abbrev pub IsScheduleIn : List ℕ → List Move → Type 0
-IsScheduleIn text u =
+abbrev pub IsTextOfSchedule : List ℕ → List Move → Type 0
+IsTextOfSchedule text u =
     (found : Option (List Move)) × IsOfReport text found × (or_schedule found text ≡ Ok u)
 
 -- why it is refused: by its fault as a schedule, or memory ran out

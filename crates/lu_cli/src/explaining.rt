@@ -6,7 +6,7 @@ ghost use Rattle.lu_machine.specs.Starts.{CanRun};
 ghost use Rattle.lu_cli.specs.Refusals.{Answered};
 ghost use Rattle.lu_cli.specs.Drawing.{IsLeastPending, IsShownExplanation, IsShownThread};
 ghost use Rattle.lu_cli.specs.Explaining as spec;
-ghost use Rattle.lu_cli.specs.Explaining.{Explains, ExplainsFinding, ExplainsSchedule, IsPlayed, Presents};
+ghost use Rattle.lu_cli.specs.Explaining.{ExplainsTarget, ExplainsFinding, ExplainsSchedule, IsPlayed, Presents};
 ghost use Rattle.lu_cli.specs.declared.explaining.Presentation.TheVariants.{Words, Picture};
 ghost use Rattle.lu_cli.specs.Replies.{IsExplainAgainstOf, IsExplainOf, IsExplainedAgainst, IsExplainedText, IsTarget, IsTargetRefusal};
 
@@ -250,7 +250,7 @@ fn explain<T: SerialTree>(
     by: Presentation,
 ) -> Result<Answer, AllocError>
     requires { CanRun component.now matrix.now }
-    ensures { Explains by T.members tree.now component.now matrix.now target.now result }
+    ensures { ExplainsTarget by T.members tree.now component.now matrix.now target.now result }
 {
     match target {
         Target::Schedule(schedule) => {

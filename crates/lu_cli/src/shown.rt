@@ -1,7 +1,7 @@
 //! The schedule that a text says or a report shows.
 
 ghost use Rattle.std.specs.Prelude.{IfErr, IfOk};
-ghost use Rattle.lu_cli.specs.Replies.{IsOfReport, IsScheduleIn, IsShownRefusal};
+ghost use Rattle.lu_cli.specs.Replies.{IsOfReport, IsTextOfSchedule, IsShownRefusal};
 
 use crate::refusal::Refusal;
 use lu_report::read_report;
@@ -22,7 +22,7 @@ fn schedule_of_report(alloc: Global, text: &[u8]) -> Result<Option<Schedule>, Al
 
 /// The schedule that a text says, or that of the report that it spells.
 pub(crate) fn read_shown(alloc: Global, text: &[u8]) -> Result<Schedule, Refusal>
-    ensures read { IfOk result (IsScheduleIn text.now) }
+    ensures read { IfOk result (IsTextOfSchedule text.now) }
     ensures refused { IfErr result (IsShownRefusal text.now) }
 {
     match schedule_of_report(alloc, text)? {

@@ -82,8 +82,8 @@ abbrev pub judged_said : Option Declarations → List ℕ → ℕ → List ℕ �
 judged_said None component above text = faulty_said (faulty_end component) above text
 judged_said (Some c) component above text = said_of_text (matrix_lint c None) above text
 
-abbrev pub matrix_said : List ℕ → ℕ → List ℕ → List Said
-matrix_said component above text = judged_said (component_read component) component above text
+abbrev pub said_of_matrix : List ℕ → ℕ → List ℕ → List Said
+said_of_matrix component above text = judged_said (component_read component) component above text
 
 -- the warnings of a component that is read
 abbrev pub warnings_said : Option Declarations → List ℕ → List Said
@@ -97,7 +97,7 @@ component_said text =
 
 -- what is said of the matrix right behind a component
 abbrev pub second_said : List ℕ → List ℕ → List Said
-second_said component matrix = matrix_said component (above_next 0 component) matrix
+second_said component matrix = said_of_matrix component (above_next 0 component) matrix
 
 -- what is said of the parts behind a component, without the third part
 abbrev pub behind_component : List ℕ → List (List ℕ) → List Said

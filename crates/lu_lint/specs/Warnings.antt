@@ -98,12 +98,12 @@ jumps_to_label name None = false
 jumps_to_label name (Some label) = bytes_eq label name
 
 -- a jump leads to the label of this name
-abbrev pub is_used : List Statement → Word → Bool
-is_used statements name = list_any (λ s. jumps_to_label name (label_used s)) statements
+abbrev pub is_jumped_to : List Statement → Word → Bool
+is_jumped_to statements name = list_any (λ s. jumps_to_label name (label_used s)) statements
 
 -- no jump of the operation leads to the label
 abbrev pub is_unused : List Statement → Label → Bool
-is_unused statements label = not (is_used statements label.name)
+is_unused statements label = not (is_jumped_to statements label.name)
 
 abbrev pub label_hints : Begun → List FoundHint
 label_hints b =

@@ -36,36 +36,36 @@ pub fn is_near(word: &[u8], meant: &[u8]) -> bool {
 }
 
 /// What has a name for which a word may be a slip.
-pub(crate) trait Named {
+pub(crate) trait HasName {
     fn name(&self) -> &str;
 }
 
-impl Named for Name {
+impl HasName for Name {
     fn name(&self) -> &str {
         self.as_str()
     }
 }
 
-impl Named for Array {
+impl HasName for Array {
     fn name(&self) -> &str {
         self.name.as_str()
     }
 }
 
-impl Named for Op {
+impl HasName for Op {
     fn name(&self) -> &str {
         self.name.as_str()
     }
 }
 
-impl Named for Label {
+impl HasName for Label {
     fn name(&self) -> &str {
         self.name.as_str()
     }
 }
 
 /// The name of the first of these for which the word may be a slip.
-pub(crate) fn near<'a, T: Named>(items: &'a [T], word: &[u8]) -> Option<&'a str> {
+pub(crate) fn near<'a, T: HasName>(items: &'a [T], word: &[u8]) -> Option<&'a str> {
     match items
         .iter()
         .find(|item| is_near(word, item.name().as_bytes()))

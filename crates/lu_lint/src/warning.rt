@@ -201,8 +201,8 @@ fn jumps_to_label(name: &[u8], statement: &Statement) -> bool
     }
 }
 
-fn is_used(statements: &[Statement], name: &[u8]) -> bool
-    ensures { result ≡ spec.is_used statements.now name.now }
+fn is_jumped_to(statements: &[Statement], name: &[u8]) -> bool
+    ensures { result ≡ spec.is_jumped_to statements.now name.now }
 {
     statements
         .iter()
@@ -213,7 +213,7 @@ fn is_used(statements: &[Statement], name: &[u8]) -> bool
 fn is_unused(statements: &[Statement], label: &Label) -> bool
     ensures { result ≡ spec.is_unused statements.now label.now }
 {
-    !is_used(statements, label.name.as_bytes())
+    !is_jumped_to(statements, label.name.as_bytes())
 }
 
 /// The labels to which no jump of the operation leads.
