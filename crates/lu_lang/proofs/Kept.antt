@@ -2,12 +2,11 @@
 use Rattle.std.proofs.Common.{◌≡◌, ℕ, Option, Some, None, Result, Ok, Err, refl, ap}
 use Rattle.lu_text.specs.declared.fault.Fault.{Fault}
 use Rattle.lu_text.specs.declared.fault.Fault.TheVariants.{At, Memory}
-use Rattle.lu_text.specs.Faults.{OnLine}
+use Rattle.lu_text.specs.Faults.{OnLine, fault_in, going_on}
 use Rattle.lu_lang.specs.declared.fault.LangFaultKind.{LangFaultKind}
 use Rattle.lu_lang.specs.Draft.{Drafted}
 use Rattle.lu_lang.specs.Parts.{PutsOnLine}
-use Rattle.lu_lang.specs.Grammar.{fault_in}
-use Rattle.lu_lang.specs.Going.{going_on, kind_if, HadMemory}
+use Rattle.lu_lang.specs.Going.{kind_if, HadMemory}
 
 pub is_kind : {A : Type 0} (put : A → Drafted) (n : ℕ) (r : Result A (Fault LangFaultKind)) (meant : Result Drafted LangFaultKind) → HadMemory r → PutsOnLine put n r meant → kind_if r ≡ fault_in meant
 is_kind put n (Ok x) (Ok d) m h = refl

@@ -7,14 +7,13 @@ use Rattle.std.proofs.lemmas.List.{drop-map, take-map}
 use Rattle.std.proofs.lemmas.Option.{slice_get-map}
 use Rattle.std.specs.Option.{unwrap_or, option_map}
 use denote.Ref.{Bor}
-use Rattle.lu_text.specs.Faults.{on_line, then_lines, lines_after, meaning_of}
+use Rattle.lu_text.specs.Faults.{on_line, then_lines, lines_after, meaning_of, going_on}
 use Rattle.lu_text.specs.Lines.{lines_of, words_of, is_allowed, texts}
 use Rattle.lu_text.specs.Words.{Word}
 use Rattle.lu_lang.specs.declared.fault.LangFaultKind.{LangFaultKind}
 use Rattle.lu_lang.specs.declared.meant.Family.{Family}
 use Rattle.lu_lang.specs.Draft.{Drafted, nothing}
 use Rattle.lu_lang.specs.Faulty.{Meant, Faulty}
-use Rattle.lu_lang.specs.Going.{going_on}
 use Rattle.lu_lang.specs.Grammar.{line_of, component_grammar}
 use Rattle.lu_lang.specs.Meant.{name_of_line, renamed, renamed_at, renamed_words, meant_line, with_draft, faulty_grammar, spaced, line_with}
 

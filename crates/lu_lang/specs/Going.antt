@@ -3,11 +3,6 @@ use Rattle.std.specs.Prelude.{Option, Some, None, Result, Ok, Err}
 use Rattle.lu_text.specs.declared.fault.Fault.{Fault}
 use Rattle.lu_text.specs.declared.fault.Fault.TheVariants.{At, Memory}
 
--- the draft after a line, and no fault; or the draft before it, and the line's fault
-abbrev pub going_on : {Kind Draft : Type 0} → Draft → Result Draft Kind → Draft × Option Kind
-going_on d (Ok next) = (next, None)
-going_on d (Err kind) = (d, Some kind)
-
 -- the kind of what a reader returned, where it is a fault
 abbrev pub kind_if : {Kind A : Type 0} → Result A (Fault Kind) → Option Kind
 kind_if (Ok x) = None

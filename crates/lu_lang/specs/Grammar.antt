@@ -254,10 +254,6 @@ sooner None other = other
 sooner (Some kind) None = Some kind
 sooner (Some kind) (Some other) = if nat_le (rank kind) (rank other) then Some kind else Some other
 
-abbrev pub fault_in : {A : Type 0} → Result A LangFaultKind → Option LangFaultKind
-fault_in (Ok x) = None
-fault_in (Err kind) = Some kind
-
 -- a word `NAME:` is a label
 abbrev pub label_in : Word → Option Word
 label_in word =

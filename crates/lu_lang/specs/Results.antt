@@ -1,26 +1,13 @@
--- What a function returns, unless memory ran out.
+-- What a function returns of a line, unless memory ran out.
 use Rattle.std.specs.Prelude.{◌≡◌, ℕ, List, Option, Result, IfOk, Vec}
 use Rattle.std.specs.Option.{option_map}
+use Rattle.lu_text.specs.Faults.{fault_in}
 use Rattle.lu_lang.specs.declared.fault.LangFaultKind.{LangFaultKind}
 use Rattle.lu_lang.specs.Draft.{Drafted}
-use Rattle.lu_lang.specs.Grammar.{fault_in}
-
--- this value
-abbrev pub Builds : {A E : Type 0} → Result A E → A → Type 0
-Builds result value = IfOk result (λ built. built ≡ value)
-
--- a vector of these items
-abbrev pub HasItems : {A Z E : Type 0} → Result (Vec A Z) E → List A → Type 0
-HasItems result items = IfOk result (λ built. built.items ≡ items)
 
 -- a line of these bytes, where there is to be one
 abbrev pub BuildsLine : {Z E : Type 0} → Result (Option (Vec ℕ Z)) E → Option (List ℕ) → Type 0
 BuildsLine result line = IfOk result (λ built. option_map (λ l. l.items) built ≡ line)
-
--- what is wrong with this line
-abbrev pub TellsFault : {A E : Type 0} → Result (Option LangFaultKind) E → Result A LangFaultKind
-    → Type 0
-TellsFault result line = IfOk result (λ fault. fault ≡ fault_in line)
 
 -- the draft as it was, and what is wrong with this line
 abbrev pub KeepsAndTells : {A E : Type 0} → Drafted → Result (Drafted × Option LangFaultKind) E

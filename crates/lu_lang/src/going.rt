@@ -5,10 +5,12 @@ ghost use Rattle.std.specs.Option.{option_copied, option_map};
 ghost use Rattle.lu_text.specs.Lines.{texts};
 ghost use Rattle.lu_text.specs.Words.{exactly_one};
 ghost use Rattle.lu_lang.specs.Grammar as spec;
-ghost use Rattle.lu_lang.specs.Grammar.{component_grammar, fault_in};
-ghost use Rattle.lu_lang.specs.Going.{HadMemory, going_on, kind_if};
+ghost use Rattle.lu_text.specs.Faults.{fault_in, going_on};
+ghost use Rattle.lu_lang.specs.Grammar.{component_grammar};
+ghost use Rattle.lu_lang.specs.Going.{HadMemory, kind_if};
 ghost use Rattle.lu_lang.specs.Parts.{code_read};
-ghost use Rattle.lu_lang.specs.Results.{Builds, KeepsAndTells, TellsFault};
+ghost use Rattle.lu_text.specs.Results.{Builds, TellsFault};
+ghost use Rattle.lu_lang.specs.Results.{KeepsAndTells};
 
 use crate::draft::{Draft, OpenOp};
 use crate::fault::{LangFault, LangFaultKind};

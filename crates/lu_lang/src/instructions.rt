@@ -6,7 +6,7 @@ ghost use Rattle.std.specs.Str.{bytes_eq};
 ghost use Rattle.lu_text.specs.Lines.{texts};
 ghost use Rattle.lu_text.specs.Words.{exactly_one, exactly_two, exactly_three, exactly_five};
 ghost use Rattle.lu_lang.specs.Grammar as spec;
-ghost use Rattle.lu_lang.specs.Results.{Builds};
+ghost use Rattle.lu_text.specs.Results.{Builds};
 
 use crate::draft::{Draft, Statement};
 use crate::fault::LangFaultKind;

@@ -4,10 +4,11 @@
 ghost use Rattle.std.specs.Prelude.{◌≡◌, ◌≤◌, ◌<◌, ◌++◌, length, nat_le, option_and_then, slice_get};
 ghost use Rattle.std.specs.Option.{option_map, unwrap_or};
 ghost use Rattle.lu_text.specs.Lines.{text_if, texts};
-ghost use Rattle.lu_lang.specs.Going.{going_on};
+ghost use Rattle.lu_text.specs.Faults.{going_on};
 ghost use Rattle.lu_lang.specs.Meant as spec;
 ghost use Rattle.lu_lang.specs.Meant.{faulty_grammar, mend_faulty};
-ghost use Rattle.lu_lang.specs.Results.{Builds, BuildsLine, HasItems};
+ghost use Rattle.lu_text.specs.Results.{Builds, HasItems};
+ghost use Rattle.lu_lang.specs.Results.{BuildsLine};
 ghost use Rattle.lu_lang.specs.declared.meant.Family.TheVariants.{Operation};
 
 use crate::draft::{Draft, OpenOp};

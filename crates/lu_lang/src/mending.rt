@@ -5,7 +5,7 @@ ghost use Rattle.std.specs.Prelude.{◌≡◌, IfOk, Some};
 ghost use Rattle.lu_text.specs.Lines.{texts};
 ghost use Rattle.lu_lang.specs.Mend as spec;
 ghost use Rattle.lu_lang.specs.Mend.{mend, mend_inside, mend_labelled};
-ghost use Rattle.lu_lang.specs.Results.{Builds};
+ghost use Rattle.lu_text.specs.Results.{Builds};
 
 use crate::draft::{Draft, Label, OpenOp, Statement};
 use crate::keyword::keyword_in;

@@ -6,7 +6,7 @@ ghost use Rattle.lu_text.specs.Lines.{text_if, texts};
 ghost use Rattle.lu_lang.specs.Grammar as grammar;
 ghost use Rattle.lu_lang.specs.Place as spec;
 ghost use Rattle.lu_lang.specs.Place.{backs};
-ghost use Rattle.lu_lang.specs.Results.{HasItems};
+ghost use Rattle.lu_text.specs.Results.{HasItems};
 
 use crate::draft::{Draft, OpenOp, Statement};
 use crate::fault::LangFaultKind;

@@ -8,7 +8,7 @@ ghost use Rattle.lu_text.specs.Lines.{text_if, texts};
 ghost use Rattle.lu_text.specs.Words.{exactly_one, exactly_two, exactly_three};
 ghost use Rattle.lu_text.specs.Faults.{Gives, OnLine, TellsFirst, meaning_of, meaning_of_lines};
 ghost use Rattle.lu_lang.specs.Parts.{ReadsArray, ReadsCode, ReadsEnd, ReadsLocal, ReadsLock, ReadsName, ReadsOp, code_read};
-ghost use Rattle.lu_lang.specs.Results.{Builds, HasItems};
+ghost use Rattle.lu_text.specs.Results.{Builds, HasItems};
 ghost use Rattle.lu_lang.specs.Sound.{IsSoundDraft};
 ghost use Rattle.lu_lang.specs.Grammar as spec;
 ghost use Rattle.lu_lang.specs.Grammar.{component_grammar};

@@ -4,16 +4,14 @@ use Rattle.std.proofs.lemmas.Bool.{eqb-true, eqb-false}
 use Rattle.std.proofs.lemmas.List.{append_assoc, append-nil, drop-map, map-append, take_more}
 use Rattle.lu_text.specs.declared.fault.Fault.{Fault}
 use Rattle.lu_text.specs.declared.fault.Fault.TheVariants.{At}
-use Rattle.lu_text.specs.Faults.{on_line, then_lines, lines_after, meaning_of}
+use Rattle.lu_text.specs.Faults.{on_line, then_lines, lines_after, meaning_of, fault_in, going_on}
 use Rattle.lu_text.specs.Lines.{lines_of, texts}
 use denote.Ref.{Bor}
 use Rattle.lu_component.specs.Component.{Declarations}
-use Rattle.lu_lang.specs.Going.{going_on}
-use Rattle.lu_lang.specs.Grammar.{component_grammar, fault_in as component_fault}
+use Rattle.lu_lang.specs.Grammar.{component_grammar}
 use Rattle.lu_lang.proofs.Understood.{faulty_meaning}
 use Rattle.lu_lang.specs.declared.fault.LangFaultKind.{LangFaultKind}
 use Rattle.lu_test.specs.declared.matrix_fault.MatrixFaultKind.{MatrixFaultKind}
-use Rattle.lu_test.specs.MatrixGoing.{fault_in as matrix_fault}
 use Rattle.lu_test.specs.MatrixText.{matrix_grammar}
 use Rattle.lu_lint.specs.declared.remark.Position.{Position}
 use Rattle.lu_lint.specs.declared.remark.Said.{Said}
@@ -123,12 +121,12 @@ pub texts_behind : (lines : List (Bor (List ℕ))) (i : ℕ) → texts (drop i l
 texts_behind lines i = sym (drop-map (λ w. w.now) i lines)
 
 -- what is wrong at the end of a component
-pub component_end : {Value : Type 0} (seen : List ℕ) (n : ℕ) (others : List (LangFaultKind × ℕ)) (fault : Option LangFaultKind) (meant r : Result Value LangFaultKind) → fault ≡ component_fault meant → meant ≡ r → end_faults seen n others r ≡ end_told seen n others fault
+pub component_end : {Value : Type 0} (seen : List ℕ) (n : ℕ) (others : List (LangFaultKind × ℕ)) (fault : Option LangFaultKind) (meant r : Result Value LangFaultKind) → fault ≡ fault_in meant → meant ≡ r → end_faults seen n others r ≡ end_told seen n others fault
 component_end seen n others fault meant (Ok v) e is = rw (e, is) refl
 component_end seen n others fault meant (Err k) e is = rw (e, is) refl
 
 -- and of a matrix
-pub matrix_end : {Value : Type 0} (seen : List ℕ) (n : ℕ) (others : List (MatrixFaultKind × ℕ)) (fault : Option MatrixFaultKind) (meant r : Result Value MatrixFaultKind) → fault ≡ matrix_fault meant → meant ≡ r → end_faults seen n others r ≡ end_told seen n others fault
+pub matrix_end : {Value : Type 0} (seen : List ℕ) (n : ℕ) (others : List (MatrixFaultKind × ℕ)) (fault : Option MatrixFaultKind) (meant r : Result Value MatrixFaultKind) → fault ≡ fault_in meant → meant ≡ r → end_faults seen n others r ≡ end_told seen n others fault
 matrix_end seen n others fault meant (Ok v) e is = rw (e, is) refl
 matrix_end seen n others fault meant (Err k) e is = rw (e, is) refl
 

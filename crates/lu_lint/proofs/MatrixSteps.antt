@@ -1,10 +1,9 @@
 -- Going on behind the faults of a matrix.
 use Rattle.std.proofs.Common.{◌≡◌, ℕ, ◌+◌, List, [], ◌∷◌, ◌++◌, append-nil, Option, Some, None, Result, Ok, Err, refl, sym, ap, ◌∙◌}
 use Rattle.lu_component.specs.Component.{Declarations, IsComponent}
-use Rattle.lu_lang.specs.Going as lang
 use Rattle.lu_test.specs.declared.matrix_fault.MatrixFaultKind.{MatrixFaultKind}
 use Rattle.lu_test.specs.MatrixText.{Drafted, finished, line_of}
-use Rattle.lu_test.specs.MatrixGoing.{fault_in, going_on}
+use Rattle.lu_text.specs.Faults.{fault_in, going_on}
 use Rattle.lu_test.proofs.Threads.{line_limits, line_fits}
 use Rattle.lu_test.proofs.MatrixLeft.{IsKept, mend_kept}
 use Rattle.lu_lint.specs.declared.remark.Said.{Said}
@@ -16,10 +15,6 @@ use Rattle.lu_lint.specs.Lint.{end_told, told_on, told_beside, faults_after, wit
 use Rattle.lu_lint.proofs.Going as lines
 use Rattle.lu_lang.specs.Faulty.{Faulty}
 use Rattle.lu_lint.specs.Matrix.{fault_said, judged_line, left_by, matrix_lint, matrix_mend}
-
-pub same_going : {Kind Draft : Type 0} (d : Draft) (r : Result Draft Kind) → going_on d r ≡ lang.going_on d r
-same_going d (Ok next) = refl
-same_going d (Err kind) = refl
 
 -- the limits hold of what a line leaves
 pub step_kept : (c : Declarations) → IsComponent c → (d d1 next : Drafted) (fault : Option MatrixFaultKind) (faulty : Option Faulty) (line : List ℕ) → IsKept c d → (d1, fault) ≡ going_on d (line_of c.operations d (judged_line faulty line)) → next ≡ left_by d1 line fault → IsKept c next
@@ -64,7 +59,7 @@ goes_on c faulty at d d1 next fault line rest before now total e left more so_fa
     let others = said_faults part.Matrix at.above (faults_after l (with_words at.seen.items at.line line) (at.line + 1) next rest) in
     let is : now ≡ told = more ∙ ap (λ (x : List Said). before ++ x) (said_here c faulty at d1 line fault) in
     ap (λ (x : List Said). x ++ others) (is ∙ sym (alone c faulty at.seen.items at.line d1 line rest fault at.above told))
-    ∙ lines.goes_on l part.Matrix at.above at.seen.items at.line d d1 next fault line rest rest before total (e ∙ same_going d (l.grammar.line d line)) (left ∙ left_same d1 line rest fault) refl so_far
+    ∙ lines.goes_on l part.Matrix at.above at.seen.items at.line d d1 next fault line rest rest before total e (left ∙ left_same d1 line rest fault) refl so_far
 
 -- no line is left
 pub is_done : (c : Declarations) (faulty : Option Faulty) (at : Position) (n : ℕ) (d : Drafted) (before now total : List Said)

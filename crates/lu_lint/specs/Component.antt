@@ -4,7 +4,7 @@ use Rattle.lu_component.specs.Component.{Declarations}
 use Rattle.lu_lang.specs.declared.fault.LangFaultKind.{LangFaultKind}
 use Rattle.lu_lang.specs.declared.fault.LangFaultKind.TheVariants.{Name}
 use Rattle.lu_lang.specs.Faulty.{Faulty}
-use Rattle.lu_lang.specs.Grammar.{fault_in}
+use Rattle.lu_text.specs.Faults.{fault_in}
 use Rattle.lu_lang.specs.Meant.{faulty_grammar, mend_faulty}
 use Rattle.lu_lang.specs.Place.{backs, left_backs, open_backs}
 use Rattle.lu_lint.specs.declared.remark.Position.{Position}

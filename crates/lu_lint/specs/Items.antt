@@ -1,10 +1,6 @@
 -- What a vector holds that is handed out where there is memory.
 use Rattle.std.specs.Prelude.{◌≡◌, List, ◌++◌, Result, IfOk, Vec}
 
--- where it succeeds, these are its items
-abbrev pub HasItems : {T E Z : Type 0} → Result (Vec T Z) E → List T → Type 0
-HasItems result items = IfOk result (λ v. v.items ≡ items)
-
 -- where it succeeds, its items are those of before, and these behind them
 abbrev pub Extends : {T E Y Z : Type 0} → Result (Vec T Z) E → Vec T Y → List T → Type 0
 Extends result before items = IfOk result (λ v. v.items ≡ before.items ++ items)

@@ -13,7 +13,7 @@ use Rattle.lu_lang.specs.declared.draft.Label.{Label}
 use Rattle.lu_lang.specs.declared.draft.Statement.{Statement}
 use Rattle.lu_lang.specs.declared.draft.Statement.TheVariants.{Plain, Jump, JumpIfZero}
 use Rattle.lu_lang.specs.Draft.{Begun, Drafted, nothing}
-use Rattle.lu_lang.specs.Going.{going_on}
+use Rattle.lu_text.specs.Faults.{going_on}
 use Rattle.lu_lang.specs.Grammar.{component_grammar, label_used}
 use Rattle.lu_lint.specs.declared.remark.Said.{Said}
 use Rattle.lu_lint.specs.declared.remark.Cause.TheVariants.{Warning}

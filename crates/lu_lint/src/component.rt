@@ -3,7 +3,7 @@
 ghost use Rattle.std.specs.Prelude.{◌≡◌, IfOk, Some};
 ghost use Rattle.lu_lint.specs.Component as spec;
 ghost use Rattle.lu_lint.specs.Component.{component_lint};
-ghost use Rattle.lu_lint.specs.Items.{HasItems};
+ghost use Rattle.lu_text.specs.Results.{HasItems};
 ghost use Rattle.lu_lint.specs.Lint.{told_there};
 ghost use Rattle.lu_lint.specs.Outline as outline;
 ghost use Rattle.lu_lint.specs.Said.{SaysAlso, said_of_lines, said_of_text, said_told};

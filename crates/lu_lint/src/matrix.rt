@@ -7,7 +7,7 @@ ghost use Rattle.lu_lint.specs.Matrix as spec;
 ghost use Rattle.lu_lint.specs.Matrix.{fault_said, judged_by, lint_on};
 ghost use Rattle.lu_lint.specs.Said.{SaysAlso, said_of_lines, said_of_text, said_told};
 ghost use Rattle.lu_lint.specs.declared.remark.FaultKind.TheVariants as part;
-ghost use Rattle.lu_test.specs.MatrixGoing.{fault_in, going_on};
+ghost use Rattle.lu_text.specs.Faults.{fault_in, going_on};
 ghost use Rattle.lu_test.specs.MatrixText.{IsDraft, finished, nothing};
 ghost use Rattle.lu_text.specs.Lines.{texts};
 

@@ -6,7 +6,8 @@ ghost use Rattle.lu_text.specs.Lines.{texts, words_of};
 ghost use Rattle.lu_lang.specs.Meant.{spaced};
 ghost use Rattle.lu_test.specs.MatrixText.{words_in};
 ghost use Rattle.lu_text.specs.Writing.{Writes};
-ghost use Rattle.lu_lint.specs.Items.{Extends, HasItems};
+ghost use Rattle.lu_text.specs.Results.{HasItems};
+ghost use Rattle.lu_lint.specs.Items.{Extends};
 ghost use Rattle.lu_lint.specs.Outline as spec;
 
 use lu_component::{MOST_OPS, Op, operation_place};

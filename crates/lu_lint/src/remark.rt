@@ -1,7 +1,7 @@
 //! What lint says of a bundle.
 
 ghost use Rattle.std.specs.Prelude.{◌≡◌, ◌∷◌, []};
-ghost use Rattle.lu_lint.specs.Items.{HasItems};
+ghost use Rattle.lu_text.specs.Results.{HasItems};
 ghost use Rattle.lu_lint.specs.Lint as spec;
 ghost use Rattle.lu_lint.specs.Messages.{refusal_code, fault_part};
 ghost use Rattle.lu_lint.specs.Said as said;

@@ -16,7 +16,7 @@ use lu_test::Matrix;
 use std::alloc::{AllocError, Global};
 
 /// What a third part is to be, as its first words say.
-#[derive(Clone, Copy, Debug, Drop, PartialEq, Eq)]
+#[derive(Clone, Copy, Drop)]
 pub(crate) enum Third {
     Specification,
     Report,

@@ -4,7 +4,7 @@ ghost use Rattle.std.specs.Prelude.{◌≡◌, false, IfOk, Some, None, length, 
 ghost use Rattle.std.specs.List.{list_all, list_any};
 ghost use Rattle.lu_lang.specs.declared.draft.Statement.TheVariants.{Plain};
 ghost use Rattle.lu_lang.specs.Grammar.{label_used};
-ghost use Rattle.lu_lint.specs.Items.{HasItems};
+ghost use Rattle.lu_text.specs.Results.{HasItems};
 ghost use Rattle.lu_lint.specs.Said.{SaysAlso};
 ghost use Rattle.lu_lint.specs.Warnings as spec;
 ghost use Rattle.lu_lint.specs.Warnings.{warnings_in, warnings_of_lines};
@@ -18,7 +18,7 @@ use lu_text::{lines_of, words_of};
 use std::alloc::{AllocError, Global};
 
 /// A hint, which stands so many lines with words before a line.
-#[derive(Clone, Copy, Debug, Drop)]
+#[derive(Clone, Copy, Drop)]
 pub(crate) struct FoundHint {
     pub back: usize,
     pub hint: Hint,

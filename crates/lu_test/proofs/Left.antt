@@ -1,9 +1,8 @@
 -- A line with a fault is left, and one without is read.
 use Rattle.std.proofs.Common.{◌≡◌, ℕ, Option, Some, None, Result, Ok, Err, refl, ap}
-use Rattle.lu_text.specs.Faults.{OnLine, or_else}
+use Rattle.lu_text.specs.Faults.{OnLine, or_else, fault_in, going_on}
 use Rattle.lu_test.specs.declared.matrix_fault.MatrixFaultKind.{MatrixFaultKind}
 use Rattle.lu_test.specs.MatrixText.{Drafted}
-use Rattle.lu_test.specs.MatrixGoing.{going_on, fault_in}
 
 pub is_fault : (f : Option MatrixFaultKind) (d : Drafted) → f ≡ fault_in (or_else f d)
 is_fault None d = refl

@@ -4,15 +4,6 @@ use Rattle.std.specs.Str.{bytes_eq}
 use Rattle.lu_text.specs.Words.{Word}
 use Rattle.lu_test.specs.MatrixText.{Drafted, is_nothing, parts_in}
 
--- the draft after a line, and no fault; or the draft before it, and the line's fault
-abbrev pub going_on : {Kind Draft : Type 0} → Draft → Result Draft Kind → Draft × Option Kind
-going_on d (Ok next) = (next, None)
-going_on d (Err kind) = (d, Some kind)
-
-abbrev pub fault_in : {Kind A : Type 0} → Result A Kind → Option Kind
-fault_in (Ok x) = None
-fault_in (Err kind) = Some kind
-
 -- one more thread that makes no call, where there is room
 abbrev pub with_empty : Drafted → Drafted
 with_empty d =

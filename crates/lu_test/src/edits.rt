@@ -3,7 +3,7 @@
 ghost use Rattle.std.specs.Prelude.{◌≡◌, ◌<◌, ◌≤◌, length, remove, take};
 ghost use Rattle.std.specs.List.{AllZip};
 ghost use Rattle.lu_test.specs.Matrix.{alone, calls_of, without, cut, IsMatrix};
-ghost use Rattle.lu_test.specs.Results.{Builds, HasItems};
+ghost use Rattle.lu_text.specs.Results.{Builds, HasItems};
 
 use crate::matrix::{Arguments, Call, Calls, Matrix};
 use std::alloc::{AllocError, Global};

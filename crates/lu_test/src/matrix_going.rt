@@ -1,11 +1,12 @@
 //! Reading of a matrix that goes on behind a fault.
 
 ghost use Rattle.std.specs.Prelude.{◌≡◌, [], Some};
-ghost use Rattle.lu_test.specs.MatrixGoing.{fault_in, going_on, mend};
+ghost use Rattle.lu_text.specs.Faults.{fault_in, going_on};
+ghost use Rattle.lu_test.specs.MatrixGoing.{mend};
 ghost use Rattle.lu_test.specs.MatrixGoing as going;
 ghost use Rattle.lu_test.specs.MatrixText as spec;
 ghost use Rattle.lu_test.specs.MatrixText.{CanRead, IsDraft, all_words, by_parts, calls_after, matrix_grammar, words_in};
-ghost use Rattle.lu_test.specs.Results.{Builds, TellsFault};
+ghost use Rattle.lu_text.specs.Results.{Builds, TellsFault};
 
 use crate::matrix::{Calls, MOST_CALLS_OF_THREAD, MOST_THREADS};
 use crate::matrix_fault::MatrixFaultKind;

@@ -11,7 +11,7 @@ ghost use Rattle.lu_component.specs.Component.{operation_place};
 ghost use Rattle.lu_test.specs.Matrix.{AreThreads, IsMatrix, IsOf, IsOfSome};
 ghost use Rattle.lu_test.specs.MatrixText as spec;
 ghost use Rattle.lu_test.specs.MatrixText.{AreFew, CanRead, IsDraft, all_words, by_parts, calls_after, matrix_grammar, words_in};
-ghost use Rattle.lu_test.specs.Results.{Builds, HasItems};
+ghost use Rattle.lu_text.specs.Results.{Builds, HasItems};
 
 use crate::matrix::{
     Arguments, Call, Calls, MOST_CALLS, MOST_CALLS_OF_THREAD, MOST_THREADS, Matrix,
@@ -23,7 +23,7 @@ use std::alloc::{AllocError, Global};
 use std::marker::Model;
 
 /// The words of one part of a line.
-#[derive(Debug, Drop)]
+#[derive(Drop)]
 pub(crate) struct Part<'a> {
     words: Vec<&'a [u8]>,
 }

@@ -24,6 +24,16 @@ or_else (Some kind) x = Err kind
 abbrev pub says : {Kind A : Type 0} → Tests Kind → A → Result A Kind
 says tests x = or_else (first_fault tests) x
 
+-- what is wrong, if anything is
+abbrev pub fault_in : {Kind A : Type 0} → Result A Kind → Option Kind
+fault_in (Ok x) = None
+fault_in (Err kind) = Some kind
+
+-- the draft after a line, and no fault; or the draft before it, and the line's fault
+abbrev pub going_on : {Kind Draft : Type 0} → Draft → Result Draft Kind → Draft × Option Kind
+going_on d (Ok next) = (next, None)
+going_on d (Err kind) = (d, Some kind)
+
 -- ---- lines one after the other
 
 -- How a text is read: what a draft becomes by a line, and what a draft makes at the end of the

@@ -4,3 +4,4 @@ pub mod Lines
 pub mod Words
 pub mod Faults
 pub mod Writing
+pub mod Results

@@ -1,6 +1,6 @@
 use Rattle.std.proofs.Common.{◌∙◌, ap, sym}
 use Rattle.lu_lang.specs.Faulty.{Faulty}
-use Rattle.lu_lang.specs.Grammar.{fault_in}
+use Rattle.lu_text.specs.Faults.{fault_in}
 use Rattle.lu_lang.specs.Meant.{faulty_grammar}
 use Rattle.lu_lang.specs.Place.{open_backs}
 use Rattle.lu_lint.proofs.Going.{are_at_end}
