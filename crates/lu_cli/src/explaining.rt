@@ -29,7 +29,7 @@ use lu_witness::{Verdict, verdict};
 use std::alloc::{AllocError, Global};
 
 /// What is to be explained.
-#[derive(Debug, Drop)]
+#[derive(Drop)]
 pub(crate) enum Target {
     /// The history of a schedule.
     Schedule(Schedule),
@@ -39,7 +39,7 @@ pub(crate) enum Target {
 }
 
 /// How a history is explained.
-#[derive(Clone, Copy, Debug, PartialEq, Eq)]
+#[derive(Clone, Copy)]
 pub(crate) enum Presentation {
     /// In words.
     Words,

@@ -13,7 +13,7 @@ use lu_test::ScheduleFault;
 use std::alloc::AllocError;
 
 /// Why there is no other answer to an order.
-#[derive(Clone, Copy, Debug, PartialEq, Eq)]
+#[derive(Clone, Copy)]
 pub(crate) enum Refusal {
     /// `B1`: the bundle has another number of parts.
     Parts,

@@ -141,7 +141,7 @@ impl Quiet {
 }
 
 /// What is known of the threads that were looked at.
-#[derive(Clone, Copy, Debug)]
+#[derive(Clone, Copy)]
 pub(crate) struct SharersSeen {
     /// How many of them share something.
     sharers: u8,

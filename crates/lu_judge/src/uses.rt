@@ -12,7 +12,7 @@ use lu_witness::{Cache, Verdict, verdict};
 const TRIED: u64 = 64;
 
 /// How what is remembered was of use so far. The numbers are modulo 2^64.
-#[derive(Clone, Copy, Debug)]
+#[derive(Clone, Copy)]
 pub(crate) struct Uses {
     /// How many histories were judged.
     judged: u64,

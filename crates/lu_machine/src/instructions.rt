@@ -19,7 +19,7 @@ use lu_component::{Instr, Operand};
 use lu_test::Move;
 
 /// What an instruction does: to its operation, and to what all threads share.
-#[derive(Clone, Copy, Debug)]
+#[derive(Clone, Copy)]
 pub(crate) struct Act {
     pub(crate) change: Change,
     pub(crate) shared: Shared,

@@ -48,7 +48,7 @@ pub struct Thread {
 }
 
 /// What an instruction makes of its operation.
-#[derive(Clone, Copy, Debug)]
+#[derive(Clone, Copy)]
 pub(crate) enum Change {
     /// It goes on at this place.
     GoesTo(u8),

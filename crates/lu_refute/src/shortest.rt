@@ -16,7 +16,7 @@ use std::alloc::{AllocError, Global};
 
 /// A run along a serial schedule: where it stands, the operations that have returned, in order, and
 /// how many calls each thread has made.
-#[derive(Debug, Drop)]
+#[derive(Drop)]
 pub(crate) struct Walk<'a> {
     pub(crate) machine: Machine<'a>,
     pub(crate) entries: Vec<SerialOp>,

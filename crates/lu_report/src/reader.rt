@@ -23,7 +23,7 @@ use lu_text::{Fault, cut_line};
 use std::alloc::Global;
 
 /// Why a part of a report is not read.
-#[derive(Clone, Copy, Debug, Drop)]
+#[derive(Clone, Copy, Drop)]
 enum Unread<'a> {
     /// No such part has the first line of this rest of the text behind the lines before it.
     From(&'a [u8]),

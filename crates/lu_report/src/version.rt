@@ -4,7 +4,7 @@ ghost use Rattle.std.specs.Prelude.{◌≡◌};
 ghost use Rattle.lu_report.specs.Text.{version_line, version_of};
 
 /// A version of the text of reports.
-#[derive(Clone, Copy, Debug, Drop, PartialEq, Eq)]
+#[derive(Clone, Copy, Drop)]
 pub(crate) enum Version {
     /// Of a check against the serial runs of a component whose moves are one call or instruction
     /// each.

@@ -16,14 +16,14 @@ use lu_test::{Matrix, Move};
 use std::alloc::{AllocError, Global};
 
 /// The open operation: its thread, and how many moves it has taken after its call.
-#[derive(Clone, Copy, Debug)]
+#[derive(Clone, Copy)]
 pub(crate) struct OpenCall {
     pub(crate) thread: u8,
     pub(crate) taken: u16,
 }
 
 /// A machine, with the serial operations of the path that led to its state.
-#[derive(Debug, Drop)]
+#[derive(Drop)]
 pub(crate) struct SerialNode<'a> {
     pub(crate) machine: Machine<'a>,
     pub(crate) entries: Vec<SerialOp>,

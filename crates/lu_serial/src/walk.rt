@@ -34,7 +34,7 @@ pub(crate) trait HistoryVisitor {
 }
 
 /// Where a walk halts before it has passed all schedules of its part.
-#[derive(Clone, Copy, Debug)]
+#[derive(Clone, Copy)]
 pub(crate) enum EarlyEnd<S> {
     /// At a schedule that is cut.
     Cut,

@@ -11,7 +11,7 @@ use lu_horizon::DeadRegisters;
 use lu_machine::{Activity, Frame, Machine, Thread};
 
 /// A cell or a lock.
-#[derive(Clone, Copy, Debug)]
+#[derive(Clone, Copy)]
 pub(crate) enum Location {
     /// The cell at this place among all cells.
     Cell(usize),
@@ -20,7 +20,7 @@ pub(crate) enum Location {
 }
 
 /// An access of a location.
-#[derive(Clone, Copy, Debug)]
+#[derive(Clone, Copy)]
 pub(crate) struct Access {
     pub(crate) location: Location,
 
@@ -29,7 +29,7 @@ pub(crate) struct Access {
 }
 
 /// What a location holds.
-#[derive(Clone, Copy, Debug, PartialEq, Eq)]
+#[derive(Clone, Copy, PartialEq, Eq)]
 pub(crate) enum Held {
     /// A cell, this value.
     Value(u32),
@@ -39,7 +39,7 @@ pub(crate) enum Held {
 }
 
 /// Where two threads stand, and what a location holds.
-#[derive(Clone, Copy, Debug)]
+#[derive(Clone, Copy)]
 pub(crate) struct Left {
     pub(crate) first: Option<Thread>,
     pub(crate) second: Option<Thread>,

@@ -22,7 +22,7 @@ use lu_machine::{Activity, Event, Machine, Undo};
 use lu_test::Move;
 
 /// How two moves that were made one after the other are taken back.
-#[derive(Clone, Copy, Debug)]
+#[derive(Clone, Copy)]
 struct TwoUndos {
     first: Undo,
     second: Undo,

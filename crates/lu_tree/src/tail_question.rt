@@ -3,7 +3,7 @@
 use lu_horizon::Sharers;
 
 /// How one end tells that all ends are good.
-#[derive(Clone, Copy, Debug)]
+#[derive(Clone, Copy)]
 pub(crate) enum Judging {
     /// By its verdict, which is that of all where no call is opened any more.
     OneVerdict,
@@ -13,7 +13,7 @@ pub(crate) enum Judging {
 }
 
 /// What is asked of the last moves of a run.
-#[derive(Clone, Copy, Debug)]
+#[derive(Clone, Copy)]
 pub(crate) struct TailQuestion {
     pub(crate) sharers: Sharers,
     pub(crate) judging: Judging,
