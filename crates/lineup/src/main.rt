@@ -5,7 +5,7 @@ use lu_cli::{Counted, run};
 use std::io;
 use std::process::ExitCode;
 
-/// Prints a refusal, and answers its status, or 4 where it could not be printed.
+/// Prints a refusal, and returns its status, or 4 where it could not be printed.
 fn refuse(rt: &impl Print, text: &str, status: u8) -> ExitCode {
     match rt.print(text) {
         Ok(()) => ExitCode::from(status),

@@ -108,7 +108,7 @@ fn refuse_command(alloc: Global) -> Result<Answer, AllocError>
     refused(alloc, "command line")
 }
 
-/// Runs the program on the words behind its name, and answers its exit status: 0 where all is well,
+/// Runs the program on the words behind its name, and returns its exit status: 0 where all is well,
 /// 1 for a failure, for nondeterminism, for what is not linearizable and for an infeasible
 /// schedule, 2 for a refusal, 3 for a serial cut and where the bounds do not decide, and 4 where
 /// memory, the start of a worker's thread or a device failed. No call of the reader or the writer
@@ -142,7 +142,7 @@ pub fn run<X: AllocGlobal + Threads + Wait, S: AsStr, R: Read, W: Write>(
     }
 }
 
-/// Writes a text, and answers this status, or 4 where a write failed.
+/// Writes a text, and returns this status, or 4 where a write failed.
 fn say<W: Write>(output: &mut Counted<W>, text: &str, status: u8) -> u8
     requires { output.old.failures < 2 ^ 64 - 1 }
     ensures told { Sends W.contents text.now status output.old output.new result }

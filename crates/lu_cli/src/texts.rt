@@ -134,7 +134,7 @@ pub(crate) fn read_texts(alloc: Global, component: &[u8], matrix: &[u8]) -> Resu
     }
 }
 
-/// Checks the component and the matrix of two texts: answers the text of their report, which is the
+/// Checks the component and the matrix of two texts: returns the text of their report, which is the
 /// same for any number of workers and any depth. The component's text is read first. With two
 /// workers or more the call waits for them.
 ///
@@ -181,7 +181,7 @@ fn report_against<X: Threads + Wait>(
     Ok(report)
 }
 
-/// Checks the component and the matrix of two texts against the specification of a third: answers
+/// Checks the component and the matrix of two texts against the specification of a third: returns
 /// the text of their report, which is the same for any number of workers and any depth. The
 /// component's text is read first, and then the matrix's. No serial run is made. With two workers
 /// or more the call waits for them.

@@ -1,5 +1,5 @@
 //! What the tests of several crates share: components, and components with matrices that can run,
-//! from their texts.
+//! from their texts; histories; and walks down any tree of serial histories.
 #![tactic(auto)]
 
 ghost use Rattle.std.specs.Prelude.{◌≡◌, IfOk, Ok, OnOk};
@@ -9,14 +9,17 @@ ghost use Rattle.lu_test.specs.MatrixText.{matrix_grammar};
 ghost use Rattle.lu_test.specs.Matrix.{IsOf};
 ghost use Rattle.lu_machine.specs.Starts.{CanRun};
 
+use lu_history::History;
 use lu_lang::{Component, read_component};
-use lu_machine::settles;
+use lu_machine::{Event, settles};
 use lu_test::{Matrix, read_matrix};
 use std::test::Fail;
 
 mod components;
+mod walk;
 
 pub use components::ROWS;
+pub use walk::{contains, count, same_members};
 
 /// A component and a matrix of it.
 #[derive(Drop)]
@@ -52,4 +55,20 @@ pub fn fixture_of(rt: &impl AllocGlobal, component: &[u8], matrix: &[u8]) -> Res
     let matrix = read_matrix(rt.alloc(), &component, matrix)?;
     settled(rt, &component, &matrix)?;
     Ok(Fixture { component, matrix })
+}
+
+/// The history of these events.
+///
+/// # Errors
+///
+/// An event that does not fit behind those before it, and want of memory.
+pub fn history_of(rt: &impl AllocGlobal, events: &[Event]) -> Result<History, Fail> {
+    let mut history = History::new(rt.alloc());
+    for event in events {
+        if !history.fits(*event) {
+            return Err(Fail::from("an event does not fit"));
+        }
+        history.push(*event)?;
+    }
+    Ok(history)
 }

@@ -26,7 +26,7 @@ impl Texts for Components {
             Ok(component) => {
                 let written = write_component(rt.alloc(), &component)?;
                 let again = component_again(rt, written.as_bytes())?;
-                assert_eq!(rt; again.as_str(), written.as_str());
+                assert!(rt; again.as_str() == written.as_str());
                 Ok(TextOutcome::Read)
             }
             Err(Fault::At(_, line)) => Ok(TextOutcome::Refused(line)),
@@ -53,7 +53,7 @@ impl Texts for Matrices {
             Ok(matrix) => {
                 let written = write_matrix(rt.alloc(), &self.component, &matrix)?;
                 let again = matrix_again(rt, &self.component, written.as_bytes())?;
-                assert_eq!(rt; again.as_str(), written.as_str());
+                assert!(rt; again.as_str() == written.as_str());
                 Ok(TextOutcome::Read)
             }
             Err(Fault::At(_, line)) => Ok(TextOutcome::Refused(line)),
@@ -70,7 +70,7 @@ impl Texts for Schedules {
         match read_schedule(rt.alloc(), text) {
             Ok(schedule) => {
                 let written = write_schedule(rt.alloc(), &schedule)?;
-                assert_eq!(rt; written.as_bytes(), text);
+                assert!(rt; written.as_bytes() == text);
                 Ok(TextOutcome::Read)
             }
             Err(ScheduleFault::Memory) => panic!(rt; "memory"),
@@ -87,7 +87,7 @@ impl Texts for Reports {
         match read_report(rt.alloc(), text) {
             Ok(report) => {
                 let written = write_report(rt.alloc(), &report)?;
-                assert_eq!(rt; written.as_bytes(), text);
+                assert!(rt; written.as_bytes() == text);
                 Ok(TextOutcome::Read)
             }
             Err(Fault::At(_, line)) => Ok(TextOutcome::Refused(line)),
@@ -107,7 +107,7 @@ impl Texts for Specs {
         match read_spec(rt.alloc(), &self.matrix, text) {
             Ok(spec) => {
                 let written = write_spec(rt.alloc(), &spec)?;
-                assert_eq!(rt; written.as_bytes(), text);
+                assert!(rt; written.as_bytes() == text);
                 Ok(TextOutcome::Read)
             }
             Err(Fault::At(_, line)) => Ok(TextOutcome::Refused(line)),

@@ -8,9 +8,9 @@ pub fn one_shrunk()
     ensures { OneShrunk }
 {}
 
-/// Slices of a campaign that follow one another answer together what one slice answers: the first
+/// Slices of a campaign that follow one another give together what one slice gives: the first
 /// answer that names a matrix, or, where all pass, the sum of the counts. A slice of all matrices
-/// answers what the campaign answers. A slice has one answer, so it does not matter who tries it.
+/// gives what the campaign gives. A slice has one answer, so it does not matter who tries it.
 pub fn slices_join()
     ensures join { SlicesJoin }
     ensures one_answer { OneSliceAnswer }

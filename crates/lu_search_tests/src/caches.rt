@@ -1,8 +1,7 @@
 //! Which verdicts a small cache keeps.
 
 use crate::serial_runs::set_of;
-use lu_fixtures::ROWS;
-use lu_history::History;
+use lu_fixtures::{ROWS, history_of};
 use lu_machine::{Event, Outcome};
 use lu_trie::SerialTree;
 use lu_witness::{Cache, Verdict};
@@ -31,7 +30,7 @@ const SECOND: &[Event] = &[CALL_0, CALL_1, RETURN_0, RETURN_1];
 
 const LAST: &[Event] = &[CALL_1, RETURN_1, CALL_0, RETURN_0];
 
-/// Histories, and whether each is then kept; of the others the verdict is asked for. The first is
+/// Histories in which two threads get 0, and whether each is then kept; of the others the verdict is asked for. The first is
 /// asked for again before the last one comes, so the second makes room for that.
 const ASKED: &[(&[Event], Option<bool>)] = &[
     (FIRST, Some(false)),
@@ -43,16 +42,6 @@ const ASKED: &[(&[Event], Option<bool>)] = &[
     (SECOND, Some(false)),
     (LAST, Some(true)),
 ];
-
-/// Two threads get 0: the events in this order.
-fn history_of(rt: &(impl AllocGlobal + Abort), events: &[Event]) -> Result<History, Fail> {
-    let mut history = History::new(rt.alloc());
-    for event in events {
-        assert!(rt; history.fits(*event));
-        history.push(*event)?;
-    }
-    Ok(history)
-}
 
 /// The history of these events is kept, or not; or its verdict is asked for, which is good.
 fn assert_asked<T: SerialTree>(
