@@ -17,7 +17,7 @@ fn again(alloc: Global, text: &str) -> Result<String, Fail> {
 /// Each component is written as the text beside it.
 fn assert_written(rt: &(impl AllocGlobal + Abort), texts: &[(&str, &str)]) -> Result<(), Fail> {
     for (text, written) in texts {
-        assert!(rt; again(rt.alloc(), text)?.as_str() == *written);
+        assert!(rt; again(rt.alloc(), text)?.as_str() == *written, "{text}");
     }
     Ok(())
 }

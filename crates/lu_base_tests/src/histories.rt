@@ -154,7 +154,7 @@ fn assert_kept(
     events: &[Event],
 ) -> Result<(), HistoryFault> {
     let kept = history.keep_pending(t)?;
-    assert!(rt; kept.events() == events);
+    assert!(rt; kept.events() == events, "thread {t}");
     Ok(())
 }
 

@@ -44,7 +44,7 @@ fn take_back(rt: &impl Abort, machine: &mut Machine<'_>, moves: u8) -> Option<Ev
         machine.undo(undo);
         assert!(rt; machine.feasible(next));
         last = machine.step(next);
-        assert!(rt; last == event);
+        assert!(rt; last == event, "{event:?}");
     }
     assert!(rt; machine.threads() == 1);
     assert!(rt; !machine.enabled(0));

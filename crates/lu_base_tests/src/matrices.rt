@@ -68,7 +68,7 @@ fn matrices_are_written(rt: HostRuntime) -> Result<(), Fail> {
     ];
     for (text, written) in &texts {
         let again = matrix_again(&rt, text)?;
-        assert!(rt; again.as_str() == *written);
+        assert!(rt; again.as_str() == *written, "{written}");
     }
     Ok(())
 }
@@ -93,7 +93,10 @@ fn longest(alloc: Global) -> Result<String, AllocError> {
 fn schedules_are_written(rt: HostRuntime) -> Result<(), Fail> {
     let longest = longest(rt.alloc())?;
     for text in ["schedule\n", "schedule 0 1:2 7:7 3\n", longest.as_str()] {
-        assert!(rt; schedule_again(rt.alloc(), text)?.as_str() == text);
+        assert!(rt;
+            schedule_again(rt.alloc(), text)?.as_str() == text,
+            "{text}"
+        );
     }
     Ok(())
 }

@@ -33,8 +33,8 @@ fn assert_parts(rt: &(impl AllocGlobal + Abort)) -> Result<(), AllocError> {
 fn assert_cuts(rt: &impl Abort, cuts: &[(&str, &str, &str)]) {
     for (text, first, rest) in cuts {
         let (line, after) = cut_line(text.as_bytes());
-        assert!(rt; line == first.as_bytes());
-        assert!(rt; after == rest.as_bytes());
+        assert!(rt; line == first.as_bytes(), "{text:?}");
+        assert!(rt; after == rest.as_bytes(), "{text:?}");
     }
 }
 
@@ -102,7 +102,7 @@ fn so_many_words(rt: HostRuntime) {
     assert!(rt; exactly_two(&[WORD, WORD]) == Some((WORD, WORD)));
     assert_four(&rt);
     assert_five(&rt);
-    assert!(rt; exactly_one(&[WORD, WORD]) == None);
+    assert!(rt; exactly_one(&[WORD, WORD]).is_none());
 }
 
 /// The name is `cinc`.
@@ -195,7 +195,7 @@ fn shown(alloc: Global, fault: Fault<&str>) -> Result<String, AllocError> {
 #[test]
 fn faults(rt: HostRuntime) -> Result<(), Fail> {
     for (fault, text) in [(Fault::At("L2", 3), "L2 line 3"), (Fault::Memory, "memory")] {
-        assert!(rt; shown(rt.alloc(), fault)?.as_str() == text);
+        assert!(rt; shown(rt.alloc(), fault)?.as_str() == text, "{text}");
     }
     Ok(())
 }

@@ -81,13 +81,13 @@ fn assert_conflicts<R: AllocGlobal + Abort>(
     requires { IsDeterministic set.old }
 {
     let (first, second) = (ret(0, 1), ret(1, 2));
-    assert!(rt; insert_free(set, &[first, second])? == None);
+    assert!(rt; insert_free(set, &[first, second])?.is_none());
     assert!(rt; insert_free(set, &[first, ret(1, 3)])? == Some((1, SerialOutcome::Ret(2))));
     assert!(rt; insert_free(set, &[first, trap(1)])? == Some((1, SerialOutcome::Ret(2))));
     assert!(rt; insert_free(set, &[stuck(0)])? == Some((0, SerialOutcome::Ret(1))));
-    assert!(rt; insert_free(set, &[second, stuck(0)])? == None);
+    assert!(rt; insert_free(set, &[second, stuck(0)])?.is_none());
     assert!(rt; insert_free(set, &[second, first])? == Some((1, SerialOutcome::Stuck)));
-    assert!(rt; insert_free(set, &[first])? == None);
+    assert!(rt; insert_free(set, &[first])?.is_none());
     Ok(())
 }
 

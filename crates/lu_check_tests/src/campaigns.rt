@@ -55,7 +55,10 @@ fn a_size_past_its_limits_is_refused(rt: HostRuntime) -> Result<(), Fail> {
         (b"thread get\n", 1, 9, "G3"),
     ];
     for (matrix, threads, calls, code) in &sizes {
-        assert!(rt; refusal(&rt, matrix, *threads, *calls)? == Some(*code));
+        assert!(rt;
+            refusal(&rt, matrix, *threads, *calls)? == Some(*code),
+            "{code}"
+        );
     }
     Ok(())
 }

@@ -271,8 +271,8 @@ fn pieces_pass_the_gate(rt: HostRuntime) -> Result<(), Fail> {
         let options = options(&rt, *workers, 4).with_head_start(*looks);
         let found = report(&rt, matrix, &gate, options)?;
         assert!(rt; is_pass(&found, *schedules));
-        assert!(rt; gate.came.load(Ordering::SeqCst) == *pieces);
-        assert!(rt; gate.ends.load(Ordering::SeqCst) == *pieces);
+        assert!(rt; gate.came.load(Ordering::SeqCst) == *pieces, "{pieces}");
+        assert!(rt; gate.ends.load(Ordering::SeqCst) == *pieces, "{pieces}");
     }
     Ok(())
 }

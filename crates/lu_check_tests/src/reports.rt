@@ -62,8 +62,8 @@ fn reports_are_written_as_they_were(rt: HostRuntime) -> Result<(), Fail> {
         b"lineup report 3\nbound 3\nlocal 16\npass\ncomplete 0\nstuck 0\ncut 1\n",
         b"lineup report 3\nbound 256\nlocal 1\nfail stuck 7\nschedule\n",
     ];
-    for text in &texts {
-        assert!(rt; again(&rt, text)?.as_bytes() == *text);
+    for (row, text) in texts.iter().enumerate() {
+        assert!(rt; again(&rt, text)?.as_bytes() == *text, "row {row}");
     }
     Ok(())
 }
@@ -81,7 +81,7 @@ fn bounds_are_read(rt: HostRuntime) -> Result<(), Fail> {
         (LOST_IN_EIGHT, (40, Some(40), 16)),
         (LOST_AGAINST, (40, None, 0)),
     ] {
-        assert!(rt; bounds(&rt, text)? == expected);
+        assert!(rt; bounds(&rt, text)? == expected, "{expected:?}");
     }
     Ok(())
 }
@@ -128,7 +128,7 @@ fn fault_line(rt: &impl AllocGlobal, text: &[u8]) -> Result<Option<usize>, Alloc
 fn beginnings(rt: HostRuntime) -> Result<(), Fail> {
     let mut line: usize = 1;
     for (end, byte) in LOST.iter().enumerate() {
-        assert!(rt; fault_line(&rt, &LOST[..end])? == Some(line));
+        assert!(rt; fault_line(&rt, &LOST[..end])? == Some(line), "line {line}");
         if *byte == b'\n' {
             line = line.saturating_add(1);
         }
@@ -200,8 +200,11 @@ fn cuts_are_confirmed(rt: HostRuntime) -> Result<(), Fail> {
         ),
         (COUNTER, TWICE, LOST_AGAINST, false),
     ];
-    for (component, matrix, report, expected) in &reports {
-        assert!(rt; confirmed(&rt, component, matrix, report)? == *expected);
+    for (row, (component, matrix, report, expected)) in reports.iter().enumerate() {
+        assert!(rt;
+            confirmed(&rt, component, matrix, report)? == *expected,
+            "row {row}"
+        );
     }
     Ok(())
 }
@@ -278,8 +281,11 @@ fn failures_against_a_specification(rt: HostRuntime) -> Result<(), Fail> {
         // A report of the other kind of check.
         (RIGHT, LOST, false),
     ];
-    for (specification, report, expected) in &reports {
-        assert!(rt; confirmed_against(&rt, specification, report)? == *expected);
+    for (row, (specification, report, expected)) in reports.iter().enumerate() {
+        assert!(rt;
+            confirmed_against(&rt, specification, report)? == *expected,
+            "row {row}"
+        );
     }
     Ok(())
 }

@@ -71,7 +71,10 @@ fn a_specification_is_one_of_its_matrices(rt: HostRuntime) -> Result<(), Fail> {
         ("thread inc\nthread\n", false),
         ("thread inc\n", false),
     ] {
-        assert!(rt; is_of(&rt, &spec, matrix.as_bytes())? == expected);
+        assert!(rt;
+            is_of(&rt, &spec, matrix.as_bytes())? == expected,
+            "{matrix}"
+        );
     }
     Ok(())
 }
@@ -89,7 +92,7 @@ fn what_is_read_is_written_as_it_was(rt: HostRuntime) -> Result<(), Fail> {
         "lineup spec 1\nhistory 0=1 1=2\nhistory 1=1 0=2\n",
         "lineup spec 1\nhistory 0=trap 1=stuck\nhistory 1=4294967295\n",
     ] {
-        assert!(rt; again(&rt, text)?.as_str() == text);
+        assert!(rt; again(&rt, text)?.as_str() == text, "{text}");
     }
     Ok(())
 }

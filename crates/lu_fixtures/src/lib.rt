@@ -4,6 +4,7 @@
 
 ghost use Rattle.std.specs.Prelude.{◌≡◌, IfOk, Ok, OnOk};
 ghost use Rattle.lu_text.specs.Faults.{meaning_of};
+ghost use Rattle.lu_text.specs.Results.{Builds};
 ghost use Rattle.lu_lang.specs.Grammar.{component_grammar};
 ghost use Rattle.lu_test.specs.MatrixText.{matrix_grammar};
 ghost use Rattle.lu_test.specs.Matrix.{IsOf};
@@ -62,7 +63,9 @@ pub fn fixture_of(rt: &impl AllocGlobal, component: &[u8], matrix: &[u8]) -> Res
 /// # Errors
 ///
 /// An event that does not fit behind those before it, and want of memory.
-pub fn history_of(rt: &impl AllocGlobal, events: &[Event]) -> Result<History, Fail> {
+pub fn history_of(rt: &impl AllocGlobal, events: &[Event]) -> Result<History, Fail>
+    ensures { Builds result events.now }
+{
     let mut history = History::new(rt.alloc());
     for event in events {
         if !history.fits(*event) {

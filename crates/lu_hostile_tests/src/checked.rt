@@ -53,7 +53,10 @@ fn texts_are_checked(rt: HostRuntime) -> Result<(), Fail> {
         ("", "", "L7 line 1"),
         (COUNTER, "", "M6 line 1"),
     ] {
-        assert!(rt; checked(&rt, component, matrix)?.as_str() == wanted);
+        assert!(rt;
+            checked(&rt, component, matrix)?.as_str() == wanted,
+            "{wanted}"
+        );
     }
     Ok(())
 }
@@ -87,7 +90,10 @@ fn texts_are_checked_against_a_specification(rt: HostRuntime) -> Result<(), Fail
         ),
         ("lineup spec 1\nhistory 9=1\n", "S1 line 2"),
     ] {
-        assert!(rt; checked_against(&rt, specification)?.as_str() == wanted);
+        assert!(rt;
+            checked_against(&rt, specification)?.as_str() == wanted,
+            "{wanted}"
+        );
     }
     Ok(())
 }

@@ -196,20 +196,20 @@ fn run_command<X: AllocGlobal + Abort + Threads + Wait>(
 
 /// The run wrote the command's answer.
 fn assert_answered(rt: &impl Abort, command: &ExpectedRun<'_>, ran: &Ran) {
-    assert!(rt; ran.taken.as_slice() == command.output);
-    assert!(rt; ran.status == command.status);
+    assert_eq!(rt; ran.taken.as_slice(), command.output);
+    assert_eq!(rt; ran.status, command.status);
 }
 
 /// The run blamed the device.
 fn assert_blamed(rt: &impl Abort, ran: &Ran) {
-    assert!(rt; ran.taken.as_slice() == b"refused device\n".as_slice());
-    assert!(rt; ran.status == 4);
+    assert_eq!(rt; ran.taken.as_slice(), b"refused device\n".as_slice());
+    assert_eq!(rt; ran.status, 4);
 }
 
 /// The run wrote the first bytes of the command's answer, so many.
 fn assert_begun(rt: &impl Abort, command: &ExpectedRun<'_>, ran: &Ran, count: usize) {
-    assert!(rt; ran.status == 4);
-    assert!(rt; ran.taken.len() == count);
+    assert_eq!(rt; ran.status, 4);
+    assert_eq!(rt; ran.taken.len(), count);
     assert!(rt; command.output.starts_with(ran.taken.as_slice()));
 }
 
@@ -240,7 +240,7 @@ fn reads_of_command_fail<X: AllocGlobal + Abort + Threads + Wait>(
     failure: DeviceFailure,
 ) {
     let reads = reads_before(rt, command, failure);
-    assert!(rt; reads == command.input.len().saturating_add(1));
+    assert_eq!(rt; reads, command.input.len().saturating_add(1));
 }
 
 fn reads_fail<X: AllocGlobal + Abort + Threads + Wait>(rt: &X, failure: DeviceFailure) {
@@ -257,7 +257,7 @@ fn writes_before<X: AllocGlobal + Abort + Threads + Wait>(
 ) -> usize {
     for writes in 0..MANY {
         let ran = run_command(rt, command, MANY, writes, failure);
-        assert!(rt; ran.failed_reads == 0);
+        assert_eq!(rt; ran.failed_reads, 0);
         if ran.failed_writes == 0 {
             assert_answered(rt, command, &ran);
             return writes as usize;
@@ -274,7 +274,7 @@ fn writes_of_command_fail<X: AllocGlobal + Abort + Threads + Wait>(
     failure: DeviceFailure,
 ) {
     let writes = writes_before(rt, command, failure);
-    assert!(rt; writes == command.output.len());
+    assert_eq!(rt; writes, command.output.len());
 }
 
 fn writes_fail<X: AllocGlobal + Abort + Threads + Wait>(rt: &X, failure: DeviceFailure) {

@@ -22,7 +22,7 @@ const INTERLEAVINGS: &[(&[usize], Option<u64>)] = &[
 fn orders_are_counted(rt: HostRuntime) -> Result<(), Fail> {
     let orders = Orders::new(rt.alloc(), 6)?;
     for (lengths, number) in INTERLEAVINGS {
-        assert!(rt; orders.interleavings(lengths) == *number);
+        assert!(rt; orders.interleavings(lengths) == *number, "{lengths:?}");
     }
     Ok(())
 }
@@ -42,7 +42,10 @@ const WITHIN_CAPS: &[(usize, &[u16], Option<u64>)] = &[
 fn orders_within_caps_are_counted(rt: HostRuntime) -> Result<(), Fail> {
     let orders = Orders::new(rt.alloc(), 6)?;
     for (left, caps, number) in WITHIN_CAPS {
-        assert!(rt; orders.orders_within(*left, caps) == *number);
+        assert!(rt;
+            orders.orders_within(*left, caps) == *number,
+            "{left} {caps:?}"
+        );
     }
     Ok(())
 }
@@ -67,7 +70,10 @@ fn assert_cuts(
     cuts: &[(usize, Option<u64>)],
 ) {
     for (left, number) in cuts {
-        assert!(rt; cut_below(horizon, orders, machine, *left) == *number);
+        assert!(rt;
+            cut_below(horizon, orders, machine, *left) == *number,
+            "{left}"
+        );
     }
     assert!(rt; horizon.caps(machine, 72).is_none());
 }
@@ -185,7 +191,10 @@ fn registers_that_nobody_reads_are_dead(rt: HostRuntime) -> Result<(), Fail> {
     let case = fixture_of(&rt, COUNTER, b"thread inc\n")?;
     let dead = DeadRegisters::new(rt.alloc(), &case.component)?;
     for (place, register, is_dead) in DEAD {
-        assert!(rt; dead.is_dead(0, *place, *register) == *is_dead);
+        assert!(rt;
+            dead.is_dead(0, *place, *register) == *is_dead,
+            "{place} {register}"
+        );
     }
     Ok(())
 }

@@ -40,7 +40,7 @@ pub(crate) fn assert_spelled(
     text: &str,
 ) -> Result<(), Fail> {
     let spelled = write_schedule(rt.alloc(), schedule)?;
-    assert!(rt; spelled.as_str() == text);
+    assert!(rt; spelled.as_str() == text, "{text}");
     Ok(())
 }
 

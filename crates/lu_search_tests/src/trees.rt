@@ -175,7 +175,7 @@ const FRONTIERS: &[(&[u8], u16, u8, usize, usize)] = &[
 fn frontiers(rt: HostRuntime) -> Result<(), Fail> {
     for (matrix, bound, depth, count, moves) in FRONTIERS {
         let pieces = pieces_of(&rt, matrix, *bound, *depth)?;
-        assert!(rt; pieces.len() == *count);
+        assert!(rt; pieces.len() == *count, "{count}");
         assert!(rt; pieces.iter().all(|piece| piece.moves().len() == *moves));
     }
     Ok(())

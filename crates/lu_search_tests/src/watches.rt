@@ -110,7 +110,7 @@ fn assert_abandoned(
     let mut watch = stops_at(last);
     let found = found_over(rt, matrix, other, bound, &mut watch)?;
     assert!(rt; matches!(found, Found::Abandoned));
-    assert!(rt; watch.asked == last);
+    assert!(rt; watch.asked == last, "{last}");
     Ok(())
 }
 
@@ -127,7 +127,7 @@ fn assert_asked(
     let mut watch = stops_at(0);
     let found = found_over(rt, matrix, other, bound, &mut watch)?;
     assert_clean(rt, &found, counts.0, counts.1);
-    assert!(rt; watch.asked == asked);
+    assert!(rt; watch.asked == asked, "{asked}");
     Ok(())
 }
 
