@@ -25,6 +25,7 @@ mod shrinking;
 pub use campaigning::{campaign, campaign_by_thread, campaign_slice, count_matrices};
 pub use campaigns::{Campaign, CampaignFault};
 pub use choice::same_lists;
+pub use lu_refute::{RefuteFault, refute};
 pub use lu_spec::{Spec, SpecFault, SpecFaultKind, read_spec, write_spec};
 pub use roles::Roles;
 pub use shrink_fault::ShrinkFault;

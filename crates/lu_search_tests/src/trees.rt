@@ -83,11 +83,16 @@ pub(crate) fn assert_clean(rt: &impl Abort, found: &Found, complete: u64, cut: u
     }
 }
 
-/// The least bad schedule is complete, and is this one.
-fn assert_bad(rt: &(impl AllocGlobal + Abort), found: &Found, text: &str) -> Result<(), Fail> {
+/// The least bad schedule is this one, and is bad for this reason.
+pub(crate) fn assert_bad(
+    rt: &(impl AllocGlobal + Abort),
+    found: &Found,
+    text: &str,
+    reason: Why,
+) -> Result<(), Fail> {
     match found {
         Found::Bad { schedule, why } => {
-            assert!(rt; *why == Why::Complete);
+            assert!(rt; *why == reason, "{text}");
             assert_spelled(rt, schedule, text)
         }
         Found::Clean(_) | Found::Abandoned => panic!(rt; "no bad schedule"),
@@ -135,7 +140,7 @@ fn schedules_below_are_counted(rt: HostRuntime) -> Result<(), Fail> {
 #[test]
 fn a_lost_update_is_found_below(rt: HostRuntime) -> Result<(), Fail> {
     let found = found(&rt, INCREMENTS, INCREMENTS, b"schedule 1\n", 40)?;
-    assert_bad(&rt, &found, "schedule 1 0 0 0 1 0 0 1 1 1\n")
+    assert_bad(&rt, &found, "schedule 1 0 0 0 1 0 0 1 1 1\n", Why::Complete)
 }
 
 /// The pieces of a frontier.

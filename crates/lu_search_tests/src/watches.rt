@@ -5,12 +5,12 @@ ghost use Rattle.lu_machine.specs.Starts.{CanRun};
 ghost use Rattle.lu_tree.specs.Tables.{AreRunTables};
 
 use crate::serial_runs::set_of;
-use crate::trees::{assert_clean, beginning};
+use crate::trees::{assert_bad, assert_clean, beginning};
 use lu_fixtures::{Fixture, ROWS, fixture_of};
 use lu_test::Schedule;
-use lu_tree::{Found, SearchSpace, Tables, Unwatched, Watch, search_with};
+use lu_tree::{Found, SearchSpace, Tables, Unwatched, Watch, search_watched, search_with};
 use lu_trie::{PackedTrie, SerialTree};
-use lu_witness::Cache;
+use lu_witness::{Cache, Why};
 use std::alloc::Global;
 use std::process::Abort;
 use std::test::Fail;
@@ -72,15 +72,16 @@ fn found_watched<T: SerialTree>(
 {
     let from = beginning(rt, case, b"schedule\n")?;
     assert!(rt; from.moves().len() <= usize::from(bound) && bound <= 256);
-    let space = SearchSpace {
-        alloc: rt.alloc(),
-        component: &case.component,
-        matrix: &case.matrix,
-        bound,
-    };
-    let tables = Tables::new(rt.alloc(), &case.component, &case.matrix, bound)?;
     let mut cache = Cache::new(rt.alloc(), tree, 1)?;
-    Ok(search_with(&space, &tables, &mut cache, &from, watch)?)
+    Ok(search_watched(
+        rt.alloc(),
+        &case.component,
+        &case.matrix,
+        &mut cache,
+        &from,
+        bound,
+        watch,
+    )?)
 }
 
 /// The same for the matrix of this text, over the packed set of the serial histories of the other
@@ -150,6 +151,35 @@ fn a_watch_is_asked_after_each_64(rt: HostRuntime) -> Result<(), Fail> {
 fn a_watch_is_asked_of_what_is_counted(rt: HostRuntime) -> Result<(), Fail> {
     assert_asked(&rt, SPINS, NO_CALLS, 12, (0, 4096), 64)?;
     assert_abandoned(&rt, SPINS, NO_CALLS, 12, 64)
+}
+
+/// Matrices, with the least bad schedule of each and why it is bad: an increment is lost; only
+/// precedence refuses the history; a pending call has no witness, though another one has.
+const BAD: &[(&[u8], &str, Why)] = &[
+    (
+        b"thread inc\nthread inc\n",
+        "schedule 0 0 0 1 1 0 0 1 1 1\n",
+        Why::Complete,
+    ),
+    (
+        b"thread hold\nthread put\nthread get\n",
+        "schedule 0 0 1 1 0 0 1 1 2 2 2\n",
+        Why::Complete,
+    ),
+    (
+        b"thread take\nthread mn\nthread nm\n",
+        "schedule 0 1 1 2 2\n",
+        Why::Stuck(1),
+    ),
+];
+
+#[test]
+fn packed_sets_with_a_cache_of_one_verdict(rt: HostRuntime) -> Result<(), Fail> {
+    for (matrix, text, why) in BAD {
+        let found = found_over(&rt, matrix, matrix, 40, &mut stops_at(0))?;
+        assert_bad(&rt, &found, text, *why)?;
+    }
+    Ok(())
 }
 
 /// What is found below the schedule within 40 moves, with a cache of one verdict.

@@ -59,6 +59,12 @@ abbrev pub FindsBelow : {E : Type 0} → Declarations → Matrix → List (List 
 FindsBelow c matrix members from bound result =
     (s : State) → IsStart c matrix s → IfOk result (IsFound (IsMember members) s bound (Below from))
 
+abbrev pub MayFindBelow : {E : Type 0} → Declarations → Matrix → List (List SerialOp) → List Move
+    → ℕ → Result Found E → Type 0
+MayFindBelow c matrix members from bound result =
+    (s : State) → IsStart c matrix s
+    → IfOk result (IsFoundWatched (IsMember members) s bound (Below from))
+
 abbrev pub MayFind : {E : Type 0} → SearchSpace → List (List SerialOp) → List Move
     → Result Found E → Type 0
 MayFind space members from result =

@@ -38,7 +38,7 @@ mod watch;
 
 pub use found::Found;
 pub use pieces::frontier;
-pub use searching::{search, search_with};
+pub use searching::{search, search_watched, search_with};
 pub use space::SearchSpace;
 pub use tables::Tables;
 pub use watch::{Unwatched, Watch};

@@ -11,7 +11,7 @@ ghost use Rattle.lu_machine.specs.Starts.{CanRun, IsStart};
 ghost use Rattle.lu_history.specs.Standing.{Agree};
 ghost use Rattle.lu_witness.specs.Caches.{SameButEntries};
 ghost use Rattle.lu_tree.specs.Tables.{AreRunTables};
-ghost use Rattle.lu_tree.specs.Trees.{CanSearch, FindsBelow, MayFind, is_abandoned};
+ghost use Rattle.lu_tree.specs.Trees.{CanSearch, FindsBelow, MayFind, MayFindBelow, is_abandoned};
 ghost use Rattle.lu_tree.specs.Walked.{IsBadFound};
 ghost use Rattle.lu_tree.specs.Walks.{IsScheduleIn, LeadsToNode};
 
@@ -127,6 +127,44 @@ pub fn search_with<'t, T: SerialTree, W: Watch>(
         return Ok(Found::Abandoned);
     }
     found_bad(cache, moves, tally.path, &mut node)
+}
+
+/// Searches as [`search`] does, over the tree of the cache, until the watch stops it. The watch is
+/// asked after each 64 further schedules that were judged good, or that are cut. The tables of the
+/// component and the matrix are made for this search alone: see [`search_with`] for many.
+///
+/// # Errors
+///
+/// `AllocError` where memory was refused.
+pub fn search_watched<'t, T: SerialTree, W: Watch>(
+    alloc: Global,
+    component: &Component,
+    matrix: &Matrix,
+    cache: &mut Cache<'t, T>,
+    from: &Schedule,
+    bound: u16,
+    watch: &mut W,
+) -> Result<Found, AllocError>
+    requires of { CanRun component.now matrix.now }
+    requires few { bound ≤ 256 }
+    requires short { length from.now ≤ bound }
+    requires leads { (s : State) → IsStart component.now matrix.now s → IsSchedule s from.now }
+    requires running { W.is_stopped watch.old ≡ false }
+    ensures found { MayFindBelow component.now matrix.now (T.members cache.old.tree) from.now
+        bound result }
+    ensures base { W.base watch.new ≡ W.base watch.old }
+    ensures cache { SameButEntries cache.old cache.new }
+    ensures stopped { W.is_stopped watch.new ≡ is_abandoned result }
+    ensures limits { OnOk result (IsComponent component.now × IsMatrix matrix.now) }
+{
+    let space = SearchSpace {
+        alloc,
+        component,
+        matrix,
+        bound,
+    };
+    let tables = Tables::new(alloc, component, matrix, bound)?;
+    search_with(&space, &tables, cache, from, watch)
 }
 
 /// Searches the schedules that begin with `from`: returns the least one that is ended within the
