@@ -2,28 +2,23 @@
 use Rattle.std.proofs.Common.{◌≡◌, ℕ, List, Result, Ok, Err, refl, sym, ◌∙◌, ap, subst, inl, inr}
 use Rattle.std.specs.Prelude.{IfOk}
 use Rattle.lu_component.specs.Component.{Declarations}
+use Rattle.lu_test.specs.declared.schedule.Move.{Move}
 use Rattle.lu_test.specs.Matrix.{Matrix, cut}
 use Rattle.lu_machine.specs.Starts.{Settles}
 use Rattle.lu_machine.proofs.Starting.{settles_too, start_there}
 use Rattle.lu_report.specs.declared.report.Finding.{Finding}
-use Rattle.lu_report.specs.declared.report.Finding.TheVariants.{SerialCut, Nondeterministic, Fail, Pass}
 use Rattle.lu_report.specs.declared.report.Report.{Report}
 use Rattle.lu_replay.specs.Reports.{IsReport}
 use Rattle.lu_replay.proofs.Determined.{one_report}
 use Rattle.lu_refute.proofs.Outside.{whole_cut}
 use Rattle.lu_certify.specs.declared.certificate.Certificate.{Certificate}
-use Rattle.lu_certify.specs.declared.certificate.Certificate.TheVariants.{Linearizable, NotLinearizable, Undecided}
-use Rattle.lu_certify.specs.Certificates.{AllCuts, AreSame, HasReport, IsCertificate, IsFailure, IsFirstOfCuts, IsFullPass, IsUnclear}
+use Rattle.lu_certify.specs.declared.certificate.Certificate.TheVariants.{Linearizable, Livelock, NotLinearizable, Undecided}
+use Rattle.lu_certify.specs.Certificates.{AllClear, AreSame, HasReport, IsCertificate, IsClear, IsFailure, IsFirstLivelock, IsFirstOfCuts, IsFirstUnclear, IsLivelock, NoLivelocks}
 use Rattle.lu_certify.specs.Laws.{CertificateDecides, Decides}
-use Rattle.lu_certify.proofs.Linear.{at_cut, begun_deterministic, full_at, passes_linearize}
+use Rattle.lu_certify.proofs.Linear.{begun_deterministic, clear_at, clear_cut, clear_linearizes, clear_not_failing}
+use Rattle.lu_certify.proofs.Livelocks.{one_lost}
 use Rattle.lu_certify.proofs.Ordered.{lengths_compare}
 use Rattle.lu_certify.proofs.Refuted.{none_serves}
-
-pub not_both : (f : Finding) → IsFullPass f → IsFailure f → ⊥
-not_both (SerialCut u) pass failure = failure
-not_both (Nondeterministic u before earlier) pass failure = pass
-not_both (Fail u why) pass failure = pass
-not_both (Pass counts) pass failure = failure
 
 module _ (c : Declarations) (matrix : Matrix) (bound serial : ℕ) (settles : Settles c matrix) where
   cut_settles : (lengths : List ℕ) → Settles c (cut matrix lengths)
@@ -37,12 +32,46 @@ module _ (c : Declarations) (matrix : Matrix) (bound serial : ℕ) (settles : Se
     has_kind : HasReport Kind c bound serial (cut matrix first.lengths)
     has_kind = (r, its, first.kind)
 
-    -- where all cuts are of another kind, it is of that too
-    also : (Other : Finding → Type 0) → AllCuts Other c matrix bound serial → Other r.finding
-    also Other all =
-        let x = all first.lengths first.are in
-        let same : x.0 ≡ r = one_report c (cut matrix first.lengths) bound serial x.0 r (cut_settles first.lengths) x.1 its in
-        subst (λ (y : Report). Other y.finding) same x.2
+  -- where each cut is clear, none fails
+  none_fails : AllClear c matrix bound serial → (smaller : Matrix) (r : Report) → IsFirstOfCuts IsFailure c matrix bound serial smaller r → ⊥
+  none_fails all smaller r first =
+      clear_not_failing c (cut matrix first.lengths) bound serial (cut_settles first.lengths) (all first.lengths first.are) (has_kind IsFailure smaller r first)
+
+  here_unclear : (smaller : Matrix) (r : Report) (first : IsFirstUnclear c matrix bound serial smaller r) → IsClear c bound serial (cut matrix first.lengths) → ⊥
+  here_unclear smaller r first clear = first.unclear (subst (IsClear c bound serial) (sym first.is) clear)
+
+  none_unclear : AllClear c matrix bound serial → (smaller : Matrix) (r : Report) → IsFirstUnclear c matrix bound serial smaller r → ⊥
+  none_unclear all smaller r first = here_unclear smaller r first (all first.lengths first.are)
+
+  unclear_same : (a b : Matrix) (r q : Report) → IsFirstUnclear c matrix bound serial a r → IsFirstUnclear c matrix bound serial b q → (a ≡ b) × (r ≡ q)
+  unclear_same a b r q x y =
+      elim (lengths_compare matrix x.lengths y.lengths x.are y.are) as (λ _. (a ≡ b) × (r ≡ q)) [
+        | inl z ↦ elim z as (λ _. (a ≡ b) × (r ≡ q)) [
+          | inl less ↦ absurd (here_unclear a r x (y.before x.lengths x.are less))
+          | inr more ↦ absurd (here_unclear b q y (x.before y.lengths y.are more))
+        ]
+        | inr same ↦
+            (let one_cut : a ≡ b = x.is ∙ (ap (λ (l : List ℕ). cut matrix l) same ∙ sym y.is) in
+            let settled : Settles c b = subst (Settles c) (sym y.is) (cut_settles y.lengths) in
+            (one_cut, one_report c b bound serial r q settled (subst (λ m. IsReport c m bound serial r) one_cut x.report) y.report))
+      ]
+
+  none_lost : NoLivelocks c matrix serial → (smaller : Matrix) (u : List Move) → IsFirstLivelock c matrix serial smaller u → ⊥
+  none_lost none smaller u first = none first.lengths first.are u (subst (λ m. IsLivelock c serial m u) first.is first.livelock)
+
+  livelock_same : (a b : Matrix) (u v : List Move) → IsFirstLivelock c matrix serial a u → IsFirstLivelock c matrix serial b v → (a ≡ b) × (u ≡ v)
+  livelock_same a b u v x y =
+      elim (lengths_compare matrix x.lengths y.lengths x.are y.are) as (λ _. (a ≡ b) × (u ≡ v)) [
+        | inl z ↦ elim z as (λ _. (a ≡ b) × (u ≡ v)) [
+          | inl less ↦ absurd (y.before x.lengths x.are less u (subst (λ m. IsLivelock c serial m u) x.is x.livelock))
+          | inr more ↦ absurd (x.before y.lengths y.are more v (subst (λ m. IsLivelock c serial m v) y.is y.livelock))
+        ]
+        | inr same ↦
+            (let one_cut : a ≡ b = x.is ∙ (ap (λ (l : List ℕ). cut matrix l) same ∙ sym y.is) in
+            let there = start_there c b (subst (Settles c) (sym y.is) (cut_settles y.lengths)) in
+            let here : IsLivelock c serial b u = subst (λ m. IsLivelock c serial m u) one_cut x.livelock in
+            (one_cut, one_lost there.0 u v (here there.0 there.1).2 (y.livelock there.0 there.1).2))
+      ]
 
   first_same : (Kind : Finding → Type 0) (a b : Matrix) (r q : Report) → IsFirstOfCuts Kind c matrix bound serial a r → IsFirstOfCuts Kind c matrix bound serial b q → (a ≡ b) × (r ≡ q)
   first_same Kind a b r q x y =
@@ -62,30 +91,40 @@ module _ (c : Declarations) (matrix : Matrix) (bound serial : ℕ) (settles : Se
   one (Linearizable members) (Linearizable others) x y =
       let there = start_there c matrix settles in
       λ q. (
-        (λ has. (y.1 there.0 there.1 q).1 ((x.1 there.0 there.1 q).0 has)),
-        (λ has. (x.1 there.0 there.1 q).1 ((y.1 there.0 there.1 q).0 has)),
+        (λ has. (y.2 there.0 there.1 q).1 ((x.2 there.0 there.1 q).0 has)),
+        (λ has. (x.2 there.0 there.1 q).1 ((y.2 there.0 there.1 q).0 has)),
       )
-  one (Linearizable members) (NotLinearizable b q) x y = not_both q.finding (also IsFailure b q y IsFullPass x.0) y.kind
-  one (Linearizable members) (Undecided b q) x y = y.1.kind.1 (also IsUnclear b q y.1 IsFullPass x.0)
-  one (NotLinearizable a r) (Linearizable others) x y = absurd (not_both r.finding (also IsFailure a r x IsFullPass y.0) x.kind)
+  one (Linearizable members) (NotLinearizable b q) x y = none_fails x.0 b q y
+  one (Linearizable members) (Livelock b v) x y = none_lost x.1 b v y.1
+  one (Linearizable members) (Undecided b q) x y = none_unclear x.0 b q y.2
+  one (NotLinearizable a r) (Linearizable others) x y = absurd (none_fails y.0 a r x)
   one (NotLinearizable a r) (NotLinearizable b q) x y =
       let same = first_same IsFailure a b r q x y in
       ap (λ (m : Matrix). NotLinearizable m r) same.0 ∙ ap (λ (p : Report). NotLinearizable b p) same.1
+  one (NotLinearizable a r) (Livelock b v) x y = absurd (y.0 x.lengths x.are (has_kind IsFailure a r x))
   one (NotLinearizable a r) (Undecided b q) x y = absurd (y.0 x.lengths x.are (has_kind IsFailure a r x))
-  one (Undecided a r) (Linearizable others) x y = absurd (x.1.kind.1 (also IsUnclear a r x.1 IsFullPass y.0))
+  one (Livelock a u) (Linearizable others) x y = absurd (none_lost y.1 a u x.1)
+  one (Livelock a u) (NotLinearizable b q) x y = absurd (x.0 y.lengths y.are (has_kind IsFailure b q y))
+  one (Livelock a u) (Livelock b v) x y =
+      let same = livelock_same a b u v x.1 y.1 in
+      ap (λ (m : Matrix). Livelock m u) same.0 ∙ ap (λ (w : List Move). Livelock b w) same.1
+  one (Livelock a u) (Undecided b q) x y = absurd (none_lost y.1 a u x.1)
+  one (Undecided a r) (Linearizable others) x y = absurd (none_unclear y.0 a r x.2)
   one (Undecided a r) (NotLinearizable b q) x y = absurd (x.0 y.lengths y.are (has_kind IsFailure b q y))
+  one (Undecided a r) (Livelock b v) x y = absurd (none_lost x.1 b v y.1)
   one (Undecided a r) (Undecided b q) x y =
-      let same = first_same IsUnclear a b r q x.1 y.1 in
+      let same = unclear_same a b r q x.2 y.2 in
       ap (λ (m : Matrix). Undecided m r) same.0 ∙ ap (λ (p : Report). Undecided b p) same.1
 
   pub decided : (certificate : Certificate) → IsCertificate c matrix bound serial certificate → Decides c matrix certificate
   decided (Linearizable members) x =
       let there = start_there c matrix settles in
-      let whole = full_at c matrix bound serial (at_cut IsFullPass c matrix bound serial x.0 matrix (whole_cut matrix)) there.0 there.1 in (
-        begun_deterministic c matrix there.0 serial members there.1 whole.none (x.1 there.0 there.1),
-        passes_linearize c matrix bound serial members settles x.0 x.1,
+      let whole = clear_at c matrix bound serial (clear_cut c matrix bound serial x.0 matrix (whole_cut matrix)) there.0 there.1 in (
+        begun_deterministic c matrix there.0 serial members there.1 whole.none (x.2 there.0 there.1),
+        clear_linearizes c matrix bound serial members settles x.0 x.2,
       )
   decided (NotLinearizable smaller r) x = none_serves c matrix smaller bound serial r settles (x.lengths, x.are, x.is) x.report x.kind
+  decided (Livelock smaller u) x = ((x.1.lengths, x.1.are, x.1.is), (λ s at. (x.1.livelock s at).2.lost))
   decided (Undecided smaller r) x = tt
 
 pub certificate_decides : CertificateDecides

@@ -1,10 +1,11 @@
 -- What is known of the cuts before a place.
 use Rattle.std.proofs.Common.{arith, ◌≡◌, ◌<◌, ◌≤◌, ◌+◌, ℕ, zero, suc, List, [], ◌∷◌, ◌++◌, Result, Ok, Err, refl, sym, ap, subst, inl, inr}
-use Rattle.std.specs.Prelude.{All, IfOk, Option, Some, None}
+use Rattle.std.specs.Prelude.{All, IfOk}
 use Rattle.std.proofs.lemmas.Bool.{cases_lt}
 use Rattle.std.proofs.lemmas.List.Elements.{All-take}
 use Rattle.lu_component.specs.Component.{Declarations}
 use Rattle.lu_test.specs.declared.matrix.Call.{Call}
+use Rattle.lu_test.specs.declared.schedule.Move.{Move}
 use Rattle.lu_test.specs.Matrix.{IsCallOf, IsOf, Matrix, cut, first_calls}
 use Rattle.lu_machine.specs.States.{State}
 use Rattle.lu_machine.specs.Starts.{CanRun, IsStart, Settles}
@@ -22,33 +23,101 @@ use Rattle.lu_refute.proofs.Grounds.{ground_of, grounded, none_on, start_on}
 use Rattle.lu_refute.proofs.Ops.{HasSerialHistory, some_serial}
 use Rattle.lu_refute.proofs.Outside.{whole_cut}
 use Rattle.lu_certify.specs.declared.certificate.Certificate.{Certificate}
-use Rattle.lu_certify.specs.declared.certificate.Certificate.TheVariants.{Linearizable, NotLinearizable, Undecided}
-use Rattle.lu_certify.specs.Certificates.{AllCuts, AreBeginnings, HasReport, IsCertificate, IsFailure, IsFirstOfCuts, IsFullPass, IsUnclear, NamesCutOf, NoCuts}
-use Rattle.lu_certify.specs.Places.{IsConcluded, IsCutAtPlace, IsFirstUnclear, IsWithoutOffence, cut_count, place_of_lengths}
+use Rattle.lu_certify.specs.declared.certificate.Certificate.TheVariants.{Linearizable, Livelock, NotLinearizable, Undecided}
+use Rattle.lu_certify.specs.declared.so_far.SoFar.{SoFar}
+use Rattle.lu_certify.specs.declared.so_far.SoFar.TheVariants.{Clear, Lost, Unclear}
+use Rattle.lu_certify.specs.Certificates.{AllClear, AreBeginnings, HasNoLivelock, HasReport, IsCertificate, IsClear, IsFailure, IsFirstLivelock, IsFirstOfCuts, IsFirstUnclear, IsLivelock, NamesCutOf, NoCuts, NoLivelocks}
+use Rattle.lu_certify.specs.Places.{IsConcluded, IsCutAtPlace, IsNext, IsWithoutOffence, cut_count, place_of_lengths}
 use Rattle.lu_certify.proofs.Counted.{earlier, place_below, place_same}
-use Rattle.lu_certify.proofs.Linear.{at_cut, full_at}
+use Rattle.lu_certify.proofs.Linear.{clear_at, clear_cut, clear_not_failing}
 
 module _ (c : Declarations) (matrix : Matrix) (bound serial : ℕ) where
-  -- the cuts of all places before this one have reports of this kind
-  abbrev pub AllBefore : (Finding → Type 0) → ℕ → Type 0
-  AllBefore Kind place =
-      (other : List ℕ) → AreLengths matrix other → place_of_lengths matrix.threads other < place → HasReport Kind c bound serial (cut matrix other)
+  -- the cuts of all places before this one are clear
+  abbrev pub ClearBefore : ℕ → Type 0
+  ClearBefore place =
+      (other : List ℕ) → AreLengths matrix other → place_of_lengths matrix.threads other < place → IsClear c bound serial (cut matrix other)
 
   -- none of them has
   abbrev pub NoneBefore : (Finding → Type 0) → ℕ → Type 0
   NoneBefore Kind place =
       (other : List ℕ) → AreLengths matrix other → place_of_lengths matrix.threads other < place → HasReport Kind c bound serial (cut matrix other) → ⊥
 
-  -- the first of them that is no full pass, if any
-  abbrev pub IsFound : ℕ → Option (Matrix × Report) → Type 0
-  IsFound place None = AllBefore IsFullPass place
-  IsFound place (Some found) = IsFirstOfCuts IsUnclear c matrix bound serial found.0 found.1
+  -- none of them has a livelock
+  abbrev pub NoLivelockBefore : ℕ → Type 0
+  NoLivelockBefore place =
+      (other : List ℕ) → AreLengths matrix other → place_of_lengths matrix.threads other < place → HasNoLivelock c serial (cut matrix other)
+
+  -- what is known of them, none of which fails
+  abbrev pub IsKnown : ℕ → SoFar → Type 0
+  IsKnown place Clear = ClearBefore place × NoLivelockBefore place
+  IsKnown place (Unclear smaller r) = IsFirstUnclear c matrix bound serial smaller r × NoLivelockBefore place
+  IsKnown place (Lost smaller u) = IsFirstLivelock c matrix serial smaller u
 
   pub none_yet : (Kind : Finding → Type 0) → NoneBefore Kind 0
   none_yet Kind other are less has = absurd (omega arith)
 
-  pub none_found : (found : Option (Matrix × Report)) → found ≡ None → IsFound 0 found
-  none_found found is = subst (IsFound 0) (sym is) (λ other are less. absurd (omega arith))
+  pub none_known : IsKnown 0 Clear
+  none_known = ((λ other are less. absurd (omega arith)), (λ other are less. absurd (omega arith)))
+
+  -- the cut at this place
+  module _ (settles : Settles c matrix) (place : ℕ) (smaller : Matrix) (at : IsCutAtPlace matrix place smaller) where
+    -- a cut before the next place is before this one, or it is this one
+    this_or_before : (P : List ℕ → Type 0) → ((other : List ℕ) → AreLengths matrix other → place_of_lengths matrix.threads other < place → P other) → P at.0 → (other : List ℕ) → AreLengths matrix other → place_of_lengths matrix.threads other < place + 1 → P other
+    this_or_before P before here other are less =
+        elim (cases_lt (place_of_lengths matrix.threads other) place) as (λ _. P other) [
+          | inl lt ↦ before other are lt
+          | inr least ↦
+              (let there = at.1.at in
+              let same : other ≡ at.0 = place_same matrix other at.0 are at.1.are (omega (arith, least, less, there)) in
+              subst P (sym same) here)
+        ]
+
+    clear_more : ClearBefore place → IsClear c bound serial smaller → ClearBefore (place + 1)
+    clear_more before clear = this_or_before (λ other. IsClear c bound serial (cut matrix other)) before (subst (IsClear c bound serial) at.2 clear)
+
+    -- it is clear
+    module _ (clear : IsClear c bound serial smaller) where
+      pub none_clear : NoneBefore IsFailure place → NoneBefore IsFailure (place + 1)
+      none_clear before = this_or_before (λ other. HasReport IsFailure c bound serial (cut matrix other) → ⊥) before
+          (clear_not_failing c (cut matrix at.0) bound serial (settles_too c matrix (cut matrix at.0) settles refl) (subst (IsClear c bound serial) at.2 clear))
+
+    none_lost_more : NoLivelockBefore place → HasNoLivelock c serial smaller → NoLivelockBefore (place + 1)
+    none_lost_more before none = this_or_before (λ other. HasNoLivelock c serial (cut matrix other)) before (subst (HasNoLivelock c serial) at.2 none)
+
+    first_lost : (u : List Move) → IsLivelock c serial smaller u → NoLivelockBefore place → IsFirstLivelock c matrix serial smaller u
+    first_lost u livelock before = record {
+      lengths = at.0;
+      are = at.1.are;
+      is = at.2;
+      livelock = livelock;
+      before = λ other are less.
+          (let lt = earlier matrix other at.0 are at.1.are less in
+          let there = at.1.at in
+          before other are (omega (arith, lt, there)));
+    }
+
+    -- the first that is not clear
+    first_left : (r : Report) → IsReport c smaller bound serial r → (IsClear c bound serial smaller → ⊥) → ClearBefore place → IsFirstUnclear c matrix bound serial smaller r
+    first_left r report unclear before = record {
+      lengths = at.0;
+      are = at.1.are;
+      is = at.2;
+      report = report;
+      unclear = unclear;
+      before = λ other are less.
+          (let lt = earlier matrix other at.0 are at.1.are less in
+          let there = at.1.at in
+          before other are (omega (arith, lt, there)));
+    }
+
+    pub known_next : (old new : SoFar) → IsNext c bound serial old smaller new → IsKnown place old → IsKnown (place + 1) new
+    known_next (Lost one u) new is known = subst (IsKnown (place + 1)) (sym is) known
+    known_next (Unclear one r) Clear is known = absurd is
+    known_next (Unclear one r) (Unclear other q) is known = subst (IsKnown (place + 1)) (sym is.0) (known.0, none_lost_more known.1 is.1)
+    known_next (Unclear one r) (Lost other u) is known = subst (λ (x : Matrix). IsFirstLivelock c matrix serial x u) (sym is.0) (first_lost u is.1 known.1)
+    known_next Clear Clear is known = (clear_more known.0 is.1, none_lost_more known.1 is.0)
+    known_next Clear (Unclear other r) is known = (subst (λ (x : Matrix). IsFirstUnclear c matrix bound serial x r) (sym is.0) (first_left r is.2 is.3 known.0), none_lost_more known.1 is.1)
+    known_next Clear (Lost other u) is known = subst (λ (x : Matrix). IsFirstLivelock c matrix serial x u) (sym is.0) (first_lost u is.1 known.1)
 
   -- r is the report of the cut at this place
   module _ (settles : Settles c matrix) (place : ℕ) (smaller : Matrix) (r : Report) (at : IsCutAtPlace matrix place smaller) (report : IsReport c smaller bound serial r) where
@@ -61,22 +130,8 @@ module _ (c : Declarations) (matrix : Matrix) (bound serial : ℕ) where
         let same : has.0 ≡ r = one_report c (cut matrix at.0) bound serial has.0 r (settles_too c matrix (cut matrix at.0) settles refl) has.1 its in
         subst (λ (x : Report). Kind x.finding) same has.2
 
-    -- a cut before the next place is before this one, or it is this one
-    this_or_before : (P : List ℕ → Type 0) → ((other : List ℕ) → AreLengths matrix other → place_of_lengths matrix.threads other < place → P other) → P at.0 → (other : List ℕ) → AreLengths matrix other → place_of_lengths matrix.threads other < place + 1 → P other
-    this_or_before P before here other are less =
-        elim (cases_lt (place_of_lengths matrix.threads other) place) as (λ _. P other) [
-          | inl lt ↦ before other are lt
-          | inr least ↦
-              (let there = at.1.at in
-              let same : other ≡ at.0 = place_same matrix other at.0 are at.1.are (omega (arith, least, less, there)) in
-              subst P (sym same) here)
-        ]
-
     pub none_more : (Kind : Finding → Type 0) → NoneBefore Kind place → (Kind r.finding → ⊥) → NoneBefore Kind (place + 1)
-    none_more Kind before other_kind = this_or_before (λ other. HasReport Kind c bound serial (cut matrix other) → ⊥) before (λ has. other_kind (of_kind Kind has))
-
-    all_more : (Kind : Finding → Type 0) → AllBefore Kind place → Kind r.finding → AllBefore Kind (place + 1)
-    all_more Kind before kind = this_or_before (λ other. HasReport Kind c bound serial (cut matrix other)) before (r, its, kind)
+    none_more Kind before other_kind = this_or_before settles place smaller at (λ other. HasReport Kind c bound serial (cut matrix other) → ⊥) before (λ has. other_kind (of_kind Kind has))
 
     pub first_here : (Kind : Finding → Type 0) → NoneBefore Kind place → Kind r.finding → IsFirstOfCuts Kind c matrix bound serial smaller r
     first_here Kind before kind = record {
@@ -91,47 +146,37 @@ module _ (c : Declarations) (matrix : Matrix) (bound serial : ℕ) where
           before other are (omega (arith, lt, there)));
     }
 
-    -- where all before are full passes, none of them is unclear
-    none_unclear : AllBefore IsFullPass place → NoneBefore IsUnclear place
-    none_unclear all other are less has =
-        let x = all other are less in
-        let same : has.0 ≡ x.0 = one_report c (cut matrix other) bound serial has.0 x.0 (settles_too c matrix (cut matrix other) settles refl) has.1 x.1 in
-        has.2.1 (subst (λ (y : Report). IsFullPass y.finding) (sym same) x.2)
-
-    pub found_more : (IsFailure r.finding → ⊥) → (found new : Option (Matrix × Report)) → IsFirstUnclear found smaller r new → IsFound place found → IsFound (place + 1) new
-    found_more passes (Some x) new is known = subst (IsFound (place + 1)) (sym is) known
-    found_more passes None None is known = all_more IsFullPass known is
-    found_more passes None (Some x) is known =
-        subst (λ (y : Matrix × Report). IsFirstOfCuts IsUnclear c matrix bound serial y.0 y.1) (sym is.0)
-        (first_here IsUnclear (none_unclear known) (passes, is.1))
-
   -- at the end
   none_all : (Kind : Finding → Type 0) (place : ℕ) → cut_count matrix.threads ≤ place → NoneBefore Kind place → NoCuts Kind c matrix bound serial
   none_all Kind place all before lengths are has = (let below = place_below matrix lengths are in before lengths are (omega (arith, below, all)) has)
 
-  all_found : (place : ℕ) (found : Option (Matrix × Report)) → cut_count matrix.threads ≤ place → found ≡ None → IsFound place found → AllCuts IsFullPass c matrix bound serial
-  all_found place found all none known lengths are =
-      let before : AllBefore IsFullPass place = subst (IsFound place) none known in
-      (let below = place_below matrix lengths are in before lengths are (omega (arith, below, all)))
+  all_known : (place : ℕ) → cut_count matrix.threads ≤ place → IsKnown place Clear → AllClear c matrix bound serial
+  all_known place all known lengths are = (let below = place_below matrix lengths are in known.0 lengths are (omega (arith, below, all)))
+
+  none_lost_all : (place : ℕ) → cut_count matrix.threads ≤ place → NoLivelockBefore place → NoLivelocks c matrix serial
+  none_lost_all place all none lengths are = (let below = place_below matrix lengths are in none lengths are (omega (arith, below, all)))
 
   -- no serial run of the whole matrix offends
-  all_without : AllCuts IsFullPass c matrix bound serial → IsWithoutOffence c matrix serial
-  all_without all s is = (full_at c matrix bound serial (at_cut IsFullPass c matrix bound serial all matrix (whole_cut matrix)) s is).none
+  all_without : AllClear c matrix bound serial → IsWithoutOffence c matrix serial
+  all_without all s is = (clear_at c matrix bound serial (clear_cut c matrix bound serial all matrix (whole_cut matrix)) s is).none
 
-  pub none_offends : (place : ℕ) (found : Option (Matrix × Report)) → cut_count matrix.threads ≤ place → IsFound place found → found ≡ None → IsWithoutOffence c matrix serial
-  none_offends place found all known none = all_without (all_found place found all none known)
+  pub none_offends : (place : ℕ) (so_far : SoFar) → cut_count matrix.threads ≤ place → IsKnown place so_far → so_far ≡ Clear → IsWithoutOffence c matrix serial
+  none_offends place so_far all known clear = all_without (all_known place all (subst (IsKnown place) clear known))
 
   -- what is concluded is the certificate
-  pub concluded : (place : ℕ) (found : Option (Matrix × Report)) → cut_count matrix.threads ≤ place → NoneBefore IsFailure place → IsFound place found → (certificate : Certificate) → IsConcluded c matrix found certificate → IsCertificate c matrix bound serial certificate
-  concluded place None all before known (Linearizable members) is = (all_found place None all refl known, is)
-  concluded place None all before known (NotLinearizable smaller r) is = absurd is
-  concluded place None all before known (Undecided smaller r) is = absurd is
-  concluded place (Some x) all before known certificate is =
+  pub concluded : (place : ℕ) (so_far : SoFar) → cut_count matrix.threads ≤ place → NoneBefore IsFailure place → IsKnown place so_far → (certificate : Certificate) → IsConcluded c matrix so_far certificate → IsCertificate c matrix bound serial certificate
+  concluded place Clear all before known (Linearizable members) is = (all_known place all known, none_lost_all place all known.1, is)
+  concluded place Clear all before known (NotLinearizable smaller r) is = absurd is
+  concluded place Clear all before known (Livelock smaller u) is = absurd is
+  concluded place Clear all before known (Undecided smaller r) is = absurd is
+  concluded place (Unclear smaller r) all before known certificate is =
+      subst (IsCertificate c matrix bound serial) (sym is) (none_all IsFailure place all before, none_lost_all place all known.1, known.0)
+  concluded place (Lost smaller u) all before known certificate is =
       subst (IsCertificate c matrix bound serial) (sym is) (none_all IsFailure place all before, known)
 
-  pub concluded_where : {E : Type 0} (place : ℕ) (found : Option (Matrix × Report)) → cut_count matrix.threads ≤ place → NoneBefore IsFailure place → IsFound place found → (result : Result Certificate E) → IfOk result (IsConcluded c matrix found) → IfOk result (IsCertificate c matrix bound serial)
-  concluded_where place found all before known (Ok certificate) is = concluded place found all before known certificate is
-  concluded_where place found all before known (Err e) is = tt
+  pub concluded_where : {E : Type 0} (place : ℕ) (so_far : SoFar) → cut_count matrix.threads ≤ place → NoneBefore IsFailure place → IsKnown place so_far → (result : Result Certificate E) → IfOk result (IsConcluded c matrix so_far) → IfOk result (IsCertificate c matrix bound serial)
+  concluded_where place so_far all before known (Ok certificate) is = concluded place so_far all before known certificate is
+  concluded_where place so_far all before known (Err e) is = tt
 
 -- ---- the cut runs
 
@@ -145,6 +190,16 @@ pub cut_runs : (c : Declarations) (matrix : Matrix) (place : ℕ) (smaller : Mat
 cut_runs c matrix place smaller runs at =
     subst (CanRun c) (sym at.2) (can_run_too c matrix (cut matrix at.0) runs (runs.of.0, rows_of c matrix.threads at.0 runs.of.1) refl)
 
+-- so is the first that is not clear
+unclear_of : (c : Declarations) (matrix smaller : Matrix) (bound serial : ℕ) (r : Report) → IsOf matrix c → IsFirstUnclear c matrix bound serial smaller r → IsOf smaller c
+unclear_of c matrix smaller bound serial r of first =
+    subst (λ (m : Matrix). IsOf m c) (sym first.is) (of.0, rows_of c matrix.threads first.lengths of.1)
+
+-- and the first that has a livelock
+livelock_of : (c : Declarations) (matrix smaller : Matrix) (serial : ℕ) (u : List Move) → IsOf matrix c → IsFirstLivelock c matrix serial smaller u → IsOf smaller c
+livelock_of c matrix smaller serial u of first =
+    subst (λ (m : Matrix). IsOf m c) (sym first.is) (of.0, rows_of c matrix.threads first.lengths of.1)
+
 -- a cut that is the first of some kind is a matrix of the component
 first_of : (c : Declarations) (matrix smaller : Matrix) (Kind : Finding → Type 0) (bound serial : ℕ) (r : Report) → IsOf matrix c → IsFirstOfCuts Kind c matrix bound serial smaller r → IsOf smaller c
 first_of c matrix smaller Kind bound serial r of first =
@@ -153,7 +208,8 @@ first_of c matrix smaller Kind bound serial r of first =
 pub names_cut : (c : Declarations) (matrix : Matrix) (bound serial : ℕ) (certificate : Certificate) → IsOf matrix c → IsCertificate c matrix bound serial certificate → NamesCutOf c certificate
 names_cut c matrix bound serial (Linearizable members) of is = tt
 names_cut c matrix bound serial (NotLinearizable smaller r) of is = first_of c matrix smaller IsFailure bound serial r of is
-names_cut c matrix bound serial (Undecided smaller r) of is = first_of c matrix smaller IsUnclear bound serial r of is.1
+names_cut c matrix bound serial (Livelock smaller u) of is = livelock_of c matrix smaller serial u of is.1
+names_cut c matrix bound serial (Undecided smaller r) of is = unclear_of c matrix smaller bound serial r of is.2
 
 pub names_where : {E : Type 0} (c : Declarations) (matrix : Matrix) (bound serial : ℕ) → IsOf matrix c → (result : Result Certificate E) → IfOk result (IsCertificate c matrix bound serial) → IfOk result (NamesCutOf c)
 names_where c matrix bound serial of (Ok certificate) is = names_cut c matrix bound serial certificate of is

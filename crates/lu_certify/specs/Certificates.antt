@@ -1,11 +1,15 @@
 -- Certificates: what the reports of all cuts of a matrix say together.
 use Rattle.std.specs.Prelude.{◌≡◌, ◌↔◌, ◌<◌, ◌⊎◌, ℕ, List, [], ◌∷◌}
 use Rattle.lu_component.specs.Component.{Declarations}
+use Rattle.lu_test.specs.declared.schedule.Move.{Move}
 use Rattle.lu_test.specs.Matrix.{IsOf, Matrix, cut}
 use Rattle.lu_machine.specs.States.{State}
 use Rattle.lu_machine.specs.Starts.{FromEachStart}
 use Rattle.lu_history.specs.declared.serial.SerialOp.{SerialOp}
+use Rattle.lu_serial.specs.Offences.{NoOffence}
 use Rattle.lu_serial.specs.Serial.{IsSerialHistory}
+use Rattle.lu_graph.specs.Hopeless.{HasFewStates, IsFirstLost}
+use Rattle.lu_graph.specs.Nodes.{EndsWellOnFewNodes}
 use Rattle.lu_report.specs.declared.report.Finding.{Finding}
 use Rattle.lu_report.specs.declared.report.Finding.TheVariants.{SerialCut, Nondeterministic, Fail, Pass}
 use Rattle.lu_report.specs.declared.report.Report.{Report}
@@ -15,7 +19,7 @@ use Rattle.lu_parallel.specs.Ranges.{Choice}
 use Rattle.lu_spec.specs.Beginnings.{Begins, Has}
 use Rattle.lu_refute.specs.Linearizable.{AreLengths}
 use Rattle.lu_certify.specs.declared.certificate.Certificate.{Certificate}
-use Rattle.lu_certify.specs.declared.certificate.Certificate.TheVariants.{Linearizable, NotLinearizable, Undecided}
+use Rattle.lu_certify.specs.declared.certificate.Certificate.TheVariants.{Linearizable, Livelock, NotLinearizable, Undecided}
 
 -- ---- kinds of findings
 
@@ -25,10 +29,6 @@ IsFullPass (SerialCut u) = ⊥
 IsFullPass (Nondeterministic u before earlier) = ⊥
 IsFullPass (Fail u why) = ⊥
 IsFullPass (Pass counts) = counts.cut ≡ 0
-
--- neither: a serial cut, or a pass with schedules that were cut
-abbrev pub IsUnclear : Finding → Type 0
-IsUnclear finding = (IsFailure finding → ⊥) × (IsFullPass finding → ⊥)
 
 -- ---- the reports of all cuts
 
@@ -49,6 +49,38 @@ NoCuts Kind c matrix bound serial =
     (lengths : List ℕ) → AreLengths matrix lengths
     → HasReport Kind c bound serial (cut matrix lengths) → ⊥
 
+-- No serial run offends, there are no more than 262,144 nodes, and each ended schedule, of any
+-- length, is good for the serial histories.
+abbrev pub IsProved : Declarations → Matrix → ℕ → Type 0
+IsProved c matrix serial =
+    FromEachStart c matrix (λ s. NoOffence s serial × EndsWellOnFewNodes (IsSerialHistory s) s)
+
+-- its report is a pass, and no schedule was cut; or it is proved so
+abbrev pub IsClear : Declarations → ℕ → ℕ → Matrix → Type 0
+IsClear c bound serial matrix =
+    HasReport IsFullPass c bound serial matrix ⊎ IsProved c matrix serial
+
+-- each cut of the matrix is clear
+abbrev pub AllClear : Declarations → Matrix → ℕ → ℕ → Type 0
+AllClear c matrix bound serial =
+    (lengths : List ℕ) → AreLengths matrix lengths → IsClear c bound serial (cut matrix lengths)
+
+-- No serial run offends, there are no more than 262,144 states, and u is the first schedule that
+-- leads to a state from which no schedule ends.
+abbrev pub IsLivelock : Declarations → ℕ → Matrix → List Move → Type 0
+IsLivelock c serial matrix u =
+    FromEachStart c matrix (λ s. NoOffence s serial × HasFewStates s 262144 × IsFirstLost s u)
+
+-- there is none
+abbrev pub HasNoLivelock : Declarations → ℕ → Matrix → Type 0
+HasNoLivelock c serial matrix = (u : List Move) → IsLivelock c serial matrix u → ⊥
+
+-- no cut of the matrix has one
+abbrev pub NoLivelocks : Declarations → Matrix → ℕ → Type 0
+NoLivelocks c matrix serial =
+    (lengths : List ℕ) → AreLengths matrix lengths
+    → HasNoLivelock c serial (cut matrix lengths)
+
 -- lexicographic order: the first place where they differ decides
 abbrev pub IsBefore : List ℕ → List ℕ → Type 0
 IsBefore [] v = ⊥
@@ -67,6 +99,27 @@ pub record IsFirstOfCuts (Kind : Finding → Type 0) (c : Declarations) (matrix 
   pub before : (other : List ℕ) → AreLengths matrix other → IsBefore other lengths
       → HasReport Kind c bound serial (cut matrix other) → ⊥
 
+-- r is the report of this cut, which is not clear; each cut before it is
+pub record IsFirstUnclear (c : Declarations) (matrix : Matrix) (bound serial : ℕ)
+    (smaller : Matrix) (r : Report) : Type 0 where
+  pub lengths : List ℕ
+  pub are : AreLengths matrix lengths
+  pub is : smaller ≡ cut matrix lengths
+  pub report : IsReport c smaller bound serial r
+  pub unclear : IsClear c bound serial smaller → ⊥
+  pub before : (other : List ℕ) → AreLengths matrix other → IsBefore other lengths
+      → IsClear c bound serial (cut matrix other)
+
+-- u is the livelock of this cut; no cut before it has one
+pub record IsFirstLivelock (c : Declarations) (matrix : Matrix) (serial : ℕ)
+    (smaller : Matrix) (u : List Move) : Type 0 where
+  pub lengths : List ℕ
+  pub are : AreLengths matrix lengths
+  pub is : smaller ≡ cut matrix lengths
+  pub livelock : IsLivelock c serial smaller u
+  pub before : (other : List ℕ) → AreLengths matrix other → IsBefore other lengths
+      → HasNoLivelock c serial (cut matrix other)
+
 -- ---- the certificate
 
 -- the members are the beginnings of the serial histories
@@ -75,17 +128,20 @@ AreBeginnings s members =
     (q : List SerialOp)
     → Has members q ↔ ((h : List SerialOp) × Begins q h × IsSerialHistory s h)
 
--- Each cut passes, with no schedule cut, and these are the beginnings of the matrix's serial
--- histories; or this is the first cut that fails; or none fails, and this is the first that does
--- not pass so.
+-- Each cut is clear, none has a livelock, and these are the beginnings of the matrix's serial
+-- histories; or this is the first cut that fails; or none fails, and this is the first that has a
+-- livelock; or none fails, none has a livelock, and this is the first that is not clear.
 abbrev pub IsCertificate : Declarations → Matrix → ℕ → ℕ → Certificate → Type 0
 IsCertificate c matrix bound serial (Linearizable members) =
-    AllCuts IsFullPass c matrix bound serial
+    AllClear c matrix bound serial × NoLivelocks c matrix serial
     × FromEachStart c matrix (λ s. AreBeginnings s members)
 IsCertificate c matrix bound serial (NotLinearizable smaller r) =
     IsFirstOfCuts IsFailure c matrix bound serial smaller r
+IsCertificate c matrix bound serial (Livelock smaller u) =
+    NoCuts IsFailure c matrix bound serial × IsFirstLivelock c matrix serial smaller u
 IsCertificate c matrix bound serial (Undecided smaller r) =
-    NoCuts IsFailure c matrix bound serial × IsFirstOfCuts IsUnclear c matrix bound serial smaller r
+    NoCuts IsFailure c matrix bound serial × NoLivelocks c matrix serial
+    × IsFirstUnclear c matrix bound serial smaller r
 
 -- within the bounds of a check's options
 abbrev pub IsCertificateWithin : Declarations → Matrix → Choice → Certificate → Type 0
@@ -96,6 +152,7 @@ IsCertificateWithin c matrix choice certificate =
 abbrev pub NamesCutOf : Declarations → Certificate → Type 0
 NamesCutOf c (Linearizable members) = Unit {0}
 NamesCutOf c (NotLinearizable smaller r) = IsOf smaller c
+NamesCutOf c (Livelock smaller u) = IsOf smaller c
 NamesCutOf c (Undecided smaller r) = IsOf smaller c
 
 -- two certificates say the same: those of sets have the same members
@@ -103,6 +160,8 @@ abbrev pub AreSame : Certificate → Certificate → Type 0
 AreSame (Linearizable members) (Linearizable others) =
     (q : List SerialOp) → Has members q ↔ Has others q
 AreSame (Linearizable members) (NotLinearizable smaller r) = ⊥
+AreSame (Linearizable members) (Livelock smaller u) = ⊥
 AreSame (Linearizable members) (Undecided smaller r) = ⊥
 AreSame (NotLinearizable smaller r) b = NotLinearizable smaller r ≡ b
+AreSame (Livelock smaller u) b = Livelock smaller u ≡ b
 AreSame (Undecided smaller r) b = Undecided smaller r ≡ b

@@ -4,6 +4,7 @@
 //! thread some of its first calls. Where each cut passes and no schedule is cut, the component is
 //! linearizable (Herlihy and Wing, 1990; Burckhardt, Dern, Musuvathi and Tan, 2010): its own serial
 //! histories are the specification. Where a cut fails, it is linearizable by no deterministic set.
+//! And where a schedule leads to a state from which none ends, the component has a livelock.
 //!
 //! ```text
 //! let certificate = certify(alloc, &component, &matrix, 256, 256)?;
@@ -17,6 +18,7 @@ mod certificate;
 mod certifying;
 mod cuts;
 pub mod laws;
+mod so_far;
 mod workers;
 
 pub use certificate::Certificate;

@@ -7,8 +7,11 @@ ghost use Rattle.lu_certify.specs.Certificates.{IsCertificateWithin, NamesCutOf}
 ghost use Rattle.lu_certify.specs.Laws.{Decides};
 
 use crate::certificate::Certificate;
-use crate::certifying::{certify, conclude, first_unclear, is_failure};
+use crate::certifying::{
+    certify, conclude, is_failure, may_spin, pass_checked, pass_proved, try_proof,
+};
 use crate::cuts::{count_cuts, cut_at};
+use crate::so_far::SoFar;
 use lu_component::Component;
 use lu_parallel::{CheckFault, Gate, Options, check};
 use lu_test::Matrix;
@@ -44,17 +47,31 @@ pub fn certify_by_workers<R: Threads + Wait, G: Gate>(
         return Ok(certificate);
     }
     let end = count_cuts(matrix);
-    let mut unclear = None;
+    let spins = may_spin(component);
+    let mut so_far = SoFar::Clear;
     for place in 0..end {
-        let smaller = cut_at(alloc, matrix, place)?;
-        let report = check(rt, alloc, gate, component, &smaller, options)?;
+        let cut = cut_at(alloc, matrix, place)?;
+        let proved = try_proof(alloc, spins, component, &cut, options.serial())?;
+        if proved {
+            so_far = pass_proved(alloc, component, cut, so_far)?;
+            continue;
+        }
+        let report = check(rt, alloc, gate, component, &cut, options)?;
         if is_failure(&report) {
             return Ok(Certificate::NotLinearizable {
-                matrix: smaller,
+                matrix: cut,
                 report,
             });
         }
-        unclear = first_unclear(unclear, smaller, report);
+        so_far = pass_checked(
+            alloc,
+            component,
+            cut,
+            report,
+            spins,
+            options.serial(),
+            so_far,
+        )?;
     }
-    Ok(conclude(alloc, component, matrix, options.serial(), unclear)?)
+    Ok(conclude(alloc, component, matrix, options.serial(), so_far)?)
 }

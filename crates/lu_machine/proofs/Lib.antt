@@ -7,6 +7,7 @@ pub mod Numbers
 pub mod OneStepLaws
 pub mod Orders
 pub mod Paths
+pub mod Positions
 pub mod Progress
 pub mod Running
 pub mod Starting

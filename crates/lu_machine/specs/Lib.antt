@@ -11,6 +11,7 @@ pub mod Undoes
 pub mod Tasks
 pub mod Acts
 pub mod Layout
+pub mod Positions
 pub mod Laws
 pub mod Schedules
 pub mod Sums

@@ -13,12 +13,14 @@ ghost use Rattle.lu_machine.specs.Acts.{IsDoneInOpen, IsOpening, Opens};
 ghost use Rattle.lu_machine.specs.Layout.{IsInCode, IsSound, IsSoundNext, IsStanding, StandsIn, ThreadStoodIn, WasIn};
 ghost use Rattle.lu_machine.specs.Events.{IsEventInRange};
 ghost use Rattle.lu_machine.specs.Ends.{HasStatus, IsFinished};
+ghost use Rattle.lu_machine.specs.Positions.{CanStandAt, at_position};
 ghost use Rattle.lu_machine.specs.Undoes.{CanTake, IsThere, LeadsBack, has_local, restored, with_shared, with_thread_back};
 ghost use Rattle.lu_machine.specs.Starts.{CanRun, IsMaking, IsStart, Makes, MakesAll, empty_state};
 ghost use Rattle.lu_machine.specs.Tasks.{IsAwaitable, task_at};
 
 use crate::event::{Event, Status};
 use crate::instructions::{Act, is_local};
+use crate::position::Position;
 use crate::program::{Agenda, Task, agendas, rows};
 use crate::span::{Span, lay_out};
 use crate::thread::{Activity, Change, Frame, OperationBefore, Thread, event_after};
@@ -593,6 +595,33 @@ impl<'a> Machine<'a> {
             Shared::Owner { lock, owner } => self.locks[usize::from(lock)] = owner,
         }
         self.put_back(undo.thread, undo.event, undo.was);
+    }
+
+    /// Where it stands, to be kept apart from it.
+    ///
+    /// # Errors
+    ///
+    /// Want of memory.
+    pub fn position(&self, alloc: Global) -> Result<Position, AllocError>
+        ensures here { IfOk result (λ p. at_position self.now p ≡ self.now) }
+        ensures stands { IfOk result (CanStandAt self.now.component self.now.matrix) }
+    {
+        Ok(Position {
+            cells: Vec::from_slice(alloc, &self.cells)?,
+            locks: Vec::from_slice(alloc, &self.locks)?,
+            threads: Vec::from_slice(alloc, &self.threads)?,
+        })
+    }
+
+    /// Stands where this says. A machine of the component and the matrix is asked to be able to, as
+    /// it is where one of them stood ([`Machine::position`]).
+    pub fn stand_at(&mut self, position: &Position)
+        requires { CanStandAt self.old.component self.old.matrix position.now }
+        ensures { self.new ≡ at_position self.old position.now }
+    {
+        self.cells.copy_from_slice(&position.cells);
+        self.locks.copy_from_slice(&position.locks);
+        self.threads.copy_from_slice(&position.threads);
     }
 
     /// The component that is run.

@@ -17,7 +17,7 @@ use lu_component::{Arithmetic, Operand};
 pub(crate) type Registers = [u32; 8];
 
 /// An open operation.
-#[derive(Clone, Copy, Debug, PartialEq, Eq)]
+#[derive(Clone, Copy, Debug, PartialEq, Eq, Hash)]
 pub struct Frame {
     pub(crate) registers: Registers,
 
@@ -29,7 +29,7 @@ pub struct Frame {
 }
 
 /// What a thread is at.
-#[derive(Clone, Copy, Debug, PartialEq, Eq)]
+#[derive(Clone, Copy, Debug, PartialEq, Eq, Hash)]
 pub enum Activity {
     /// No operation of it is open.
     Idle,
@@ -39,7 +39,7 @@ pub enum Activity {
 }
 
 /// Where a thread stands.
-#[derive(Clone, Copy, Debug, PartialEq, Eq)]
+#[derive(Clone, Copy, Debug, PartialEq, Eq, Hash)]
 pub struct Thread {
     /// The number of its operations that have ended. While one more is open, that is its number.
     pub done: u8,

@@ -1,0 +1,20 @@
+pub mod Closing
+mod ForEver
+mod StayAlive
+mod Among
+mod Grown
+mod Added
+mod Explored
+mod Judged
+mod Same
+mod Many
+mod Visiting
+mod Earlier
+mod OneState
+mod Searched
+mod Searching
+mod Spread
+mod Hopeful
+mod Charted
+mod WayBack
+mod Found

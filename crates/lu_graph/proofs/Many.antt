@@ -1,0 +1,61 @@
+-- Where more are kept, no two alike, than a list has that has each of them, two of them would be one.
+use Rattle.std.proofs.Common.{arith, ◌≡◌, ℕ, zero, suc, ◌<◌, ◌≤◌, Bool, true, false, List, [], ◌∷◌, length, Option, Some, None, slice_get, get_or, refl, sym, ◌∙◌, ap, subst, inl, inr}
+use Rattle.std.specs.List.{IsDistinct}
+use Rattle.std.proofs.lemmas.Bool.{cases_lt}
+use Rattle.std.proofs.lemmas.Map.Keys.{apart_from_distinct}
+use Rattle.std.proofs.lemmas.Option.{get_or_from_slice_get, same_Some, slice_get_within}
+use Rattle.indexmap.proofs.IndexTableLemmas.Probe.{Into, OneToOne, pigeonhole}
+use Rattle.lu_graph.specs.Nodes.{IsAmong}
+
+pub some_at : {A : Type 0} (xs : List A) (i : ℕ) → i < length xs → (x : A) × (slice_get xs i ≡ Some x)
+some_at [] i lt = absurd (omega arith)
+some_at (x ∷ xs) zero lt = (x, refl)
+some_at (x ∷ xs) (suc i) lt = some_at xs i (omega arith)
+
+-- what is kept, and of what each stands for one
+module _ {K N : Type 0} (eq : K → K → Bool) (its : K → N) (alike : (a b : K) → its a ≡ its b → eq a b ≡ true) (list : List K) (distinct : IsDistinct eq list) (all : List N) (there : (i : ℕ) (kept : K) → slice_get list i ≡ Some kept → IsAmong all (its kept)) where
+  abbrev slot : (i : ℕ) (o : Option K) → slice_get list i ≡ o → ℕ
+  slot i None is = 0
+  slot i (Some kept) is = (there i kept is).0
+
+  slot_is : (i : ℕ) (kept : K) (o : Option K) (is : slice_get list i ≡ o) → o ≡ Some kept → slice_get all (slot i o is) ≡ Some (its kept)
+  slot_is i kept None is e = absurd (cc)
+  slot_is i kept (Some one) is e =
+      subst (λ x. slice_get all (there i one is).0 ≡ Some (its x)) (same_Some one kept e) (there i one is).1
+
+  abbrev place : ℕ → ℕ
+  place i = slot i (slice_get list i) refl
+
+  place_is : (i : ℕ) (kept : K) → slice_get list i ≡ Some kept → slice_get all (place i) ≡ Some (its kept)
+  place_is i kept is = slot_is i kept (slice_get list i) refl is
+
+  into : Into place (length list) (length all)
+  into i lt =
+      let one = some_at list i lt in
+      slice_get_within all (place i) (its one.0) (place_is i one.0 one.1)
+
+  never_equal : (i j : ℕ) → i < j → j < length list → place i ≡ place j → ⊥
+  never_equal i j lt within same =
+      let x = some_at list i (omega arith) in
+      let y = some_at list j within in
+      let one : its x.0 ≡ its y.0 =
+      same_Some (its x.0) (its y.0) (sym (place_is i x.0 x.1) ∙ (ap (slice_get all) same ∙ place_is j y.0 y.1)) in
+      let equal : eq x.0 y.0 ≡ true = alike x.0 y.0 one in
+      let apart = apart_from_distinct eq list i j x.0 distinct lt within in
+      let here : get_or list i x.0 ≡ x.0 = get_or_from_slice_get list i x.0 x.0 x.1 in
+      let other : get_or list j x.0 ≡ y.0 = get_or_from_slice_get list j y.0 x.0 y.1 in
+      let differ : eq x.0 y.0 ≡ false = sym (ap (λ z. eq z (get_or list j x.0)) here ∙ ap (λ z. eq x.0 z) other) ∙ apart in
+      absurd (cc)
+
+  one_to_one : OneToOne place (length list)
+  one_to_one i j p q same =
+      elim (cases_lt i j) as (λ _. i ≡ j) [
+        | inl lt ↦ absurd (never_equal i j lt q same)
+        | inr ge ↦ elim (cases_lt j i) as (λ _. i ≡ j) [
+          | inl lt ↦ absurd (never_equal j i lt p (sym same))
+          | inr le ↦ omega arith
+        ]
+      ]
+
+  pub no_more : length list ≤ length all
+  no_more = pigeonhole (length list) (length all) place into one_to_one

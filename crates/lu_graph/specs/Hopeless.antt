@@ -1,0 +1,66 @@
+-- States from which no schedule ends: the livelock of threads that spin.
+use Rattle.std.specs.Prelude.{◌≡◌, ℕ, ◌<◌, ◌≤◌, List, length, Option, Some, None}
+use Rattle.lu_test.specs.declared.schedule.Move.{Move}
+use Rattle.lu_test.specs.Schedule.{AreMoves}
+use Rattle.lu_machine.specs.declared.event.Event.{Event}
+use Rattle.lu_machine.specs.Ends.{IsEnded}
+use Rattle.lu_machine.specs.Order.{IsSmaller}
+use Rattle.lu_machine.specs.Schedules.{Reaches}
+use Rattle.lu_machine.specs.States.{State}
+use Rattle.lu_machine.specs.Steps.{Step}
+use Rattle.lu_graph.specs.Nodes.{IsAmong}
+
+-- ---- states, without the histories that led there
+
+-- with each state of the list, each to which a move of it leads
+abbrev pub NoMoveLeaves : List State → Type 0
+NoMoveLeaves states =
+    (s : State) (m : Move) (next : State) (event : Option Event) →
+    IsAmong states s → Step s m next event → IsAmong states next
+
+-- the start s, and with each state each to which a move of it leads
+pub record HasAllStates (s : State) (states : List State) : Type 0 where
+  pub start : IsAmong states s
+  pub closed : NoMoveLeaves states
+
+-- a list of no more than so many states has all of them
+abbrev pub HasFewStates : State → ℕ → Type 0
+HasFewStates s most = (states : List State) × HasAllStates s states × (length states ≤ most)
+
+-- ---- where nothing ends
+
+-- No schedule that goes on from s ends: whatever moves are made, some thread goes on for ever. A
+-- stuck state is none, since it has ended.
+abbrev pub IsHopeless : State → Type 0
+IsHopeless s = (u : List Move) → Reaches s u (λ end _. IsEnded end) → ⊥
+
+-- u leads from s to a hopeless state
+abbrev pub LosesHope : State → List Move → Type 0
+LosesHope s u = Reaches s u (λ end _. IsHopeless end)
+
+-- u leads to a hopeless state, none shorter does, and no lesser one of its length; and it has no
+-- more moves than a schedule's text
+pub record IsFirstLost (s : State) (u : List Move) : Type 0 where
+  pub moves : AreMoves u
+  pub lost : LosesHope s u
+  pub shortest : (v : List Move) → length v < length u → LosesHope s v → ⊥
+  pub least : (v : List Move) → length v ≡ length u → IsSmaller v u → LosesHope s v → ⊥
+
+-- What is found of s: the first schedule that leads to a hopeless state, where there are no more
+-- than 262,144 states; none where there are more, or no schedule of so many moves leads to one.
+abbrev pub IsFirstLostIfAny : State → Option (List Move) → Type 0
+IsFirstLostIfAny s None =
+    HasFewStates s 262144 → (u : List Move) → AreMoves u → LosesHope s u → ⊥
+IsFirstLostIfAny s (Some u) = HasFewStates s 262144 × IsFirstLost s u
+
+-- ---- a law
+
+-- no move leaves the list, and none of its states has ended
+pub record GoOnForEver (states : List State) : Type 0 where
+  pub closed : NoMoveLeaves states
+  pub never : (s : State) → IsAmong states s → IsEnded s → ⊥
+
+-- each state of such a list is hopeless
+abbrev pub ForEverIsHopeless : Type 0
+ForEverIsHopeless =
+    (states : List State) (s : State) → GoOnForEver states → IsAmong states s → IsHopeless s

@@ -1,0 +1,73 @@
+-- Nodes: states, with the histories of schedules that lead there. Sets of them that no move leaves.
+use Rattle.std.specs.Prelude.{◌≡◌, ◌↔◌, ℕ, ◌≤◌, Bool, IfOk, IsTrue, Result, List, [], ◌++◌, length, Option, Some, slice_get}
+use Rattle.lu_test.specs.declared.schedule.Move.{Move}
+use Rattle.lu_machine.specs.declared.event.Event.{Event}
+use Rattle.lu_machine.specs.Ends.{IsEnded}
+use Rattle.lu_machine.specs.Runs.{with_event}
+use Rattle.lu_machine.specs.Schedules.{Reaches}
+use Rattle.lu_machine.specs.States.{State}
+use Rattle.lu_machine.specs.Steps.{Step}
+use Rattle.lu_history.specs.declared.serial.SerialOp.{SerialOp}
+use Rattle.lu_witness.specs.Goodness.{IsGoodAt}
+use Rattle.lu_witness.specs.Witnesses.{IsMember}
+
+pub record Node : Type 0 where
+  pub state : State
+  pub history : List Event
+
+abbrev pub node_of : State → List Event → Node
+node_of s h = record { state = s; history = h }
+
+-- the history with this event behind it, or none
+abbrev pub longer : List Event → Option Event → List Event
+longer h event = h ++ with_event event []
+
+-- where a move leads from the node: to this state, with this event or none
+abbrev pub next_node : Node → State → Option Event → Node
+next_node node next event = node_of next (longer node.history event)
+
+-- it is one of the list
+abbrev pub IsAmong : {A : Type 0} → List A → A → Type 0
+IsAmong list x = (i : ℕ) × (slice_get list i ≡ Some x)
+
+-- with each node of the list, each to which a move of it leads
+abbrev pub IsClosed : List Node → Type 0
+IsClosed nodes =
+    (node : Node) (m : Move) (next : State) (event : Option Event) →
+    IsAmong nodes node → Step node.state m next event → IsAmong nodes (next_node node next event)
+
+-- the start s, before any event, and with each node each to which a move of it leads
+pub record HasAllNodes (s : State) (nodes : List Node) : Type 0 where
+  pub start : IsAmong nodes (node_of s [])
+  pub closed : IsClosed nodes
+
+-- a list of no more than so many nodes has all of them
+abbrev pub HasFewNodes : State → ℕ → Type 0
+HasFewNodes s most = (nodes : List Node) × HasAllNodes s nodes × (length nodes ≤ most)
+
+-- it is good, if it has ended
+abbrev pub IsGoodIfEnded : List (List SerialOp) → State → List Event → Type 0
+IsGoodIfEnded members s h = IsEnded s → IsGoodAt (IsMember members) s h
+
+-- each node of the list that has ended is good
+abbrev pub EndGood : (List SerialOp → Type 0) → List Node → Type 0
+EndGood Set nodes =
+    (node : Node) → IsAmong nodes node → IsEnded node.state
+    → IsGoodAt Set node.state node.history
+
+-- each ended schedule, of any length, is good
+abbrev pub EndsWell : (List SerialOp → Type 0) → State → Type 0
+EndsWell Set s =
+    (u : List Move) → Reaches s u (λ end _. IsEnded end) → Reaches s u (IsGoodAt Set)
+
+-- there are no more than 262,144 nodes, and each ended schedule, of any length, is good
+abbrev pub EndsWellOnFewNodes : (List SerialOp → Type 0) → State → Type 0
+EndsWellOnFewNodes Set s = HasFewNodes s 262144 × EndsWell Set s
+
+-- the answer, if there is one, is whether this holds
+abbrev pub Tells : {E : Type 0} → Type 0 → Result Bool E → Type 0
+Tells P result = IfOk result (λ answer. IsTrue answer ↔ P)
+
+-- so it is of each ended schedule from s, for the set of these members
+abbrev pub TellsEndsWell : {E : Type 0} → List (List SerialOp) → Result Bool E → State → Type 0
+TellsEndsWell members result s = Tells (EndsWellOnFewNodes (IsMember members) s) result
