@@ -1,0 +1,13 @@
+mod Among
+mod Same
+mod Added
+mod Grown
+mod Onward
+mod Explored
+mod Many
+mod Visiting
+mod Ended
+mod Elsewhere
+mod Stretched
+mod Gone
+mod LessPrecedence

@@ -1,0 +1,79 @@
+-- How the list of stages that are kept grows.
+use Rattle.std.specs.Prelude.{◌≡◌, ℕ, List, [], ◌∷◌, ◌++◌, All, Option, Some, slice_get}
+use Rattle.lu_component.specs.Component.{Declarations}
+use Rattle.lu_test.specs.declared.schedule.Move.{Move}
+use Rattle.lu_test.specs.Matrix.{Matrix}
+use Rattle.lu_machine.specs.declared.event.Event.{Event}
+use Rattle.lu_machine.specs.Positions.{CanStandAt}
+use Rattle.lu_machine.specs.States.{State}
+use Rattle.lu_machine.specs.Steps.{Step}
+use Rattle.lu_conform.specs.declared.kept.Kept.{Kept}
+use Rattle.lu_conform.specs.declared.kept.Way.{Way}
+use Rattle.lu_conform.specs.Stages.{Follows, Stage, stage_of}
+
+-- a stage, as it is kept, and a way to it
+abbrev pub Entry : Type 0
+Entry = Kept × Way
+
+-- the stage for which it stands, of a run of the component and the matrix
+abbrev pub stands_for : Declarations → Matrix → Kept → Stage
+stands_for c matrix kept = record {
+  state = record {
+    component = c;
+    matrix = matrix;
+    cells = kept.position.cells.items;
+    locks = kept.position.locks.items;
+    threads = kept.position.threads.items;
+  };
+  seen = kept.seen;
+}
+
+-- a machine can stand there, it stands for this stage, and its way has these moves
+pub record IsKeptAs (c : Declarations) (matrix : Matrix) (stage : Stage) (moves : List Move)
+    (entry : Entry) : Type 0 where
+  pub stands : CanStandAt c matrix entry.0.position
+  pub stage_is : stands_for c matrix entry.0 ≡ stage
+  pub way_is : entry.1.moves.items ≡ moves
+
+-- one of the list stands for the stage
+abbrev pub Keeps : Declarations → Matrix → List Entry → Stage → Type 0
+Keeps c matrix list stage =
+    (i : ℕ) × (entry : Entry) × (slice_get list i ≡ Some entry)
+    × (stands_for c matrix entry.0 ≡ stage)
+
+-- new is old, and behind it only such
+abbrev pub GrowsBy : (Entry → Type 0) → List Entry → List Entry → Type 0
+GrowsBy Such old new = (more : List Entry) × (new ≡ old ++ more) × All Such more
+
+-- the stage is there, and no other is added; if it is added, with these moves
+pub record AddsStage (c : Declarations) (matrix : Matrix) (stage : Stage) (moves : List Move)
+    (old new : List Entry) : Type 0 where
+  pub there : Keeps c matrix new stage
+  pub grows : GrowsBy (IsKeptAs c matrix stage moves) old new
+
+-- it stands for s behind this event, or none, which follows h
+abbrev pub IsFollowing : State → List Event → ℕ → Option Event → List Move → Entry → Type 0
+IsFollowing s h seen event moves entry =
+    (after : ℕ) × Follows h seen event after
+    × IsKeptAs s.component s.matrix (stage_of s after) moves entry
+
+-- s is there behind this event, or none, where that follows h, and no other is added
+pub record AddsFollowing (s : State) (h : List Event) (seen : ℕ) (event : Option Event)
+    (moves : List Move) (old new : List Entry) : Type 0 where
+  pub there : (after : ℕ) → Follows h seen event after
+      → Keeps s.component s.matrix new (stage_of s after)
+  pub grows : GrowsBy (IsFollowing s h seen event moves) old new
+
+-- it stands for a stage to which a move of s leads that follows h, and its way has that move last
+abbrev pub IsNext : State → List Event → ℕ → List Move → Entry → Type 0
+IsNext s h seen moves entry =
+    (m : Move) × (next : State) × (event : Option Event) × (after : ℕ)
+    × Step s m next event × Follows h seen event after
+    × IsKeptAs s.component s.matrix (stage_of next after) (moves ++ m ∷ []) entry
+
+-- all stages to which moves of s lead that follow h are there, and no others are added
+pub record AddsNext (s : State) (h : List Event) (seen : ℕ) (moves : List Move)
+    (old new : List Entry) : Type 0 where
+  pub there : (m : Move) (next : State) (event : Option Event) (after : ℕ) → Step s m next event
+      → Follows h seen event after → Keeps s.component s.matrix new (stage_of next after)
+  pub grows : GrowsBy (IsNext s h seen moves) old new
