@@ -11,3 +11,7 @@ pub mod LineNumbers
 pub mod LearntHints
 pub mod FaultsTold
 pub mod Outlined
+pub mod FurtherParts
+pub mod LeastLines
+pub mod KeptOrder
+pub mod PartsLeast

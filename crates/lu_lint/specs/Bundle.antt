@@ -1,6 +1,8 @@
 -- The parts of a bundle, and what is said of it.
-use Rattle.std.specs.Prelude.{◌≡◌, ℕ, ◌+◌, Bool, Option, Some, None, IsPermutation, List, [], ◌∷◌, ◌++◌, length, map, take, drop, codes, ◌==◌, ◌&&◌, ◌||◌, not, if◌then◌else◌}
+use Rattle.std.specs.Prelude.{◌≡◌, ℕ, ◌+◌, Bool, Option, Some, None, IsPermutation, List, [], ◌∷◌, ◌++◌, map, take, drop, codes, ◌==◌, ◌&&◌, ◌||◌, not, if◌then◌else◌}
 use Rattle.std.specs.List.{concat, list_all, slice_split}
+use Rattle.std.specs.List.Sorted.{IsStableByKey}
+use Rattle.std.specs.Ordering.{nat_cmp}
 use Rattle.std.specs.Str.{bytes_eq}
 use Rattle.std.specs.Result.{result_ok}
 use Rattle.lu_text.specs.Faults.{meaning_of}
@@ -11,12 +13,12 @@ use Rattle.lu_lint.specs.declared.remark.Said.{Said}
 use Rattle.lu_lint.specs.declared.remark.Cause.TheVariants.{Separator}
 use Rattle.lu_test.specs.Matrix.{Matrix}
 use Rattle.lu_test.specs.MatrixText.{matrix_grammar}
-use Rattle.lu_lint.specs.Third.{ThirdSaid, third_of}
+use Rattle.lu_lint.specs.Further.{BehindMatrix}
 use Rattle.lu_lint.specs.Component.{component_lint}
 use Rattle.lu_lang.specs.Faulty.{Faulty}
 use Rattle.lu_lint.specs.Matrix.{matrix_lint}
 use Rattle.lu_lint.specs.Outline.{faulty_end, outline_text}
-use Rattle.lu_lint.specs.Said.{SaysFurther, line_below, said_of_text}
+use Rattle.lu_lint.specs.Said.{SaysFurther, above_next, said_of_text}
 use Rattle.lu_lint.specs.Warnings.{warnings_in}
 use Rattle.lu_lint.specs.Runs.{RunsSaid}
 
@@ -53,10 +55,6 @@ separators_from n (line ∷ lines) = separator_said n line ++ separators_from (n
 -- what stands between the lines that part or are meant to
 abbrev pub parts_by_meant : List (List ℕ) → List (List ℕ)
 parts_by_meant lines = map concat (slice_split is_meant_to_part lines)
-
--- the number of lines before the part behind this one
-abbrev pub above_next : ℕ → List ℕ → ℕ
-above_next above part = line_below above (length (kept_lines part) + 1)
 
 -- the component of a text, where it is read
 abbrev pub component_read : List ℕ → Option Declarations
@@ -99,31 +97,35 @@ component_said text =
 abbrev pub second_said : List ℕ → List ℕ → List Said
 second_said component matrix = said_of_matrix component (above_next 0 component) matrix
 
--- what is said of the parts behind a component, without the third part
+-- what is said of the matrix behind a component, where there is one
 abbrev pub behind_component : List ℕ → List (List ℕ) → List Said
 behind_component component [] = []
 behind_component component (matrix ∷ parts) = second_said component matrix
 
+-- what is said of the first two parts
 abbrev pub parts_said : List (List ℕ) → List Said
 parts_said [] = []
 parts_said (component ∷ parts) = component_said component ++ behind_component component parts
 
--- what is said of the lines of a bundle, without its third part
+-- what is said of the lines of a bundle, without the parts behind its matrix
 abbrev pub lines_said : List (List ℕ) → List Said
 lines_said lines = separators_from 1 lines ++ parts_said (parts_by_meant lines)
 
--- what is said of the third part
-abbrev pub ThirdOfParts : List ℕ → List ℕ → List ℕ → List Said → Type 0
-ThirdOfParts component matrix text said =
-    ThirdSaid (third_of text) (matrix_read (component_read component) matrix)
-    (above_next (above_next 0 component) matrix) text said
+-- what is said of the parts behind these texts of a component and a matrix
+abbrev pub FurtherOfTexts : List ℕ → List ℕ → List (List ℕ) → List Said → Type 0
+FurtherOfTexts component matrix texts said =
+    BehindMatrix (matrix_read (component_read component) matrix)
+    (above_next (above_next 0 component) matrix) texts said
 
--- the same, where there is one
-abbrev pub ThirdOf : List (List ℕ) → List Said → Type 0
-ThirdOf [] said = said ≡ []
-ThirdOf (component ∷ []) said = said ≡ []
-ThirdOf (component ∷ matrix ∷ []) said = said ≡ []
-ThirdOf (component ∷ matrix ∷ third ∷ parts) said = ThirdOfParts component matrix third said
+-- where these are a third part and those behind it
+abbrev pub ThirdOf : List ℕ → List ℕ → List ℕ → List (List ℕ) → List Said → Type 0
+ThirdOf component matrix text texts said = FurtherOfTexts component matrix (text ∷ texts) said
+
+-- what is said of the parts of a bundle behind its matrix
+abbrev pub FurtherOf : List (List ℕ) → List Said → Type 0
+FurtherOf [] said = said ≡ []
+FurtherOf (component ∷ []) said = said ≡ []
+FurtherOf (component ∷ matrix ∷ parts) said = FurtherOfTexts component matrix parts said
 
 -- what runs show of the text of a matrix behind a component, where both are read
 abbrev pub RunsBehind : ℕ → Option Declarations → ℕ → List ℕ → List Said → Type 0
@@ -143,7 +145,7 @@ RunsOfParts bound (component ∷ matrix ∷ parts) said = RunsOfTexts bound comp
 -- what is said of these parts, behind what was said first
 abbrev pub PartsSaid : ℕ → List (List ℕ) → List Said → List Said → Type 0
 PartsSaid bound parts first said =
-    (texts : List Said) × SaysFurther (ThirdOf parts) first texts
+    (texts : List Said) × SaysFurther (FurtherOf parts) first texts
     × SaysFurther (RunsOfParts bound parts) texts said
 
 -- what is said of a bundle, with this bound of serial runs
@@ -151,7 +153,8 @@ abbrev pub BundleSaid : ℕ → List ℕ → List Said → Type 0
 BundleSaid bound bundle said =
     PartsSaid bound (parts_by_meant (kept_lines bundle)) (lines_said (kept_lines bundle)) said
 
--- this is said of a bundle, in any order
+-- this is said of a bundle, in any order of the lines; on each line in the order of what is found
 abbrev pub IsSaidOf : ℕ → List ℕ → List Said → Type 0
 IsSaidOf bound bundle said =
     (found : List Said) × BundleSaid bound bundle found × IsPermutation found said
+    × IsStableByKey (λ s. s.place) nat_cmp found said

@@ -7,7 +7,9 @@ pub mod Said
 pub mod Messages
 pub mod Schedule
 pub mod Third
+pub mod Further
 pub mod Warnings
 pub mod Runs
 pub mod Bundle
+pub mod Least
 pub mod Laws

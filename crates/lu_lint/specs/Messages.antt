@@ -6,11 +6,12 @@ use Rattle.lu_lang.specs.Kinds.{code_of}
 use Rattle.lu_test.specs.Codes.{matrix_code_of, schedule_code_of}
 use Rattle.lu_report.specs.Codes.{report_code_of}
 use Rattle.lu_spec.specs.Codes.{spec_code_of}
+use Rattle.lu_recorded.specs.Codes.{recorded_code_of}
 use Rattle.lu_lint.specs.declared.remark.Remark.{Remark}
 use Rattle.lu_lint.specs.declared.remark.FaultKind.{FaultKind}
 use Rattle.lu_lint.specs.declared.remark.FaultKind.TheVariants as part
 use Rattle.lu_lint.specs.declared.remark.Cause.{Cause}
-use Rattle.lu_lint.specs.declared.remark.Cause.TheVariants.{Fault, Separator, Warning, Run}
+use Rattle.lu_lint.specs.declared.remark.Cause.TheVariants.{Fault, FifthPart, Separator, Warning, Run}
 
 -- the code of the refusal
 abbrev pub refusal_code : FaultKind → List ℕ
@@ -19,6 +20,7 @@ refusal_code (part.Matrix kind) = matrix_code_of kind
 refusal_code (part.Schedule kind) = schedule_code_of kind
 refusal_code (part.Report kind) = report_code_of kind
 refusal_code (part.Specification kind) = spec_code_of kind
+refusal_code (part.History kind) = recorded_code_of kind
 
 -- the part that it is a fault of
 abbrev pub fault_part : FaultKind → List ℕ
@@ -27,11 +29,13 @@ fault_part (part.Matrix kind) = codes "matrix"
 fault_part (part.Schedule kind) = codes "schedule"
 fault_part (part.Report kind) = codes "report"
 fault_part (part.Specification kind) = codes "specification"
+fault_part (part.History kind) = codes "history"
 
 -- a warning says that it is one
 abbrev pub remark_word : Cause → List ℕ
 remark_word (Fault kind n) = codes ""
 remark_word Separator = codes ""
+remark_word FifthPart = codes ""
 remark_word (Warning hint) = codes "warning: "
 remark_word (Run hint) = codes "warning: "
 
@@ -50,6 +54,7 @@ fault_tail kind n =
 abbrev pub remark_tail : Cause → List ℕ
 remark_tail (Fault kind n) = fault_tail kind n
 remark_tail Separator = codes "\n"
+remark_tail FifthPart = codes " (B1)\n"
 remark_tail (Warning hint) = codes "\n"
 remark_tail (Run hint) = codes "\n"
 

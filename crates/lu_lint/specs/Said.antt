@@ -1,11 +1,12 @@
 -- What lint says of a bundle: on which line of it, and of what.
-use Rattle.std.specs.Prelude.{◌≡◌, ℕ, ◌+◌, ◌-◌, ◌^◌, Bool, true, false, List, ◌++◌, map, min, Result, IfOk, Vec}
+use Rattle.std.specs.Prelude.{◌≡◌, ℕ, ◌+◌, ◌-◌, ◌^◌, Bool, true, false, List, ◌++◌, length, map, min, Result, IfOk, Vec}
 use Rattle.std.specs.List.{list_any}
+use Rattle.lu_text.specs.Lines.{kept_lines}
 use Rattle.lu_lint.specs.declared.remark.Said.{Said}
 use Rattle.lu_lint.specs.declared.remark.Remark.{Remark}
 use Rattle.lu_lint.specs.declared.remark.FaultKind.{FaultKind}
 use Rattle.lu_lint.specs.declared.remark.Cause.{Cause}
-use Rattle.lu_lint.specs.declared.remark.Cause.TheVariants.{Fault, Separator, Warning, Run}
+use Rattle.lu_lint.specs.declared.remark.Cause.TheVariants.{Fault, FifthPart, Separator, Warning, Run}
 use Rattle.lu_lint.specs.Lint.{Lint, Told, faults_in, faults_of_lines}
 
 -- what is said, without its words
@@ -33,6 +34,10 @@ SaysSuch result before P =
 abbrev pub line_below : ℕ → ℕ → ℕ
 line_below above n = min (above + n) (2 ^ 64 - 1)
 
+-- the number of lines before the part behind this one
+abbrev pub above_next : ℕ → List ℕ → ℕ
+above_next above part = line_below above (length (kept_lines part) + 1)
+
 -- a fault of such a part
 abbrev pub said_told : {Kind : Type 0} → (Kind → FaultKind) → ℕ → Told Kind → Said
 said_told of above t =
@@ -57,6 +62,7 @@ said_of_text l above text = said_faults l.of above (faults_in l text)
 abbrev pub is_fault : Cause → Bool
 is_fault (Fault kind n) = true
 is_fault Separator = true
+is_fault FifthPart = true
 is_fault (Warning hint) = false
 is_fault (Run hint) = false
 

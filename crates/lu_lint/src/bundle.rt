@@ -5,6 +5,7 @@ ghost use Rattle.lu_text.specs.Lines as lines;
 ghost use Rattle.lu_text.specs.Lines.{kept_lines, texts};
 ghost use Rattle.lu_lint.specs.Bundle as spec;
 ghost use Rattle.lu_lint.specs.Bundle.{parts_by_meant, separators_from};
+ghost use Rattle.lu_lint.specs.Said as said;
 ghost use Rattle.lu_lint.specs.Said.{SaysAlso};
 
 use crate::remark::{Cause, Remark, Said, line_below, with_remark};
@@ -85,7 +86,7 @@ pub(crate) fn parts_in(alloc: Global, text: &[u8]) -> Result<Vec<&[u8]>, AllocEr
 
 /// The number of lines of the bundle before the part behind this one.
 pub(crate) fn above_next(alloc: Global, above: usize, part: &[u8]) -> Result<usize, AllocError>
-    ensures { IfOk result (λ n. n ≡ spec.above_next above part.now) }
+    ensures { IfOk result (λ n. n ≡ said.above_next above part.now) }
 {
     let lines = kept_in(alloc, part)?;
     Ok(line_below(above, lines.len() + 1))

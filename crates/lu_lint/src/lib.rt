@@ -3,12 +3,15 @@
 
 mod bundle;
 mod component;
+mod further;
+mod histories;
 mod laws;
 mod linting;
 mod matrix;
 mod matrix_wording;
 mod near;
 mod outline;
+mod recorded_wording;
 mod remark;
 mod run_wording;
 mod runs;

@@ -4,7 +4,7 @@ ghost use Rattle.std.specs.Prelude.{◌≡◌, ◌≤◌, ◌∷◌, IfOk, Some,
 ghost use Rattle.std.specs.List.Sorted.{IsNonDecreasingBy};
 ghost use Rattle.lu_text.specs.Lines.{texts};
 ghost use Rattle.lu_lint.specs.Bundle as spec;
-ghost use Rattle.lu_lint.specs.Bundle.{BundleSaid, IsSaidOf, RunsBehind, RunsOfParts, RunsOfTexts, ThirdOf, ThirdOfParts, parts_by_meant, parts_said};
+ghost use Rattle.lu_lint.specs.Bundle.{BundleSaid, IsSaidOf, RunsBehind, RunsOfParts, RunsOfTexts, FurtherOf, ThirdOf, parts_by_meant, parts_said};
 ghost use Rattle.lu_lint.specs.Messages.{remarks_text};
 ghost use Rattle.lu_lint.specs.Outline.{faulty_end};
 ghost use Rattle.lu_lint.specs.Said as said;
@@ -12,11 +12,11 @@ ghost use Rattle.lu_lint.specs.Said.{SaysAlso, SaysSuch, said_of};
 
 use crate::bundle::{above_next, kept_in, parts_in, with_separators};
 use crate::component::{faulty_end, with_component};
+use crate::further::with_further;
 use crate::matrix::{Basis, with_matrix};
 use crate::outline::outline_text;
 use crate::remark::Remark;
 use crate::runs::{Test, with_runs_of};
-use crate::third::with_third;
 use crate::warning::with_warnings;
 use crate::writing::write_remarks;
 use lu_component::Component;
@@ -199,7 +199,7 @@ fn with_first(
     Ok(all)
 }
 
-/// The remarks with those on the parts, of which the first is a component, without the third.
+/// The remarks with those on the parts, of which the first is a component, without those behind the matrix.
 fn with_parts(alloc: Global, all: Vec<Remark>, parts: &[&[u8]]) -> Result<Vec<Remark>, AllocError>
     ensures { SaysAlso result all (parts_said (texts parts.now)) }
 {
@@ -209,25 +209,26 @@ fn with_parts(alloc: Global, all: Vec<Remark>, parts: &[&[u8]]) -> Result<Vec<Re
     }
 }
 
-/// The remarks with those on a third part.
+/// The remarks with those on a third part and on the parts behind it.
 fn with_third_part(
     alloc: Global,
     all: Vec<Remark>,
     component: &[u8],
     matrix: &[u8],
-    text: &[u8],
+    third: &[u8],
+    parts: &[&[u8]],
 ) -> Result<Vec<Remark>, AllocError>
-    ensures { SaysSuch result all (ThirdOfParts component.now matrix.now text.now) }
+    ensures { SaysSuch result all (ThirdOf component.now matrix.now third.now (texts parts.now)) }
 {
     let read = component_read(alloc, component)?;
     let read = matrix_read(alloc, &read, matrix)?;
     let above = above_next(alloc, 0, component)?;
     let above = above_next(alloc, above, matrix)?;
-    let all = with_third(alloc, all, &read, above, text)?;
+    let all = with_further(alloc, all, &read, above, third, parts)?;
     Ok(all)
 }
 
-/// The remarks with those on the third part, where there is one behind a component and a matrix.
+/// The remarks with those on the parts behind a component and a matrix.
 fn third_behind(
     alloc: Global,
     all: Vec<Remark>,
@@ -235,22 +236,22 @@ fn third_behind(
     matrix: &[u8],
     parts: &[&[u8]],
 ) -> Result<Vec<Remark>, AllocError>
-    ensures { SaysSuch result all (ThirdOf (component.now ∷ matrix.now ∷ texts parts.now)) }
+    ensures { SaysSuch result all (FurtherOf (component.now ∷ matrix.now ∷ texts parts.now)) }
 {
     match parts.split_first() {
         None => Ok(all),
-        Some((third, _)) => with_third_part(alloc, all, component, matrix, third),
+        Some((third, others)) => with_third_part(alloc, all, component, matrix, third, others),
     }
 }
 
-/// The remarks with those on the third part, where there is one behind a component.
+/// The remarks with those on the parts behind the matrix, where there is one behind a component.
 fn second_behind(
     alloc: Global,
     all: Vec<Remark>,
     component: &[u8],
     parts: &[&[u8]],
 ) -> Result<Vec<Remark>, AllocError>
-    ensures { SaysSuch result all (ThirdOf (component.now ∷ texts parts.now)) }
+    ensures { SaysSuch result all (FurtherOf (component.now ∷ texts parts.now)) }
 {
     match parts.split_first() {
         None => Ok(all),
@@ -258,9 +259,9 @@ fn second_behind(
     }
 }
 
-/// The remarks with those on the third part, where there is one.
+/// The remarks with those on the parts behind the matrix, where there is one.
 fn with_last(alloc: Global, all: Vec<Remark>, parts: &[&[u8]]) -> Result<Vec<Remark>, AllocError>
-    ensures { SaysSuch result all (ThirdOf (texts parts.now)) }
+    ensures { SaysSuch result all (FurtherOf (texts parts.now)) }
 {
     match parts.split_first() {
         None => Ok(all),
@@ -367,7 +368,7 @@ fn with_runs(
     }
 }
 
-/// What is said of the parts of a bundle and of the lines between them, without the third part.
+/// What is said of the first two parts of a bundle, and of the lines between all of them.
 fn remarks_on_lines(
     alloc: Global,
     lines: &[&[u8]],
@@ -402,11 +403,18 @@ fn have_fault(remarks: &[Remark]) -> bool
     remarks.iter().any(|remark| remark.said.cause.is_fault())
 }
 
-/// Every fault of a bundle, in words: of its component, of its matrix, and of the lines between its
-/// parts. Behind a component with faults the matrix is judged by the operations that its lines were
-/// to declare. Of a third part, which is a specification where it begins
-/// with `lineup spec`, else a report where it begins with `lineup`, and else a schedule: each fault
-/// of a schedule, of a report, and, where the matrix is read, of a specification.
+/// Every fault of a bundle, in words: of its component, of its matrix, of the parts behind these,
+/// and of the lines between its parts. Behind a component with faults the matrix is judged by the
+/// operations that its lines were to declare.
+///
+/// A third part is a specification where it begins with `lineup spec`, else a report where it
+/// begins with `lineup`, else a recorded history where its first word is `call`, `return` or
+/// `stuck`, and else a schedule. Behind a schedule or a report a specification may stand, and a
+/// part behind that is one too many; behind a specification or a recorded history all parts are
+/// recorded histories. Each fault of a schedule and of a report is told, and, where the matrix is
+/// read, each fault of a specification and the first of each recorded history. Of a part, the one
+/// with the least line of the part is that for which its reader refuses the text
+/// ([`agree`](crate::agree)).
 ///
 /// A line that is nearly `---` parts too, so that what stands behind it is not told for it. Where
 /// the component is read, its warnings are said too, which are no faults.

@@ -9,6 +9,7 @@ ghost use Rattle.lu_lint.specs.Said.{SaysAlso};
 
 use lu_history::SerialOp;
 use lu_lang::LangFaultKind;
+use lu_recorded::RecordedFaultKind;
 use lu_report::ReportFaultKind;
 use lu_spec::SpecFaultKind;
 use lu_test::{MatrixFaultKind, ScheduleFault};
@@ -33,6 +34,9 @@ pub enum FaultKind {
 
     /// Of the specification.
     Specification(SpecFaultKind),
+
+    /// Of a recorded history.
+    History(RecordedFaultKind),
 }
 
 impl FaultKind {
@@ -46,6 +50,7 @@ impl FaultKind {
             FaultKind::Schedule(kind) => kind.code(),
             FaultKind::Report(kind) => kind.code(),
             FaultKind::Specification(kind) => kind.code(),
+            FaultKind::History(kind) => kind.code(),
         }
     }
 
@@ -59,6 +64,7 @@ impl FaultKind {
             FaultKind::Schedule(_) => "schedule",
             FaultKind::Report(_) => "report",
             FaultKind::Specification(_) => "specification",
+            FaultKind::History(_) => "history",
         }
     }
 }
@@ -164,6 +170,9 @@ pub enum Cause {
     /// A line that is nearly `---`, and parts nothing.
     Separator,
 
+    /// A line behind which a fifth part begins, where a bundle has four at most: `B1`.
+    FifthPart,
+
     /// A warning by the text, which is no fault.
     Warning(Hint),
 
@@ -179,6 +188,7 @@ impl Cause {
         match self {
             Cause::Fault(_, _) => true,
             Cause::Separator => true,
+            Cause::FifthPart => true,
             Cause::Warning(_) => false,
             Cause::Run(_) => false,
         }

@@ -1,18 +1,22 @@
-//! The third part of a bundle: a specification, a report or a schedule.
+//! The third part of a bundle: a specification, a report, a recorded history or a schedule.
 
-ghost use Rattle.std.specs.Prelude.{◌≡◌, codes, map, take};
+ghost use Rattle.std.specs.Prelude.{◌≡◌, IfOk, codes, map, take};
 ghost use Rattle.std.specs.Str.{bytes_eq};
+ghost use Rattle.lu_text.specs.Lines.{texts};
 ghost use Rattle.lu_lint.specs.Said.{SaysAlso, SaysSuch};
+ghost use Rattle.lu_lint.specs.declared.third.Third.TheVariants.{History};
 ghost use Rattle.lu_lint.specs.Third as spec;
 ghost use Rattle.lu_lint.specs.Third.{ReportSaid, SpecificationSaid, ThirdSaid};
 
 use crate::bundle::kept_in;
+use crate::histories::with_histories;
 use crate::remark::{Cause, FaultKind, Remark, Said, line_below, with_remark};
 use crate::schedule::with_schedule;
 use crate::third_wording::{report_wording, specification_wording};
 use lu_report::{ReportFaultKind, ReportLineFault, report_faults};
 use lu_spec::{SpecLineFault, spec_faults};
 use lu_test::Matrix;
+use lu_text::{lines_of, words_of};
 use std::alloc::{AllocError, Global};
 
 /// What a third part is to be, as its first words say.
@@ -20,6 +24,7 @@ use std::alloc::{AllocError, Global};
 pub(crate) enum Third {
     Specification,
     Report,
+    History,
     Schedule,
 }
 
@@ -35,21 +40,54 @@ fn is_report(text: &[u8]) -> bool
     text.starts_with(b"lineup")
 }
 
+/// Whether a line of a recorded history begins with this word.
+fn begins_step(word: &[u8]) -> bool
+    ensures { result ≡ spec.begins_step word.now }
+{
+    word == b"call".as_slice() || word == b"return".as_slice() || word == b"stuck".as_slice()
+}
+
+/// Whether the first of these words is such a one.
+fn begin_history(words: &[&[u8]]) -> bool
+    ensures { result ≡ spec.begin_history (texts words.now) }
+{
+    match words.split_first() {
+        None => false,
+        Some((word, _)) => begins_step(word),
+    }
+}
+
+/// Whether a part is to be a recorded history: its first word begins a line of one.
+fn is_history(alloc: Global, text: &[u8]) -> Result<bool, AllocError>
+    ensures { IfOk result (λ is. is ≡ spec.is_history text.now) }
+{
+    let lines = lines_of(alloc, text)?;
+    for line in &lines {
+        let words = words_of(alloc, line)?;
+        if !words.is_empty() {
+            return Ok(begin_history(&words));
+        }
+    }
+    Ok(false)
+}
+
 /// What a part is to be.
-pub(crate) fn third_of(text: &[u8]) -> Third
-    ensures { result ≡ spec.third_of text.now }
+pub(crate) fn third_of(alloc: Global, text: &[u8]) -> Result<Third, AllocError>
+    ensures { IfOk result (λ third. third ≡ spec.third_of text.now) }
 {
     if is_specification(text) {
-        Third::Specification
+        Ok(Third::Specification)
     } else if is_report(text) {
-        Third::Report
+        Ok(Third::Report)
+    } else if is_history(alloc, text)? {
+        Ok(Third::History)
     } else {
-        Third::Schedule
+        Ok(Third::Schedule)
     }
 }
 
 /// A line of these, from 1.
-fn line_of<'a>(lines: &[&'a [u8]], number: usize) -> Option<&'a [u8]> {
+pub(crate) fn line_of<'a>(lines: &[&'a [u8]], number: usize) -> Option<&'a [u8]> {
     lines.get(number.saturating_sub(1)).copied()
 }
 
@@ -140,7 +178,7 @@ fn with_specification(
 }
 
 /// The remarks with those on a specification, where there is a matrix.
-fn with_specification_of(
+pub(crate) fn with_specification_of(
     alloc: Global,
     all: Vec<Remark>,
     matrix: &Option<Matrix>,
@@ -168,19 +206,35 @@ fn with_third_schedule(
     Ok(all)
 }
 
-/// The remarks with those on a third part, behind a matrix that is read or not.
-pub(crate) fn with_third(
+/// The remarks with that on a recorded history, where there is a matrix.
+fn with_third_history(
     alloc: Global,
     all: Vec<Remark>,
     matrix: &Option<Matrix>,
     above: usize,
     text: &[u8],
 ) -> Result<Vec<Remark>, AllocError>
-    ensures { SaysSuch result all (ThirdSaid (spec.third_of text.now) matrix.now above text.now) }
+    ensures { SaysSuch result all (ThirdSaid History matrix.now above text.now) }
 {
-    match third_of(text) {
+    let all = with_histories(alloc, all, matrix, above, &[text])?;
+    Ok(all)
+}
+
+/// The remarks with those on a third part that is to be this, behind a matrix that is read or not.
+pub(crate) fn with_third(
+    alloc: Global,
+    all: Vec<Remark>,
+    third: Third,
+    matrix: &Option<Matrix>,
+    above: usize,
+    text: &[u8],
+) -> Result<Vec<Remark>, AllocError>
+    ensures { SaysSuch result all (ThirdSaid third matrix.now above text.now) }
+{
+    match third {
         Third::Specification => with_specification_of(alloc, all, matrix, above, text),
         Third::Report => with_report(alloc, all, above, text),
+        Third::History => with_third_history(alloc, all, matrix, above, text),
         Third::Schedule => with_third_schedule(alloc, all, above, text),
     }
 }

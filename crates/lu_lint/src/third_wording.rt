@@ -109,7 +109,7 @@ pub(crate) fn length_wording(alloc: Global, words: usize) -> Result<String, Allo
 }
 
 /// What stands on the line, in words.
-fn line_shown(line: Option<&[u8]>) -> &str {
+pub(crate) fn line_shown(line: Option<&[u8]>) -> &str {
     let Some(line) = line else {
         return "nothing";
     };

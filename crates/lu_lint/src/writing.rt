@@ -16,6 +16,7 @@ fn remark_word(cause: &Cause) -> &'static str
     match cause {
         Cause::Fault(_, _) => "",
         Cause::Separator => "",
+        Cause::FifthPart => "",
         Cause::Warning(_) => "warning: ",
         Cause::Run(_) => "warning: ",
     }
@@ -42,6 +43,7 @@ fn write_tail(text: &mut String, cause: &Cause) -> Result<(), AllocError>
     match cause {
         Cause::Fault(kind, line) => write_fault_tail(text, *kind, *line),
         Cause::Separator => text.push_str("\n"),
+        Cause::FifthPart => text.push_str(" (B1)\n"),
         Cause::Warning(_) => text.push_str("\n"),
         Cause::Run(_) => text.push_str("\n"),
     }

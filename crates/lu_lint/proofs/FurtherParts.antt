@@ -1,0 +1,56 @@
+-- Parts behind the matrix: the first word of a text, and recorded histories one after the other.
+use Rattle.std.proofs.Common.{◌≡◌, ℕ, ◌+◌, ◌<◌, ◌≤◌, Bool, List, [], ◌∷◌, ◌++◌, length, get_or, drop, refl, sym, ap, ◌∙◌, append_assoc, append-nil, arith}
+use Rattle.std.specs.List.{flat_map}
+use Rattle.std.proofs.lemmas.List.Concat.{flat_map-cons}
+use Rattle.lu_text.specs.Faults.{meaning_of}
+use Rattle.lu_text.specs.Lines.{texts, words_of}
+use Rattle.lu_text.proofs.Reading.{text_more, texts_end}
+use Rattle.lu_test.specs.Matrix.{Matrix}
+use Rattle.lu_recorded.specs.RecordedText.{recorded_grammar}
+use denote.Ref.{Bor}
+use Rattle.lu_lint.specs.declared.remark.Said.{Said}
+use Rattle.lu_lint.specs.Said.{above_next}
+use Rattle.lu_lint.specs.Third.{begin_history, histories_said, history_said}
+
+-- ---- the first word of a text
+
+begin_front : (words others : List (List ℕ)) → 0 < length words → begin_history (words ++ others) ≡ begin_history words
+begin_front [] others some = absurd (omega arith)
+begin_front (word ∷ words) others some = refl
+
+-- the words of the lines from number i on are those of line i, and then the others
+words_more : (lines : List (Bor (List ℕ))) (i : ℕ) (d : Bor (List ℕ)) → i < length lines → flat_map words_of (drop i (texts lines)) ≡ words_of (get_or lines i d).now ++ flat_map words_of (drop (i + 1) (texts lines))
+words_more lines i d within = ap (flat_map words_of) (text_more lines i d within) ∙ flat_map-cons words_of (get_or lines i d).now (drop (i + 1) (texts lines))
+
+no_words : (words others : List (List ℕ)) → length words ≡ 0 → words ++ others ≡ others
+no_words [] others none = refl
+no_words (word ∷ words) others none = absurd (omega arith)
+
+-- a line without words
+pub goes_past : (lines : List (Bor (List ℕ))) (i : ℕ) (d : Bor (List ℕ)) (words : List (List ℕ)) (total : Bool) → i < length lines → words ≡ words_of (get_or lines i d).now → length words ≡ 0 → begin_history (flat_map words_of (drop i (texts lines))) ≡ total → begin_history (flat_map words_of (drop (i + 1) (texts lines))) ≡ total
+goes_past lines i d words total within is none so_far =
+    let others = flat_map words_of (drop (i + 1) (texts lines)) in
+    let all : flat_map words_of (drop i (texts lines)) ≡ others = words_more lines i d within ∙ (ap (λ (x : List (List ℕ)). x ++ others) (sym is) ∙ no_words words others none) in
+    sym (ap begin_history all) ∙ so_far
+
+-- a line with words
+pub stops : (lines : List (Bor (List ℕ))) (i : ℕ) (d : Bor (List ℕ)) (words : List (List ℕ)) (total : Bool) → i < length lines → words ≡ words_of (get_or lines i d).now → 0 < length words → begin_history (flat_map words_of (drop i (texts lines))) ≡ total → begin_history words ≡ total
+stops lines i d words total within is some so_far =
+    let others = flat_map words_of (drop (i + 1) (texts lines)) in
+    let all : flat_map words_of (drop i (texts lines)) ≡ words ++ others = words_more lines i d within ∙ ap (λ (x : List (List ℕ)). x ++ others) (sym is) in
+    sym (begin_front words others some) ∙ (sym (ap begin_history all) ∙ so_far)
+
+-- ---- recorded histories
+
+-- one history more
+pub goes_on : (matrix : Matrix) (above below : ℕ) (parts : List (Bor (List ℕ))) (i : ℕ) (d : Bor (List ℕ)) (before next total : List Said) → i < length parts → next ≡ before ++ history_said above (meaning_of (recorded_grammar matrix) (get_or parts i d).now) → below ≡ above_next above (get_or parts i d).now
+    → before ++ histories_said matrix above (drop i (texts parts)) ≡ total → next ++ histories_said matrix below (drop (i + 1) (texts parts)) ≡ total
+goes_on matrix above below parts i d before next total within more is so_far =
+    let text = (get_or parts i d).now in
+    let here = history_said above (meaning_of (recorded_grammar matrix) text) in
+    let others = histories_said matrix (above_next above text) (drop (i + 1) (texts parts)) in
+    rw (is, more) (append_assoc before here others ∙ (ap (λ (x : List (List ℕ)). before ++ histories_said matrix above x) (sym (text_more parts i d within)) ∙ so_far))
+
+-- no history is left
+pub ends : (matrix : Matrix) (above : ℕ) (parts : List (Bor (List ℕ))) (i : ℕ) (before total : List Said) → length parts ≤ i → before ++ histories_said matrix above (drop i (texts parts)) ≡ total → before ≡ total
+ends matrix above parts i before total past so_far = sym (append-nil before) ∙ (ap (λ (x : List (List ℕ)). before ++ histories_said matrix above x) (sym (texts_end parts i past)) ∙ so_far)

@@ -1,0 +1,111 @@
+//! The parts of a bundle behind its matrix.
+
+ghost use Rattle.std.specs.Prelude.{◌≡◌, ◌∷◌};
+ghost use Rattle.lu_text.specs.Lines.{texts};
+ghost use Rattle.lu_lint.specs.Further as spec;
+ghost use Rattle.lu_lint.specs.Further.{BehindMatrix, BehindThird, FourthSaid};
+ghost use Rattle.lu_lint.specs.Said.{SaysAlso, SaysSuch};
+
+use crate::bundle::above_next;
+use crate::histories::with_histories;
+use crate::remark::{Cause, Remark, Said, with_remark};
+use crate::third::{Third, third_of, with_specification_of, with_third};
+use lu_test::Matrix;
+use std::alloc::{AllocError, Global};
+
+/// The remarks with one on the line before these parts, where they are parts behind the fourth.
+fn with_fifth(
+    alloc: Global,
+    all: Vec<Remark>,
+    above: usize,
+    parts: &[&[u8]],
+) -> Result<Vec<Remark>, AllocError>
+    ensures { SaysAlso result all (spec.fifth_said above (texts parts.now)) }
+{
+    match parts.split_first() {
+        None => Ok(all),
+        Some(_) => {
+            let said = Said {
+                place: above,
+                cause: Cause::FifthPart,
+            };
+            let words = String::from_str(
+                alloc,
+                "a fifth part begins behind this line; only recorded histories may be so many",
+            )?;
+            with_remark(all, said, words)
+        }
+    }
+}
+
+/// The remarks with those on a fourth part, and on the line behind it where parts stand there.
+fn with_fourth_part(
+    alloc: Global,
+    all: Vec<Remark>,
+    matrix: &Option<Matrix>,
+    above: usize,
+    text: &[u8],
+    parts: &[&[u8]],
+) -> Result<Vec<Remark>, AllocError>
+    ensures { SaysSuch result all (FourthSaid matrix.now above (text.now ∷ texts parts.now)) }
+{
+    let all = with_specification_of(alloc, all, matrix, above, text)?;
+    let above = above_next(alloc, above, text)?;
+    let all = with_fifth(alloc, all, above, parts)?;
+    Ok(all)
+}
+
+/// The remarks with those on the parts behind a schedule or a report.
+fn with_fourth(
+    alloc: Global,
+    all: Vec<Remark>,
+    matrix: &Option<Matrix>,
+    above: usize,
+    parts: &[&[u8]],
+) -> Result<Vec<Remark>, AllocError>
+    ensures { SaysSuch result all (FourthSaid matrix.now above (texts parts.now)) }
+{
+    match parts.split_first() {
+        None => Ok(all),
+        Some((text, others)) => with_fourth_part(alloc, all, matrix, above, text, others),
+    }
+}
+
+/// The remarks with those on the parts behind a third part that is this.
+fn with_behind(
+    alloc: Global,
+    all: Vec<Remark>,
+    third: Third,
+    matrix: &Option<Matrix>,
+    above: usize,
+    parts: &[&[u8]],
+) -> Result<Vec<Remark>, AllocError>
+    ensures { SaysSuch result all (BehindThird third matrix.now above (texts parts.now)) }
+{
+    match third {
+        Third::Specification | Third::History => {
+            let all = with_histories(alloc, all, matrix, above, parts)?;
+            Ok(all)
+        }
+        Third::Report | Third::Schedule => with_fourth(alloc, all, matrix, above, parts),
+    }
+}
+
+/// The remarks with those on a third part and on the parts behind it, behind a matrix that is read
+/// or not.
+pub(crate) fn with_further(
+    alloc: Global,
+    all: Vec<Remark>,
+    matrix: &Option<Matrix>,
+    above: usize,
+    text: &[u8],
+    parts: &[&[u8]],
+) -> Result<Vec<Remark>, AllocError>
+    ensures { SaysSuch result all (BehindMatrix matrix.now above (text.now ∷ texts parts.now)) }
+{
+    let third = third_of(alloc, text)?;
+    let all = with_third(alloc, all, third, matrix, above, text)?;
+    let above = above_next(alloc, above, text)?;
+    let all = with_behind(alloc, all, third, matrix, above, parts)?;
+    Ok(all)
+}

@@ -1,0 +1,95 @@
+//! Recorded histories, each a part of a bundle.
+
+ghost use Rattle.std.specs.Prelude.{◌≡◌, ◌∷◌, []};
+ghost use Rattle.lu_text.specs.Lines.{texts};
+ghost use Rattle.lu_lint.specs.Lint as lint;
+ghost use Rattle.lu_lint.specs.Said.{SaysAlso, said_told};
+ghost use Rattle.lu_lint.specs.Third as spec;
+ghost use Rattle.lu_lint.specs.declared.remark.FaultKind.TheVariants as part;
+
+use crate::bundle::{above_next, kept_in};
+use crate::recorded_wording::recorded_wording;
+use crate::remark::{Cause, FaultKind, Remark, Said, line_below, with_remark};
+use crate::third::line_of;
+use lu_recorded::{RecordedFaultKind, read_recorded};
+use lu_test::Matrix;
+use lu_text::Fault;
+use std::alloc::{AllocError, Global};
+
+/// What is said of a fault of a recorded history.
+fn said(above: usize, kind: RecordedFaultKind, line: usize) -> Said
+    ensures { result ≡ said_told part.History above (lint.told_here line kind) }
+{
+    Said {
+        place: line_below(above, line),
+        cause: Cause::Fault(FaultKind::History(kind), line),
+    }
+}
+
+/// The remarks with one on this fault of a recorded history.
+fn with_fault(
+    alloc: Global,
+    all: Vec<Remark>,
+    matrix: &Matrix,
+    above: usize,
+    text: &[u8],
+    kind: RecordedFaultKind,
+    line: usize,
+) -> Result<Vec<Remark>, AllocError>
+    ensures { SaysAlso result all (said_told part.History above (lint.told_here line kind) ∷ []) }
+{
+    let lines = kept_in(alloc, text)?;
+    let words = recorded_wording(alloc, matrix, kind, line_of(&lines, line))?;
+    with_remark(all, said(above, kind, line), words)
+}
+
+/// The remarks with that on the first fault of a recorded history, where it has one.
+fn with_history(
+    alloc: Global,
+    all: Vec<Remark>,
+    matrix: &Matrix,
+    above: usize,
+    text: &[u8],
+) -> Result<Vec<Remark>, AllocError>
+    ensures { SaysAlso result all (spec.recorded_said matrix.now above text.now) }
+{
+    match read_recorded(alloc, matrix, text) {
+        Ok(_) => Ok(all),
+        Err(Fault::At(kind, line)) => with_fault(alloc, all, matrix, above, text, kind, line),
+        Err(Fault::Memory) => Err(AllocError),
+    }
+}
+
+/// The remarks with those on recorded histories of a matrix.
+fn with_each(
+    alloc: Global,
+    mut all: Vec<Remark>,
+    matrix: &Matrix,
+    mut above: usize,
+    parts: &[&[u8]],
+) -> Result<Vec<Remark>, AllocError>
+    ensures { SaysAlso result all (spec.histories_said matrix.now above (texts parts.now)) }
+{
+    for text in parts {
+        all = with_history(alloc, all, matrix, above, text)?;
+        above = above_next(alloc, above, text)?;
+    }
+    Ok(all)
+}
+
+/// The remarks with those on recorded histories, where there is a matrix. Before the first of them
+/// stand `above` lines of the bundle.
+pub(crate) fn with_histories(
+    alloc: Global,
+    all: Vec<Remark>,
+    matrix: &Option<Matrix>,
+    above: usize,
+    parts: &[&[u8]],
+) -> Result<Vec<Remark>, AllocError>
+    ensures { SaysAlso result all (spec.histories_of matrix.now above (texts parts.now)) }
+{
+    match matrix {
+        None => Ok(all),
+        Some(matrix) => with_each(alloc, all, matrix, above, parts),
+    }
+}
