@@ -7,3 +7,4 @@ pub mod Refuted
 pub mod Against
 pub mod Certified
 mod Explained
+pub mod Judged

@@ -36,7 +36,7 @@ use Rattle.lu_refine.specs.declared.campaigns.Campaign.{Campaign}
 use Rattle.lu_refine.specs.ByThread.{Asked}
 use Rattle.lu_refine.specs.declared.campaigns.Campaign.TheVariants.{AllPass, First}
 use Rattle.lu_certify.specs.declared.certificate.Certificate.{Certificate}
-use Rattle.lu_certify.specs.declared.certificate.Certificate.TheVariants.{Linearizable, NotLinearizable, Undecided}
+use Rattle.lu_certify.specs.declared.certificate.Certificate.TheVariants.{Linearizable, NotLinearizable, Livelock, Undecided}
 use Rattle.lu_cli.specs.declared.order.CampaignOptions.{CampaignOptions}
 use Rattle.lu_cli.specs.declared.order.CampaignPart.{CampaignPart}
 use Rattle.lu_cli.specs.declared.order.CampaignPart.TheVariants.{Whole, Slice, Count}
@@ -45,7 +45,7 @@ use Rattle.lu_cli.specs.declared.order.CampaignThreads.TheVariants.{Alike, Own}
 use Rattle.lu_cli.specs.declared.order.Request.{Request}
 use Rattle.lu_cli.specs.declared.order.Request.TheVariants.{Lint, Ordered}
 use Rattle.lu_cli.specs.declared.order.BundleCommand.{BundleCommand}
-use Rattle.lu_cli.specs.declared.order.BundleCommand.TheVariants.{Replay, Trace, TraceFromSetup, Draw, DrawExplained, Explain, ExplainAgainst, Serial, Spec, Check, CheckAgainst, Certify, Refute, Shrink, Campaign as Campaigning}
+use Rattle.lu_cli.specs.declared.order.BundleCommand.TheVariants.{Replay, Trace, TraceFromSetup, Draw, DrawExplained, Explain, ExplainAgainst, Serial, Judge, JudgeAgainst, Conform, Spec, Check, CheckAgainst, Certify, Refute, Shrink, Campaign as Campaigning}
 use Rattle.lu_cli.specs.declared.explaining.Presentation.{Presentation}
 use Rattle.lu_cli.specs.declared.explaining.Presentation.TheVariants.{Words, Picture}
 use Rattle.lu_explain.specs.Explanations.{Explained}
@@ -55,9 +55,17 @@ use Rattle.lu_cli.specs.Drawing.{IsDrawnWith}
 use Rattle.lu_cli.specs.declared.explaining.Target.{Target}
 use Rattle.lu_cli.specs.declared.explaining.Target.TheVariants as target
 use Rattle.lu_cli.specs.Explaining.{IsExplained, IsExplainedBy, IsExplainedSchedule, IsExplainedSerially, IsPicturedBy, IsPresentedBy, ToEnded, ToFinding, is_report, status_by, unexplained}
+use Rattle.lu_recorded.specs.declared.recorded.Recorded.{Recorded}
+use Rattle.lu_recorded.specs.Codes.{recorded_code_of}
+use Rattle.lu_cli.specs.Judging.{IsJudgedBy, ToRecorded, four_parts, three_parts}
+use Rattle.lu_cli.specs.Conforming.{IsConformed, IsConformedTexts}
+use Rattle.lu_conform.specs.declared.shown.Conformance.TheVariants.{Conforms, NoneShows, Undecided as Undetermined}
+use Rattle.lu_cli.specs.declared.order.CertifyOptions.{CertifyOptions}
+use Rattle.lu_cli.specs.declared.order.Showing.{Showing}
+use Rattle.lu_cli.specs.declared.order.Showing.TheVariants.{Count as CountAlone, Schedules}
 use Rattle.lu_cli.specs.Bundle.{bundle_parts}
 use Rattle.lu_report.specs.Limits.{Limits}
-use Rattle.lu_cli.specs.Replies.{Answer, Answers, IsAnswerFrom, IsAnswerIn, IsAnswerOf, IsAnswerToOrder, IsAnswerToAlike, IsAnswerToPart, IsByThreadAnswer, IsCampaignAlike, IsTriedAll, IsCampaignBy, IsCampaignFrom, IsCertified, IsCheckAgainstFrom, IsCheckAgainstOf, IsChecked, IsCheckedAgainst, IsCollected, IsCountAnswer, IsDrawn, IsExplainAgainstOf, IsExplainOf, IsExplainedAgainst, IsExplainedText, IsLinted, IsRefuted, IsRefutedBy, IsRefuteOf, IsReplayed, IsRunSerially, IsShrinkAnswer, IsSliceReply, IsSpecOf, IsTraced, IsTracedFromSetup, ShowsCertificate, Tells, ToMatrix, ToParts, ToReport, ToSchedule, ToSettled, ToShown, ToSpec, ToTarget, ToTexts, ToValue, found_answer, lists_of, no_command, no_device, no_memory, or_schedule, refused, reported, status_of, with_matrix}
+use Rattle.lu_cli.specs.Replies.{Answer, Answers, IsAnswerFrom, IsAnswerIn, IsAnswerOf, IsAnswerToOrder, IsAnswerToAlike, IsAnswerToPart, IsByThreadAnswer, IsCampaignAlike, IsTriedAll, IsCampaignBy, IsCampaignFrom, IsCertified, IsCheckAgainstFrom, IsCheckAgainstOf, IsChecked, IsCheckedAgainst, IsCollected, IsConformOf, IsCountAnswer, IsDrawn, IsExplainAgainstOf, IsExplainOf, IsExplainedAgainst, IsExplainedText, IsJudgeAgainstOf, IsJudgeOf, IsJudgedAgainstTexts, IsJudgedSerially, IsJudgedTexts, IsLinted, IsRefuted, IsRefutedBy, IsRefuteOf, IsReplayed, IsRunSerially, IsShrinkAnswer, IsSliceReply, IsSpecOf, IsTraced, IsTracedFromSetup, ShowsCertificate, Tells, ToMatrix, ToParts, ToReport, ToSchedule, ToSettled, ToShown, ToSpec, ToTarget, ToTexts, ToValue, found_answer, lists_of, no_command, no_device, no_memory, or_schedule, refused, reported, status_of, with_matrix}
 
 -- an answer that was made and said
 pub said : (IsAnswer : Answer → Type 0) (answer : Answer) (text : List ℕ) (old new : Option (List ℕ)) (status : ℕ) → IsAnswer answer → text ≡ answer.text → Appends old new text × (status ≡ answer.status) → Answers IsAnswer old new status
@@ -150,11 +158,12 @@ against_else c m choice members answer (inr is) = text_else answer 75 (ap (byte_
 shown_else : (c : Declarations) (certificate : Certificate) (answer : Answer) → ShowsCertificate c certificate answer → IsElse answer
 shown_else c (Linearizable members) answer is = status_else answer 0 (ap (λ (a : Answer). a.status) is.2) (λ e. omega arith)
 shown_else c (NotLinearizable smaller r) answer is = status_else answer 1 (ap (λ (a : Answer). a.status) is) (λ e. omega arith)
+shown_else c (Livelock smaller u) answer is = status_else answer 1 (ap (λ (a : Answer). a.status) is) (λ e. omega arith)
 shown_else c (Undecided smaller r) answer is = status_else answer 3 (ap (λ (a : Answer). a.status) is) (λ e. omega arith)
 
-certified_else : (c : Declarations) (m : Matrix) (choice : Choice) (answer : Answer) → IsCertified c m choice answer → IsElse answer
-certified_else c m choice answer (inl is) = shown_else c is.0 answer is.2
-certified_else c m choice answer (inr is) = text_else answer 75 (ap (byte_of 8) is.1) (λ e. omega arith)
+certified_else : (c : Declarations) (m : Matrix) (asked : CertifyOptions) (answer : Answer) → IsCertified c m asked answer → IsElse answer
+certified_else c m asked answer (inl is) = shown_else c is.0 answer is.2
+certified_else c m asked answer (inr is) = text_else answer 75 (ap (byte_of 8) is.1) (λ e. omega arith)
 
 value_else : {Kind A : Type 0} (code : Kind → List ℕ) (r : Result A (Fault Kind)) (IsAnswer : A → Answer → Type 0) (answer : Answer) → ((x : A) → IsAnswer x answer → IsElse answer) → ToValue code r IsAnswer answer → IsElse answer
 value_else code (Ok x) IsAnswer answer h is = h x is
@@ -336,6 +345,43 @@ collected_parts_else parts answer is =
     parts_else (exactly_three parts) (λ p. ToTexts p.0 p.1 (λ c m. IsCollected m p.2)) answer
     (λ p more. texts_else p.0 p.1 (λ c m. IsCollected m p.2) answer (λ c m last. collected_else m p.2 answer last) more) is
 
+judged_else : (members : List (List SerialOp)) (c : Declarations) (m : Matrix) (all : List Recorded) (answer : Answer) → IsJudgedBy members c m all answer → IsElse answer
+judged_else members c m all answer (None, found, is) = status_else answer 0 (ap (λ (a : Answer). a.status) is) (λ e. omega arith)
+judged_else members c m all answer (Some n, found, is) = status_else answer 1 (ap (λ (a : Answer). a.status) is.2.2) (λ e. omega arith)
+
+recorded_else : (m : Matrix) (texts : List (List ℕ)) (IsAnswer : List Recorded → Answer → Type 0) (answer : Answer) → ((all : List Recorded) → IsAnswer all answer → IsElse answer) → ToRecorded m texts IsAnswer answer → IsElse answer
+recorded_else m texts IsAnswer answer h (inl is) = h is.0 is.2
+recorded_else m texts IsAnswer answer h (inr is) = refused_else (recorded_code_of is.1 ++ codes " history " ++ decimal is.0 ++ codes " line " ++ decimal is.2) answer is.4
+
+judged_serially_else : (c : Declarations) (m : Matrix) (limits : Limits) (all : List Recorded) (answer : Answer) → IsJudgedSerially c m limits all answer → IsElse answer
+judged_serially_else c m limits all answer (inl is) = judged_else is.2 c m all answer is.7
+judged_serially_else c m limits all answer (inr is) = reported_else is.0 answer is.3
+
+judge_else : (limits : Limits) (parts : List (List ℕ)) (answer : Answer) → IsJudgeOf limits parts answer → IsElse answer
+judge_else limits parts answer is =
+    parts_else (three_parts parts) (λ p. ToTexts p.0 p.1 (λ c m. IsJudgedTexts c m limits p.2)) answer
+    (λ p more. texts_else p.0 p.1 (λ c m. IsJudgedTexts c m limits p.2) answer
+    (λ c m from. recorded_else m p.2 (IsJudgedSerially c m limits) answer (λ all last. judged_serially_else c m limits all answer last) from) more) is
+
+judge_against_else : (parts : List (List ℕ)) (answer : Answer) → IsJudgeAgainstOf parts answer → IsElse answer
+judge_against_else parts answer is =
+    parts_else (four_parts parts) (λ p. ToTexts p.0 p.1 (λ c m. IsJudgedAgainstTexts c m p.2 p.3)) answer
+    (λ p more. texts_else p.0 p.1 (λ c m. IsJudgedAgainstTexts c m p.2 p.3) answer
+    (λ c m from. spec_else m p.2 (λ members. ToRecorded m p.3 (IsJudgedBy members c m)) answer
+    (λ members read. recorded_else m p.3 (IsJudgedBy members c m) answer (λ all last. judged_else members c m all answer last) read) from) more) is
+
+conformed_else : (c : Declarations) (m : Matrix) (showing : Showing) (all : List Recorded) (answer : Answer) → IsConformed c m showing all answer → IsElse answer
+conformed_else c m CountAlone all answer (Conforms schedules, found, is) = status_else answer 0 (ap (λ (a : Answer). a.status) is) (λ e. omega arith)
+conformed_else c m Schedules all answer (Conforms schedules, found, is) = status_else answer 0 (ap (λ (a : Answer). a.status) is) (λ e. omega arith)
+conformed_else c m showing all answer (NoneShows n, found, is) = status_else answer 1 (ap (λ (a : Answer). a.status) is.2) (λ e. omega arith)
+conformed_else c m showing all answer (Undetermined n, found, is) = status_else answer 3 (ap (λ (a : Answer). a.status) is) (λ e. omega arith)
+
+conform_else : (showing : Showing) (parts : List (List ℕ)) (answer : Answer) → IsConformOf showing parts answer → IsElse answer
+conform_else showing parts answer is =
+    parts_else (three_parts parts) (λ p. ToTexts p.0 p.1 (λ c m. IsConformedTexts c m showing p.2)) answer
+    (λ p more. texts_else p.0 p.1 (λ c m. IsConformedTexts c m showing p.2) answer
+    (λ c m from. recorded_else m p.2 (IsConformed c m showing) answer (λ all last. conformed_else c m showing all answer last) from) more) is
+
 pub order_else : (order : BundleCommand) (parts : List (List ℕ)) (answer : Answer) → IsAnswerToOrder order parts answer → IsElse answer
 order_else Replay parts answer is = three_else parts IsReplayed answer (λ c m u more. replayed_else c m u answer more) is
 order_else Trace parts answer is = shown_parts_else parts IsTraced answer (λ c m u more. traced_else c m u answer more) is
@@ -345,10 +391,13 @@ order_else (DrawExplained limits) parts answer is = explain_else Picture limits 
 order_else (Explain limits) parts answer is = explain_else Words limits parts answer is
 order_else ExplainAgainst parts answer is = explain_against_else parts answer is
 order_else (Serial limits) parts answer is = two_else parts (λ c m. IsRunSerially c m limits) answer (λ c m more. serial_else c m limits answer more) is
+order_else (Judge limits) parts answer is = judge_else limits parts answer is
+order_else JudgeAgainst parts answer is = judge_against_else parts answer is
+order_else (Conform showing) parts answer is = conform_else showing parts answer is
 order_else Spec parts answer is = collected_parts_else parts answer is
 order_else (Check choice) parts answer is = two_else parts (λ c m. IsChecked c m choice) answer (λ c m more. checked_else c m choice answer more) is
 order_else (CheckAgainst choice) parts answer is = spec_parts_else choice parts answer is
-order_else (Certify choice) parts answer is = two_else parts (λ c m. IsCertified c m choice) answer (λ c m more. certified_else c m choice answer more) is
+order_else (Certify asked) parts answer is = two_else parts (λ c m. IsCertified c m asked) answer (λ c m more. certified_else c m asked answer more) is
 order_else Refute parts answer is = four_else parts answer is
 order_else (Shrink limits) parts answer is = two_else parts (λ c m. IsShrinkAnswer c m limits) answer (λ c m more. shrink_else c m limits answer more) is
 order_else (Campaigning options) parts answer is = two_else parts (λ c m. IsCampaignFrom c options m) answer (λ c m more. matrices_else options.threads c options m answer more) is

@@ -18,10 +18,12 @@ use Rattle.lu_cli.specs.declared.order.CampaignPart.{CampaignPart}
 use Rattle.lu_cli.specs.declared.order.CampaignPart.TheVariants.{Whole, Slice, Count}
 use Rattle.lu_cli.specs.declared.order.CampaignThreads.{CampaignThreads}
 use Rattle.lu_cli.specs.declared.order.CampaignThreads.TheVariants.{Alike, Own}
+use Rattle.lu_cli.specs.declared.order.CertifyOptions.{CertifyOptions}
 use Rattle.lu_cli.specs.declared.order.Request.{Request}
+use Rattle.lu_cli.specs.declared.order.Showing.TheVariants as showing
 use Rattle.lu_cli.specs.declared.order.Request.TheVariants.{Lint, Ordered}
 use Rattle.lu_cli.specs.declared.order.BundleCommand.{BundleCommand}
-use Rattle.lu_cli.specs.declared.order.BundleCommand.TheVariants.{Replay, Trace, TraceFromSetup, Draw, DrawExplained, Explain, ExplainAgainst, Serial, Spec, Check, CheckAgainst, Certify, Refute, Shrink, Campaign}
+use Rattle.lu_cli.specs.declared.order.BundleCommand.TheVariants.{Replay, Trace, TraceFromSetup, Draw, DrawExplained, Explain, ExplainAgainst, Serial, Judge, JudgeAgainst, Conform, Spec, Check, CheckAgainst, Certify, Refute, Shrink, Campaign}
 use Rattle.lu_cli.specs.Orders.{choice_of}
 use Rattle.lu_report.specs.Limits.{Limits, limits_of, most_moves}
 use Rattle.lu_parallel.specs.Ranges.{Choice, choice, with_head_start}
@@ -122,8 +124,16 @@ serial_command = bounded (codes "serial") (codes "40")
 abbrev pub check_command : App
 check_command = with_rule (shared_out (codes "check") (codes "40")) (flag (codes "spec"))
 
+abbrev pub judge_command : App
+judge_command = with_rule (bounded (codes "judge") (codes "40")) (flag (codes "spec"))
+
+abbrev pub conform_command : App
+conform_command = with_rule (new_app (codes "conform")) (flag (codes "show"))
+
 abbrev pub certify_command : App
-certify_command = shared_out (codes "certify") (codes "256")
+certify_command =
+    with_rule (shared_out (codes "certify") (codes "256"))
+    (number_option (codes "local") 0 16 (codes "0"))
 
 abbrev pub refute_command : App
 refute_command = new_app (codes "refute")
@@ -169,8 +179,12 @@ abbrev pub single_commands : App
 single_commands =
     with_subcommand
     (with_subcommand
+    (with_subcommand
+    (with_subcommand
     (with_subcommand (with_subcommand schedule_commands serial_command.top) spec_command.top)
     check_command.top)
+    judge_command.top)
+    conform_command.top)
     certify_command.top
 
 abbrev pub lineup : App
@@ -245,6 +259,27 @@ check_order against choice = if against then CheckAgainst choice else Check choi
 
 abbrev pub check_in : List Row → Option BundleCommand
 check_in rows = option_map (check_order (flag_in (codes "spec") rows)) (choice_in rows)
+
+abbrev pub certify_with : Option Choice → Option ℕ → Option CertifyOptions
+certify_with (Some choice) (Some local) = Some (record { options = choice; local = local })
+certify_with _ _ = None
+
+abbrev pub certify_in : List Row → Option CertifyOptions
+certify_in rows = certify_with (choice_in rows) (number_named (codes "local") rows)
+
+-- a judgement by the serial runs, or one by a specification
+abbrev pub judge_order : Bool → Limits → BundleCommand
+judge_order against limits = if against then JudgeAgainst else Judge limits
+
+abbrev pub judge_in : List Row → Option BundleCommand
+judge_in rows = option_map (judge_order (flag_in (codes "spec") rows)) (limits_in rows)
+
+-- how many histories are shown, or by which schedules too
+abbrev pub conform_order : Bool → BundleCommand
+conform_order with_schedules = if with_schedules then Conform showing.Schedules else Conform showing.Count
+
+abbrev pub conform_in : List Row → BundleCommand
+conform_in rows = conform_order (flag_in (codes "show") rows)
 
 -- a trace, or one from the setup on
 abbrev pub trace_order : Bool → BundleCommand
@@ -326,11 +361,13 @@ order_by name rows =
     else (if bytes_eq name (codes "serial") then option_map Serial (limits_in rows)
     else (if bytes_eq name (codes "spec") then Some Spec
     else (if bytes_eq name (codes "check") then check_in rows
-    else (if bytes_eq name (codes "certify") then option_map Certify (choice_in rows)
+    else (if bytes_eq name (codes "judge") then judge_in rows
+    else (if bytes_eq name (codes "conform") then Some (conform_in rows)
+    else (if bytes_eq name (codes "certify") then option_map Certify (certify_in rows)
     else (if bytes_eq name (codes "refute") then Some Refute
     else (if bytes_eq name (codes "shrink") then option_map Shrink (limits_in rows)
     else (if bytes_eq name (codes "campaign") then option_map Campaign (campaign_in rows)
-    else None))))))))))
+    else None))))))))))))
 
 -- no schedule is bounded
 abbrev pub lint_in : List Row → Option Request

@@ -1,9 +1,11 @@
 pub mod Args
 pub mod Bundle
+pub mod Conforming
 pub mod Counted
 pub mod Drawing
 pub mod Explaining
 pub mod Inputs
+pub mod Judging
 pub mod Orders
 pub mod Outcomes
 pub mod Refusals

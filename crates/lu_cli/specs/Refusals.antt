@@ -1,5 +1,6 @@
 -- What is written of a refusal.
-use Rattle.std.specs.Prelude.{◌≡◌, ℕ, List, Option, Some, None, Result, Ok, Err, IfSome, codes}
+use Rattle.std.specs.Prelude.{◌≡◌, ℕ, ◌++◌, List, Option, Some, None, Result, Ok, Err, IfSome, codes}
+use Rattle.std.specs.Fmt.{decimal}
 use Rattle.lu_text.specs.declared.fault.Fault.{Fault}
 use Rattle.lu_text.specs.declared.fault.Fault.TheVariants.{At, Memory}
 use Rattle.lu_lang.specs.Kinds.{code_of}
@@ -10,6 +11,8 @@ use Rattle.lu_parallel.specs.declared.fault.CheckFault.{CheckFault}
 use Rattle.lu_parallel.specs.declared.fault.CheckFault.TheVariants as check
 use Rattle.lu_report.specs.Codes.{report_code_of}
 use Rattle.lu_spec.specs.Codes.{spec_code_of}
+use Rattle.lu_recorded.specs.Codes.{recorded_code_of}
+use Rattle.lu_recorded.specs.declared.fault.RecordedFaultKind.{RecordedFaultKind}
 use Rattle.lu_refute.specs.declared.fault.RefuteFault.{RefuteFault}
 use Rattle.lu_refute.specs.declared.fault.RefuteFault.TheVariants as refute
 use Rattle.lu_refine.specs.declared.campaigns.CampaignFault.{CampaignFault}
@@ -49,6 +52,15 @@ texts_answer (Setup k) = Some (unsettled k)
 texts_answer (Spec fault) = line_answer spec_code_of fault
 texts_answer (Check fault) = worker_answer fault
 
+-- a fault of the text of history number i, from 0, on this line
+abbrev pub refused_in_history : List ℕ → ℕ → ℕ → Answer
+refused_in_history code i n =
+    refused (code ++ codes " history " ++ decimal i ++ codes " line " ++ decimal n)
+
+abbrev pub history_answer : ℕ → Fault RecordedFaultKind → Option Answer
+history_answer i (At kind n) = Some (refused_in_history (recorded_code_of kind) i n)
+history_answer i Memory = None
+
 -- the line of a refusal, and its status; none for want of memory, of which the program tells in one
 -- place
 abbrev pub refusal_answer : Refusal → Option Answer
@@ -58,6 +70,7 @@ refusal_answer (refusal.Schedule fault) = schedule_answer fault
 refusal_answer (refusal.Report fault) = line_answer report_code_of fault
 refusal_answer (refusal.Refute fault) = refute_refusal fault
 refusal_answer (refusal.Campaign fault) = campaign_refusal fault
+refusal_answer (refusal.Recorded fault) = history_answer fault.number fault.fault
 refusal_answer refusal.Memory = None
 
 -- an answer of this kind, or a refusal whose line is one

@@ -1,5 +1,5 @@
 -- What the program writes, and its status.
-use Rattle.std.specs.Prelude.{◌≡◌, ◌≢◌, ◌⊎◌, ◌↔◌, ℕ, List, [], ◌∷◌, ◌++◌, length, replicate, Option, Some, None, Result, Ok, Err, MatchBool, IfSome, codes, nat_lt, if◌then◌else◌}
+use Rattle.std.specs.Prelude.{◌≡◌, ◌≢◌, ◌⊎◌, ◌↔◌, ℕ, List, [], ◌∷◌, ◌++◌, length, max, min, replicate, Option, Some, None, Result, Ok, Err, MatchBool, IfSome, codes, nat_lt, if◌then◌else◌}
 use Rattle.std.specs.Fmt.{decimal}
 use Rattle.std.specs.Io.KnownBytes.{Appends}
 use Rattle.lu_text.specs.declared.fault.Fault.{Fault}
@@ -66,8 +66,9 @@ use Rattle.lu_spec.specs.Listed.{IsListing}
 use Rattle.lu_spec.specs.SpecText.{IsReadAs, IsSpecFault, spec_text}
 use Rattle.lu_refute.specs.Answers.{IsAnswer as IsRefutation, IsConfirmedFailure}
 use Rattle.lu_certify.specs.declared.certificate.Certificate.{Certificate}
-use Rattle.lu_certify.specs.declared.certificate.Certificate.TheVariants.{Linearizable, NotLinearizable, Undecided}
-use Rattle.lu_certify.specs.Certificates.{IsCertificate}
+use Rattle.lu_certify.specs.declared.certificate.Certificate.TheVariants.{Linearizable, NotLinearizable, Livelock, Undecided}
+use Rattle.lu_grain.specs.Longer.{IsMadeWithin}
+use Rattle.lu_cli.specs.declared.order.CertifyOptions.{CertifyOptions}
 use Rattle.lu_cli.specs.declared.counted.Counted.{Counted}
 use Rattle.lu_cli.specs.declared.order.CampaignOptions.{CampaignOptions}
 use Rattle.lu_cli.specs.declared.order.CampaignPart.{CampaignPart}
@@ -77,12 +78,17 @@ use Rattle.lu_cli.specs.declared.order.CampaignThreads.TheVariants.{Alike, Own}
 use Rattle.lu_cli.specs.declared.order.Request.{Request}
 use Rattle.lu_cli.specs.declared.order.Request.TheVariants.{Lint, Ordered}
 use Rattle.lu_cli.specs.declared.order.BundleCommand.{BundleCommand}
-use Rattle.lu_cli.specs.declared.order.BundleCommand.TheVariants.{Replay, Trace, TraceFromSetup, Draw, DrawExplained, Explain, ExplainAgainst, Serial, Spec, Check, CheckAgainst, Certify, Refute, Shrink, Campaign as Campaigning}
+use Rattle.lu_cli.specs.declared.order.BundleCommand.TheVariants.{Replay, Trace, TraceFromSetup, Draw, DrawExplained, Explain, ExplainAgainst, Serial, Judge, JudgeAgainst, Conform, Spec, Check, CheckAgainst, Certify, Refute, Shrink, Campaign as Campaigning}
 use Rattle.lu_cli.specs.declared.refusal.Refusal.{Refusal}
 use Rattle.lu_cli.specs.declared.refusal.Refusal.TheVariants as refusal
 use Rattle.lu_cli.specs.declared.explaining.Target.{Target}
 use Rattle.lu_cli.specs.declared.explaining.Target.TheVariants as target
 use Rattle.lu_cli.specs.Explaining.{IsExplained, IsExplainedSerially, is_report}
+use Rattle.lu_cli.specs.Judging.{IsJudgedBy, ToRecorded, four_parts, three_parts}
+use Rattle.lu_cli.specs.Conforming.{IsConformedTexts}
+use Rattle.lu_cli.specs.Refusals.{Answered}
+use Rattle.lu_cli.specs.declared.order.Showing.{Showing}
+use Rattle.lu_recorded.specs.declared.recorded.Recorded.{Recorded}
 use Rattle.lu_cli.specs.Bundle.{bundle_parts}
 use Rattle.lu_cli.specs.Args.{request_said}
 use Rattle.lu_cli.specs.Counted.{AppendsCounted, GoesWell, IsUnfailed, Lent, new_of, old_of}
@@ -180,6 +186,23 @@ IsRunSerially c matrix limits answer =
     ⊎ ((r : Parts) × IsReport c matrix limits.bound limits.serial r × IsOfOffence r.finding
     × (answer ≡ reported r))
 
+-- ---- `judge`
+
+-- the report of a serial offence
+abbrev pub IsOffenceReported : Declarations → Matrix → Limits → Answer → Type 0
+IsOffenceReported c m limits answer =
+    (r : Parts) × IsReport c m limits.bound limits.serial r × IsOfOffence r.finding
+    × (answer ≡ reported r)
+
+-- where there is no serial offence, judged by all beginnings of the serial histories; else the
+-- report of the least offence
+abbrev pub IsJudgedSerially : Declarations → Matrix → Limits → List Recorded → Answer → Type 0
+IsJudgedSerially c m limits all answer =
+    ((s : State) × (histories : List (List SerialOp)) × (members : List (List SerialOp))
+    × IsStart c m s × NoOffence s limits.serial × AreSerial s histories
+    × IsClosureOf histories members × IsJudgedBy members c m all answer)
+    ⊎ IsOffenceReported c m limits answer
+
 -- ---- `check`
 
 -- the report, whatever the number of workers and the depth; or, with more than one worker, that a
@@ -215,6 +238,13 @@ with_matrix c matrix r = record { text = two_texts c matrix r; status = status_o
 abbrev pub verdict : List ℕ → List ℕ → ℕ → Answer
 verdict words text status = record { text = words ++ codes "\n---\n" ++ text; status = status }
 
+-- a matrix, and a schedule of it
+abbrev pub with_schedule : Declarations → Matrix × List Move → Answer
+with_schedule c example = record {
+  text = matrix_text c example.0 ++ codes "---\n" ++ schedule_text example.1;
+  status = 1;
+}
+
 -- what a certificate is shown as: its set as a specification; or the cut, and its report
 abbrev pub ShowsCertificate : Declarations → Certificate → Answer → Type 0
 ShowsCertificate c (Linearizable members) answer =
@@ -222,16 +252,23 @@ ShowsCertificate c (Linearizable members) answer =
     × (answer ≡ verdict (codes "linearizable") (spec_text listed) 0)
 ShowsCertificate c (NotLinearizable smaller r) answer =
     answer ≡ verdict (codes "not linearizable") (two_texts c smaller r) 1
+ShowsCertificate c (Livelock smaller u) answer =
+    answer ≡ verdict (codes "livelock") (with_schedule c (smaller, u)).text 1
 ShowsCertificate c (Undecided smaller r) answer =
     answer ≡ verdict (codes "undecided") (two_texts c smaller r) 3
 
--- the certificate, whatever the number of workers and the depth; or, with more than one worker,
--- that a thread could not start
-abbrev pub IsCertified : Declarations → Matrix → Choice → Answer → Type 0
-IsCertified c matrix choice answer =
-    ((certificate : Certificate) × IsCertificate c matrix choice.bound choice.serial certificate
+-- how many local instructions run with a move: as many as the component says, or as are asked for
+abbrev pub certified_local : CertifyOptions → Declarations → ℕ
+certified_local asked c = max (min asked.local 16) c.local
+
+-- the certificate of the component with so many local instructions to a move, whatever the number
+-- of workers and the depth; or, with more than one worker, that a thread could not start
+abbrev pub IsCertified : Declarations → Matrix → CertifyOptions → Answer → Type 0
+IsCertified c matrix asked answer =
+    ((certificate : Certificate)
+    × IsMadeWithin (certified_local asked c) c matrix asked.options certificate
     × ShowsCertificate c certificate answer)
-    ⊎ ((choice.workers ≢ 1) × (answer ≡ no_worker))
+    ⊎ ((asked.options.workers ≢ 1) × (answer ≡ no_worker))
 
 -- ---- `shrink`
 
@@ -245,13 +282,6 @@ IsShrinkAnswer c matrix limits answer =
     × (answer ≡ reported r))
 
 -- ---- `refute`
-
--- a matrix, and a schedule of it
-abbrev pub with_schedule : Declarations → Matrix × List Move → Answer
-with_schedule c example = record {
-  text = matrix_text c example.0 ++ codes "---\n" ++ schedule_text example.1;
-  status = 1;
-}
 
 -- a schedule that the specification does not explain; or F2, where no run confirms that the report
 -- is a failure or nondeterministic
@@ -291,6 +321,25 @@ IsCheckAgainstFrom c matrix choice spec = ToSpec matrix spec (IsCheckedAgainst c
 -- the report is read first, and then the specification
 abbrev pub IsRefutedBy : Declarations → Matrix → List ℕ → List ℕ → Answer → Type 0
 IsRefutedBy c matrix report spec = ToReport report (λ r. ToSpec matrix spec (IsRefuted c matrix r))
+
+-- the recorded histories are read, and then judged by the serial runs
+abbrev pub IsJudgedTexts : Declarations → Matrix → Limits → List (List ℕ) → Answer → Type 0
+IsJudgedTexts c matrix limits texts = ToRecorded matrix texts (IsJudgedSerially c matrix limits)
+
+-- the specification is read first, and then the recorded histories, which are judged by it
+abbrev pub IsJudgedAgainstTexts : Declarations → Matrix → List ℕ → List (List ℕ) → Answer → Type 0
+IsJudgedAgainstTexts c matrix spec texts =
+    ToSpec matrix spec (λ members. ToRecorded matrix texts (IsJudgedBy members c matrix))
+
+-- that is answered, or a refusal that is
+abbrev pub JudgesTexts : Declarations → Matrix → Limits → List (List ℕ) → Result Answer Refusal
+    → Type 0
+JudgesTexts c matrix limits texts result = Answered (IsJudgedTexts c matrix limits texts) result
+
+abbrev pub JudgesTextsAgainst : Declarations → Matrix → List ℕ → List (List ℕ)
+    → Result Answer Refusal → Type 0
+JudgesTextsAgainst c matrix spec texts result =
+    Answered (IsJudgedAgainstTexts c matrix spec texts) result
 
 -- ---- `trace` and `draw`
 
@@ -530,6 +579,18 @@ abbrev pub IsSpecOf : List (List ℕ) → Answer → Type 0
 IsSpecOf parts =
     ToParts (exactly_three parts) (λ p. ToTexts p.0 p.1 (λ c m. IsCollected m p.2))
 
+abbrev pub IsJudgeOf : Limits → List (List ℕ) → Answer → Type 0
+IsJudgeOf limits parts =
+    ToParts (three_parts parts) (λ p. ToTexts p.0 p.1 (λ c m. IsJudgedTexts c m limits p.2))
+
+abbrev pub IsJudgeAgainstOf : List (List ℕ) → Answer → Type 0
+IsJudgeAgainstOf parts =
+    ToParts (four_parts parts) (λ p. ToTexts p.0 p.1 (λ c m. IsJudgedAgainstTexts c m p.2 p.3))
+
+abbrev pub IsConformOf : Showing → List (List ℕ) → Answer → Type 0
+IsConformOf showing parts =
+    ToParts (three_parts parts) (λ p. ToTexts p.0 p.1 (λ c m. IsConformedTexts c m showing p.2))
+
 abbrev pub IsCheckOf : Choice → List (List ℕ) → Answer → Type 0
 IsCheckOf choice parts =
     ToParts (exactly_two parts) (λ p. ToTexts p.0 p.1 (λ c m. IsChecked c m choice))
@@ -538,9 +599,9 @@ abbrev pub IsCheckAgainstOf : Choice → List (List ℕ) → Answer → Type 0
 IsCheckAgainstOf choice parts =
     ToParts (exactly_three parts) (λ p. ToTexts p.0 p.1 (λ c m. IsCheckAgainstFrom c m choice p.2))
 
-abbrev pub IsCertifyOf : Choice → List (List ℕ) → Answer → Type 0
-IsCertifyOf choice parts =
-    ToParts (exactly_two parts) (λ p. ToTexts p.0 p.1 (λ c m. IsCertified c m choice))
+abbrev pub IsCertifyOf : CertifyOptions → List (List ℕ) → Answer → Type 0
+IsCertifyOf asked parts =
+    ToParts (exactly_two parts) (λ p. ToTexts p.0 p.1 (λ c m. IsCertified c m asked))
 
 abbrev pub IsShrinkOf : Limits → List (List ℕ) → Answer → Type 0
 IsShrinkOf limits parts =
@@ -564,10 +625,13 @@ IsAnswerToOrder (DrawExplained limits) parts = IsExplainOf Picture limits parts
 IsAnswerToOrder (Explain limits) parts = IsExplainOf Words limits parts
 IsAnswerToOrder ExplainAgainst parts = IsExplainAgainstOf parts
 IsAnswerToOrder (Serial limits) parts = IsSerialOf limits parts
+IsAnswerToOrder (Judge limits) parts = IsJudgeOf limits parts
+IsAnswerToOrder JudgeAgainst parts = IsJudgeAgainstOf parts
+IsAnswerToOrder (Conform showing) parts = IsConformOf showing parts
 IsAnswerToOrder Spec parts = IsSpecOf parts
 IsAnswerToOrder (Check choice) parts = IsCheckOf choice parts
 IsAnswerToOrder (CheckAgainst choice) parts = IsCheckAgainstOf choice parts
-IsAnswerToOrder (Certify choice) parts = IsCertifyOf choice parts
+IsAnswerToOrder (Certify asked) parts = IsCertifyOf asked parts
 IsAnswerToOrder Refute parts = IsRefuteOf parts
 IsAnswerToOrder (Shrink limits) parts = IsShrinkOf limits parts
 IsAnswerToOrder (Campaigning options) parts = IsCampaignOf options parts

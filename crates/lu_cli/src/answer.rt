@@ -3,7 +3,7 @@
 ghost use Rattle.std.specs.Prelude.{◌≡◌, IfOk, IfErr, Some, string_bytes};
 ghost use Rattle.lu_test.specs.Matrix.{IsOf};
 ghost use Rattle.lu_certify.specs.Certificates.{NamesCutOf};
-ghost use Rattle.lu_cli.specs.Refusals.{refusal_answer};
+ghost use Rattle.lu_cli.specs.Refusals.{refusal_answer, refused_in_history};
 ghost use Rattle.lu_cli.specs.Replies as spec;
 ghost use Rattle.lu_cli.specs.Replies.{IsListed, two_texts};
 
@@ -12,6 +12,7 @@ use crate::texts::Fault as TextsFault;
 use lu_certify::Certificate;
 use lu_component::Component;
 use lu_parallel::CheckFault;
+use lu_recorded::PartFault;
 use lu_refine::CampaignFault;
 use lu_refute::RefuteFault;
 use lu_report::{Finding, Report, write_report};
@@ -53,6 +54,21 @@ fn refused_on_line(alloc: Global, code: &str, line: usize) -> Result<Answer, All
 {
     Ok(Answer {
         text: format!(in alloc; "refused {code} line {line}\n")?,
+        status: 2,
+    })
+}
+
+/// A refusal for a fault of this code in the text of history `number`, on this line.
+fn refused_in_history(
+    alloc: Global,
+    code: &str,
+    number: usize,
+    line: usize,
+) -> Result<Answer, AllocError>
+    ensures { IfOk result (λ answer. answer ≡ refused_in_history code.now number line) }
+{
+    Ok(Answer {
+        text: format!(in alloc; "refused {code} history {number} line {line}\n")?,
         status: 2,
     })
 }
@@ -131,7 +147,7 @@ fn verdict(alloc: Global, words: &str, text: &str, status: u8) -> Result<Answer,
     })
 }
 
-/// What a certificate says: the specification, or a cut with its report.
+/// What a certificate says: the specification, or a cut with its report or its schedule.
 pub fn show_certificate(
     alloc: Global,
     component: &Component,
@@ -148,6 +164,10 @@ pub fn show_certificate(
         Certificate::NotLinearizable { matrix, report } => {
             let text = write_both(alloc, component, matrix, report)?;
             verdict(alloc, "not linearizable", text.as_str(), 1)
+        }
+        Certificate::Livelock { matrix, schedule } => {
+            let shown = show_schedule(alloc, component, matrix, schedule)?;
+            verdict(alloc, "livelock", shown.text.as_str(), 1)
         }
         Certificate::Undecided { matrix, report } => {
             let text = write_both(alloc, component, matrix, report)?;
@@ -251,6 +271,12 @@ pub fn show_refusal(alloc: Global, refusal: Refusal) -> Result<Answer, AllocErro
         Refusal::Refute(RefuteFault::NotShown) => refused(alloc, "F2"),
         Refusal::Campaign(CampaignFault::Candidates) => refused(alloc, "G2"),
         Refusal::Campaign(CampaignFault::Limit) => refused(alloc, "G3"),
+        Refusal::Recorded(
+            PartFault {
+                number,
+                fault: Fault::At(kind, line),
+            },
+        ) => refused_in_history(alloc, kind.code(), number, line),
         Refusal::Texts(TextsFault::Component(Fault::Memory))
         | Refusal::Texts(TextsFault::Matrix(Fault::Memory))
         | Refusal::Texts(TextsFault::Spec(Fault::Memory))
@@ -259,6 +285,12 @@ pub fn show_refusal(alloc: Global, refusal: Refusal) -> Result<Answer, AllocErro
         | Refusal::Report(Fault::Memory)
         | Refusal::Refute(RefuteFault::Memory)
         | Refusal::Campaign(CampaignFault::Memory)
+        | Refusal::Recorded(
+            PartFault {
+                fault: Fault::Memory,
+                ..
+            },
+        )
         | Refusal::Memory => Err(AllocError),
     }
 }

@@ -9,7 +9,8 @@ ghost use Rattle.lu_cli.specs.Args.{AddsCommand, AddsRule, IsApp, lineup, reques
 ghost use Rattle.lu_cli.specs.Orders.{choice_of};
 
 use crate::order::{
-    ArgsFault, BundleCommand, CampaignOptions, CampaignPart, CampaignThreads, Request,
+    ArgsFault, BundleCommand, CampaignOptions, CampaignPart, CampaignThreads, CertifyOptions,
+    Request, Showing,
 };
 use clap::builder::{ValueParser, ValueParserFactory};
 use clap::error::ErrorKind;
@@ -167,6 +168,27 @@ fn check_command<'a>(alloc: Global) -> Result<Command<'a>, AllocError>
     with_option(with_workers(alloc, "check", "40"), flag(alloc, "spec"))
 }
 
+fn certify_command<'a>(alloc: Global) -> Result<Command<'a>, AllocError>
+    ensures { IfOk result (IsApp spec.certify_command) }
+{
+    with_option(
+        with_workers(alloc, "certify", "256"),
+        number_option(alloc, "local", 0, 16, "0"),
+    )
+}
+
+fn judge_command<'a>(alloc: Global) -> Result<Command<'a>, AllocError>
+    ensures { IfOk result (IsApp spec.judge_command) }
+{
+    with_option(with_bounds(alloc, "judge", "40"), flag(alloc, "spec"))
+}
+
+fn conform_command<'a>(alloc: Global) -> Result<Command<'a>, AllocError>
+    ensures { IfOk result (IsApp spec.conform_command) }
+{
+    with_option(bare_command(alloc, "conform"), flag(alloc, "show"))
+}
+
 /// A campaign's options but for those that take a part of it.
 fn sized_command<'a>(alloc: Global) -> Result<Command<'a>, AllocError>
     ensures { IfOk result (IsApp spec.sized_command) }
@@ -213,7 +235,9 @@ fn single_commands<'a>(alloc: Global) -> Result<Command<'a>, AllocError>
     let program = with_command(schedule_commands(alloc), with_bounds(alloc, "serial", "40"));
     let program = with_command(program, bare_command(alloc, "spec"));
     let program = with_command(program, check_command(alloc));
-    with_command(program, with_workers(alloc, "certify", "256"))
+    let program = with_command(program, judge_command(alloc));
+    let program = with_command(program, conform_command(alloc));
+    with_command(program, certify_command(alloc))
 }
 
 fn lint_command<'a>(alloc: Global) -> Result<Command<'a>, AllocError>
@@ -376,6 +400,49 @@ fn check_in(given: &ArgMatches<'_>) -> Option<BundleCommand>
     Some(check_order(options, flag_in(given, "spec")))
 }
 
+fn certify_in(given: &ArgMatches<'_>) -> Option<CertifyOptions>
+    ensures { result ≡ spec.certify_in (rows_of (found_of given.now)) }
+{
+    let options = options_in(given)?;
+    let local = number_named(given, "local")?;
+    Some(CertifyOptions { options, local })
+}
+
+/// A judgement by the serial runs, or one by a specification.
+fn judge_order(bounds: Bounds, against: bool) -> BundleCommand
+    ensures { result ≡ spec.judge_order against bounds }
+{
+    if against {
+        BundleCommand::JudgeAgainst
+    } else {
+        BundleCommand::Judge(bounds)
+    }
+}
+
+fn judge_in(given: &ArgMatches<'_>) -> Option<BundleCommand>
+    ensures { result ≡ spec.judge_in (rows_of (found_of given.now)) }
+{
+    let bounds = bounds_in(given)?;
+    Some(judge_order(bounds, flag_in(given, "spec")))
+}
+
+/// How many histories are shown, or by which schedules too.
+fn conform_order(with_schedules: bool) -> BundleCommand
+    ensures { result ≡ spec.conform_order with_schedules }
+{
+    if with_schedules {
+        BundleCommand::Conform(Showing::Schedules)
+    } else {
+        BundleCommand::Conform(Showing::Count)
+    }
+}
+
+fn conform_in(given: &ArgMatches<'_>) -> BundleCommand
+    ensures { result ≡ spec.conform_in (rows_of (found_of given.now)) }
+{
+    conform_order(flag_in(given, "show"))
+}
+
 /// A trace, or one from the setup on.
 fn trace_order(with_setup: bool) -> BundleCommand
     ensures { result ≡ spec.trace_order with_setup }
@@ -443,7 +510,9 @@ fn order_by(name: &str, given: &ArgMatches<'_>) -> Option<BundleCommand>
         "serial" => bounds_in(given).map(BundleCommand::Serial),
         "spec" => Some(BundleCommand::Spec),
         "check" => check_in(given),
-        "certify" => options_in(given).map(BundleCommand::Certify),
+        "judge" => judge_in(given),
+        "conform" => Some(conform_in(given)),
+        "certify" => certify_in(given).map(BundleCommand::Certify),
         "refute" => Some(BundleCommand::Refute),
         "shrink" => bounds_in(given).map(BundleCommand::Shrink),
         "campaign" => campaign_in(given).map(BundleCommand::Campaign),

@@ -1,10 +1,11 @@
 //! What is answered to each command.
 
-ghost use Rattle.std.specs.Prelude.{◌≡◌, IfOk};
+ghost use Rattle.std.specs.Prelude.{◌≡◌, ◌≤◌, IfOk};
 ghost use Rattle.lu_text.specs.Lines.{texts};
 ghost use Rattle.lu_test.specs.Matrix.{IsMatrix};
 ghost use Rattle.lu_machine.specs.Starts.{CanRun};
 ghost use Rattle.lu_report.specs.Parts.{IsOfOffence};
+ghost use Rattle.lu_replay.specs.Reports.{IsReport};
 ghost use Rattle.lu_spec.specs.Specs.{AreOf};
 ghost use Rattle.lu_cli.specs.Refusals.{Answered, SaysResult};
 ghost use Rattle.lu_cli.specs.Replies as spec;
@@ -15,15 +16,17 @@ use crate::answer::{
     show_spec,
 };
 use crate::campaigning::answer_campaign;
+use crate::conforming::answer_conform;
 use crate::drawing::draw;
 use crate::explaining::{Presentation, answer_explain, answer_explain_against};
-use crate::order::BundleCommand;
+use crate::judging::{answer_judge, answer_judge_against};
+use crate::order::{BundleCommand, CertifyOptions};
 use crate::refusal::Refusal;
 use crate::shown::read_shown;
 use crate::texts::read_texts;
-use lu_certify::certify_by_workers;
+use lu_grain::{certify_longer, certify_longer_by_workers};
 use lu_lang::Component;
-use lu_parallel::{OpenGate, Options, check, check_against};
+use lu_parallel::{OpenGate, Options, check, check_against, check_one, check_one_against};
 use lu_refine::{ShrinkFault, shrink};
 use lu_refute::refute;
 use lu_replay::{ReplayFault, replay, set_or_offence, write_replay};
@@ -265,31 +268,44 @@ fn answer_check_against<X: AllocGlobal + Threads + Wait>(
     Ok(show_report(rt.alloc(), &report)?)
 }
 
+/// How many local instructions run with a move of the component that is certified.
+fn certified_local(asked: CertifyOptions, component: &Component) -> u8
+    ensures local { result ≡ spec.certified_local asked component.now }
+    ensures longer { component.now.local ≤ result }
+    ensures few { result ≤ 16 }
+{
+    (asked.local.min(16) as u8).max(component.local())
+}
+
 /// What the checks of all cuts of the matrix say.
 fn certify_matrix<X: AllocGlobal + Threads + Wait>(
     rt: &X,
     component: &Component,
     matrix: &Matrix,
-    options: Options,
+    asked: CertifyOptions,
 ) -> Result<Answer, Refusal>
     requires { CanRun component.now matrix.now }
-    ensures { Answered (spec.IsCertified component.now matrix.now options) result }
+    ensures { Answered (spec.IsCertified component.now matrix.now asked) result }
 {
-    let certificate = certify_by_workers(rt, rt.alloc(), &OpenGate, component, matrix, options)?;
-    Ok(show_certificate(rt.alloc(), component, &certificate)?)
+    let local = certified_local(asked, component);
+    let (alloc, options) = (rt.alloc(), asked.options);
+    let certificate = certify_longer_by_workers(
+        rt, alloc, &OpenGate, component, matrix, local, options,
+    )?;
+    Ok(show_certificate(alloc, component, &certificate)?)
 }
 
 /// `lineup certify`: component and matrix.
 fn answer_certify<X: AllocGlobal + Threads + Wait>(
     rt: &X,
-    options: Options,
+    asked: CertifyOptions,
     parts: &[&[u8]],
 ) -> Result<Answer, Refusal>
-    ensures { Answered (spec.IsCertifyOf options (texts parts.now)) result }
+    ensures { Answered (spec.IsCertifyOf asked (texts parts.now)) result }
 {
     let (component, matrix) = exactly_two(parts).ok_or(Refusal::Parts)?;
     let case = read_texts(rt.alloc(), component, matrix)?;
-    certify_matrix(rt, &case.component, &case.matrix, options)
+    certify_matrix(rt, &case.component, &case.matrix, asked)
 }
 
 /// A schedule that the specification does not explain, where a run confirms that the report is a
@@ -361,6 +377,115 @@ fn answer_shrink(alloc: Global, bounds: Bounds, parts: &[&[u8]]) -> Result<Answe
     Ok(shrink_matrix(alloc, &case.component, &case.matrix, bounds)?)
 }
 
+/// The report of a check on the calling thread.
+fn check_alone(
+    alloc: Global,
+    component: &Component,
+    matrix: &Matrix,
+    options: Options,
+) -> Result<Report, AllocError>
+    requires { CanRun component.now matrix.now }
+    ensures { IfOk result (IsReport component.now matrix.now options.bound options.serial) }
+{
+    check_one(
+        alloc,
+        alloc,
+        component,
+        matrix,
+        options.bound(),
+        options.serial(),
+    )
+}
+
+/// `lineup check` on the calling thread: component and matrix.
+fn answer_check_alone(alloc: Global, options: Options, parts: &[&[u8]]) -> Result<Answer, Refusal>
+    ensures { Answered (spec.IsCheckOf options (texts parts.now)) result }
+{
+    let (component, matrix) = exactly_two(parts).ok_or(Refusal::Parts)?;
+    let case = read_texts(alloc, component, matrix)?;
+    let report = check_alone(alloc, &case.component, &case.matrix, options)?;
+    Ok(show_report(alloc, &report)?)
+}
+
+/// `lineup check --spec` on the calling thread: component, matrix and specification.
+fn answer_check_against_alone(
+    alloc: Global,
+    options: Options,
+    parts: &[&[u8]],
+) -> Result<Answer, Refusal>
+    ensures { Answered (spec.IsCheckAgainstOf options (texts parts.now)) result }
+{
+    let (component, matrix, specification) = exactly_three(parts).ok_or(Refusal::Parts)?;
+    let case = read_texts(alloc, component, matrix)?;
+    let (component, matrix) = (&case.component, &case.matrix);
+    let specification = read_spec(alloc, matrix, specification)?;
+    let tree = specification.tree();
+    let report = check_one_against(alloc, component, matrix, &tree, options.bound())?;
+    Ok(show_report(alloc, &report)?)
+}
+
+/// What the checks of all cuts of the matrix say, made on the calling thread.
+fn certify_matrix_alone(
+    alloc: Global,
+    component: &Component,
+    matrix: &Matrix,
+    asked: CertifyOptions,
+) -> Result<Answer, AllocError>
+    requires { CanRun component.now matrix.now }
+    ensures { IfOk result (spec.IsCertified component.now matrix.now asked) }
+{
+    let local = certified_local(asked, component);
+    let (bound, serial) = (asked.options.bound(), asked.options.serial());
+    let certificate = certify_longer(alloc, component, matrix, local, bound, serial)?;
+    show_certificate(alloc, component, &certificate)
+}
+
+/// `lineup certify` on the calling thread: component and matrix.
+fn answer_certify_alone(
+    alloc: Global,
+    asked: CertifyOptions,
+    parts: &[&[u8]],
+) -> Result<Answer, Refusal>
+    ensures { Answered (spec.IsCertifyOf asked (texts parts.now)) result }
+{
+    let (component, matrix) = exactly_two(parts).ok_or(Refusal::Parts)?;
+    let case = read_texts(alloc, component, matrix)?;
+    Ok(certify_matrix_alone(alloc, &case.component, &case.matrix, asked)?)
+}
+
+/// The answer to an order and the parts of a bundle, or why it is refused, with all done on the
+/// calling thread, however many workers are asked for.
+pub(crate) fn carry_out_alone(
+    alloc: Global,
+    order: BundleCommand,
+    parts: &[&[u8]],
+) -> Result<Answer, Refusal>
+    ensures { Answered (spec.IsAnswerToOrder order (texts parts.now)) result }
+{
+    match order {
+        BundleCommand::Replay => answer_replay(alloc, parts),
+        BundleCommand::Trace => answer_trace(alloc, parts),
+        BundleCommand::TraceFromSetup => answer_trace_from_setup(alloc, parts),
+        BundleCommand::Draw => answer_draw(alloc, parts),
+        BundleCommand::DrawExplained(bounds) => {
+            answer_explain(alloc, bounds, parts, Presentation::Picture)
+        }
+        BundleCommand::Explain(bounds) => answer_explain(alloc, bounds, parts, Presentation::Words),
+        BundleCommand::ExplainAgainst => answer_explain_against(alloc, parts),
+        BundleCommand::Serial(bounds) => answer_serial(alloc, bounds, parts),
+        BundleCommand::Judge(bounds) => answer_judge(alloc, bounds, parts),
+        BundleCommand::JudgeAgainst => answer_judge_against(alloc, parts),
+        BundleCommand::Conform(showing) => answer_conform(alloc, showing, parts),
+        BundleCommand::Spec => answer_spec(alloc, parts),
+        BundleCommand::Check(options) => answer_check_alone(alloc, options, parts),
+        BundleCommand::CheckAgainst(options) => answer_check_against_alone(alloc, options, parts),
+        BundleCommand::Certify(asked) => answer_certify_alone(alloc, asked, parts),
+        BundleCommand::Refute => answer_refute(alloc, parts),
+        BundleCommand::Shrink(bounds) => answer_shrink(alloc, bounds, parts),
+        BundleCommand::Campaign(options) => answer_campaign(alloc, options, parts),
+    }
+}
+
 /// The answer to an order and the parts of a bundle, or why it is refused.
 pub(crate) fn carry_out<X: AllocGlobal + Threads + Wait>(
     rt: &X,
@@ -370,28 +495,10 @@ pub(crate) fn carry_out<X: AllocGlobal + Threads + Wait>(
     ensures { Answered (spec.IsAnswerToOrder order (texts parts.now)) result }
 {
     match order {
-        BundleCommand::Replay => answer_replay(rt.alloc(), parts),
-        BundleCommand::Trace => answer_trace(rt.alloc(), parts),
-        BundleCommand::TraceFromSetup => answer_trace_from_setup(rt.alloc(), parts),
-        BundleCommand::Draw => answer_draw(rt.alloc(), parts),
-        BundleCommand::DrawExplained(bounds) => {
-            answer_explain(rt.alloc(), bounds, parts, Presentation::Picture)
-        }
-        BundleCommand::Explain(bounds) => answer_explain(
-            rt.alloc(),
-            bounds,
-            parts,
-            Presentation::Words,
-        ),
-        BundleCommand::ExplainAgainst => answer_explain_against(rt.alloc(), parts),
-        BundleCommand::Serial(bounds) => answer_serial(rt.alloc(), bounds, parts),
-        BundleCommand::Spec => answer_spec(rt.alloc(), parts),
         BundleCommand::Check(options) => answer_check(rt, options, parts),
         BundleCommand::CheckAgainst(options) => answer_check_against(rt, options, parts),
-        BundleCommand::Certify(options) => answer_certify(rt, options, parts),
-        BundleCommand::Refute => answer_refute(rt.alloc(), parts),
-        BundleCommand::Shrink(bounds) => answer_shrink(rt.alloc(), bounds, parts),
-        BundleCommand::Campaign(options) => answer_campaign(rt.alloc(), options, parts),
+        BundleCommand::Certify(asked) => answer_certify(rt, asked, parts),
+        _ => carry_out_alone(rt.alloc(), order, parts),
     }
 }
 

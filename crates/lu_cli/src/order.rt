@@ -39,6 +39,26 @@ pub struct CampaignOptions {
     pub part: CampaignPart,
 }
 
+/// The options of a certificate.
+#[derive(Clone, Copy, Debug, PartialEq, Eq)]
+pub struct CertifyOptions {
+    /// Those of the check of each cut.
+    pub options: Options,
+
+    /// How many local instructions run with a move, up to 16, where the component says fewer.
+    pub local: u16,
+}
+
+/// What is printed of recorded histories that a component shows.
+#[derive(Clone, Copy, Debug, PartialEq, Eq)]
+pub enum Showing {
+    /// How many they are.
+    Count,
+
+    /// How many they are, and a schedule of each.
+    Schedules,
+}
+
 /// What the words of a command line ask for.
 #[derive(Clone, Copy, Debug, PartialEq, Eq)]
 pub enum Request {
@@ -78,6 +98,16 @@ pub enum BundleCommand {
     /// `lineup serial`: show the serial histories of a component and a matrix.
     Serial(Bounds),
 
+    /// `lineup judge`: judge recorded histories by the serial histories of a component and a matrix.
+    /// The bound of schedules is used for the line of a report alone.
+    Judge(Bounds),
+
+    /// `lineup judge --spec`: judge recorded histories by a specification.
+    JudgeAgainst,
+
+    /// `lineup conform`: ask of recorded histories whether some schedule of a component shows them.
+    Conform(Showing),
+
     /// `lineup spec`: write a specification that a person wrote as this program spells it.
     Spec,
 
@@ -89,7 +119,7 @@ pub enum BundleCommand {
     CheckAgainst(Options),
 
     /// `lineup certify`: decide whether a component is linearizable on a matrix.
-    Certify(Options),
+    Certify(CertifyOptions),
 
     /// `lineup refute`: show where a component that fails does not meet a specification.
     Refute,

@@ -4,14 +4,14 @@ ghost use Rattle.std.specs.Prelude.{◌≡◌, ◌≢◌, ◌<◌, ◌≤◌, �
 ghost use Rattle.lu_cli.specs.declared.program.Failure.TheVariants.{Memory};
 ghost use Rattle.lu_cli.specs.Args.{request_said};
 ghost use Rattle.lu_cli.specs.Counted.{IsUnfailed};
-ghost use Rattle.lu_cli.specs.Replies.{IsAnswerFor, IsAnswerFrom, IsLinted, SaysAnswer, SaysNoCommand, Sends, TellsElse, TellsUnread, no_command, no_device};
+ghost use Rattle.lu_cli.specs.Replies.{IsAnswerFor, IsAnswerFrom, IsAnswerOf, IsLinted, SaysAnswer, SaysNoCommand, Sends, TellsElse, TellsUnread, no_command, no_device};
 
 use crate::answer::{Answer, refused};
 use crate::args::read_request;
 use crate::bundle::parts_in;
-use crate::commands::{carry_out, or_refusal};
+use crate::commands::{carry_out, carry_out_alone, or_refusal};
 use crate::counted::Counted;
-use crate::input::{InputFault, read_input};
+use crate::input::{InputFault, MOST_BYTES, read_input};
 use crate::order::{ArgsFault, Request};
 use crate::output::write_text;
 use lu_lint::lint;
@@ -153,5 +153,44 @@ fn say<W: Write>(output: &mut Counted<W>, text: &str, status: u8) -> u8
         status
     } else {
         4
+    }
+}
+
+/// The answer to what is asked for and a bundle, with all done on the calling thread.
+fn answer_request(alloc: Global, request: Request, bundle: &[u8]) -> Result<Answer, AllocError>
+    ensures { IfOk result (IsAnswerOf request bundle.now) }
+{
+    if bundle.len() > MOST_BYTES {
+        return refused(alloc, "B2");
+    }
+    match request {
+        Request::Lint(bounds) => answer_lint(alloc, bounds, bundle),
+        Request::Ordered(order) => {
+            let parts = parts_in(alloc, bundle)?;
+            or_refusal(alloc, carry_out_alone(alloc, order, &parts))
+        }
+    }
+}
+
+/// What the program answers to the words behind its name and to a bundle. All is done on the
+/// calling thread, however many workers the words ask for; the answer is the same for any number of
+/// them.
+///
+/// # Errors
+///
+/// `AllocError` where memory was refused.
+pub fn answer_alone<S: AsStr>(
+    alloc: Global,
+    words: &[S],
+    bundle: &[u8],
+) -> Result<Answer, AllocError>
+    ensures answer { IfOk result (IsAnswerFor S.text words.now (Some bundle.now)) }
+    ensures refused { IfOk result (λ r.
+        request_said S.text words.now ≡ None → r ≡ no_command) }
+{
+    match read_request(alloc, words) {
+        Ok(request) => answer_request(alloc, request, bundle),
+        Err(ArgsFault::Refused) => refuse_command(alloc),
+        Err(ArgsFault::Memory) => Err(AllocError),
     }
 }

@@ -5,6 +5,7 @@ ghost use Rattle.lu_cli.specs.declared.refusal.Refusal.TheVariants.{Memory};
 
 use crate::texts::Fault;
 use lu_parallel::CheckFault;
+use lu_recorded::PartFault;
 use lu_refine::CampaignFault;
 use lu_refute::RefuteFault;
 use lu_report::ReportFault;
@@ -33,6 +34,9 @@ pub(crate) enum Refusal {
 
     /// What is wrong with the calls or the size of a campaign.
     Campaign(CampaignFault),
+
+    /// What is wrong with the text of a recorded history.
+    Recorded(PartFault),
 
     /// Memory was refused.
     Memory,
@@ -107,6 +111,16 @@ impl From<CampaignFault> for Refusal {
 
     fn from(fault: CampaignFault) -> Refusal {
         Refusal::Campaign(fault)
+    }
+}
+
+impl From<PartFault> for Refusal {
+    ghost use Rattle.lu_cli.specs.declared.refusal.Refusal.TheVariants.{Recorded};
+
+    ghost from_gives = { λ fault e. e ≡ Recorded fault };
+
+    fn from(fault: PartFault) -> Refusal {
+        Refusal::Recorded(fault)
     }
 }
 

@@ -95,9 +95,9 @@ impl From<AllocError> for Fault {
 
 /// A component, and a matrix of it.
 #[derive(Drop)]
-pub(crate) struct Case {
-    pub(crate) component: Component,
-    pub(crate) matrix: Matrix,
+pub struct Case {
+    pub component: Component,
+    pub matrix: Matrix,
 }
 
 /// The number of the first call of the setup that does not end, if there is one. Want of memory is
@@ -121,7 +121,7 @@ fn find_unsettled(
 ///
 /// [`Fault::Component`] or [`Fault::Matrix`] with the fault of the first text that has one.
 /// [`Fault::Setup`] where both are read, and the setup does not settle.
-pub(crate) fn read_texts(alloc: Global, component: &[u8], matrix: &[u8]) -> Result<Case, Fault>
+pub fn read_texts(alloc: Global, component: &[u8], matrix: &[u8]) -> Result<Case, Fault>
     ensures read { IfOk result (λ c. AreSettled component.now matrix.now c.component c.matrix) }
     ensures runs { IfOk result (λ c. CanRun c.component c.matrix) }
     ensures fault { IfErr result (IsFaultOfTexts component.now matrix.now) }

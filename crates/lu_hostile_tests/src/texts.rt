@@ -4,6 +4,7 @@ use crate::bent::{ReadCounts, TextOutcome, Texts, try_all, try_beginnings};
 use lu_component::Component;
 use lu_fixtures::ROWS;
 use lu_lang::{read_component, write_component};
+use lu_recorded::{read_recorded, write_recorded};
 use lu_report::{read_report, write_report};
 use lu_spec::{read_spec, write_spec};
 use lu_test::{Matrix, ScheduleFault, read_matrix, read_schedule, write_matrix, write_schedule};
@@ -108,6 +109,33 @@ impl Texts for Specs {
             Ok(spec) => {
                 let written = write_spec(rt.alloc(), &spec)?;
                 assert!(rt; written.as_bytes() == text);
+                Ok(TextOutcome::Read)
+            }
+            Err(Fault::At(_, line)) => Ok(TextOutcome::Refused(line)),
+            Err(Fault::Memory) => panic!(rt; "memory"),
+        }
+    }
+}
+
+/// The text of the recorded history that is read from this one.
+fn recorded_again(rt: &impl AllocGlobal, matrix: &Matrix, text: &[u8]) -> Result<String, Fail> {
+    let recorded = read_recorded(rt.alloc(), matrix, text)?;
+    Ok(write_recorded(rt.alloc(), &recorded)?)
+}
+
+/// Texts of recorded histories of a matrix.
+#[derive(Drop)]
+struct Histories {
+    matrix: Matrix,
+}
+
+impl Texts for Histories {
+    fn outcome<X: AllocGlobal + Abort>(&self, rt: &X, text: &[u8]) -> Result<TextOutcome, Fail> {
+        match read_recorded(rt.alloc(), &self.matrix, text) {
+            Ok(recorded) => {
+                let written = write_recorded(rt.alloc(), &recorded)?;
+                let again = recorded_again(rt, &self.matrix, written.as_bytes())?;
+                assert!(rt; again.as_str() == written.as_str());
                 Ok(TextOutcome::Read)
             }
             Err(Fault::At(_, line)) => Ok(TextOutcome::Refused(line)),
@@ -240,6 +268,26 @@ fn specifications_are_read_or_refused(rt: HostRuntime) -> Result<(), Fail> {
         ReadCounts {
             read: 40,
             refused: 1188
+        }
+    );
+    Ok(())
+}
+
+/// One with comments and pending calls that says `stuck`.
+#[test]
+fn recorded_histories_are_read_or_refused(rt: HostRuntime) -> Result<(), Fail> {
+    let component = read_component(rt.alloc(), ROWS.as_bytes())?;
+    let texts = Histories {
+        matrix: read_matrix(rt.alloc(), &component, b"thread inc\nthread inc;get\n")?,
+    };
+    let text =
+        b"# 26 runs\ncall 0 0\n call 1 0\nreturn 1 0 ret 42\t# the first\ncall 1 1\nreturn 0 0 trap\n\nstuck\n";
+    let tally = try_all(&rt, &texts, text)?;
+    assert_eq!(rt;
+        tally,
+        ReadCounts {
+            read: 314,
+            refused: 1076
         }
     );
     Ok(())
