@@ -1,0 +1,37 @@
+# Completion of `lineup` for bash.
+_lineup() {
+    local word="${COMP_WORDS[COMP_CWORD]}" before="${COMP_WORDS[COMP_CWORD-1]}" options
+    COMPREPLY=()
+    if [ "$COMP_CWORD" -eq 1 ]; then
+        COMPREPLY=($(compgen -W 'lint serial check certify judge conform explain draw trace replay shrink campaign spec refute
+            help --help --version --build --install' -- "$word"))
+        return
+    fi
+    case "$before" in
+        --bound) options='40 256' ;;                      # 0 to 256
+        --serial) options='40 256' ;;                     # 1 to 256
+        --workers) options="$(seq 16)" ;;
+        --depth) options="$(seq 0 8)" ;;
+        --local) options="$(seq 0 16)" ;;
+        --threads | --calls) options="$(seq 8)" ;;
+        --from | --upto) return ;;                        # numbers of matrices
+        --install) compopt -o dirnames; return ;;
+        *)
+            case "${COMP_WORDS[1]}" in
+                check) options='--bound --serial --workers --depth --spec' ;;
+                certify) options='--bound --serial --workers --depth --local' ;;
+                serial | shrink) options='--bound --serial' ;;
+                judge) options='--bound --serial --spec' ;;
+                conform) options='--show' ;;
+                lint) options='--serial' ;;
+                explain) options='--serial --spec' ;;
+                draw) options='--serial --explain' ;;
+                trace) options='--setup' ;;
+                campaign) options='--bound --serial --threads --calls --by-thread --from --upto --count' ;;
+                *) return ;;
+            esac
+            ;;
+    esac
+    COMPREPLY=($(compgen -W "$options" -- "$word"))
+}
+complete -o default -F _lineup lineup      # file names behind < and >
