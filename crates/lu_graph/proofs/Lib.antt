@@ -5,6 +5,7 @@ mod Among
 mod Grown
 mod Added
 mod Explored
+mod Levels
 mod Judged
 mod Same
 mod Many

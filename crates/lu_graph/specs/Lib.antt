@@ -1,6 +1,7 @@
 pub mod Nodes
 pub mod Laws
 pub mod Growing
+pub mod Visiting
 pub mod Hopeless
 pub mod Discovering
 pub mod Marking

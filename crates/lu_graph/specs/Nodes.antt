@@ -1,5 +1,5 @@
 -- Nodes: states, with the histories of schedules that lead there. Sets of them that no move leaves.
-use Rattle.std.specs.Prelude.{◌≡◌, ◌↔◌, ℕ, ◌≤◌, Bool, IfOk, IsTrue, Result, List, [], ◌++◌, length, Option, Some, slice_get}
+use Rattle.std.specs.Prelude.{◌≡◌, ◌↔◌, ℕ, ◌<◌, ◌≤◌, Bool, IfOk, IsTrue, MatchBool, Result, List, [], ◌++◌, length, Option, Some, slice_get}
 use Rattle.lu_test.specs.declared.schedule.Move.{Move}
 use Rattle.lu_machine.specs.declared.event.Event.{Event}
 use Rattle.lu_machine.specs.Ends.{IsEnded}
@@ -7,6 +7,8 @@ use Rattle.lu_machine.specs.Runs.{with_event}
 use Rattle.lu_machine.specs.Schedules.{Reaches}
 use Rattle.lu_machine.specs.States.{State}
 use Rattle.lu_machine.specs.Steps.{Step}
+use Rattle.lu_graph.specs.declared.ending.Ending.{Ending}
+use Rattle.lu_graph.specs.declared.ending.Ending.TheVariants.{Well, Badly, TooMany}
 use Rattle.lu_history.specs.declared.serial.SerialOp.{SerialOp}
 use Rattle.lu_witness.specs.Goodness.{IsGoodAt}
 use Rattle.lu_witness.specs.Witnesses.{IsMember}
@@ -46,8 +48,16 @@ abbrev pub HasFewNodes : State → ℕ → Type 0
 HasFewNodes s most = (nodes : List Node) × HasAllNodes s nodes × (length nodes ≤ most)
 
 -- it is good, if it has ended
-abbrev pub IsGoodIfEnded : List (List SerialOp) → State → List Event → Type 0
-IsGoodIfEnded members s h = IsEnded s → IsGoodAt (IsMember members) s h
+abbrev pub IsGoodIfEnded : (List SerialOp → Type 0) → State → List Event → Type 0
+IsGoodIfEnded Set s h = IsEnded s → IsGoodAt Set s h
+
+-- it has ended, and is not good
+abbrev pub IsBadAt : (List SerialOp → Type 0) → State → List Event → Type 0
+IsBadAt Set s h = IsEnded s × (IsGoodAt Set s h → ⊥)
+
+-- whether it is good, if it has ended
+abbrev pub TellsGood : (List SerialOp → Type 0) → State → List Event → Bool → Type 0
+TellsGood Set s h good = MatchBool good (IsGoodIfEnded Set s h) (IsBadAt Set s h)
 
 -- each node of the list that has ended is good
 abbrev pub EndGood : (List SerialOp → Type 0) → List Node → Type 0
@@ -64,10 +74,34 @@ EndsWell Set s =
 abbrev pub EndsWellOnFewNodes : (List SerialOp → Type 0) → State → Type 0
 EndsWellOnFewNodes Set s = HasFewNodes s 262144 × EndsWell Set s
 
+-- the schedule u ends, and is not good
+abbrev pub EndsBadly : (List SerialOp → Type 0) → State → List Move → Type 0
+EndsBadly Set s u = Reaches s u (IsBadAt Set)
+
+-- a schedule of so many moves ends badly, and none of fewer does
+pub record IsShortestBad (Set : List SerialOp → Type 0) (s : State) (moves : ℕ) : Type 0 where
+  pub schedule : List Move
+  pub long : length schedule ≡ moves
+  pub bad : EndsBadly Set s schedule
+  pub shortest : (v : List Move) → length v < moves → EndsBadly Set s v → ⊥
+
+-- How all schedules end, of any length, searched up to a bound: well, on few nodes; or the shortest
+-- that ends badly has so many moves, and there are few nodes where that is more than the bound; or
+-- there are too many nodes.
+abbrev pub IsEnding : (List SerialOp → Type 0) → ℕ → State → Ending → Type 0
+IsEnding Set bound s Well = EndsWellOnFewNodes Set s
+IsEnding Set bound s (Badly moves) =
+    IsShortestBad Set s moves × (bound < moves → HasFewNodes s 262144)
+IsEnding Set bound s TooMany = HasFewNodes s 262144 → ⊥
+
+-- so it is of the result, if there is one, for the set of these members
+abbrev pub TellsEnding : {E : Type 0} → List (List SerialOp) → ℕ → Result Ending E → State → Type 0
+TellsEnding members bound result s = IfOk result (IsEnding (IsMember members) bound s)
+
 -- the answer, if there is one, is whether this holds
 abbrev pub Tells : {E : Type 0} → Type 0 → Result Bool E → Type 0
 Tells P result = IfOk result (λ answer. IsTrue answer ↔ P)
 
--- so it is of each ended schedule from s, for the set of these members
-abbrev pub TellsEndsWell : {E : Type 0} → List (List SerialOp) → Result Bool E → State → Type 0
-TellsEndsWell members result s = Tells (EndsWellOnFewNodes (IsMember members) s) result
+-- the answer, if there is one, is whether there are no more than 262,144 nodes
+abbrev pub TellsFewNodes : {E : Type 0} → Result Bool E → State → Type 0
+TellsFewNodes result s = Tells (HasFewNodes s 262144) result

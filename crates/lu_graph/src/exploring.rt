@@ -1,10 +1,16 @@
-//! Whether each ended schedule is good, of any length.
+//! How all schedules end, of any length.
 
-ghost use Rattle.lu_machine.specs.Starts.{CanRun, FromEachStart};
-ghost use Rattle.lu_graph.specs.Nodes.{TellsEndsWell};
+ghost use Rattle.std.specs.Prelude.{None, []};
+ghost use Rattle.lu_machine.specs.Starts.{CanRun, FromEachStart, IsStart, Settles};
+ghost use Rattle.lu_graph.specs.Growing.{AddsHere};
+ghost use Rattle.lu_graph.specs.Nodes.{TellsEnding, TellsFewNodes};
+ghost use Rattle.lu_graph.specs.Visiting.{AreVisitedFrom};
 
+use crate::ending::Ending;
 use crate::growing::{add, add_next};
 use crate::judging::is_good;
+use crate::kept::Kept;
+use crate::level::Level;
 use indexmap::IndexSet;
 use lu_component::Component;
 use lu_machine::Machine;
@@ -15,26 +21,19 @@ use std::alloc::{AllocError, Global};
 /// How many nodes are kept at most.
 const MOST_NODES: usize = 262_144;
 
-/// Whether the component has no more than 262,144 nodes on the matrix, and each ended schedule,
-/// of any length, is good for the set of the tree. A node is a state, with the history of a
-/// schedule that leads there. Asks for a matrix of the component, whose setup settles.
-///
-/// # Errors
-///
-/// `AllocError` where memory was refused.
-pub fn ends_well<T: SerialTree>(
+/// Whether the component of the machine has no more than 262,144 nodes on its matrix, where those
+/// before this place were gone through.
+fn are_few(
     alloc: Global,
-    component: &Component,
-    matrix: &Matrix,
-    tree: &T,
+    machine: &mut Machine<'_>,
+    nodes: &mut IndexSet<Kept>,
+    place: usize,
 ) -> Result<bool, AllocError>
-    requires { CanRun component.now matrix.now }
-    ensures { FromEachStart component.now matrix.now (TellsEndsWell (T.members tree.now) result) }
+    requires settles { Settles machine.old.component machine.old.matrix }
+    requires visited { AreVisitedFrom machine.old.component machine.old.matrix nodes.old.keys place }
+    ensures { FromEachStart machine.old.component machine.old.matrix (TellsFewNodes result) }
 {
-    let mut machine = Machine::start(alloc, component, matrix)?;
-    let mut nodes = IndexSet::new(alloc);
-    add(alloc, &machine, &[], None, &mut nodes)?;
-    for at in 0..MOST_NODES {
+    for at in place..MOST_NODES {
         if nodes.len() > MOST_NODES {
             return Ok(false);
         }
@@ -44,14 +43,77 @@ pub fn ends_well<T: SerialTree>(
         };
         machine.stand_at(&kept.position);
         let copy = kept.copy_events(alloc)?;
-        let events = copy.as_slice();
-        if !is_good(alloc, &machine, tree, events)? {
-            return Ok(false);
+        add_next(alloc, machine, &copy, nodes)?;
+    }
+    Ok(nodes.len() <= MOST_NODES)
+}
+
+/// How all schedules of the machine's component on its matrix end. It stands at the start, which
+/// alone is kept.
+fn search<T: SerialTree>(
+    alloc: Global,
+    machine: &mut Machine<'_>,
+    nodes: &mut IndexSet<Kept>,
+    tree: &T,
+    bound: u16,
+) -> Result<Ending, AllocError>
+    requires starts { IsStart machine.old.component machine.old.matrix machine.old }
+    requires first { AddsHere machine.old [] None [] nodes.old.keys }
+    ensures { FromEachStart machine.old.component machine.old.matrix
+        (TellsEnding (T.members tree.now) bound result) }
+{
+    let mut level = Level {
+        moves: 0,
+        end: nodes.len(),
+    };
+    for at in 0..MOST_NODES {
+        let known = nodes.len();
+        if known > MOST_NODES {
+            return Ok(Ending::TooMany);
         }
-        add_next(alloc, &mut machine, events, &mut nodes)?;
+        let kept = match nodes.get_index(at) {
+            None => return Ok(Ending::Well),
+            Some(kept) => kept,
+        };
+        level = level.at(at, known);
+        machine.stand_at(&kept.position);
+        let copy = kept.copy_events(alloc)?;
+        if !is_good(alloc, machine, tree, &copy)? {
+            let is_far = level.moves > usize::from(bound);
+            if is_far && !are_few(alloc, machine, nodes, at)? {
+                return Ok(Ending::TooMany);
+            }
+            return Ok(Ending::Badly(level.moves));
+        }
+        add_next(alloc, machine, &copy, nodes)?;
     }
     if nodes.len() > MOST_NODES {
-        return Ok(false);
+        return Ok(Ending::TooMany);
     }
-    Ok(true)
+    Ok(Ending::Well)
+}
+
+/// How all schedules of the component on the matrix end, of any length, for the set of the tree. A
+/// node is a state, with the history of a schedule that leads there. Where a schedule of no more
+/// moves than the bound ends badly, the nodes behind it are not counted. Asks for a matrix of the
+/// component, whose setup settles.
+///
+/// # Errors
+///
+/// `AllocError` where memory was refused.
+pub fn ends_well<T: SerialTree>(
+    alloc: Global,
+    component: &Component,
+    matrix: &Matrix,
+    tree: &T,
+    bound: u16,
+) -> Result<Ending, AllocError>
+    requires { CanRun component.now matrix.now }
+    ensures { FromEachStart component.now matrix.now
+        (TellsEnding (T.members tree.now) bound result) }
+{
+    let mut machine = Machine::start(alloc, component, matrix)?;
+    let mut nodes = IndexSet::new(alloc);
+    add(alloc, &machine, &[], None, &mut nodes)?;
+    search(alloc, &mut machine, &mut nodes, tree, bound)
 }

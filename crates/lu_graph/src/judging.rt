@@ -5,7 +5,7 @@ ghost use Rattle.lu_machine.specs.Ends.{IsEnded};
 ghost use Rattle.lu_machine.specs.States.{progress};
 ghost use Rattle.lu_history.specs.Histories.{IsWellFormed};
 ghost use Rattle.lu_history.specs.Standing.{Agree};
-ghost use Rattle.lu_graph.specs.Nodes.{IsGoodIfEnded, Tells};
+ghost use Rattle.lu_graph.specs.Nodes.{TellsGood};
 ghost use Rattle.lu_witness.specs.Witnesses.{IsMember, IsVerdict};
 ghost use Rattle.lu_witness.specs.declared.judgement.Verdict.TheVariants.{Good};
 
@@ -70,7 +70,8 @@ pub(crate) fn is_good<T: SerialTree>(
 ) -> Result<bool, AllocError>
     requires well_formed { IsWellFormed events.now }
     requires agree { Agree (progress machine.now) events.now }
-    ensures { Tells (IsGoodIfEnded (T.members tree.now) machine.now events.now) result }
+    ensures { IfOk result
+        (TellsGood (IsMember (T.members tree.now)) machine.now events.now) }
 {
     if has_ended(machine) {
         let found = judge(alloc, tree, events)?;

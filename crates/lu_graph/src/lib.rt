@@ -9,8 +9,10 @@
 //! reached that has ended, no schedule ends.
 //!
 //! ```text
-//! if ends_well(alloc, &component, &matrix, &set)? {
-//!     ..
+//! match ends_well(alloc, &component, &matrix, &set, 256)? {
+//!     Ending::Well => ..,
+//!     Ending::Badly(moves) => ..,
+//!     Ending::TooMany => ..,
 //! }
 //! if let Some(schedule) = first_lost(alloc, &component, &matrix)? {
 //!     ..
@@ -20,15 +22,18 @@
 
 mod discovering;
 mod edge;
+mod ending;
 mod exploring;
 mod exploring_states;
 mod growing;
 mod judging;
 mod kept;
 mod laws;
+mod level;
 mod losing;
 mod marking;
 
+pub use ending::Ending;
 pub use exploring::ends_well;
 pub use laws::{alive_laws, closed_laws, hopeless_law};
 pub use losing::first_lost;
