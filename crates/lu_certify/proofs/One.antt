@@ -6,16 +6,16 @@ use Rattle.lu_test.specs.declared.schedule.Move.{Move}
 use Rattle.lu_test.specs.Matrix.{Matrix, cut}
 use Rattle.lu_machine.specs.Starts.{Settles}
 use Rattle.lu_machine.proofs.Starting.{settles_too, start_there}
-use Rattle.lu_report.specs.declared.report.Finding.{Finding}
 use Rattle.lu_report.specs.declared.report.Report.{Report}
 use Rattle.lu_replay.specs.Reports.{IsReport}
 use Rattle.lu_replay.proofs.Determined.{one_report}
 use Rattle.lu_refute.proofs.Outside.{whole_cut}
 use Rattle.lu_certify.specs.declared.certificate.Certificate.{Certificate}
 use Rattle.lu_certify.specs.declared.certificate.Certificate.TheVariants.{Linearizable, Livelock, NotLinearizable, Undecided}
-use Rattle.lu_certify.specs.Certificates.{AllClear, AreSame, HasReport, IsCertificate, IsClear, IsFailure, IsFirstLivelock, IsFirstOfCuts, IsFirstUnclear, IsLivelock, NoLivelocks}
+use Rattle.lu_certify.specs.Certificates.{AllClear, AreSame, Fails, IsCertificate, IsClear, IsFailingReport, IsFirstFailing, IsFirstLivelock, IsFirstUnclear, IsLivelock, NoLivelocks}
 use Rattle.lu_certify.specs.Laws.{CertificateDecides, Decides}
-use Rattle.lu_certify.proofs.Linear.{begun_deterministic, clear_at, clear_cut, clear_linearizes, clear_not_failing}
+use Rattle.lu_certify.proofs.Behind.{clear_never_fails, failing_is, one_failing}
+use Rattle.lu_certify.proofs.Linear.{begun_deterministic, clear_at, clear_cut, clear_linearizes}
 use Rattle.lu_certify.proofs.Livelocks.{one_lost}
 use Rattle.lu_certify.proofs.Ordered.{lengths_compare}
 use Rattle.lu_certify.proofs.Refuted.{none_serves}
@@ -24,18 +24,18 @@ module _ (c : Declarations) (matrix : Matrix) (bound serial : ℕ) (settles : Se
   cut_settles : (lengths : List ℕ) → Settles c (cut matrix lengths)
   cut_settles lengths = settles_too c matrix (cut matrix lengths) settles refl
 
-  module _ (Kind : Finding → Type 0) (smaller : Matrix) (r : Report) (first : IsFirstOfCuts Kind c matrix bound serial smaller r) where
-    -- its report
-    its : IsReport c (cut matrix first.lengths) bound serial r
-    its = subst (λ x. IsReport c x bound serial r) first.is first.report
+  -- the first cut that fails
+  module _ (smaller : Matrix) (r : Report) (first : IsFirstFailing c matrix bound serial smaller r) where
+    its : IsFailingReport c bound serial (cut matrix first.lengths) r
+    its = subst (λ x. IsFailingReport c bound serial x r) first.is first.fails
 
-    has_kind : HasReport Kind c bound serial (cut matrix first.lengths)
-    has_kind = (r, its, first.kind)
+    has_it : Fails c bound serial (cut matrix first.lengths)
+    has_it = (r, its)
 
   -- where each cut is clear, none fails
-  none_fails : AllClear c matrix bound serial → (smaller : Matrix) (r : Report) → IsFirstOfCuts IsFailure c matrix bound serial smaller r → ⊥
+  none_fails : AllClear c matrix bound serial → (smaller : Matrix) (r : Report) → IsFirstFailing c matrix bound serial smaller r → ⊥
   none_fails all smaller r first =
-      clear_not_failing c (cut matrix first.lengths) bound serial (cut_settles first.lengths) (all first.lengths first.are) (has_kind IsFailure smaller r first)
+      clear_never_fails c (cut matrix first.lengths) bound serial (cut_settles first.lengths) (all first.lengths first.are) (has_it smaller r first)
 
   here_unclear : (smaller : Matrix) (r : Report) (first : IsFirstUnclear c matrix bound serial smaller r) → IsClear c bound serial (cut matrix first.lengths) → ⊥
   here_unclear smaller r first clear = first.unclear (subst (IsClear c bound serial) (sym first.is) clear)
@@ -73,17 +73,17 @@ module _ (c : Declarations) (matrix : Matrix) (bound serial : ℕ) (settles : Se
             (one_cut, one_lost there.0 u v (here there.0 there.1).2 (y.livelock there.0 there.1).2))
       ]
 
-  first_same : (Kind : Finding → Type 0) (a b : Matrix) (r q : Report) → IsFirstOfCuts Kind c matrix bound serial a r → IsFirstOfCuts Kind c matrix bound serial b q → (a ≡ b) × (r ≡ q)
-  first_same Kind a b r q x y =
+  first_same : (a b : Matrix) (r q : Report) → IsFirstFailing c matrix bound serial a r → IsFirstFailing c matrix bound serial b q → (a ≡ b) × (r ≡ q)
+  first_same a b r q x y =
       elim (lengths_compare matrix x.lengths y.lengths x.are y.are) as (λ _. (a ≡ b) × (r ≡ q)) [
         | inl z ↦ elim z as (λ _. (a ≡ b) × (r ≡ q)) [
-          | inl less ↦ absurd (y.before x.lengths x.are less (has_kind Kind a r x))
-          | inr more ↦ absurd (x.before y.lengths y.are more (has_kind Kind b q y))
+          | inl less ↦ absurd (y.before x.lengths x.are less (has_it a r x))
+          | inr more ↦ absurd (x.before y.lengths y.are more (has_it b q y))
         ]
         | inr same ↦
-            (let here : IsReport c (cut matrix y.lengths) bound serial r = subst (λ (l : List ℕ). IsReport c (cut matrix l) bound serial r) same (its Kind a r x) in (
+            (let here : IsFailingReport c bound serial (cut matrix y.lengths) r = subst (λ (l : List ℕ). IsFailingReport c bound serial (cut matrix l) r) same (its a r x) in (
               x.is ∙ (ap (λ (l : List ℕ). cut matrix l) same ∙ sym y.is),
-              one_report c (cut matrix y.lengths) bound serial r q (cut_settles y.lengths) here (its Kind b q y),
+              one_failing c (cut matrix y.lengths) bound serial (cut_settles y.lengths) r q here (its b q y),
             ))
       ]
 
@@ -99,18 +99,18 @@ module _ (c : Declarations) (matrix : Matrix) (bound serial : ℕ) (settles : Se
   one (Linearizable members) (Undecided b q) x y = none_unclear x.0 b q y.2
   one (NotLinearizable a r) (Linearizable others) x y = absurd (none_fails y.0 a r x)
   one (NotLinearizable a r) (NotLinearizable b q) x y =
-      let same = first_same IsFailure a b r q x y in
+      let same = first_same a b r q x y in
       ap (λ (m : Matrix). NotLinearizable m r) same.0 ∙ ap (λ (p : Report). NotLinearizable b p) same.1
-  one (NotLinearizable a r) (Livelock b v) x y = absurd (y.0 x.lengths x.are (has_kind IsFailure a r x))
-  one (NotLinearizable a r) (Undecided b q) x y = absurd (y.0 x.lengths x.are (has_kind IsFailure a r x))
+  one (NotLinearizable a r) (Livelock b v) x y = absurd (y.0 x.lengths x.are (has_it a r x))
+  one (NotLinearizable a r) (Undecided b q) x y = absurd (y.0 x.lengths x.are (has_it a r x))
   one (Livelock a u) (Linearizable others) x y = absurd (none_lost y.1 a u x.1)
-  one (Livelock a u) (NotLinearizable b q) x y = absurd (x.0 y.lengths y.are (has_kind IsFailure b q y))
+  one (Livelock a u) (NotLinearizable b q) x y = absurd (x.0 y.lengths y.are (has_it b q y))
   one (Livelock a u) (Livelock b v) x y =
       let same = livelock_same a b u v x.1 y.1 in
       ap (λ (m : Matrix). Livelock m u) same.0 ∙ ap (λ (w : List Move). Livelock b w) same.1
   one (Livelock a u) (Undecided b q) x y = absurd (none_lost y.1 a u x.1)
   one (Undecided a r) (Linearizable others) x y = absurd (none_unclear y.0 a r x.2)
-  one (Undecided a r) (NotLinearizable b q) x y = absurd (x.0 y.lengths y.are (has_kind IsFailure b q y))
+  one (Undecided a r) (NotLinearizable b q) x y = absurd (x.0 y.lengths y.are (has_it b q y))
   one (Undecided a r) (Livelock b v) x y = absurd (none_lost x.1 b v y.1)
   one (Undecided a r) (Undecided b q) x y =
       let same = unclear_same a b r q x.2 y.2 in
@@ -123,7 +123,10 @@ module _ (c : Declarations) (matrix : Matrix) (bound serial : ℕ) (settles : Se
         begun_deterministic c matrix there.0 serial members there.1 whole.none (x.2 there.0 there.1),
         clear_linearizes c matrix bound serial members settles x.0 x.2,
       )
-  decided (NotLinearizable smaller r) x = none_serves c matrix smaller bound serial r settles (x.lengths, x.are, x.is) x.report x.kind
+  decided (NotLinearizable smaller r) x =
+      let there : Settles c smaller = subst (Settles c) (sym x.is) (cut_settles x.lengths) in
+      let at = failing_is c smaller bound serial there r x.fails in
+      none_serves c matrix smaller at.0 serial r settles (x.lengths, x.are, x.is) at.1 at.2
   decided (Livelock smaller u) x = ((x.1.lengths, x.1.are, x.1.is), (λ s at. (x.1.livelock s at).2.lost))
   decided (Undecided smaller r) x = tt
 

@@ -1,6 +1,5 @@
 -- Where all nodes of a cut are gone through.
-use Rattle.std.proofs.Common.{ℕ, Bool, false, List}
-use Rattle.std.specs.Prelude.{◌↔◌, IfOk, IsTrue, Result, Ok, Err}
+use Rattle.std.proofs.Common.{arith, ◌≡◌, ◌<◌, ◌≤◌, ℕ, List, sym, subst}
 use Rattle.lu_component.specs.Component.{Declarations}
 use Rattle.lu_test.specs.declared.schedule.Move.{Move}
 use Rattle.lu_test.specs.Matrix.{Matrix}
@@ -10,37 +9,91 @@ use Rattle.lu_machine.proofs.Starting.{start_there}
 use Rattle.lu_history.specs.declared.serial.SerialOp.{SerialOp}
 use Rattle.lu_serial.specs.Offences.{IsOffence, IsSetOf}
 use Rattle.lu_serial.specs.Serial.{IsSerialHistory}
+use Rattle.lu_report.specs.Limits.{most_moves}
 use Rattle.lu_witness.specs.Witnesses.{IsMember}
-use Rattle.lu_graph.specs.Nodes.{EndsWellOnFewNodes}
-use Rattle.lu_certify.specs.Certificates.{IsProved}
-use Rattle.lu_certify.proofs.Fitted.{reaches_more}
+use Rattle.lu_graph.specs.declared.ending.Ending.{Ending}
+use Rattle.lu_graph.specs.declared.ending.Ending.TheVariants.{Badly, TooMany, Well}
+use Rattle.lu_graph.specs.Nodes.{EndsBadly, EndsWellOnFewNodes, IsEnding, IsShortestBad}
+use Rattle.lu_certify.specs.declared.told.Told.{Told}
+use Rattle.lu_certify.specs.declared.told.Told.TheVariants.{AllGood, BadBehind, Nothing}
+use Rattle.lu_certify.specs.Certificates.{FailsBehind, IsProved}
+use Rattle.lu_certify.specs.Places.{IsLeftOpen, IsTold, IsToldBy}
+use Rattle.lu_certify.proofs.Behind.{one_length}
+use Rattle.lu_certify.proofs.Fitted.{good_more, reaches_more}
+use Rattle.lu_certify.proofs.Linear.{never_bad}
 
-well_more : (Set Other : List SerialOp → Type 0) → ((q : List SerialOp) → Set q → Other q) → (s : State) → EndsWellOnFewNodes Set s → EndsWellOnFewNodes Other s
-well_more Set Other more s is = (is.0, λ u ended. reaches_more Set Other more s u (is.1 u ended))
+-- ---- two sets with the same members
 
-module _ (c : Declarations) (matrix : Matrix) (serial : ℕ) (settles : Settles c matrix) where
+module _ (Set Other : List SerialOp → Type 0) (more : (q : List SerialOp) → Set q → Other q) (fewer : (q : List SerialOp) → Other q → Set q) where
+  well_more : (s : State) → EndsWellOnFewNodes Set s → EndsWellOnFewNodes Other s
+  well_more s is = (is.0, λ u ended. reaches_more Set Other more s u (is.1 u ended))
+
+  bad_more : (s : State) (u : List Move) → EndsBadly Set s u → EndsBadly Other s u
+  bad_more s u bad = record { end = bad.end; history = bad.history; leads = bad.leads; holds = (bad.holds.0, λ good. bad.holds.1 (good_more Other Set fewer bad.end bad.history good)) }
+
+shortest_more : (Set Other : List SerialOp → Type 0) → ((q : List SerialOp) → Set q → Other q) → ((q : List SerialOp) → Other q → Set q) → (s : State) (moves : ℕ) → IsShortestBad Set s moves → IsShortestBad Other s moves
+shortest_more Set Other more fewer s moves x = record {
+  schedule = x.schedule;
+  long = x.long;
+  bad = bad_more Set Other more fewer s x.schedule x.bad;
+  shortest = λ v less bad. x.shortest v less (bad_more Other Set fewer more s v bad);
+}
+
+-- ---- what is told
+
+module _ (c : Declarations) (matrix : Matrix) (bound serial : ℕ) (settles : Settles c matrix) where
+  -- where a serial run offends, nothing is
+  pub none_told : ((s : State) → IsStart c matrix s → (v : List Move) × IsOffence s serial v) → IsLeftOpen c bound serial matrix
+  none_told offends =
+      let there = start_there c matrix settles in
+      let offence = offends there.0 there.1 in
+      record {
+        unproved = λ proved. (proved there.0 there.1).0 offence.0 offence.1;
+        unfailing = λ moves behind. (behind.2 there.0 there.1).0 offence.0 offence.1;
+      }
+
   -- over the set of the serial histories
-  pub proved_by_set : (members : List (List SerialOp)) → ((s : State) → IsStart c matrix s → IsSetOf s serial members) → (well : Bool) → FromEachStart c matrix (λ s. IsTrue well ↔ EndsWellOnFewNodes (IsMember members) s) → IsTrue well ↔ IsProved c matrix serial
-  proved_by_set members set well is = (
-    (λ yes s at.
+  module _ (members : List (List SerialOp)) (set : (s : State) → IsStart c matrix s → IsSetOf s serial members) where
+    shortest_at : (s : State) → IsStart c matrix s → (moves : ℕ) → IsShortestBad (IsMember members) s moves → IsShortestBad (IsSerialHistory s) s moves
+    shortest_at s at moves x =
         let here = set s at in
-        (here.none, well_more (IsMember members) (IsSerialHistory s) (λ q x. (here.are q).0 x) s ((is s at).0 yes))),
-    (λ proved.
-        let there = start_there c matrix settles in
-        let here = set there.0 there.1 in
-        (is there.0 there.1).1 (well_more (IsSerialHistory there.0) (IsMember members) (λ q x. (here.are q).1 x) there.0 (proved there.0 there.1).1)),
-  )
+        shortest_more (IsMember members) (IsSerialHistory s) (λ q y. (here.are q).0 y) (λ q y. (here.are q).1 y) s moves x
 
-  -- where a serial run offends
-  pub never_proved : (u : (s : State) → IsStart c matrix s → (v : List Move) × IsOffence s serial v) → IsTrue false ↔ IsProved c matrix serial
-  never_proved u = (
-    (λ no. absurd (cc)),
-    (λ proved.
-        let there = start_there c matrix settles in
-        let offence = u there.0 there.1 in
-        absurd ((proved there.0 there.1).0 offence.0 offence.1)),
-  )
+    told_well : FromEachStart c matrix (EndsWellOnFewNodes (IsMember members)) → IsProved c matrix serial
+    told_well is s at =
+        let here = set s at in
+        (here.none, well_more (IsMember members) (IsSerialHistory s) (λ q y. (here.are q).0 y) (λ q y. (here.are q).1 y) s (is s at))
 
-  pub proved_where : {E : Type 0} (members : List (List SerialOp)) → ((s : State) → IsStart c matrix s → IsSetOf s serial members) → (result : Result Bool E) → FromEachStart c matrix (λ s. IfOk result (λ well. IsTrue well ↔ EndsWellOnFewNodes (IsMember members) s)) → IfOk result (λ proved. IsTrue proved ↔ IsProved c matrix serial)
-  proved_where members set (Ok well) is = proved_by_set members set well is
-  proved_where members set (Err e) is = tt
+    told_badly : (moves : ℕ) → FromEachStart c matrix (λ s. IsEnding (IsMember members) bound s (Badly moves)) → bound < moves → moves ≤ most_moves → FailsBehind c bound serial matrix moves
+    told_badly moves is more few = (more, few, λ s at. ((set s at).none, (is s at).1 more, shortest_at s at moves (is s at).0))
+
+    told_far : (moves : ℕ) → FromEachStart c matrix (λ s. IsEnding (IsMember members) bound s (Badly moves)) → (bound < moves → most_moves < moves) → IsLeftOpen c bound serial matrix
+    told_far moves is far =
+        let there = start_there c matrix settles in
+        let s = there.0 in
+        let x = shortest_at s there.1 moves (is s there.1).0 in
+        record {
+          unproved = λ proved. never_bad (IsSerialHistory s) s (proved s there.1).1.1 x.schedule x.bad;
+          unfailing = λ n behind.
+              (let same : n ≡ moves = one_length (IsSerialHistory s) s n moves (behind.2 s there.1).2 x in
+              let more : bound < moves = subst (λ (k : ℕ). bound < k) same behind.0 in
+              let few : moves ≤ most_moves = subst (λ (k : ℕ). k ≤ most_moves) same behind.1 in
+              let over = far more in
+              absurd (omega (arith, few, over)));
+        }
+
+    told_many : FromEachStart c matrix (λ s. IsEnding (IsMember members) bound s TooMany) → IsLeftOpen c bound serial matrix
+    told_many is =
+        let there = start_there c matrix settles in
+        let many = is there.0 there.1 in
+        record {
+          unproved = λ proved. many (proved there.0 there.1).1.0;
+          unfailing = λ n behind. many (behind.2 there.0 there.1).1;
+        }
+
+    pub told_by : (ending : Ending) (told : Told) → FromEachStart c matrix (λ s. IsEnding (IsMember members) bound s ending) → IsToldBy bound ending told → IsTold c bound serial matrix told
+    told_by Well told is by = subst (IsTold c bound serial matrix) (sym by) (told_well is)
+    told_by (Badly moves) AllGood is by = absurd by
+    told_by (Badly moves) (BadBehind n) is by = subst (FailsBehind c bound serial matrix) (sym by.0) (told_badly moves is by.1 by.2)
+    told_by (Badly moves) Nothing is by = told_far moves is by
+    told_by TooMany told is by = subst (IsTold c bound serial matrix) (sym by) (told_many is)

@@ -11,10 +11,8 @@ use Rattle.lu_machine.specs.States.{State}
 use Rattle.lu_machine.specs.Starts.{CanRun, IsStart, Settles}
 use Rattle.lu_machine.proofs.Starting.{can_run_too, settles_too}
 use Rattle.lu_history.specs.declared.serial.SerialOp.{SerialOp}
-use Rattle.lu_report.specs.declared.report.Finding.{Finding}
 use Rattle.lu_report.specs.declared.report.Report.{Report}
 use Rattle.lu_replay.specs.Reports.{IsReport}
-use Rattle.lu_replay.proofs.Determined.{one_report}
 use Rattle.lu_serial.specs.Offences.{IsSetOf, NoOffence}
 use Rattle.lu_spec.specs.Beginnings.{IsClosureOf}
 use Rattle.lu_refute.specs.Linearizable.{AreLengths}
@@ -26,10 +24,19 @@ use Rattle.lu_certify.specs.declared.certificate.Certificate.{Certificate}
 use Rattle.lu_certify.specs.declared.certificate.Certificate.TheVariants.{Linearizable, Livelock, NotLinearizable, Undecided}
 use Rattle.lu_certify.specs.declared.so_far.SoFar.{SoFar}
 use Rattle.lu_certify.specs.declared.so_far.SoFar.TheVariants.{Clear, Lost, Unclear}
-use Rattle.lu_certify.specs.Certificates.{AllClear, AreBeginnings, HasNoLivelock, HasReport, IsCertificate, IsClear, IsFailure, IsFirstLivelock, IsFirstOfCuts, IsFirstUnclear, IsLivelock, NamesCutOf, NoCuts, NoLivelocks}
-use Rattle.lu_certify.specs.Places.{IsConcluded, IsCutAtPlace, IsNext, IsWithoutOffence, cut_count, place_of_lengths}
+use Rattle.lu_certify.specs.declared.judged.Standing.{Standing}
+use Rattle.lu_certify.specs.declared.judged.Standing.TheVariants.{FullPass, Open, Proved}
+use Rattle.lu_certify.specs.Certificates.{AllClear, AreBeginnings, Fails, HasNoLivelock, IsCertificate, IsClear, IsFailingReport, IsFirstFailing, IsFirstLivelock, IsFirstUnclear, IsLivelock, NamesCutOf, NoneFails, NoLivelocks}
+use Rattle.lu_certify.specs.Places.{IsConcluded, IsCutAtPlace, IsNext, IsStanding, IsWithoutOffence, cut_count, place_of_lengths}
 use Rattle.lu_certify.proofs.Counted.{earlier, place_below, place_same}
-use Rattle.lu_certify.proofs.Linear.{clear_at, clear_cut, clear_not_failing}
+use Rattle.lu_certify.proofs.Behind.{clear_never_fails}
+use Rattle.lu_certify.proofs.Linear.{clear_at, clear_cut}
+
+-- a cut that stands does not fail
+standing_never_fails : (c : Declarations) (matrix : Matrix) (bound serial : ℕ) → Settles c matrix → (standing : Standing) → IsStanding c bound serial matrix standing → Fails c bound serial matrix → ⊥
+standing_never_fails c matrix bound serial settles FullPass stands = clear_never_fails c matrix bound serial settles (inl stands)
+standing_never_fails c matrix bound serial settles Proved stands = clear_never_fails c matrix bound serial settles (inr stands)
+standing_never_fails c matrix bound serial settles (Open r) stands = stands.2
 
 module _ (c : Declarations) (matrix : Matrix) (bound serial : ℕ) where
   -- the cuts of all places before this one are clear
@@ -37,10 +44,10 @@ module _ (c : Declarations) (matrix : Matrix) (bound serial : ℕ) where
   ClearBefore place =
       (other : List ℕ) → AreLengths matrix other → place_of_lengths matrix.threads other < place → IsClear c bound serial (cut matrix other)
 
-  -- none of them has
-  abbrev pub NoneBefore : (Finding → Type 0) → ℕ → Type 0
-  NoneBefore Kind place =
-      (other : List ℕ) → AreLengths matrix other → place_of_lengths matrix.threads other < place → HasReport Kind c bound serial (cut matrix other) → ⊥
+  -- none of them fails
+  abbrev pub NoneFailsBefore : ℕ → Type 0
+  NoneFailsBefore place =
+      (other : List ℕ) → AreLengths matrix other → place_of_lengths matrix.threads other < place → Fails c bound serial (cut matrix other) → ⊥
 
   -- none of them has a livelock
   abbrev pub NoLivelockBefore : ℕ → Type 0
@@ -53,8 +60,8 @@ module _ (c : Declarations) (matrix : Matrix) (bound serial : ℕ) where
   IsKnown place (Unclear smaller r) = IsFirstUnclear c matrix bound serial smaller r × NoLivelockBefore place
   IsKnown place (Lost smaller u) = IsFirstLivelock c matrix serial smaller u
 
-  pub none_yet : (Kind : Finding → Type 0) → NoneBefore Kind 0
-  none_yet Kind other are less has = absurd (omega arith)
+  pub none_yet : NoneFailsBefore 0
+  none_yet other are less has = absurd (omega arith)
 
   pub none_known : IsKnown 0 Clear
   none_known = ((λ other are less. absurd (omega arith)), (λ other are less. absurd (omega arith)))
@@ -75,11 +82,24 @@ module _ (c : Declarations) (matrix : Matrix) (bound serial : ℕ) where
     clear_more : ClearBefore place → IsClear c bound serial smaller → ClearBefore (place + 1)
     clear_more before clear = this_or_before (λ other. IsClear c bound serial (cut matrix other)) before (subst (IsClear c bound serial) at.2 clear)
 
-    -- it is clear
-    module _ (clear : IsClear c bound serial smaller) where
-      pub none_clear : NoneBefore IsFailure place → NoneBefore IsFailure (place + 1)
-      none_clear before = this_or_before (λ other. HasReport IsFailure c bound serial (cut matrix other) → ⊥) before
-          (clear_not_failing c (cut matrix at.0) bound serial (settles_too c matrix (cut matrix at.0) settles refl) (subst (IsClear c bound serial) at.2 clear))
+    pub none_more : NoneFailsBefore place → (standing : Standing) → IsStanding c bound serial smaller standing → NoneFailsBefore (place + 1)
+    none_more before standing stands =
+        let there : Settles c (cut matrix at.0) = settles_too c matrix (cut matrix at.0) settles refl in
+        this_or_before (λ other. Fails c bound serial (cut matrix other) → ⊥) before
+        (standing_never_fails c (cut matrix at.0) bound serial there standing (subst (λ (m : Matrix). IsStanding c bound serial m standing) at.2 stands))
+
+    -- the first that fails
+    pub first_here : (r : Report) → NoneFailsBefore place → IsFailingReport c bound serial smaller r → IsFirstFailing c matrix bound serial smaller r
+    first_here r before fails = record {
+      lengths = at.0;
+      are = at.1.are;
+      is = at.2;
+      fails = fails;
+      before = λ other are less.
+          (let lt = earlier matrix other at.0 are at.1.are less in
+          let there = at.1.at in
+          before other are (omega (arith, lt, there)));
+    }
 
     none_lost_more : NoLivelockBefore place → HasNoLivelock c serial smaller → NoLivelockBefore (place + 1)
     none_lost_more before none = this_or_before (λ other. HasNoLivelock c serial (cut matrix other)) before (subst (HasNoLivelock c serial) at.2 none)
@@ -119,36 +139,9 @@ module _ (c : Declarations) (matrix : Matrix) (bound serial : ℕ) where
     known_next Clear (Unclear other r) is known = (subst (λ (x : Matrix). IsFirstUnclear c matrix bound serial x r) (sym is.0) (first_left r is.2 is.3 known.0), none_lost_more known.1 is.1)
     known_next Clear (Lost other u) is known = subst (λ (x : Matrix). IsFirstLivelock c matrix serial x u) (sym is.0) (first_lost u is.1 known.1)
 
-  -- r is the report of the cut at this place
-  module _ (settles : Settles c matrix) (place : ℕ) (smaller : Matrix) (r : Report) (at : IsCutAtPlace matrix place smaller) (report : IsReport c smaller bound serial r) where
-    its : IsReport c (cut matrix at.0) bound serial r
-    its = subst (λ x. IsReport c x bound serial r) at.2 report
-
-    -- it is of this kind only if r is
-    of_kind : (Kind : Finding → Type 0) → HasReport Kind c bound serial (cut matrix at.0) → Kind r.finding
-    of_kind Kind has =
-        let same : has.0 ≡ r = one_report c (cut matrix at.0) bound serial has.0 r (settles_too c matrix (cut matrix at.0) settles refl) has.1 its in
-        subst (λ (x : Report). Kind x.finding) same has.2
-
-    pub none_more : (Kind : Finding → Type 0) → NoneBefore Kind place → (Kind r.finding → ⊥) → NoneBefore Kind (place + 1)
-    none_more Kind before other_kind = this_or_before settles place smaller at (λ other. HasReport Kind c bound serial (cut matrix other) → ⊥) before (λ has. other_kind (of_kind Kind has))
-
-    pub first_here : (Kind : Finding → Type 0) → NoneBefore Kind place → Kind r.finding → IsFirstOfCuts Kind c matrix bound serial smaller r
-    first_here Kind before kind = record {
-      lengths = at.0;
-      are = at.1.are;
-      is = at.2;
-      report = report;
-      kind = kind;
-      before = λ other are less.
-          (let lt = earlier matrix other at.0 are at.1.are less in
-          let there = at.1.at in
-          before other are (omega (arith, lt, there)));
-    }
-
   -- at the end
-  none_all : (Kind : Finding → Type 0) (place : ℕ) → cut_count matrix.threads ≤ place → NoneBefore Kind place → NoCuts Kind c matrix bound serial
-  none_all Kind place all before lengths are has = (let below = place_below matrix lengths are in before lengths are (omega (arith, below, all)) has)
+  none_all : (place : ℕ) → cut_count matrix.threads ≤ place → NoneFailsBefore place → NoneFails c matrix bound serial
+  none_all place all before lengths are has = (let below = place_below matrix lengths are in before lengths are (omega (arith, below, all)) has)
 
   all_known : (place : ℕ) → cut_count matrix.threads ≤ place → IsKnown place Clear → AllClear c matrix bound serial
   all_known place all known lengths are = (let below = place_below matrix lengths are in known.0 lengths are (omega (arith, below, all)))
@@ -164,17 +157,17 @@ module _ (c : Declarations) (matrix : Matrix) (bound serial : ℕ) where
   none_offends place so_far all known clear = all_without (all_known place all (subst (IsKnown place) clear known))
 
   -- what is concluded is the certificate
-  pub concluded : (place : ℕ) (so_far : SoFar) → cut_count matrix.threads ≤ place → NoneBefore IsFailure place → IsKnown place so_far → (certificate : Certificate) → IsConcluded c matrix so_far certificate → IsCertificate c matrix bound serial certificate
+  pub concluded : (place : ℕ) (so_far : SoFar) → cut_count matrix.threads ≤ place → NoneFailsBefore place → IsKnown place so_far → (certificate : Certificate) → IsConcluded c matrix so_far certificate → IsCertificate c matrix bound serial certificate
   concluded place Clear all before known (Linearizable members) is = (all_known place all known, none_lost_all place all known.1, is)
   concluded place Clear all before known (NotLinearizable smaller r) is = absurd is
   concluded place Clear all before known (Livelock smaller u) is = absurd is
   concluded place Clear all before known (Undecided smaller r) is = absurd is
   concluded place (Unclear smaller r) all before known certificate is =
-      subst (IsCertificate c matrix bound serial) (sym is) (none_all IsFailure place all before, none_lost_all place all known.1, known.0)
+      subst (IsCertificate c matrix bound serial) (sym is) (none_all place all before, none_lost_all place all known.1, known.0)
   concluded place (Lost smaller u) all before known certificate is =
-      subst (IsCertificate c matrix bound serial) (sym is) (none_all IsFailure place all before, known)
+      subst (IsCertificate c matrix bound serial) (sym is) (none_all place all before, known)
 
-  pub concluded_where : {E : Type 0} (place : ℕ) (so_far : SoFar) → cut_count matrix.threads ≤ place → NoneBefore IsFailure place → IsKnown place so_far → (result : Result Certificate E) → IfOk result (IsConcluded c matrix so_far) → IfOk result (IsCertificate c matrix bound serial)
+  pub concluded_where : {E : Type 0} (place : ℕ) (so_far : SoFar) → cut_count matrix.threads ≤ place → NoneFailsBefore place → IsKnown place so_far → (result : Result Certificate E) → IfOk result (IsConcluded c matrix so_far) → IfOk result (IsCertificate c matrix bound serial)
   concluded_where place so_far all before known (Ok certificate) is = concluded place so_far all before known certificate is
   concluded_where place so_far all before known (Err e) is = tt
 
@@ -200,14 +193,14 @@ livelock_of : (c : Declarations) (matrix smaller : Matrix) (serial : ℕ) (u : L
 livelock_of c matrix smaller serial u of first =
     subst (λ (m : Matrix). IsOf m c) (sym first.is) (of.0, rows_of c matrix.threads first.lengths of.1)
 
--- a cut that is the first of some kind is a matrix of the component
-first_of : (c : Declarations) (matrix smaller : Matrix) (Kind : Finding → Type 0) (bound serial : ℕ) (r : Report) → IsOf matrix c → IsFirstOfCuts Kind c matrix bound serial smaller r → IsOf smaller c
-first_of c matrix smaller Kind bound serial r of first =
+-- the first cut that fails is a matrix of the component
+failing_of : (c : Declarations) (matrix smaller : Matrix) (bound serial : ℕ) (r : Report) → IsOf matrix c → IsFirstFailing c matrix bound serial smaller r → IsOf smaller c
+failing_of c matrix smaller bound serial r of first =
     subst (λ (m : Matrix). IsOf m c) (sym first.is) (of.0, rows_of c matrix.threads first.lengths of.1)
 
 pub names_cut : (c : Declarations) (matrix : Matrix) (bound serial : ℕ) (certificate : Certificate) → IsOf matrix c → IsCertificate c matrix bound serial certificate → NamesCutOf c certificate
 names_cut c matrix bound serial (Linearizable members) of is = tt
-names_cut c matrix bound serial (NotLinearizable smaller r) of is = first_of c matrix smaller IsFailure bound serial r of is
+names_cut c matrix bound serial (NotLinearizable smaller r) of is = failing_of c matrix smaller bound serial r of is
 names_cut c matrix bound serial (Livelock smaller u) of is = livelock_of c matrix smaller serial u of is.1
 names_cut c matrix bound serial (Undecided smaller r) of is = unclear_of c matrix smaller bound serial r of is.2
 

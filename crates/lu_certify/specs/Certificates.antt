@@ -1,5 +1,5 @@
 -- Certificates: what the reports of all cuts of a matrix say together.
-use Rattle.std.specs.Prelude.{◌≡◌, ◌↔◌, ◌<◌, ◌⊎◌, ℕ, List, [], ◌∷◌}
+use Rattle.std.specs.Prelude.{◌≡◌, ◌↔◌, ◌<◌, ◌≤◌, ◌⊎◌, ℕ, List, [], ◌∷◌}
 use Rattle.lu_component.specs.Component.{Declarations}
 use Rattle.lu_test.specs.declared.schedule.Move.{Move}
 use Rattle.lu_test.specs.Matrix.{IsOf, Matrix, cut}
@@ -9,10 +9,11 @@ use Rattle.lu_history.specs.declared.serial.SerialOp.{SerialOp}
 use Rattle.lu_serial.specs.Offences.{NoOffence}
 use Rattle.lu_serial.specs.Serial.{IsSerialHistory}
 use Rattle.lu_graph.specs.Hopeless.{HasFewStates, IsFirstLost}
-use Rattle.lu_graph.specs.Nodes.{EndsWellOnFewNodes}
+use Rattle.lu_graph.specs.Nodes.{EndsWellOnFewNodes, HasFewNodes, IsShortestBad}
 use Rattle.lu_report.specs.declared.report.Finding.{Finding}
 use Rattle.lu_report.specs.declared.report.Finding.TheVariants.{SerialCut, Nondeterministic, Fail, Pass}
 use Rattle.lu_report.specs.declared.report.Report.{Report}
+use Rattle.lu_report.specs.Limits.{most_moves}
 use Rattle.lu_replay.specs.Reports.{IsReport}
 pub use Rattle.lu_replay.specs.Confirmed.{IsFailure}
 use Rattle.lu_parallel.specs.Ranges.{Choice}
@@ -43,12 +44,6 @@ AllCuts Kind c matrix bound serial =
     (lengths : List ℕ) → AreLengths matrix lengths
     → HasReport Kind c bound serial (cut matrix lengths)
 
--- the report of no cut is
-abbrev pub NoCuts : (Finding → Type 0) → Declarations → Matrix → ℕ → ℕ → Type 0
-NoCuts Kind c matrix bound serial =
-    (lengths : List ℕ) → AreLengths matrix lengths
-    → HasReport Kind c bound serial (cut matrix lengths) → ⊥
-
 -- No serial run offends, there are no more than 262,144 nodes, and each ended schedule, of any
 -- length, is good for the serial histories.
 abbrev pub IsProved : Declarations → Matrix → ℕ → Type 0
@@ -59,6 +54,30 @@ IsProved c matrix serial =
 abbrev pub IsClear : Declarations → ℕ → ℕ → Matrix → Type 0
 IsClear c bound serial matrix =
     HasReport IsFullPass c bound serial matrix ⊎ IsProved c matrix serial
+
+-- No serial run offends, there are no more than 262,144 nodes, and the shortest schedule that ends
+-- badly has so many moves: more than the bound, and at most 256.
+abbrev pub FailsBehind : Declarations → ℕ → ℕ → Matrix → ℕ → Type 0
+FailsBehind c bound serial matrix moves =
+    (bound < moves) × (moves ≤ most_moves)
+    × FromEachStart c matrix (λ s. NoOffence s serial × HasFewNodes s 262144
+    × IsShortestBad (IsSerialHistory s) s moves)
+
+-- r shows that the matrix fails: it is its report at the bounds, and a failure; or it is its report
+-- at the length of the shortest schedule that ends badly, where that lies behind the bound
+abbrev pub IsFailingReport : Declarations → ℕ → ℕ → Matrix → Report → Type 0
+IsFailingReport c bound serial matrix r =
+    (IsReport c matrix bound serial r × IsFailure r.finding)
+    ⊎ ((moves : ℕ) × FailsBehind c bound serial matrix moves × IsReport c matrix moves serial r)
+
+-- a report shows that the matrix fails
+abbrev pub Fails : Declarations → ℕ → ℕ → Matrix → Type 0
+Fails c bound serial matrix = (r : Report) × IsFailingReport c bound serial matrix r
+
+-- no cut of the matrix fails
+abbrev pub NoneFails : Declarations → Matrix → ℕ → ℕ → Type 0
+NoneFails c matrix bound serial =
+    (lengths : List ℕ) → AreLengths matrix lengths → Fails c bound serial (cut matrix lengths) → ⊥
 
 -- each cut of the matrix is clear
 abbrev pub AllClear : Declarations → Matrix → ℕ → ℕ → Type 0
@@ -87,19 +106,18 @@ IsBefore [] v = ⊥
 IsBefore (m ∷ u) [] = ⊥
 IsBefore (m ∷ u) (n ∷ v) = (m < n) ⊎ (m ≡ n) × IsBefore u v
 
--- r is the report of this cut, and of this kind; that of no cut before it is, in the lexicographic
--- order of lengths, thread 0's first
-pub record IsFirstOfCuts (Kind : Finding → Type 0) (c : Declarations) (matrix : Matrix)
-    (bound serial : ℕ) (smaller : Matrix) (r : Report) : Type 0 where
+-- r shows that this cut fails; none before it does, in the lexicographic order of lengths, thread
+-- 0's first
+pub record IsFirstFailing (c : Declarations) (matrix : Matrix) (bound serial : ℕ)
+    (smaller : Matrix) (r : Report) : Type 0 where
   pub lengths : List ℕ
   pub are : AreLengths matrix lengths
   pub is : smaller ≡ cut matrix lengths
-  pub report : IsReport c smaller bound serial r
-  pub kind : Kind r.finding
+  pub fails : IsFailingReport c bound serial smaller r
   pub before : (other : List ℕ) → AreLengths matrix other → IsBefore other lengths
-      → HasReport Kind c bound serial (cut matrix other) → ⊥
+      → Fails c bound serial (cut matrix other) → ⊥
 
--- r is the report of this cut, which is not clear; each cut before it is
+-- r is the report of this cut at the bounds, which is not clear; each cut before it is
 pub record IsFirstUnclear (c : Declarations) (matrix : Matrix) (bound serial : ℕ)
     (smaller : Matrix) (r : Report) : Type 0 where
   pub lengths : List ℕ
@@ -136,11 +154,11 @@ IsCertificate c matrix bound serial (Linearizable members) =
     AllClear c matrix bound serial × NoLivelocks c matrix serial
     × FromEachStart c matrix (λ s. AreBeginnings s members)
 IsCertificate c matrix bound serial (NotLinearizable smaller r) =
-    IsFirstOfCuts IsFailure c matrix bound serial smaller r
+    IsFirstFailing c matrix bound serial smaller r
 IsCertificate c matrix bound serial (Livelock smaller u) =
-    NoCuts IsFailure c matrix bound serial × IsFirstLivelock c matrix serial smaller u
+    NoneFails c matrix bound serial × IsFirstLivelock c matrix serial smaller u
 IsCertificate c matrix bound serial (Undecided smaller r) =
-    NoCuts IsFailure c matrix bound serial × NoLivelocks c matrix serial
+    NoneFails c matrix bound serial × NoLivelocks c matrix serial
     × IsFirstUnclear c matrix bound serial smaller r
 
 -- within the bounds of a check's options

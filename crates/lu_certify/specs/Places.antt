@@ -1,20 +1,29 @@
 -- The cuts of a matrix, by their places from 0 in the lexicographic order of their lengths, and
 -- what is known of those before a place.
-use Rattle.std.specs.Prelude.{◌≡◌, ◌⊎◌, ℕ, ◌+◌, ◌*◌, Bool, true, false, IfOk, IsTrue, Result, List, [], ◌∷◌, length, Option, Some, None}
+use Rattle.std.specs.Prelude.{◌≡◌, ◌<◌, ◌≤◌, ℕ, ◌+◌, ◌*◌, Bool, true, IfOk, Result, List, [], ◌∷◌, length, Option, Some, None}
 use Rattle.lu_component.specs.Component.{Declarations}
 use Rattle.lu_test.specs.declared.matrix.Call.{Call}
 use Rattle.lu_test.specs.declared.schedule.Move.{Move}
 use Rattle.lu_test.specs.Matrix.{Matrix, cut}
 use Rattle.lu_machine.specs.Starts.{FromEachStart}
 use Rattle.lu_serial.specs.Offences.{NoOffence}
-use Rattle.lu_report.specs.declared.report.Report.{Report}
+use Rattle.lu_graph.specs.declared.ending.Ending.{Ending}
+use Rattle.lu_graph.specs.declared.ending.Ending.TheVariants.{Badly, TooMany, Well}
+use Rattle.lu_report.specs.Limits.{most_moves}
 use Rattle.lu_replay.specs.Reports.{IsReport}
+use Rattle.lu_parallel.specs.Ranges.{Choice}
 use Rattle.lu_refute.specs.Linearizable.{AreLengths}
 use Rattle.lu_certify.specs.declared.certificate.Certificate.{Certificate}
 use Rattle.lu_certify.specs.declared.certificate.Certificate.TheVariants.{Linearizable, Livelock, NotLinearizable, Undecided}
 use Rattle.lu_certify.specs.declared.so_far.SoFar.{SoFar}
 use Rattle.lu_certify.specs.declared.so_far.SoFar.TheVariants.{Clear, Lost, Unclear}
-use Rattle.lu_certify.specs.Certificates.{AreBeginnings, HasNoLivelock, IsClear, IsFailure, IsFullPass, IsLivelock, IsProved}
+use Rattle.lu_certify.specs.declared.judged.Judged.{Judged}
+use Rattle.lu_certify.specs.declared.judged.Judged.TheVariants.{Failing, Stands}
+use Rattle.lu_certify.specs.declared.judged.Standing.{Standing}
+use Rattle.lu_certify.specs.declared.judged.Standing.TheVariants.{FullPass, Open, Proved}
+use Rattle.lu_certify.specs.declared.told.Told.{Told}
+use Rattle.lu_certify.specs.declared.told.Told.TheVariants.{AllGood, BadBehind, Nothing}
+use Rattle.lu_certify.specs.Certificates.{AreBeginnings, Fails, FailsBehind, HasNoLivelock, HasReport, IsClear, IsFailingReport, IsFullPass, IsLivelock, IsProved}
 
 -- how many cuts there are
 abbrev pub cut_count : List (List Call) → ℕ
@@ -40,9 +49,38 @@ IsCutAtPlace matrix place smaller =
 
 -- ---- one cut
 
--- its report, where it is r, or the proof says that it is clear
-abbrev pub IsClearBy : Declarations → ℕ → Matrix → Report → Type 0
-IsClearBy c serial matrix r = IsFullPass r.finding ⊎ IsProved c matrix serial
+-- neither is it proved clear, nor does it fail behind the bound
+pub record IsLeftOpen (c : Declarations) (bound serial : ℕ) (matrix : Matrix) : Type 0 where
+  pub unproved : IsProved c matrix serial → ⊥
+  pub unfailing : (moves : ℕ) → FailsBehind c bound serial matrix moves → ⊥
+
+-- what its nodes tell
+abbrev pub IsTold : Declarations → ℕ → ℕ → Matrix → Told → Type 0
+IsTold c bound serial matrix AllGood = IsProved c matrix serial
+IsTold c bound serial matrix (BadBehind moves) = FailsBehind c bound serial matrix moves
+IsTold c bound serial matrix Nothing = IsLeftOpen c bound serial matrix
+
+-- how it stands, where it does not fail
+abbrev pub IsStanding : Declarations → ℕ → ℕ → Matrix → Standing → Type 0
+IsStanding c bound serial matrix FullPass = HasReport IsFullPass c bound serial matrix
+IsStanding c bound serial matrix Proved = IsProved c matrix serial
+IsStanding c bound serial matrix (Open r) =
+    IsReport c matrix bound serial r × (IsClear c bound serial matrix → ⊥)
+    × (Fails c bound serial matrix → ⊥)
+
+-- the report that shows that it fails, or how it stands
+abbrev pub IsJudged : Declarations → ℕ → ℕ → Matrix → Judged → Type 0
+IsJudged c bound serial matrix (Failing r) = IsFailingReport c bound serial matrix r
+IsJudged c bound serial matrix (Stands standing) = IsStanding c bound serial matrix standing
+
+-- within the bounds of a check's options
+abbrev pub IsJudgedWithin : Declarations → Choice → Matrix → Judged → Type 0
+IsJudgedWithin c choice matrix judged = IsJudged c choice.bound choice.serial matrix judged
+
+-- what its nodes tell, or none where they tell nothing; where that is not tried, none
+abbrev pub IsJudgedFirst : Bool → Declarations → ℕ → ℕ → Matrix → Option Judged → Type 0
+IsJudgedFirst tried c bound serial matrix (Some judged) = IsJudged c bound serial matrix judged
+IsJudgedFirst tried c bound serial matrix None = tried ≡ true → IsLeftOpen c bound serial matrix
 
 -- its livelock, or none where there is none
 abbrev pub IsLivelockIfAny : Declarations → ℕ → Matrix → Option (List Move) → Type 0
@@ -56,15 +94,16 @@ IsLost Clear = ⊥
 IsLost (Unclear smaller r) = ⊥
 IsLost (Lost smaller u) = Unit {0}
 
--- Behind one cut more, with this livelock or none, whether it is clear, and its report: the first
--- livelock stays, and else the first that is not clear.
-abbrev pub so_far_after : SoFar → Matrix → Option (List Move) → Bool → Report → SoFar
-so_far_after (Lost smaller u) matrix livelock clear r = Lost smaller u
-so_far_after (Unclear smaller q) matrix None clear r = Unclear smaller q
-so_far_after (Unclear smaller q) matrix (Some u) clear r = Lost matrix u
-so_far_after Clear matrix None true r = Clear
-so_far_after Clear matrix None false r = Unclear matrix r
-so_far_after Clear matrix (Some u) clear r = Lost matrix u
+-- Behind one cut more, with this livelock or none, and how it stands: the first livelock stays, and
+-- else the first that is not clear.
+abbrev pub so_far_after : SoFar → Matrix → Option (List Move) → Standing → SoFar
+so_far_after (Lost smaller u) matrix livelock standing = Lost smaller u
+so_far_after (Unclear smaller q) matrix None standing = Unclear smaller q
+so_far_after (Unclear smaller q) matrix (Some u) standing = Lost matrix u
+so_far_after Clear matrix None FullPass = Clear
+so_far_after Clear matrix None Proved = Clear
+so_far_after Clear matrix None (Open r) = Unclear matrix r
+so_far_after Clear matrix (Some u) standing = Lost matrix u
 
 -- `new` is known behind this cut, where `old` was before it
 abbrev pub IsNext : Declarations → ℕ → ℕ → SoFar → Matrix → SoFar → Type 0
@@ -84,29 +123,27 @@ IsNext c bound serial Clear matrix (Lost other u) =
 
 -- ---- what the steps of a round answer
 
--- found only where it is proved; and wherever it is, if that was tried
-abbrev pub IsTriedProof : Bool → Declarations → Matrix → ℕ → Bool → Type 0
-IsTriedProof tried c matrix serial found =
-    (IsTrue found → IsProved c matrix serial)
-    × (tried ≡ true → IsProved c matrix serial → IsTrue found)
+-- how schedules end, searched up to the bound, tells so much
+abbrev pub IsToldBy : ℕ → Ending → Told → Type 0
+IsToldBy bound Well told = told ≡ AllGood
+IsToldBy bound (Badly moves) AllGood = ⊥
+IsToldBy bound (Badly moves) (BadBehind n) =
+    (n ≡ moves) × (bound < moves) × (moves ≤ most_moves)
+IsToldBy bound (Badly moves) Nothing = bound < moves → most_moves < moves
+IsToldBy bound TooMany told = told ≡ Nothing
 
--- the cut with this report has this livelock, or none, unless it fails
-abbrev pub SeeksLivelock : {E : Type 0} → Declarations → Matrix → Report
+-- the cut that stands so has this livelock, or none
+abbrev pub SeeksLivelock : {E : Type 0} → Declarations → Matrix → Standing
     → Result (Option (List Move)) E → Type 0
-SeeksLivelock c matrix r result =
-    (bound serial : ℕ) → IsReport c matrix bound serial r → (IsFailure r.finding → ⊥)
+SeeksLivelock c matrix standing result =
+    (bound serial : ℕ) → IsStanding c bound serial matrix standing
     → IfOk result (IsLivelockIfAny c serial matrix)
 
--- this is known behind a cut that is proved
-abbrev pub PassesProved : {E : Type 0} → Declarations → SoFar → Matrix → Result SoFar E → Type 0
-PassesProved c old matrix result =
-    (bound serial : ℕ) → IsProved c matrix serial → IfOk result (IsNext c bound serial old matrix)
-
--- this is known behind a cut with this report, unless it fails
-abbrev pub PassesChecked : {E : Type 0} → Declarations → ℕ → SoFar → Matrix → Report
-    → Result SoFar E → Type 0
-PassesChecked c serial old matrix r result =
-    (bound : ℕ) → IsReport c matrix bound serial r → (IsFailure r.finding → ⊥)
+-- this is known behind a cut that stands so
+abbrev pub PassesCut : {E : Type 0} → Declarations → SoFar → Matrix → Standing → Result SoFar E
+    → Type 0
+PassesCut c old matrix standing result =
+    (bound serial : ℕ) → IsStanding c bound serial matrix standing
     → IfOk result (IsNext c bound serial old matrix)
 
 -- ---- at the end

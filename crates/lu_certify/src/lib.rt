@@ -17,8 +17,11 @@
 mod certificate;
 mod certifying;
 mod cuts;
+mod judged;
+mod judging;
 pub mod laws;
 mod so_far;
+mod told;
 mod workers;
 
 pub use certificate::Certificate;

@@ -2,6 +2,7 @@
 
 ghost use Rattle.std.specs.Prelude.{◌≡◌, ◌↔◌, IsTrue};
 
+use crate::judged::Standing;
 use lu_report::Report;
 use lu_test::{Matrix, Schedule};
 
@@ -32,47 +33,33 @@ impl SoFar {
         }
     }
 
-    /// The same behind one cut more: with this schedule as its livelock, or none, whether it is
-    /// clear, and its report.
-    pub(crate) fn after(
-        self,
-        cut: Matrix,
-        livelock: Option<Schedule>,
-        is_clear: bool,
-        report: Report,
-    ) -> SoFar
-        ensures { result ≡ so_far_after self cut livelock is_clear report }
+    /// The same behind one cut more: with this schedule as its livelock, or none, and how it
+    /// stands.
+    pub(crate) fn after(self, cut: Matrix, livelock: Option<Schedule>, standing: Standing) -> SoFar
+        ensures { result ≡ so_far_after self cut livelock standing }
     {
         match self {
             SoFar::Lost { matrix, schedule } => SoFar::Lost { matrix, schedule },
-            SoFar::Unclear {
-                matrix,
-                report: first,
-            } => match livelock {
+            SoFar::Unclear { matrix, report } => match livelock {
                 Some(schedule) => SoFar::Lost {
                     matrix: cut,
                     schedule,
                 },
-                None => SoFar::Unclear {
-                    matrix,
-                    report: first,
-                },
+                None => SoFar::Unclear { matrix, report },
             },
             SoFar::Clear => match livelock {
                 Some(schedule) => SoFar::Lost {
                     matrix: cut,
                     schedule,
                 },
-                None => {
-                    if is_clear {
-                        SoFar::Clear
-                    } else {
-                        SoFar::Unclear {
-                            matrix: cut,
-                            report,
-                        }
-                    }
-                }
+                None => match standing {
+                    Standing::FullPass => SoFar::Clear,
+                    Standing::Proved => SoFar::Clear,
+                    Standing::Open(report) => SoFar::Unclear {
+                        matrix: cut,
+                        report,
+                    },
+                },
             },
         }
     }

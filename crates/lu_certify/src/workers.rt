@@ -5,12 +5,13 @@ ghost use Rattle.lu_machine.specs.Starts.{CanRun};
 ghost use Rattle.lu_parallel.specs.declared.fault.CheckFault.TheVariants.{Memory};
 ghost use Rattle.lu_certify.specs.Certificates.{IsCertificateWithin, NamesCutOf};
 ghost use Rattle.lu_certify.specs.Laws.{Decides};
+ghost use Rattle.lu_certify.specs.Places.{IsJudgedWithin};
 
 use crate::certificate::Certificate;
-use crate::certifying::{
-    certify, conclude, is_failure, may_spin, pass_checked, pass_proved, try_proof,
-};
+use crate::certifying::{certify, conclude, pass_cut};
 use crate::cuts::{count_cuts, cut_at};
+use crate::judged::Judged;
+use crate::judging::{judge_checked, judge_first, may_spin};
 use crate::so_far::SoFar;
 use lu_component::Component;
 use lu_parallel::{CheckFault, Gate, Options, check};
@@ -18,6 +19,30 @@ use lu_test::Matrix;
 use std::alloc::Global;
 use std::sync::Wait;
 use std::thread::Threads;
+
+/// What is found of the cut, checked by as many workers as the options say.
+fn judge_by_workers<R: Threads + Wait, G: Gate>(
+    rt: &R,
+    alloc: Global,
+    gate: &G,
+    component: &Component,
+    cut: &Matrix,
+    nodes_first: bool,
+    options: Options,
+) -> Result<Judged, CheckFault>
+    requires { CanRun component.now cut.now }
+    ensures { IfOk result (IsJudgedWithin component.now options cut.now) }
+{
+    let (bound, serial) = (options.bound(), options.serial());
+    match judge_first(alloc, nodes_first, component, cut, bound, serial)? {
+        Some(judged) => Ok(judged),
+        None => {
+            let report = check(rt, alloc, gate, component, cut, options)?;
+            let judged = judge_checked(alloc, component, cut, report, nodes_first, bound, serial)?;
+            Ok(judged)
+        }
+    }
+}
 
 /// The same certificate, where each cut is checked by as many workers as the options say: it is the
 /// same for any number of workers and any depth. With one worker all is done on the calling thread,
@@ -51,27 +76,17 @@ pub fn certify_by_workers<R: Threads + Wait, G: Gate>(
     let mut so_far = SoFar::Clear;
     for place in 0..end {
         let cut = cut_at(alloc, matrix, place)?;
-        let proved = try_proof(alloc, spins, component, &cut, options.serial())?;
-        if proved {
-            so_far = pass_proved(alloc, component, cut, so_far)?;
-            continue;
+        match judge_by_workers(rt, alloc, gate, component, &cut, spins, options)? {
+            Judged::Failing(report) => {
+                return Ok(Certificate::NotLinearizable {
+                    matrix: cut,
+                    report,
+                });
+            }
+            Judged::Stands(standing) => {
+                so_far = pass_cut(alloc, component, cut, standing, so_far)?;
+            }
         }
-        let report = check(rt, alloc, gate, component, &cut, options)?;
-        if is_failure(&report) {
-            return Ok(Certificate::NotLinearizable {
-                matrix: cut,
-                report,
-            });
-        }
-        so_far = pass_checked(
-            alloc,
-            component,
-            cut,
-            report,
-            spins,
-            options.serial(),
-            so_far,
-        )?;
     }
     Ok(conclude(alloc, component, matrix, options.serial(), so_far)?)
 }

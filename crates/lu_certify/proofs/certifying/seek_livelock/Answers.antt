@@ -1,19 +1,26 @@
-use Rattle.std.proofs.Common.{sym, ◌∙◌}
-use Rattle.lu_certify.proofs.Livelocks.{finds_as, livelock_where, none_in_full_pass, none_in_serial_cut}
-use Rattle.lu_report.specs.declared.report.Finding.TheVariants.{Pass, SerialCut}
+use Rattle.std.proofs.Common.{sym, ◌∙◌, subst}
+use Rattle.lu_report.specs.declared.report.Finding.TheVariants.{Pass}
+use Rattle.lu_certify.specs.Places.{IsStanding}
+use Rattle.lu_certify.proofs.Livelocks.{finds_as, livelock_where, none_in_full_pass, none_in_serial_cut, proved_none}
 use Rattle.lu_certify.proofs.certifying.seek_livelock.Goals as goal
 
-pub returns-then-counts-eq0 : goal.returns-then-counts-eq0
-returns-then-counts-eq0 c = λ bound serial is passes.
-    (let finds = finds_as c.args.component.now c.args.cut.now bound serial c.requires.settles c.args.report.now is (Pass c.in-Pass.counts) (sym c.finding.ensures.finding ∙ c.in-Pass.is) in
-    none_in_full_pass c.args.component.now c.args.cut.now bound serial c.requires.settles c.in-Pass.counts c.if-counts-eq0.true finds)
+pub returns-in-FullPass : goal.returns-in-FullPass
+returns-in-FullPass c = λ bound serial stands.
+    none_in_full_pass c.args.component.now c.args.cut.now bound serial c.requires.settles
+    (subst (IsStanding c.args.component.now bound serial c.args.cut.now) c.in-FullPass.is stands)
+
+pub returns-in-Proved : goal.returns-in-Proved
+returns-in-Proved c = λ bound serial stands.
+    livelock_where c.args.component.now c.args.cut.now bound serial c.requires.settles c.first_lost.result
+    (proved_none c.args.component.now c.args.cut.now serial (subst (IsStanding c.args.component.now bound serial c.args.cut.now) c.in-Proved.is stands)) c.first_lost.ensures
 
 pub returns-in-SerialCut : goal.returns-in-SerialCut
-returns-in-SerialCut c = λ bound serial is passes.
-    (let finds = finds_as c.args.component.now c.args.cut.now bound serial c.requires.settles c.args.report.now is (SerialCut c.in-SerialCut.field-0) (sym c.finding.ensures.finding ∙ c.in-SerialCut.is) in
-    none_in_serial_cut c.args.component.now c.args.cut.now bound serial c.requires.settles c.in-SerialCut.field-0 finds)
+returns-in-SerialCut c = λ bound serial stands.
+    none_in_serial_cut c.args.component.now c.args.cut.now bound serial c.requires.settles c.in-Open.report
+    (subst (IsStanding c.args.component.now bound serial c.args.cut.now) c.in-Open.is stands) c.in-SerialCut.field-0 (sym c.finding.ensures.finding ∙ c.in-SerialCut.is)
 
-pub returns-else-counts-eq0 : goal.returns-else-counts-eq0
-returns-else-counts-eq0 c = λ bound serial is passes.
-    (let finds = finds_as c.args.component.now c.args.cut.now bound serial c.requires.settles c.args.report.now is (Pass c.in-Pass.counts) (sym c.finding.ensures.finding ∙ c.in-Pass.is) in
-    livelock_where c.args.component.now c.args.cut.now bound serial c.requires.settles c.first_lost.result (λ s at. (finds s at).0) c.first_lost.ensures)
+pub returns-in-Pass : goal.returns-in-Pass
+returns-in-Pass c = λ bound serial stands.
+    livelock_where c.args.component.now c.args.cut.now bound serial c.requires.settles c.first_lost-in-Pass.result
+    (λ s at. (finds_as c.args.component.now c.args.cut.now bound serial c.requires.settles c.in-Open.report
+    (subst (IsStanding c.args.component.now bound serial c.args.cut.now) c.in-Open.is stands) (Pass c.in-Pass.field-0) (sym c.finding.ensures.finding ∙ c.in-Pass.is) s at).0) c.first_lost-in-Pass.ensures

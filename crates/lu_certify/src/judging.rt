@@ -1,0 +1,170 @@
+//! Whether a cut fails, and how it stands where it does not.
+
+ghost use Rattle.std.specs.Prelude.{◌≡◌, ◌↔◌, ◌≤◌, true, IsTrue, IfOk};
+ghost use Rattle.lu_machine.specs.Starts.{CanRun};
+ghost use Rattle.lu_report.specs.Limits.{IsSerialBound, most_moves};
+ghost use Rattle.lu_replay.specs.Reports.{IsReport};
+ghost use Rattle.lu_certify.specs.Certificates.{IsFailure, IsFullPass};
+ghost use Rattle.lu_certify.specs.Places.{IsJudged, IsJudgedFirst, IsLeftOpen, IsTold};
+
+use crate::judged::{Judged, Standing};
+use crate::told::Told;
+use lu_component::{Component, Instr};
+use lu_graph::ends_well;
+use lu_parallel::check_one;
+use lu_report::{Finding, Report};
+use lu_serial::{Learnt, learn};
+use lu_test::Matrix;
+use std::alloc::{AllocError, Global};
+
+/// Whether the report is a failure or nondeterministic.
+fn is_failure(report: &Report) -> bool
+    ensures { IsTrue result ↔ IsFailure report.now.finding }
+{
+    match report.finding() {
+        Finding::SerialCut(_) => false,
+        Finding::Nondeterministic { .. } => true,
+        Finding::Fail { .. } => true,
+        Finding::Pass(_) => false,
+    }
+}
+
+/// Whether the report is a pass, and no schedule was cut.
+fn is_full_pass(report: &Report) -> bool
+    ensures { IsTrue result ↔ IsFullPass report.now.finding }
+{
+    match report.finding() {
+        Finding::SerialCut(_) => false,
+        Finding::Nondeterministic { .. } => false,
+        Finding::Fail { .. } => false,
+        Finding::Pass(counts) => counts.cut == 0,
+    }
+}
+
+/// Whether an instruction leads back to one that stands before it, or to itself.
+fn leads_back(instrs: &[Instr]) -> bool {
+    for place in 0..instrs.len() {
+        let target = match &instrs[place] {
+            Instr::Jump(target) => *target,
+            Instr::JumpIfZero { value: _, target } => *target,
+            _ => u8::MAX,
+        };
+        if usize::from(target) <= place {
+            return true;
+        }
+    }
+    false
+}
+
+/// Whether an operation of the component has an instruction that leads back, so that threads may
+/// spin. No clause says so: it only says what is tried first.
+pub(crate) fn may_spin(component: &Component) -> bool {
+    for op in component.operations() {
+        if leads_back(op.code.instrs()) {
+            return true;
+        }
+    }
+    false
+}
+
+/// What the nodes of the cut tell.
+fn tell_by_nodes(
+    alloc: Global,
+    component: &Component,
+    cut: &Matrix,
+    bound: u16,
+    serial: u16,
+) -> Result<Told, AllocError>
+    requires of { CanRun component.now cut.now }
+    requires serial { IsSerialBound serial }
+    ensures { IfOk result (IsTold component.now bound serial cut.now) }
+{
+    match learn(alloc, alloc, component, cut, serial)? {
+        Learnt::Set(set) => {
+            let ending = ends_well(alloc, component, cut, &&set, bound)?;
+            Ok(Told::by(ending, bound))
+        }
+        Learnt::Cut(_) => Ok(Told::Nothing),
+        Learnt::Conflict { .. } => Ok(Told::Nothing),
+    }
+}
+
+/// What is found of the cut by its nodes, where that is to be tried first; none where it is not, or
+/// where they tell nothing.
+pub(crate) fn judge_first(
+    alloc: Global,
+    is_tried: bool,
+    component: &Component,
+    cut: &Matrix,
+    bound: u16,
+    serial: u16,
+) -> Result<Option<Judged>, AllocError>
+    requires of { CanRun component.now cut.now }
+    requires serial { IsSerialBound serial }
+    ensures { IfOk result (IsJudgedFirst is_tried component.now bound serial cut.now) }
+{
+    if !is_tried {
+        return Ok(None);
+    }
+    match tell_by_nodes(alloc, component, cut, bound, serial)? {
+        Told::AllGood => Ok(Some(Judged::Stands(Standing::Proved))),
+        Told::BadBehind(moves) => {
+            let report = check_one(alloc, alloc, component, cut, moves, serial)?;
+            Ok(Some(Judged::Failing(report)))
+        }
+        Told::Nothing => Ok(None),
+    }
+}
+
+/// What is found of the cut that has this report at the bounds. Asks that its nodes tell nothing,
+/// where that was tried.
+pub(crate) fn judge_checked(
+    alloc: Global,
+    component: &Component,
+    cut: &Matrix,
+    report: Report,
+    was_tried: bool,
+    bound: u16,
+    serial: u16,
+) -> Result<Judged, AllocError>
+    requires of { CanRun component.now cut.now }
+    requires serial { IsSerialBound serial }
+    requires report { IsReport component.now cut.now bound serial report }
+    requires tried { was_tried ≡ true → IsLeftOpen component.now bound serial cut.now }
+    ensures { IfOk result (IsJudged component.now bound serial cut.now) }
+{
+    if is_failure(&report) {
+        return Ok(Judged::Failing(report));
+    }
+    if is_full_pass(&report) {
+        return Ok(Judged::Stands(Standing::FullPass));
+    }
+    match judge_first(alloc, !was_tried, component, cut, bound, serial)? {
+        Some(judged) => Ok(judged),
+        None => Ok(Judged::Stands(Standing::Open(report))),
+    }
+}
+
+/// What is found of the cut, all on the calling thread. Its nodes are gone through first, where
+/// that is to be tried, and else where its schedules leave it open.
+pub(crate) fn judge(
+    alloc: Global,
+    component: &Component,
+    cut: &Matrix,
+    nodes_first: bool,
+    bound: u16,
+    serial: u16,
+) -> Result<Judged, AllocError>
+    requires of { CanRun component.now cut.now }
+    requires bound { bound ≤ most_moves }
+    requires serial { IsSerialBound serial }
+    ensures { IfOk result (IsJudged component.now bound serial cut.now) }
+{
+    match judge_first(alloc, nodes_first, component, cut, bound, serial)? {
+        Some(judged) => Ok(judged),
+        None => {
+            let report = check_one(alloc, alloc, component, cut, bound, serial)?;
+            judge_checked(alloc, component, cut, report, nodes_first, bound, serial)
+        }
+    }
+}

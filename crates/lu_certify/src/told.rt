@@ -1,0 +1,39 @@
+//! What the nodes of a cut tell.
+
+use lu_graph::Ending;
+use lu_report::MOST_MOVES;
+
+/// What the nodes of a cut tell: states, with the histories of schedules that lead there.
+#[derive(Clone, Copy)]
+pub(crate) enum Told {
+    /// There are few, no serial run offends, and each ended schedule is good, of any length.
+    AllGood,
+
+    /// There are few, no serial run offends, and the shortest schedule that ends badly has so many
+    /// moves: more than the bound, and at most 256.
+    BadBehind(u16),
+
+    /// Neither.
+    Nothing,
+}
+
+impl Told {
+    ghost use Rattle.lu_certify.specs.Places.{IsToldBy};
+
+    /// What it tells of a cut that all its schedules end so, searched up to the bound.
+    pub(crate) fn by(ending: Ending, bound: u16) -> Told
+        ensures { IsToldBy bound ending result }
+    {
+        match ending {
+            Ending::Well => Told::AllGood,
+            Ending::Badly(moves) => {
+                if usize::from(bound) < moves && moves <= usize::from(MOST_MOVES) {
+                    Told::BadBehind(moves as u16)
+                } else {
+                    Told::Nothing
+                }
+            }
+            Ending::TooMany => Told::Nothing,
+        }
+    }
+}
