@@ -70,6 +70,13 @@ choice_number asked choice = place_in (bases_of asked) choice
 abbrev pub role_matrix : Asked → List ℕ → Matrix
 role_matrix asked choice = rows_matrix asked.setup asked.calls asked.candidates choice
 
+-- the matrix that the choice with this number fills
+pub record IsMatrixAt (asked : Asked) (number : ℕ) (matrix : Matrix) : Type 0 where
+  pub choice : List ℕ
+  pub chosen : IsRoleChoice asked choice
+  pub is_at : choice_number asked choice ≡ number
+  pub fills : matrix ≡ role_matrix asked choice
+
 -- r is the report of the matrix that the choice fills
 abbrev pub IsRoleReport : Asked → List ℕ → Report → Type 0
 IsRoleReport asked choice r =

@@ -1,13 +1,13 @@
 //! All matrices of a size over some calls, and slices of them.
 
-ghost use Rattle.std.specs.Prelude.{◌≡◌, ◌≤◌, ◌↔◌, IsTrue, IsOk, IfOk, IfErr, length, All, Any};
+ghost use Rattle.std.specs.Prelude.{◌≡◌, ◌<◌, ◌≤◌, ◌↔◌, IsTrue, IsOk, IfOk, IfErr, length, All, Any};
 ghost use Rattle.lu_test.specs.Matrix.{IsSetup};
 ghost use Rattle.lu_machine.specs.Starts.{AllEnd};
 ghost use Rattle.lu_replay.specs.Confirmed.{IsPass};
 ghost use Rattle.lu_refine.specs.Choices.{AreEnough, choice_count};
 ghost use Rattle.lu_refine.specs.Campaigns.{AreCallsOf, HaveArguments, IsFoundOf, IsGrid, IsLimitFault, Runs};
 ghost use Rattle.lu_refine.specs.Roles.{AreWithinLimits, bases};
-ghost use Rattle.lu_refine.specs.ByThread.{CanAsk, IsRolesFault, IsSliceAnswer, IsThreadsAnswer, asked_of};
+ghost use Rattle.lu_refine.specs.ByThread.{CanAsk, IsMatrixAt, IsRolesFault, IsSliceAnswer, IsThreadsAnswer, asked_of, matrix_count};
 
 use crate::arena::check_in_arena;
 use crate::campaigns::{Campaign, CampaignFault};
@@ -15,8 +15,8 @@ use crate::choice::{Positions, bases_of, choice_at, count_choices, fill, same_li
 use crate::roles::Roles;
 use lu_component::Component;
 use lu_report::{Finding, Report};
-use lu_test::{Call, Calls, MOST_CALLS, MOST_CALLS_OF_THREAD, MOST_THREADS};
-use std::alloc::Global;
+use lu_test::{Call, Calls, MOST_CALLS, MOST_CALLS_OF_THREAD, MOST_THREADS, Matrix};
+use std::alloc::{AllocError, Global};
 
 /// The most candidates of a thread.
 pub const MOST_CANDIDATES: usize = 8;
@@ -210,4 +210,22 @@ pub fn count_matrices(alloc: Global, candidates: &[Calls], calls: u8) -> Result<
 {
     let positions = positions_of(alloc, candidates, calls)?;
     Ok(count_choices(positions.as_slice()))
+}
+
+/// The matrix with this number, from 0, in the order of [`campaign_by_thread`]. Asks for what a
+/// campaign asks for, within its limits, and for a number below that of the matrices
+/// ([`count_matrices`]).
+///
+/// # Errors
+///
+/// `AllocError` where memory was refused.
+pub fn matrix_at(alloc: Global, roles: Roles<'_>, number: u64) -> Result<Matrix, AllocError>
+    requires asked { CanAsk (asked_of roles) }
+    requires limits { AreWithinLimits roles.calls roles.candidates.now }
+    requires number { number < matrix_count (asked_of roles) }
+    ensures { IfOk result (IsMatrixAt (asked_of roles.entry) number) }
+{
+    let bases = bases_of(alloc, roles.candidates, roles.calls)?;
+    let choice = choice_at(alloc, bases.as_slice(), number)?;
+    fill(alloc, roles, choice.as_slice())
 }

@@ -22,7 +22,7 @@ mod roles;
 mod shrink_fault;
 mod shrinking;
 
-pub use campaigning::{campaign, campaign_by_thread, campaign_slice, count_matrices};
+pub use campaigning::{campaign, campaign_by_thread, campaign_slice, count_matrices, matrix_at};
 pub use campaigns::{Campaign, CampaignFault};
 pub use choice::same_lists;
 pub use lu_refute::{RefuteFault, refute};

@@ -1,0 +1,2 @@
+pub mod InSlices
+pub mod InCampaigns

@@ -1,0 +1,49 @@
+-- Laws of slices that follow one another.
+use Rattle.std.specs.Prelude.{◌≡◌, ℕ, ◌+◌, ◌^◌, ◌<◌, ◌≤◌, List}
+use Rattle.lu_machine.specs.Starts.{AllEnd}
+use Rattle.lu_certify.specs.Certificates.{AreSame}
+use Rattle.lu_refine.specs.ByThread.{Asked, IsRoleChoice, IsWithinSlice, matrix_count}
+use Rattle.lu_refine.specs.Roles.{AreWithinLimits}
+use Rattle.lu_survey.specs.declared.certified_campaign.CertifiedCampaign.{CertifiedCampaign}
+use Rattle.lu_survey.specs.declared.certified_campaign.CertifiedCampaign.TheVariants.{AllLinearizable, First}
+use Rattle.lu_survey.specs.Certified.{IsCertifiedSlice}
+use Rattle.lu_survey.specs.Slices.{slice_size}
+
+-- A slice from the first matrix to the end has all; and their number is one of 64 bits, where the
+-- limits hold.
+pub record WholeSlices : Type 0 where
+  pub each : (asked : Asked) (to : ℕ) (choice : List ℕ) → matrix_count asked ≤ to
+      → IsRoleChoice asked choice → IsWithinSlice asked 0 to choice
+  pub size : (asked : Asked) (to : ℕ) → matrix_count asked ≤ to
+      → slice_size asked 0 to ≡ matrix_count asked
+  pub few : (asked : Asked) → AreWithinLimits asked.calls asked.candidates
+      → matrix_count asked < 2 ^ 64
+
+-- what two answers say together: the first matrix that is certified otherwise, or the sum
+abbrev pub joined : CertifiedCampaign → CertifiedCampaign → CertifiedCampaign
+joined (First matrix certificate) later = First matrix certificate
+joined (AllLinearizable count) (First matrix certificate) = First matrix certificate
+joined (AllLinearizable count) (AllLinearizable others) = AllLinearizable (count + others)
+
+-- Two slices that follow one another answer together what one slice does.
+abbrev pub CertifiedJoin : Type 0
+CertifiedJoin =
+    (asked : Asked) (from middle to : ℕ) (earlier later : CertifiedCampaign) →
+    from ≤ middle → middle ≤ to →
+    IsCertifiedSlice asked from middle earlier → IsCertifiedSlice asked middle to later
+    → IsCertifiedSlice asked from to (joined earlier later)
+
+-- two answers say the same: the same count, or the same matrix with the same certificate
+abbrev pub SayTheSame : CertifiedCampaign → CertifiedCampaign → Type 0
+SayTheSame (AllLinearizable count) (AllLinearizable others) = count ≡ others
+SayTheSame (AllLinearizable count) (First matrix certificate) = ⊥
+SayTheSame (First matrix certificate) (AllLinearizable count) = ⊥
+SayTheSame (First matrix certificate) (First other its) =
+    (matrix ≡ other) × AreSame certificate its
+
+-- A slice has one answer, where the calls of the setup end.
+abbrev pub OneCertifiedAnswer : Type 0
+OneCertifiedAnswer =
+    (asked : Asked) (from to : ℕ) (found other : CertifiedCampaign) →
+    AllEnd asked.component asked.setup → IsCertifiedSlice asked from to found →
+    IsCertifiedSlice asked from to other → SayTheSame found other

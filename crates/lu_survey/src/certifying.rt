@@ -1,0 +1,59 @@
+//! Slices of a campaign whose matrices are certified.
+
+ghost use Rattle.std.specs.Prelude.{◌↔◌, IsTrue, IfOk, IfErr};
+ghost use Rattle.lu_refine.specs.ByThread.{CanAsk, IsRolesFault, asked_of};
+ghost use Rattle.lu_survey.specs.Certified.{IsCertifiedAnswer, IsCertifiedOf, SaysLinearizable};
+
+use crate::certified_campaign::CertifiedCampaign;
+use lu_certify::{Certificate, certify};
+use lu_refine::{CampaignFault, Roles, count_matrices, matrix_at};
+use std::alloc::Global;
+
+/// Whether it certifies that the component is linearizable.
+fn says_linearizable(certificate: &Certificate) -> bool
+    ensures { IsTrue result ↔ SaysLinearizable certificate.now }
+{
+    match certificate {
+        Certificate::Linearizable(_) => true,
+        Certificate::NotLinearizable { .. } => false,
+        Certificate::Livelock { .. } => false,
+        Certificate::Undecided { .. } => false,
+    }
+}
+
+/// Certifies some of the matrices of [`campaign_by_thread`](lu_refine::campaign_by_thread), within
+/// the bounds of the roles: those with the numbers `from` to `to - 1` in its order, counted from 0;
+/// a `to` past the last matrix is the end. Returns the first of them whose certificate says
+/// anything but that the component is linearizable, with that certificate, or how many they are: 0
+/// where `from` is not below `to` or not below the number of matrices. Slices that follow one
+/// another say together what one slice says ([`certified_join`](crate::laws::certified_join)).
+///
+/// # Errors
+///
+/// Those of [`campaign_by_thread`](lu_refine::campaign_by_thread).
+pub fn certify_slice(
+    alloc: Global,
+    roles: Roles<'_>,
+    from: u64,
+    to: u64,
+) -> Result<CertifiedCampaign, CampaignFault>
+    requires { CanAsk (asked_of roles) }
+    ensures answer { IfOk result (IsCertifiedAnswer (asked_of roles.entry) from to) }
+    ensures of { IfOk result (IsCertifiedOf roles.entry.component.now) }
+    ensures fault { IfErr result (IsRolesFault roles.entry.candidates.now roles.entry.calls) }
+{
+    let count = count_matrices(alloc, roles.candidates, roles.calls)?;
+    let end = to.min(count);
+    let start = from.min(end);
+    for number in start..end {
+        let matrix = matrix_at(alloc, roles, number)?;
+        let certificate = certify(alloc, roles.component, &matrix, roles.bound, roles.serial)?;
+        if !says_linearizable(&certificate) {
+            return Ok(CertifiedCampaign::First {
+                matrix,
+                certificate,
+            });
+        }
+    }
+    Ok(CertifiedCampaign::AllLinearizable(end - start))
+}

@@ -1,0 +1,17 @@
+//! Laws of slices. Their functions do nothing.
+
+ghost use Rattle.lu_survey.specs.Laws.{CertifiedJoin, OneCertifiedAnswer, WholeSlices};
+
+/// A slice from the first matrix to a number that is no less than theirs has all of them. Within the
+/// limits there are fewer than 2 to the power of 64, so `u64::MAX` is such a number.
+pub fn whole_slices()
+    ensures { WholeSlices }
+{}
+
+/// Slices that follow one another give together what one slice gives: the first answer that names a
+/// matrix, or, where none does, the sum of the counts. A slice has one answer, so it does not
+/// matter who tries it.
+pub fn certified_join()
+    ensures join { CertifiedJoin }
+    ensures one_answer { OneCertifiedAnswer }
+{}
