@@ -1,7 +1,7 @@
 -- Answers that go out.
 use Rattle.std.specs.Prelude.{if◌then◌else◌}
 use Rattle.std.proofs.Common.{◌≡◌, ◌≢◌, ℕ, suc, ◌<◌, Bool, true, false, List, [], ◌∷◌, ◌++◌, Option, Some, None, length, replicate, Result, Ok, Err, refl, inl, inr, ap, sym, ◌∙◌, arith, subst, get_or}
-use Rattle.std.specs.Prelude.{IfSome, MatchBool, codes, nat_lt}
+use Rattle.std.specs.Prelude.{IfSome, MatchBool, MatchOption, codes, nat_lt}
 use Rattle.std.specs.Fmt.{decimal}
 use Rattle.std.specs.Io.KnownBytes.{Appends}
 use Rattle.std.proofs.lemmas.Bool.{lt-ltb}
@@ -29,15 +29,23 @@ use Rattle.lu_history.specs.declared.serial.SerialOp.{SerialOp}
 use Rattle.lu_report.specs.declared.report.Finding.{Finding}
 use Rattle.lu_report.specs.declared.report.Finding.TheVariants.{SerialCut, Nondeterministic, Fail, Pass}
 use Rattle.lu_report.specs.Codes.{report_code_of}
-use Rattle.lu_report.specs.Parts.{Parts}
+use Rattle.lu_report.specs.Parts.{Parts, shown_schedule}
 use Rattle.lu_parallel.specs.Ranges.{Choice}
 use Rattle.lu_spec.specs.Codes.{spec_code_of}
 use Rattle.lu_refine.specs.declared.campaigns.Campaign.{Campaign}
 use Rattle.lu_refine.specs.ByThread.{Asked}
+use Rattle.lu_survey.specs.declared.certified_campaign.CertifiedCampaign.{CertifiedCampaign}
+use Rattle.lu_survey.specs.declared.certified_campaign.CertifiedCampaign.TheVariants.{AllLinearizable, First as NotAll}
 use Rattle.lu_refine.specs.declared.campaigns.Campaign.TheVariants.{AllPass, First}
 use Rattle.lu_certify.specs.declared.certificate.Certificate.{Certificate}
 use Rattle.lu_certify.specs.declared.certificate.Certificate.TheVariants.{Linearizable, NotLinearizable, Livelock, Undecided}
 use Rattle.lu_cli.specs.declared.order.CampaignOptions.{CampaignOptions}
+use Rattle.lu_cli.specs.declared.order.CampaignTrial.{CampaignTrial}
+use Rattle.lu_cli.specs.declared.order.CampaignTrial.TheVariants.{Checked, Certified}
+use Rattle.lu_cli.specs.declared.failing.View.{View}
+use Rattle.lu_cli.specs.declared.failing.View.TheVariants as view
+use Rattle.lu_cli.specs.Args.{most_long}
+use Rattle.lu_cli.specs.Failing.{IsShownAlone, ShowsByView, ShowsFailing, ShowsRun, below, failure, shown_parts}
 use Rattle.lu_cli.specs.declared.order.CampaignPart.{CampaignPart}
 use Rattle.lu_cli.specs.declared.order.CampaignPart.TheVariants.{Whole, Slice, Count}
 use Rattle.lu_cli.specs.declared.order.CampaignThreads.{CampaignThreads}
@@ -54,7 +62,7 @@ use Rattle.std.specs.List.{list_any}
 use Rattle.lu_cli.specs.Drawing.{IsDrawnWith}
 use Rattle.lu_cli.specs.declared.explaining.Target.{Target}
 use Rattle.lu_cli.specs.declared.explaining.Target.TheVariants as target
-use Rattle.lu_cli.specs.Explaining.{IsExplained, IsExplainedBy, IsExplainedSchedule, IsExplainedSerially, IsPicturedBy, IsPresentedBy, ToEnded, ToFinding, is_report, status_by, unexplained}
+use Rattle.lu_cli.specs.Explaining.{IsExplained, IsExplainedBy, IsExplainedSchedule, IsExplainedSerially, IsPicturedBy, IsPresentedBy, ToEnded, ToFinding, is_report, limits_for, status_by, unexplained}
 use Rattle.lu_recorded.specs.declared.recorded.Recorded.{Recorded}
 use Rattle.lu_recorded.specs.Codes.{recorded_code_of}
 use Rattle.lu_cli.specs.Judging.{IsJudgedBy, ToRecorded, four_parts, three_parts}
@@ -65,7 +73,7 @@ use Rattle.lu_cli.specs.declared.order.Showing.{Showing}
 use Rattle.lu_cli.specs.declared.order.Showing.TheVariants.{Count as CountAlone, Schedules}
 use Rattle.lu_cli.specs.Bundle.{bundle_parts}
 use Rattle.lu_report.specs.Limits.{Limits}
-use Rattle.lu_cli.specs.Replies.{Answer, Answers, IsAnswerFrom, IsAnswerIn, IsAnswerOf, IsAnswerToOrder, IsAnswerToAlike, IsAnswerToPart, IsByThreadAnswer, IsCampaignAlike, IsTriedAll, IsCampaignBy, IsCampaignFrom, IsCertified, IsCheckAgainstFrom, IsCheckAgainstOf, IsChecked, IsCheckedAgainst, IsCollected, IsConformOf, IsCountAnswer, IsDrawn, IsExplainAgainstOf, IsExplainOf, IsExplainedAgainst, IsExplainedText, IsJudgeAgainstOf, IsJudgeOf, IsJudgedAgainstTexts, IsJudgedSerially, IsJudgedTexts, IsLinted, IsRefuted, IsRefutedBy, IsRefuteOf, IsReplayed, IsRunSerially, IsShrinkAnswer, IsSliceReply, IsSpecOf, IsTraced, IsTracedFromSetup, ShowsCertificate, Tells, ToMatrix, ToParts, ToReport, ToSchedule, ToSettled, ToShown, ToSpec, ToTarget, ToTexts, ToValue, found_answer, lists_of, no_command, no_device, no_memory, or_schedule, refused, reported, status_of, with_matrix}
+use Rattle.lu_cli.specs.Replies.{AloneOr, Answer, Answers, IsAnswerFrom, IsAnswerIn, IsAnswerOf, IsAnswerToAlike, IsAnswerToOrder, IsAnswerToPart, IsAnswerToTrial, IsByThreadAnswer, IsCampaignAlike, IsCampaignBy, IsCampaignFrom, IsCertified, IsCertifiedPart, IsCertifiedReply, IsCheckAgainstFrom, IsCheckAgainstOf, IsChecked, IsCheckedAgainst, IsCollected, IsConformOf, IsCountAnswer, IsDrawBehind, IsDrawn, IsExplainAgainstOf, IsExplainBehind, IsExplainOf, IsExplainedAgainst, IsExplainedText, IsJudgeAgainstOf, IsJudgeOf, IsJudgedAgainstTexts, IsJudgedSerially, IsJudgedTexts, IsLinted, IsRefuteOf, IsRefuted, IsRefutedBy, IsReplayed, IsRunSerially, IsShrinkAnswer, IsSliceReply, IsSpecOf, IsTraceBehind, IsTraceFromSetupBehind, IsTraced, IsTracedFromSetup, IsTriedAll, IsTriedPart, ShowsCertificate, ShowsCertified, Tells, ToMatrix, ToParts, ToReport, ToSchedule, ToSettled, ToShown, ToSpec, ToTarget, ToTexts, ToValue, found_answer, lists_of, no_command, no_device, no_memory, or_schedule, refused, reported, status_of, two_texts, view_of, with_matrix, with_schedule}
 
 -- an answer that was made and said
 pub said : (IsAnswer : Answer → Type 0) (answer : Answer) (text : List ℕ) (old new : Option (List ℕ)) (status : ℕ) → IsAnswer answer → text ≡ answer.text → Appends old new text × (status ≡ answer.status) → Answers IsAnswer old new status
@@ -155,11 +163,45 @@ against_else : (c : Declarations) (m : Matrix) (choice : Choice) (members : List
 against_else c m choice members answer (inl is) = reported_else is.0 answer is.2
 against_else c m choice members answer (inr is) = text_else answer 75 (ap (byte_of 8) is.1) (λ e. omega arith)
 
+other_status : (answer : Answer) (n : ℕ) → answer.status ≡ n → (n ≡ 4 → ⊥) → answer.status ≡ 4 → ⊥
+other_status answer n is other e = other (sym is ∙ e)
+
+certificate_status : (c : Declarations) (certificate : Certificate) (answer : Answer) → ShowsCertificate c certificate answer → answer.status ≡ 4 → ⊥
+certificate_status c (Linearizable members) answer is = other_status answer 0 (ap (λ (a : Answer). a.status) is.2) (λ e. omega arith)
+certificate_status c (NotLinearizable smaller r) answer is = other_status answer 1 (ap (λ (a : Answer). a.status) is) (λ e. omega arith)
+certificate_status c (Livelock smaller u) answer is = other_status answer 1 (ap (λ (a : Answer). a.status) is) (λ e. omega arith)
+certificate_status c (Undecided smaller r) answer is = other_status answer 3 (ap (λ (a : Answer). a.status) is) (λ e. omega arith)
+
 shown_else : (c : Declarations) (certificate : Certificate) (answer : Answer) → ShowsCertificate c certificate answer → IsElse answer
-shown_else c (Linearizable members) answer is = status_else answer 0 (ap (λ (a : Answer). a.status) is.2) (λ e. omega arith)
-shown_else c (NotLinearizable smaller r) answer is = status_else answer 1 (ap (λ (a : Answer). a.status) is) (λ e. omega arith)
-shown_else c (Livelock smaller u) answer is = status_else answer 1 (ap (λ (a : Answer). a.status) is) (λ e. omega arith)
-shown_else c (Undecided smaller r) answer is = status_else answer 3 (ap (λ (a : Answer). a.status) is) (λ e. omega arith)
+shown_else c certificate answer is = status_else answer answer.status refl (certificate_status c certificate answer is)
+
+-- what fails is told with status 1
+failure_else : (answer : Answer) (text : List ℕ) → answer ≡ failure text → IsElse answer
+failure_else answer text is = status_else answer 1 (ap (λ (a : Answer). a.status) is) (λ e. omega arith)
+
+run_else : (view : View) (c : Declarations) (cut : Matrix) (u : List Move) (text : List ℕ) (answer : Answer) → ShowsRun view c cut u text answer → IsElse answer
+run_else view.Explanation c cut u text answer (steps, made, is) = failure_else answer (below text steps) is
+run_else view.Trace c cut u text answer (steps, made, is) = failure_else answer (below text steps) is
+run_else view.TraceFromSetup c cut u text answer (steps, made, is) = failure_else answer (below text steps) is
+run_else view.Picture c cut u text answer (picture, made, is) = failure_else answer picture.text is
+run_else view.ExplainedPicture c cut u text answer (picture, made, is) = failure_else answer picture.text is
+
+failing_else : (view : View) (c : Declarations) (cut : Matrix) (r : Parts) (u : List Move) (answer : Answer) → ShowsFailing view c cut r u answer → IsElse answer
+failing_else view.Explanation c cut r u answer (why, explains, is) = run_else view.Explanation c cut u (below (two_texts c cut r) why) answer is
+failing_else view.ExplainedPicture c cut r u answer (picture, explains, is) = failure_else answer picture.text is
+failing_else view.Trace c cut r u answer is = run_else view.Trace c cut u (two_texts c cut r) answer is
+failing_else view.TraceFromSetup c cut r u answer is = run_else view.TraceFromSetup c cut u (two_texts c cut r) answer is
+failing_else view.Picture c cut r u answer is = run_else view.Picture c cut u (two_texts c cut r) answer is
+
+by_view_else : (view : View) (c : Declarations) (certificate : Certificate) (answer : Answer) → ShowsByView view c certificate answer → IsElse answer
+by_view_else view c (Linearizable members) answer is = shown_else c (Linearizable members) answer is
+by_view_else view c (Undecided cut r) answer is = shown_else c (Undecided cut r) answer is
+by_view_else view c (Livelock cut u) answer is = run_else view c cut u (with_schedule c (cut, u)).text answer is
+by_view_else view c (NotLinearizable cut r) answer is = go (shown_schedule r.finding) is
+  where
+    go : (found : Option (List Move)) → MatchOption found (ShowsCertificate c (NotLinearizable cut r) answer) (λ u. ShowsFailing view c cut r u answer) → IsElse answer
+    go None is = shown_else c (NotLinearizable cut r) answer is
+    go (Some u) is = failing_else view c cut r u answer is
 
 certified_else : (c : Declarations) (m : Matrix) (asked : CertifyOptions) (answer : Answer) → IsCertified c m asked answer → IsElse answer
 certified_else c m asked answer (inl is) = shown_else c is.0 answer is.2
@@ -196,10 +238,17 @@ three_else parts IsAnswer answer h is =
 told_shown_else : (text : List ℕ) (IsAnswer : List Move → Answer → Type 0) (answer : Answer) → ((u : List Move) → IsAnswer u answer → IsElse answer) → ToShown text IsAnswer answer → IsElse answer
 told_shown_else text IsAnswer answer h (found, of, more) = scheduled_else (or_schedule found text) IsAnswer answer h more
 
-shown_parts_else : (parts : List (List ℕ)) (IsAnswer : Declarations → Matrix → List Move → Answer → Type 0) (answer : Answer) → ((c : Declarations) (m : Matrix) (u : List Move) → IsAnswer c m u answer → IsElse answer) → ToParts (exactly_three parts) (λ p. ToTexts p.0 p.1 (λ c m. ToShown p.2 (IsAnswer c m))) answer → IsElse answer
-shown_parts_else parts IsAnswer answer h is =
-    parts_else (exactly_three parts) (λ p. ToTexts p.0 p.1 (λ c m. ToShown p.2 (IsAnswer c m))) answer
+behind_else : (parts : List (List ℕ)) (IsAnswer : Declarations → Matrix → List Move → Answer → Type 0) (answer : Answer) → ((c : Declarations) (m : Matrix) (u : List Move) → IsAnswer c m u answer → IsElse answer) → ToParts (shown_parts parts) (λ p. ToTexts p.0 p.1 (λ c m. ToShown p.2 (IsAnswer c m))) answer → IsElse answer
+behind_else parts IsAnswer answer h is =
+    parts_else (shown_parts parts) (λ p. ToTexts p.0 p.1 (λ c m. ToShown p.2 (IsAnswer c m))) answer
     (λ p more. texts_else p.0 p.1 (λ c m. ToShown p.2 (IsAnswer c m)) answer (λ c m play. told_shown_else p.2 (IsAnswer c m) answer (h c m) play) more) is
+
+alone_or_else : (view : View) (IsShown : List (List ℕ) → Answer → Type 0) (parts : List (List ℕ)) (answer : Answer) → (IsShown parts answer → IsElse answer) → AloneOr view IsShown parts answer → IsElse answer
+alone_or_else view IsShown parts answer h is = go (exactly_two parts) is
+  where
+    go : (found : Option (List ℕ × List ℕ)) → MatchOption found (IsShown parts answer) (λ p. ToTexts p.0 p.1 (IsShownAlone view) answer) → IsElse answer
+    go None is = h is
+    go (Some p) is = texts_else p.0 p.1 (IsShownAlone view) answer (λ c m shown. by_view_else view c shown.0 answer shown.2) is
 
 matrix_else : (c : Declarations) (m : Matrix) (r : Parts) (answer : Answer) → answer ≡ with_matrix c m r → IsElse answer
 matrix_else c m r answer is = status_else answer (status_of r.finding) (ap (λ (a : Answer). a.status) is) (status_of_else r.finding)
@@ -284,11 +333,14 @@ target_else text IsAnswer answer h is = go (is_report text) is
     go true is = report_else text (λ r. IsAnswer (target.Report r)) answer (λ r more. h (target.Report r) more) is
     go false is = scheduled_else (schedule_of text) (λ u. IsAnswer (target.Schedule u)) answer (λ u more. h (target.Schedule u) more) is
 
-explain_else : (by : Presentation) (limits : Limits) (parts : List (List ℕ)) (answer : Answer) → IsExplainOf by limits parts answer → IsElse answer
-explain_else by limits parts answer is =
-    parts_else (exactly_three parts) (λ p. ToTexts p.0 p.1 (λ c m. IsExplainedText by limits c m p.2)) answer
+explain_behind_else : (by : Presentation) (limits : Limits) (parts : List (List ℕ)) (answer : Answer) → IsExplainBehind by limits parts answer → IsElse answer
+explain_behind_else by limits parts answer is =
+    parts_else (shown_parts parts) (λ p. ToTexts p.0 p.1 (λ c m. IsExplainedText by limits c m p.2)) answer
     (λ p more. texts_else p.0 p.1 (λ c m. IsExplainedText by limits c m p.2) answer
-    (λ c m from. target_else p.2 (IsExplainedSerially by limits c m) answer (λ t last. serially_else by limits c m t answer last) from) more) is
+    (λ c m from. target_else p.2 (λ t. IsExplainedSerially by (limits_for limits t) c m t) answer (λ t last. serially_else by (limits_for limits t) c m t answer last) from) more) is
+
+explain_else : (by : Presentation) (limits : Limits) (parts : List (List ℕ)) (answer : Answer) → IsExplainOf by limits parts answer → IsElse answer
+explain_else by limits parts answer is = alone_or_else (view_of by) (IsExplainBehind by limits) parts answer (explain_behind_else by limits parts answer) is
 
 explain_against_else : (parts : List (List ℕ)) (answer : Answer) → IsExplainAgainstOf parts answer → IsElse answer
 explain_against_else parts answer is =
@@ -317,24 +369,45 @@ count_else : (lists : List (List Call)) (calls : ℕ) (answer : Answer) → IsCo
 count_else lists calls answer (inl is) = status_else answer 0 (ap (λ (a : Answer). a.status) is.1) (λ e. omega arith)
 count_else lists calls answer (inr is) = refused_else _ answer is.3
 
-lists_else : (part : CampaignPart) (asked : Asked) (answer : Answer) → IsAnswerToPart part asked answer → IsElse answer
-lists_else Whole asked answer is = by_thread_else asked answer is
-lists_else (Slice from upto) asked answer is = slice_else asked from upto answer is
-lists_else Count asked answer is = count_else asked.candidates asked.calls answer is
+certified_shown_else : (c : Declarations) (found : CertifiedCampaign) (answer : Answer) → ShowsCertified c found answer → IsElse answer
+certified_shown_else c (AllLinearizable count) answer is = status_else answer 0 (ap (λ (a : Answer). a.status) is) (λ e. omega arith)
+certified_shown_else c (NotAll matrix certificate) answer (shown, shows, is) = status_else answer shown.status (ap (λ (a : Answer). a.status) is) (certificate_status c certificate shown shows)
 
-alike_else : (part : CampaignPart) (c : Declarations) (options : CampaignOptions) (setup candidates : List Call) (threads : ℕ) (answer : Answer) → IsAnswerToAlike part c setup candidates threads options answer → IsElse answer
-alike_else Whole c options setup candidates threads answer is = campaign_else c options setup candidates threads answer is
-alike_else (Slice from upto) c options setup candidates threads answer is = lists_else options.part (lists_of c setup (replicate threads candidates) options) answer is
-alike_else Count c options setup candidates threads answer is = lists_else options.part (lists_of c setup (replicate threads candidates) options) answer is
+certified_reply_else : (asked : Asked) (from upto : ℕ) (answer : Answer) → IsCertifiedReply asked from upto answer → IsElse answer
+certified_reply_else asked from upto answer (inl is) = certified_shown_else asked.component is.0 answer is.2
+certified_reply_else asked from upto answer (inr is) = refused_else _ answer is.3
+
+certified_part_else : (part : CampaignPart) (asked : Asked) (answer : Answer) → IsCertifiedPart part asked answer → IsElse answer
+certified_part_else Whole asked answer is = certified_reply_else asked 0 most_long answer is
+certified_part_else (Slice from upto) asked answer is = certified_reply_else asked from upto answer is
+certified_part_else Count asked answer is = count_else asked.candidates asked.calls answer is
+
+part_else : (part : CampaignPart) (asked : Asked) (answer : Answer) → IsAnswerToPart part asked answer → IsElse answer
+part_else Whole asked answer is = by_thread_else asked answer is
+part_else (Slice from upto) asked answer is = slice_else asked from upto answer is
+part_else Count asked answer is = count_else asked.candidates asked.calls answer is
+
+lists_else : (trial : CampaignTrial) (part : CampaignPart) (asked : Asked) (answer : Answer) → IsAnswerToTrial trial part asked answer → IsElse answer
+lists_else Checked part asked answer is = part_else part asked answer is
+lists_else Certified part asked answer is = certified_part_else part asked answer is
+
+same_lists_else : (c : Declarations) (options : CampaignOptions) (setup candidates : List Call) (threads : ℕ) (answer : Answer) → IsTriedPart c setup candidates threads options answer → IsElse answer
+same_lists_else c options setup candidates threads answer is = lists_else options.trial options.part (lists_of c setup (replicate threads candidates) options) answer is
+
+alike_else : (trial : CampaignTrial) (part : CampaignPart) (c : Declarations) (options : CampaignOptions) (setup candidates : List Call) (threads : ℕ) (answer : Answer) → IsAnswerToAlike trial part c setup candidates threads options answer → IsElse answer
+alike_else Checked Whole c options setup candidates threads answer is = campaign_else c options setup candidates threads answer is
+alike_else Checked (Slice from upto) c options setup candidates threads answer is = same_lists_else c options setup candidates threads answer is
+alike_else Checked Count c options setup candidates threads answer is = same_lists_else c options setup candidates threads answer is
+alike_else Certified part c options setup candidates threads answer is = same_lists_else c options setup candidates threads answer is
 
 candidates_else : (c : Declarations) (threads : ℕ) (options : CampaignOptions) (setup : List Call) (lists : List (List Call)) (answer : Answer) → IsCampaignAlike c threads options (record { setup = setup; threads = lists }) answer → IsElse answer
 candidates_else c threads options setup [] answer is = refused_else (codes "G2") answer is
-candidates_else c threads options setup (candidates ∷ []) answer is = alike_else options.part c options setup candidates threads answer is
+candidates_else c threads options setup (candidates ∷ []) answer is = alike_else options.trial options.part c options setup candidates threads answer is
 candidates_else c threads options setup (a ∷ b ∷ m) answer is = refused_else (codes "G2") answer is
 
 matrices_else : (threads : CampaignThreads) (c : Declarations) (options : CampaignOptions) (m : Matrix) (answer : Answer) → IsCampaignBy threads c options m answer → IsElse answer
 matrices_else (Alike threads) c options m answer is = candidates_else c threads options m.setup m.threads answer is
-matrices_else Own c options m answer is = lists_else options.part (lists_of c m.setup m.threads options) answer is
+matrices_else Own c options m answer is = lists_else options.trial options.part (lists_of c m.setup m.threads options) answer is
 
 collected_else : (m : Matrix) (text : List ℕ) (answer : Answer) → IsCollected m text answer → IsElse answer
 collected_else m text answer (inl is) = status_else answer 0 (ap (λ (a : Answer). a.status) is.2.2) (λ e. omega arith)
@@ -384,9 +457,9 @@ conform_else showing parts answer is =
 
 pub order_else : (order : BundleCommand) (parts : List (List ℕ)) (answer : Answer) → IsAnswerToOrder order parts answer → IsElse answer
 order_else Replay parts answer is = three_else parts IsReplayed answer (λ c m u more. replayed_else c m u answer more) is
-order_else Trace parts answer is = shown_parts_else parts IsTraced answer (λ c m u more. traced_else c m u answer more) is
-order_else TraceFromSetup parts answer is = shown_parts_else parts IsTracedFromSetup answer (λ c m u more. from_setup_else c m u answer more) is
-order_else Draw parts answer is = shown_parts_else parts IsDrawn answer (λ c m u more. drawn_else None c m u answer more) is
+order_else Trace parts answer is = alone_or_else view.Trace IsTraceBehind parts answer (λ behind. behind_else parts IsTraced answer (λ c m u more. traced_else c m u answer more) behind) is
+order_else TraceFromSetup parts answer is = alone_or_else view.TraceFromSetup IsTraceFromSetupBehind parts answer (λ behind. behind_else parts IsTracedFromSetup answer (λ c m u more. from_setup_else c m u answer more) behind) is
+order_else Draw parts answer is = alone_or_else view.Picture IsDrawBehind parts answer (λ behind. behind_else parts IsDrawn answer (λ c m u more. drawn_else None c m u answer more) behind) is
 order_else (DrawExplained limits) parts answer is = explain_else Picture limits parts answer is
 order_else (Explain limits) parts answer is = explain_else Words limits parts answer is
 order_else ExplainAgainst parts answer is = explain_against_else parts answer is

@@ -1,5 +1,5 @@
 -- The commands of the program, and what words ask for.
-use Rattle.std.specs.Prelude.{◌≡◌, ℕ, ◌^◌, ◌&&◌, ◌==◌, Bool, true, false, pos, List, [], ◌∷◌, length, map, Option, Some, None, Result, IfOk, option_and_then, codes, nat_lt, if◌then◌else◌}
+use Rattle.std.specs.Prelude.{◌≡◌, ℕ, ◌^◌, ◌&&◌, ◌==◌, Bool, true, false, pos, List, [], ◌∷◌, length, map, Option, Some, None, Result, IfOk, option_and_then, unwrap_or, codes, nat_lt, if◌then◌else◌}
 use Rattle.std.specs.List.{list_all}
 use Rattle.std.specs.Option.{option_map}
 use Rattle.std.specs.Str.{bytes_eq}
@@ -18,6 +18,8 @@ use Rattle.lu_cli.specs.declared.order.CampaignPart.{CampaignPart}
 use Rattle.lu_cli.specs.declared.order.CampaignPart.TheVariants.{Whole, Slice, Count}
 use Rattle.lu_cli.specs.declared.order.CampaignThreads.{CampaignThreads}
 use Rattle.lu_cli.specs.declared.order.CampaignThreads.TheVariants.{Alike, Own}
+use Rattle.lu_cli.specs.declared.order.CampaignTrial.{CampaignTrial}
+use Rattle.lu_cli.specs.declared.order.CampaignTrial.TheVariants.{Checked, Certified}
 use Rattle.lu_cli.specs.declared.order.CertifyOptions.{CertifyOptions}
 use Rattle.lu_cli.specs.declared.order.Request.{Request}
 use Rattle.lu_cli.specs.declared.order.Showing.TheVariants as showing
@@ -145,17 +147,23 @@ shrink_command = bounded (codes "shrink") (codes "40")
 abbrev pub sized_command : App
 sized_command =
     with_rule
-    (with_rule (bounded (codes "campaign") (codes "40")) (optional_number (codes "threads") 1 8))
+    (with_rule
+    (with_rule
+    (with_rule (new_app (codes "campaign")) (optional_number (codes "bound") 0 most_moves))
+    (optional_number (codes "serial") 1 most_moves))
+    (optional_number (codes "threads") 1 8))
     (number_option (codes "calls") 1 8 (codes "1"))
 
 abbrev pub campaign_command : App
 campaign_command =
     with_rule
     (with_rule
+    (with_rule
     (with_rule (with_rule sized_command (flag (codes "by-thread")))
     (long_option (codes "from") (codes "0")))
     (long_option (codes "upto") (codes "18446744073709551615")))
-    (flag (codes "count"))
+    (flag (codes "count")))
+    (flag (codes "certify"))
 
 -- the program, which takes the words behind its name, and wants a command
 abbrev pub program : App
@@ -340,16 +348,37 @@ part_in rows =
     part_with (flag_in (codes "count") rows) (long_number_in (codes "from") rows)
     (long_number_in (codes "upto") rows)
 
-abbrev pub campaign_with : Option Limits → Option CampaignThreads → Option ℕ
+-- whether the matrices are certified or checked
+abbrev pub trial_of : Bool → CampaignTrial
+trial_of certified = if certified then Certified else Checked
+
+-- the bounds that are left out: those of `certify` or of `check`
+abbrev pub default_bound : CampaignTrial → ℕ
+default_bound Checked = 40
+default_bound Certified = most_moves
+
+abbrev pub campaign_limits : CampaignTrial → Option ℕ → Option ℕ → Option Limits
+campaign_limits trial bound serial =
+    limits_of (unwrap_or bound (default_bound trial)) (unwrap_or serial (default_bound trial))
+
+abbrev pub campaign_with : CampaignTrial → Option Limits → Option CampaignThreads → Option ℕ
     → Option CampaignPart → Option CampaignOptions
-campaign_with (Some limits) (Some threads) (Some calls) (Some part) =
+campaign_with trial (Some limits) (Some threads) (Some calls) (Some part) =
     if nat_lt calls 256 then Some
-    (record { bounds = limits; threads = threads; calls = calls; part = part }) else None
-campaign_with _ _ _ _ = None
+    (record { bounds = limits; threads = threads; calls = calls; part = part; trial = trial })
+    else None
+campaign_with _ _ _ _ _ = None
+
+abbrev pub trial_in : List Row → CampaignTrial
+trial_in rows = trial_of (flag_in (codes "certify") rows)
 
 abbrev pub campaign_in : List Row → Option CampaignOptions
 campaign_in rows =
-    campaign_with (limits_in rows) (threads_in rows) (number_named (codes "calls") rows)
+    campaign_with (trial_in rows)
+    (campaign_limits (trial_in rows) (number_named (codes "bound") rows)
+    (number_named (codes "serial") rows))
+    (threads_in rows)
+    (number_named (codes "calls") rows)
     (part_in rows)
 
 abbrev pub order_by : Text → List Row → Option BundleCommand

@@ -1,5 +1,5 @@
 -- What `explain` answers.
-use Rattle.std.specs.Prelude.{◌≡◌, ◌⊎◌, ℕ, List, [], ◌++◌, Some, Result, IfOk, codes, Bool, nat_eq}
+use Rattle.std.specs.Prelude.{◌≡◌, ◌⊎◌, ℕ, List, [], ◌++◌, Option, Some, None, Result, IfOk, codes, Bool, nat_eq}
 use Rattle.std.specs.List.{starts_with}
 use Rattle.lu_component.specs.Component.{Declarations}
 use Rattle.lu_test.specs.declared.schedule.Move.{Move}
@@ -99,12 +99,27 @@ IsOffenceOf c m serial f =
     IsOfOffence f × ((bound : ℕ) → FromEachStart c m (λ s. IsFinding s bound serial f))
 
 -- by the serial histories, where no serial run offends; else that one does
+abbrev pub BySerialRuns : Declarations → Matrix → ℕ → (List (List SerialOp) → Answer → Type 0)
+    → Answer → Type 0
+BySerialRuns c m serial IsAnswer answer =
+    ((s : State) × (members : List (List SerialOp)) × IsStart c m s × IsSetOf s serial members
+    × IsAnswer members answer)
+    ⊎ ((f : Finding) × IsOffenceOf c m serial f × ToFinding (λ v a. ⊥) f answer)
+
 abbrev pub IsExplainedSerially : Presentation → Limits → Declarations → Matrix → Target → Answer
     → Type 0
-IsExplainedSerially by limits c m explained answer =
-    ((s : State) × (members : List (List SerialOp)) × IsStart c m s × IsSetOf s limits.serial members
-    × IsExplained by members c m explained answer)
-    ⊎ ((f : Finding) × IsOffenceOf c m limits.serial f × ToFinding (λ v a. ⊥) f answer)
+IsExplainedSerially by limits c m explained =
+    BySerialRuns c m limits.serial (λ members. IsExplained by members c m explained)
+
+-- the bound of serial runs that the report has, else the one that is asked for
+abbrev pub serial_of : Limits → Option ℕ → Limits
+serial_of limits None = limits
+serial_of limits (Some serial) = record { bound = limits.bound; serial = serial }
+
+-- a report is explained by its own bound of serial runs
+abbrev pub limits_for : Limits → Target → Limits
+limits_for limits (target.Schedule u) = limits
+limits_for limits (target.Report r) = serial_of limits r.serial
 
 -- ---- by the serial histories of a tree, which `members` gives
 

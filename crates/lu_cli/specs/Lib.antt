@@ -4,10 +4,12 @@ pub mod Conforming
 pub mod Counted
 pub mod Drawing
 pub mod Explaining
+pub mod Failing
 pub mod Inputs
 pub mod Judging
 pub mod Orders
 pub mod Outcomes
 pub mod Refusals
 pub mod Replies
+pub mod Shows
 pub mod Texts

@@ -1,5 +1,5 @@
 -- What the program writes, and its status.
-use Rattle.std.specs.Prelude.{◌≡◌, ◌≢◌, ◌⊎◌, ◌↔◌, ℕ, List, [], ◌∷◌, ◌++◌, length, max, min, replicate, Option, Some, None, Result, Ok, Err, MatchBool, IfSome, codes, nat_lt, if◌then◌else◌}
+use Rattle.std.specs.Prelude.{◌≡◌, ◌≢◌, ◌⊎◌, ◌↔◌, ℕ, List, [], ◌∷◌, ◌++◌, length, max, min, replicate, Option, Some, None, Result, Ok, Err, IfOk, MatchBool, IfSome, MatchOption, codes, nat_lt, if◌then◌else◌}
 use Rattle.std.specs.Fmt.{decimal}
 use Rattle.std.specs.Io.KnownBytes.{Appends}
 use Rattle.lu_text.specs.declared.fault.Fault.{Fault}
@@ -58,6 +58,9 @@ use Rattle.lu_refine.specs.Roles.{AreWithinLimits, bases}
 use Rattle.lu_refine.specs.ByThread.{Asked, IsRolesFault, IsSliceAnswer as IsFoundOfSlice, IsThreadsAnswer as IsFoundOfThreads, asked_for}
 use Rattle.lu_refine.specs.Codes.{campaign_code_of}
 use Rattle.lu_refine.specs.Removals.{IsShrunk}
+use Rattle.lu_survey.specs.declared.certified_campaign.CertifiedCampaign.{CertifiedCampaign}
+use Rattle.lu_survey.specs.declared.certified_campaign.CertifiedCampaign.TheVariants.{AllLinearizable, First as NotAll}
+use Rattle.lu_survey.specs.Certified.{IsCertifiedAnswer}
 use Rattle.lu_spec.specs.declared.fault.SpecFaultKind.{SpecFaultKind}
 use Rattle.lu_spec.specs.Beginnings.{Has, IsClosureOf}
 use Rattle.lu_spec.specs.Codes.{spec_code_of}
@@ -73,6 +76,8 @@ use Rattle.lu_cli.specs.declared.counted.Counted.{Counted}
 use Rattle.lu_cli.specs.declared.order.CampaignOptions.{CampaignOptions}
 use Rattle.lu_cli.specs.declared.order.CampaignPart.{CampaignPart}
 use Rattle.lu_cli.specs.declared.order.CampaignPart.TheVariants.{Whole, Slice, Count}
+use Rattle.lu_cli.specs.declared.order.CampaignTrial.{CampaignTrial}
+use Rattle.lu_cli.specs.declared.order.CampaignTrial.TheVariants.{Checked, Certified}
 use Rattle.lu_cli.specs.declared.order.CampaignThreads.{CampaignThreads}
 use Rattle.lu_cli.specs.declared.order.CampaignThreads.TheVariants.{Alike, Own}
 use Rattle.lu_cli.specs.declared.order.Request.{Request}
@@ -83,14 +88,18 @@ use Rattle.lu_cli.specs.declared.refusal.Refusal.{Refusal}
 use Rattle.lu_cli.specs.declared.refusal.Refusal.TheVariants as refusal
 use Rattle.lu_cli.specs.declared.explaining.Target.{Target}
 use Rattle.lu_cli.specs.declared.explaining.Target.TheVariants as target
-use Rattle.lu_cli.specs.Explaining.{IsExplained, IsExplainedSerially, is_report}
+use Rattle.lu_cli.specs.Explaining.{IsExplained, IsExplainedSerially, is_report, limits_for}
+use Rattle.lu_cli.specs.declared.failing.View.{View}
+use Rattle.lu_cli.specs.declared.failing.View.TheVariants as view
+use Rattle.lu_cli.specs.Failing.{IsShownAlone, shown_parts}
+pub use Rattle.lu_cli.specs.Shows.{IsCertified, IsDrawn, IsTraced, IsTracedFromSetup, ShowsCertificate, certified_local, reported, status_of, two_texts, verdict, with_matrix, with_schedule}
 use Rattle.lu_cli.specs.Judging.{IsJudgedBy, ToRecorded, four_parts, three_parts}
 use Rattle.lu_cli.specs.Conforming.{IsConformedTexts}
 use Rattle.lu_cli.specs.Refusals.{Answered}
 use Rattle.lu_cli.specs.declared.order.Showing.{Showing}
 use Rattle.lu_recorded.specs.declared.recorded.Recorded.{Recorded}
 use Rattle.lu_cli.specs.Bundle.{bundle_parts}
-use Rattle.lu_cli.specs.Args.{request_said}
+use Rattle.lu_cli.specs.Args.{most_long, request_said}
 use Rattle.lu_cli.specs.Counted.{AppendsCounted, GoesWell, IsUnfailed, Lent, new_of, old_of}
 use Rattle.lu_cli.specs.Inputs.{most_bytes}
 use Rattle.lu_report.specs.Limits.{Limits}
@@ -117,40 +126,6 @@ IsReplayed c matrix u answer =
     × (answer ≡ record { text = replay_text history status; status = 0 }))
     ⊎ ((i : ℕ) × IsInfeasibleAt c matrix u i
     × (answer ≡ infeasible i))
-
--- ---- `trace`
-
--- the trace of the schedule, or where it is infeasible
-abbrev pub IsTraced : Declarations → Matrix → List Move → Answer → Type 0
-IsTraced c matrix u answer =
-    ((text : List ℕ) × IsTrace c matrix u text × (answer ≡ record { text = text; status = 0 }))
-    ⊎ ((i : ℕ) × IsInfeasibleAt c matrix u i
-    × (answer ≡ infeasible i))
-
--- the trace from the setup on, or where the schedule is infeasible
-abbrev pub IsTracedFromSetup : Declarations → Matrix → List Move → Answer → Type 0
-IsTracedFromSetup c matrix u answer =
-    ((text : List ℕ) × IsTraceFromSetup c matrix u text
-    × (answer ≡ record { text = text; status = 0 }))
-    ⊎ ((i : ℕ) × IsInfeasibleAt c matrix u i
-    × (answer ≡ infeasible i))
-
--- ---- `draw`
-
--- the picture of the schedule, or where it is infeasible
-abbrev pub IsDrawn : Declarations → Matrix → List Move → Answer → Type 0
-IsDrawn c matrix u answer = IsDrawnWith None c matrix u answer
-
--- ---- reports
-
-abbrev pub status_of : Finding → ℕ
-status_of (Pass counts) = 0
-status_of (Fail u why) = 1
-status_of (Nondeterministic u before earlier) = 1
-status_of (SerialCut u) = 3
-
-abbrev pub reported : Parts → Answer
-reported r = record { text = report_text r; status = status_of r.finding }
 
 -- ---- `serial`
 
@@ -222,53 +197,6 @@ IsCheckedAgainst c matrix choice members answer =
     ((r : Parts) × IsReportAgainst (IsMember members) c matrix choice.bound r
     × (answer ≡ reported r))
     ⊎ ((choice.workers ≢ 1) × (answer ≡ no_worker))
-
--- ---- a matrix and its report
-
-abbrev pub two_texts : Declarations → Matrix → Parts → List ℕ
-two_texts c matrix r = matrix_text c matrix ++ codes "---\n" ++ report_text r
-
--- both, and the report's status
-abbrev pub with_matrix : Declarations → Matrix → Parts → Answer
-with_matrix c matrix r = record { text = two_texts c matrix r; status = status_of r.finding }
-
--- ---- `certify`
-
--- a verdict in words, with what shows it
-abbrev pub verdict : List ℕ → List ℕ → ℕ → Answer
-verdict words text status = record { text = words ++ codes "\n---\n" ++ text; status = status }
-
--- a matrix, and a schedule of it
-abbrev pub with_schedule : Declarations → Matrix × List Move → Answer
-with_schedule c example = record {
-  text = matrix_text c example.0 ++ codes "---\n" ++ schedule_text example.1;
-  status = 1;
-}
-
--- what a certificate is shown as: its set as a specification; or the cut, and its report
-abbrev pub ShowsCertificate : Declarations → Certificate → Answer → Type 0
-ShowsCertificate c (Linearizable members) answer =
-    (listed : List (List SerialOp)) × IsListing members listed
-    × (answer ≡ verdict (codes "linearizable") (spec_text listed) 0)
-ShowsCertificate c (NotLinearizable smaller r) answer =
-    answer ≡ verdict (codes "not linearizable") (two_texts c smaller r) 1
-ShowsCertificate c (Livelock smaller u) answer =
-    answer ≡ verdict (codes "livelock") (with_schedule c (smaller, u)).text 1
-ShowsCertificate c (Undecided smaller r) answer =
-    answer ≡ verdict (codes "undecided") (two_texts c smaller r) 3
-
--- how many local instructions run with a move: as many as the component says, or as are asked for
-abbrev pub certified_local : CertifyOptions → Declarations → ℕ
-certified_local asked c = max (min asked.local 16) c.local
-
--- the certificate of the component with so many local instructions to a move, whatever the number
--- of workers and the depth; or, with more than one worker, that a thread could not start
-abbrev pub IsCertified : Declarations → Matrix → CertifyOptions → Answer → Type 0
-IsCertified c matrix asked answer =
-    ((certificate : Certificate)
-    × IsMadeWithin (certified_local asked c) c matrix asked.options certificate
-    × ShowsCertificate c certificate answer)
-    ⊎ ((asked.options.workers ≢ 1) × (answer ≡ no_worker))
 
 -- ---- `shrink`
 
@@ -404,9 +332,11 @@ IsTargetRefusal text refused =
     ((fault : ScheduleFault) × IsScheduleUnlessMemory fault (schedule_of text)
     × (refused ≡ refusal.Schedule fault))
 
+-- the schedule or the report is read, and explained by the serial runs: a report by its own bound
 abbrev pub IsExplainedText : Presentation → Limits → Declarations → Matrix → List ℕ → Answer
     → Type 0
-IsExplainedText by limits c m text = ToTarget text (IsExplainedSerially by limits c m)
+IsExplainedText by limits c m text =
+    ToTarget text (λ t. IsExplainedSerially by (limits_for limits t) c m t)
 
 -- the schedule or the report is read first, and then the specification
 abbrev pub IsExplainedAgainst : Declarations → Matrix → List ℕ → List ℕ → Answer → Type 0
@@ -474,32 +404,82 @@ IsCountAnswer candidates calls answer =
     × (answer ≡ numbered (choice_count (bases calls candidates))))
     ⊎ IsListsRefusal candidates calls answer
 
+-- on all matrices the component is linearizable, and there are so many
+abbrev pub all_linearizable : ℕ → Answer
+all_linearizable count =
+    record { text = codes "campaign linearizable " ++ decimal count ++ codes "\n"; status = 0 }
+
+-- a matrix, and what its certificate is shown as below it
+abbrev pub below_matrix : Declarations → Matrix → Answer → Answer
+below_matrix c matrix shown = record {
+  text = matrix_text c matrix ++ codes "---\n" ++ shown.text;
+  status = shown.status;
+}
+
+-- the answer, where there is one, is that
+abbrev pub ShowsBelow : {E : Type 0} → Declarations → Matrix → Certificate → Result Answer E
+    → Type 0
+ShowsBelow c matrix certificate result =
+    IfOk result (λ answer. (shown : Answer) × ShowsCertificate c certificate shown
+    × (answer ≡ below_matrix c matrix shown))
+
+-- how many matrices there are, where the component is linearizable on all; or the first on which it
+-- is not certified to be, with its certificate
+abbrev pub ShowsCertified : Declarations → CertifiedCampaign → Answer → Type 0
+ShowsCertified c (AllLinearizable count) answer = answer ≡ all_linearizable count
+ShowsCertified c (NotAll matrix certificate) answer =
+    (shown : Answer) × ShowsCertificate c certificate shown
+    × (answer ≡ below_matrix c matrix shown)
+
+-- what the certificates of the matrices with these numbers say, or why there is no campaign
+abbrev pub IsCertifiedReply : Asked → ℕ → ℕ → Answer → Type 0
+IsCertifiedReply asked from upto answer =
+    ((found : CertifiedCampaign) × IsCertifiedAnswer asked from upto found
+    × ShowsCertified asked.component found answer)
+    ⊎ IsListsRefusal asked.candidates asked.calls answer
+
 abbrev pub IsAnswerToPart : CampaignPart → Asked → Answer → Type 0
 IsAnswerToPart Whole asked = IsByThreadAnswer asked
 IsAnswerToPart (Slice from upto) asked = IsSliceReply asked from upto
 IsAnswerToPart Count asked = IsCountAnswer asked.candidates asked.calls
 
+-- the same where the matrices are certified
+abbrev pub IsCertifiedPart : CampaignPart → Asked → Answer → Type 0
+IsCertifiedPart Whole asked = IsCertifiedReply asked 0 most_long
+IsCertifiedPart (Slice from upto) asked = IsCertifiedReply asked from upto
+IsCertifiedPart Count asked = IsCountAnswer asked.candidates asked.calls
+
+abbrev pub IsAnswerToTrial : CampaignTrial → CampaignPart → Asked → Answer → Type 0
+IsAnswerToTrial Checked = IsAnswerToPart
+IsAnswerToTrial Certified = IsCertifiedPart
+
 -- what is answered where each thread has its own candidates
 abbrev pub IsListsAnswer : Declarations → List Call → List (List Call) → CampaignOptions → Answer
     → Type 0
-IsListsAnswer c setup candidates o = IsAnswerToPart o.part (lists_of c setup candidates o)
+IsListsAnswer c setup candidates o =
+    IsAnswerToTrial o.trial o.part (lists_of c setup candidates o)
 
 -- what is answered where so many threads have the same, and a part is asked for
 abbrev pub IsTriedPart : Declarations → List Call → List Call → ℕ → CampaignOptions → Answer
     → Type 0
 IsTriedPart c setup candidates threads o = IsListsAnswer c setup (replicate threads candidates) o
 
-abbrev pub IsAnswerToAlike : CampaignPart → Declarations → List Call → List Call → ℕ
-    → CampaignOptions → Answer → Type 0
-IsAnswerToAlike Whole c setup candidates threads o = IsTriedAll c setup candidates threads o
-IsAnswerToAlike (Slice from upto) c setup candidates threads o =
+abbrev pub IsAnswerToAlike : CampaignTrial → CampaignPart → Declarations → List Call → List Call
+    → ℕ → CampaignOptions → Answer → Type 0
+IsAnswerToAlike Checked Whole c setup candidates threads o =
+    IsTriedAll c setup candidates threads o
+IsAnswerToAlike Checked (Slice from upto) c setup candidates threads o =
     IsTriedPart c setup candidates threads o
-IsAnswerToAlike Count c setup candidates threads o = IsTriedPart c setup candidates threads o
+IsAnswerToAlike Checked Count c setup candidates threads o =
+    IsTriedPart c setup candidates threads o
+IsAnswerToAlike Certified part c setup candidates threads o =
+    IsTriedPart c setup candidates threads o
 
 -- what is answered where so many threads have the same
 abbrev pub IsTriedSame : Declarations → List Call → List Call → ℕ → CampaignOptions → Answer
     → Type 0
-IsTriedSame c setup candidates threads o = IsAnswerToAlike o.part c setup candidates threads o
+IsTriedSame c setup candidates threads o =
+    IsAnswerToAlike o.trial o.part c setup candidates threads o
 
 -- the calls of the one thread are the candidates
 abbrev pub ToCandidates : List (List Call) → (List Call → Answer → Type 0) → Answer → Type 0
@@ -551,21 +531,43 @@ IsReplayOf parts =
     ToParts (exactly_three parts)
     (λ p. ToTexts p.0 p.1 (λ c m. ToSchedule (schedule_of p.2) (IsReplayed c m)))
 
+-- of a component and a matrix alone what fails is shown so; of more parts what stands behind them
+abbrev pub AloneOr : View → (List (List ℕ) → Answer → Type 0) → List (List ℕ) → Answer → Type 0
+AloneOr view IsShown parts answer =
+    MatchOption (exactly_two parts) (IsShown parts answer)
+    (λ p. ToTexts p.0 p.1 (IsShownAlone view) answer)
+
+abbrev pub IsTraceBehind : List (List ℕ) → Answer → Type 0
+IsTraceBehind parts =
+    ToParts (shown_parts parts) (λ p. ToTexts p.0 p.1 (λ c m. IsTracedText c m p.2))
+
+abbrev pub IsTraceFromSetupBehind : List (List ℕ) → Answer → Type 0
+IsTraceFromSetupBehind parts =
+    ToParts (shown_parts parts) (λ p. ToTexts p.0 p.1 (λ c m. IsTracedFromSetupText c m p.2))
+
+abbrev pub IsDrawBehind : List (List ℕ) → Answer → Type 0
+IsDrawBehind parts =
+    ToParts (shown_parts parts) (λ p. ToTexts p.0 p.1 (λ c m. IsDrawnText c m p.2))
+
+abbrev pub IsExplainBehind : Presentation → Limits → List (List ℕ) → Answer → Type 0
+IsExplainBehind by limits parts =
+    ToParts (shown_parts parts) (λ p. ToTexts p.0 p.1 (λ c m. IsExplainedText by limits c m p.2))
+
 abbrev pub IsTraceOf : List (List ℕ) → Answer → Type 0
-IsTraceOf parts =
-    ToParts (exactly_three parts) (λ p. ToTexts p.0 p.1 (λ c m. IsTracedText c m p.2))
+IsTraceOf = AloneOr view.Trace IsTraceBehind
 
 abbrev pub IsTraceFromSetupOf : List (List ℕ) → Answer → Type 0
-IsTraceFromSetupOf parts =
-    ToParts (exactly_three parts) (λ p. ToTexts p.0 p.1 (λ c m. IsTracedFromSetupText c m p.2))
+IsTraceFromSetupOf = AloneOr view.TraceFromSetup IsTraceFromSetupBehind
 
 abbrev pub IsDrawOf : List (List ℕ) → Answer → Type 0
-IsDrawOf parts =
-    ToParts (exactly_three parts) (λ p. ToTexts p.0 p.1 (λ c m. IsDrawnText c m p.2))
+IsDrawOf = AloneOr view.Picture IsDrawBehind
+
+abbrev pub view_of : Presentation → View
+view_of Words = view.Explanation
+view_of Picture = view.ExplainedPicture
 
 abbrev pub IsExplainOf : Presentation → Limits → List (List ℕ) → Answer → Type 0
-IsExplainOf by limits parts =
-    ToParts (exactly_three parts) (λ p. ToTexts p.0 p.1 (λ c m. IsExplainedText by limits c m p.2))
+IsExplainOf by limits = AloneOr (view_of by) (IsExplainBehind by limits)
 
 abbrev pub IsExplainAgainstOf : List (List ℕ) → Answer → Type 0
 IsExplainAgainstOf parts =

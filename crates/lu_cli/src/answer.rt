@@ -5,7 +5,7 @@ ghost use Rattle.lu_test.specs.Matrix.{IsOf};
 ghost use Rattle.lu_certify.specs.Certificates.{NamesCutOf};
 ghost use Rattle.lu_cli.specs.Refusals.{refusal_answer, refused_in_history};
 ghost use Rattle.lu_cli.specs.Replies as spec;
-ghost use Rattle.lu_cli.specs.Replies.{IsListed, two_texts};
+ghost use Rattle.lu_cli.specs.Replies.{IsListed, ShowsBelow, two_texts};
 
 use crate::refusal::Refusal;
 use crate::texts::Fault as TextsFault;
@@ -106,7 +106,7 @@ pub fn show_report(alloc: Global, report: &Report) -> Result<Answer, AllocError>
 }
 
 /// The text of a matrix, and of its report.
-fn write_both(
+pub fn write_both(
     alloc: Global,
     component: &Component,
     matrix: &Matrix,
@@ -183,6 +183,37 @@ pub fn show_count(alloc: Global, count: u64) -> Result<Answer, AllocError>
     Ok(Answer {
         text: format!(in alloc; "campaign pass {count}\n")?,
         status: 0,
+    })
+}
+
+/// That on all matrices of a campaign the component is linearizable, and how many there are.
+pub fn show_linearizable(alloc: Global, count: u64) -> Result<Answer, AllocError>
+    ensures { IfOk result (λ answer. answer ≡ spec.all_linearizable count) }
+{
+    Ok(Answer {
+        text: format!(in alloc; "campaign linearizable {count}\n")?,
+        status: 0,
+    })
+}
+
+/// The text of a matrix, and what its certificate says.
+pub fn show_certified(
+    alloc: Global,
+    component: &Component,
+    matrix: &Matrix,
+    certificate: &Certificate,
+) -> Result<Answer, AllocError>
+    requires matrix { IsOf matrix.now component.now }
+    requires cut { NamesCutOf component.now certificate.now }
+    ensures { ShowsBelow component.now matrix.now certificate.now result }
+{
+    let shown = show_certificate(alloc, component, certificate)?;
+    let mut text = write_matrix(alloc, component, matrix)?;
+    text.push_str("---\n")?;
+    text.push_str(shown.text.as_str())?;
+    Ok(Answer {
+        text,
+        status: shown.status,
     })
 }
 

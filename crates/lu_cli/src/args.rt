@@ -9,8 +9,8 @@ ghost use Rattle.lu_cli.specs.Args.{AddsCommand, AddsRule, IsApp, lineup, reques
 ghost use Rattle.lu_cli.specs.Orders.{choice_of};
 
 use crate::order::{
-    ArgsFault, BundleCommand, CampaignOptions, CampaignPart, CampaignThreads, CertifyOptions,
-    Request, Showing,
+    ArgsFault, BundleCommand, CampaignOptions, CampaignPart, CampaignThreads, CampaignTrial,
+    CertifyOptions, Request, Showing,
 };
 use clap::builder::{ValueParser, ValueParserFactory};
 use clap::error::ErrorKind;
@@ -193,7 +193,9 @@ fn conform_command<'a>(alloc: Global) -> Result<Command<'a>, AllocError>
 fn sized_command<'a>(alloc: Global) -> Result<Command<'a>, AllocError>
     ensures { IfOk result (IsApp spec.sized_command) }
 {
-    let command = with_bounds(alloc, "campaign", "40");
+    let command = bare_command(alloc, "campaign");
+    let command = with_option(command, optional_number(alloc, "bound", 0, MOST_MOVES));
+    let command = with_option(command, optional_number(alloc, "serial", 1, MOST_MOVES));
     let command = with_option(command, optional_number(alloc, "threads", 1, 8));
     with_option(command, number_option(alloc, "calls", 1, 8, "1"))
 }
@@ -204,7 +206,8 @@ fn campaign_command<'a>(alloc: Global) -> Result<Command<'a>, AllocError>
     let command = with_option(sized_command(alloc), flag(alloc, "by-thread"));
     let command = with_option(command, long_option(alloc, "from", "0"));
     let command = with_option(command, long_option(alloc, "upto", "18446744073709551615"));
-    with_option(command, flag(alloc, "count"))
+    let command = with_option(command, flag(alloc, "count"));
+    with_option(command, flag(alloc, "certify"))
 }
 
 /// The program without its commands. It takes the words behind its name.
@@ -366,10 +369,34 @@ fn part_in(given: &ArgMatches<'_>) -> Option<CampaignPart>
     part_of(flag_in(given, "count"), from, upto)
 }
 
+/// Whether the matrices are certified or checked.
+fn trial_of(certified: bool) -> CampaignTrial
+    ensures { result ≡ spec.trial_of certified }
+{
+    if certified {
+        CampaignTrial::Certified
+    } else {
+        CampaignTrial::Checked
+    }
+}
+
+/// The bounds of a campaign: where they are left out those of `certify` or of `check`.
+fn campaign_bounds(trial: CampaignTrial, bound: Option<u16>, serial: Option<u16>) -> Option<Bounds>
+    ensures { result ≡ spec.campaign_limits trial bound serial }
+{
+    let default = match trial {
+        CampaignTrial::Checked => 40,
+        CampaignTrial::Certified => MOST_MOVES,
+    };
+    Bounds::new(bound.unwrap_or(default), serial.unwrap_or(default))
+}
+
 fn campaign_in(given: &ArgMatches<'_>) -> Option<CampaignOptions>
     ensures { result ≡ spec.campaign_in (rows_of (found_of given.now)) }
 {
-    let bounds = bounds_in(given)?;
+    let trial = trial_of(flag_in(given, "certify"));
+    let (bound, serial) = (number_named(given, "bound"), number_named(given, "serial"));
+    let bounds = campaign_bounds(trial, bound, serial)?;
     let threads = threads_in(given)?;
     let calls = number_named(given, "calls")?;
     let part = part_in(given)?;
@@ -379,6 +406,7 @@ fn campaign_in(given: &ArgMatches<'_>) -> Option<CampaignOptions>
         threads,
         calls,
         part,
+        trial,
     })
 }
 

@@ -8,12 +8,15 @@ ghost use Rattle.lu_refine.specs.Campaigns.{AreCallsOf, HaveArguments, IsFoundOf
 ghost use Rattle.lu_refine.specs.Roles.{AllCallsOf, AllHaveArguments};
 ghost use Rattle.lu_refine.specs.ByThread.{CanAsk, asked_of};
 ghost use Rattle.lu_cli.specs.declared.order.CampaignThreads.TheVariants.{Own};
+ghost use Rattle.lu_survey.specs.Certified.{IsCertifiedOf};
 ghost use Rattle.lu_cli.specs.Refusals.{Answered};
 ghost use Rattle.lu_cli.specs.Replies as spec;
 ghost use Rattle.lu_cli.specs.Replies.{IsTriedAll, IsTriedPart, IsTriedSame};
 
-use crate::answer::{Answer, show_count, show_matrix, show_number};
-use crate::order::{CampaignOptions, CampaignPart, CampaignThreads};
+use crate::answer::{
+    Answer, show_certified, show_count, show_linearizable, show_matrix, show_number,
+};
+use crate::order::{CampaignOptions, CampaignPart, CampaignThreads, CampaignTrial};
 use crate::refusal::Refusal;
 use crate::texts::read_texts;
 use lu_component::Component;
@@ -21,6 +24,7 @@ use lu_refine::{
     Campaign, CampaignFault, Roles, campaign, campaign_by_thread, campaign_slice, count_matrices,
     same_lists,
 };
+use lu_survey::{CertifiedCampaign, certify_slice};
 use lu_test::{Call, Calls, Matrix};
 use lu_text::exactly_two;
 use std::alloc::{AllocError, Global};
@@ -84,12 +88,64 @@ fn try_slice(alloc: Global, roles: Roles<'_>, from: u64, upto: u64) -> Result<An
     Ok(show_found(alloc, roles.component, &found)?)
 }
 
+/// How many matrices there are, where the component is linearizable on all; or the first on which it
+/// is not certified to be, with its certificate.
+fn show_certificates(
+    alloc: Global,
+    component: &Component,
+    found: &CertifiedCampaign,
+) -> Result<Answer, AllocError>
+    requires { IsCertifiedOf component.now found.now }
+    ensures { IfOk result (spec.ShowsCertified component.now found.now) }
+{
+    match found {
+        CertifiedCampaign::AllLinearizable(count) => show_linearizable(alloc, *count),
+        CertifiedCampaign::First {
+            matrix,
+            certificate,
+        } => show_certified(alloc, component, matrix, certificate),
+    }
+}
+
+/// What the certificates of the matrices with the numbers `from` to `upto - 1` say.
+fn certify_numbers(alloc: Global, roles: Roles<'_>, from: u64, upto: u64) -> Result<Answer, Refusal>
+    requires { CanAsk (asked_of roles) }
+    ensures { Answered (spec.IsCertifiedReply (asked_of roles.entry) from upto) result }
+{
+    let found = certify_slice(alloc, roles, from, upto)?;
+    Ok(show_certificates(alloc, roles.component, &found)?)
+}
+
 /// How many matrices that campaign has.
 fn count_all(alloc: Global, candidates: &[Calls], calls: u8) -> Result<Answer, Refusal>
     ensures { Answered (spec.IsCountAnswer candidates.now calls) result }
 {
     let count = count_matrices(alloc, candidates, calls)?;
     Ok(show_number(alloc, count)?)
+}
+
+/// What is answered where the matrices are checked.
+fn check_part(alloc: Global, roles: Roles<'_>, part: CampaignPart) -> Result<Answer, Refusal>
+    requires { CanAsk (asked_of roles) }
+    ensures { Answered (spec.IsAnswerToPart part (asked_of roles.entry)) result }
+{
+    match part {
+        CampaignPart::Whole => try_by_thread(alloc, roles),
+        CampaignPart::Slice { from, upto } => try_slice(alloc, roles, from, upto),
+        CampaignPart::Count => count_all(alloc, roles.candidates, roles.calls),
+    }
+}
+
+/// What is answered where the matrices are certified.
+fn certify_part(alloc: Global, roles: Roles<'_>, part: CampaignPart) -> Result<Answer, Refusal>
+    requires { CanAsk (asked_of roles) }
+    ensures { Answered (spec.IsCertifiedPart part (asked_of roles.entry)) result }
+{
+    match part {
+        CampaignPart::Whole => certify_numbers(alloc, roles, 0, u64::MAX),
+        CampaignPart::Slice { from, upto } => certify_numbers(alloc, roles, from, upto),
+        CampaignPart::Count => count_all(alloc, roles.candidates, roles.calls),
+    }
 }
 
 /// What is answered where each thread has its own candidates.
@@ -116,10 +172,9 @@ fn try_lists(
         bound: options.bounds.bound(),
         serial: options.bounds.serial(),
     };
-    match options.part {
-        CampaignPart::Whole => try_by_thread(alloc, roles),
-        CampaignPart::Slice { from, upto } => try_slice(alloc, roles, from, upto),
-        CampaignPart::Count => count_all(alloc, candidates, options.calls),
+    match options.trial {
+        CampaignTrial::Checked => check_part(alloc, roles, options.part),
+        CampaignTrial::Certified => certify_part(alloc, roles, options.part),
     }
 }
 
@@ -159,13 +214,11 @@ fn try_alike(
     requires arguments { HaveArguments candidates.now }
     ensures { Answered (IsTriedSame component.now setup.now candidates.now threads options) result }
 {
-    match options.part {
-        CampaignPart::Whole => {
+    match (options.trial, options.part) {
+        (CampaignTrial::Checked, CampaignPart::Whole) => {
             try_matrices(alloc, component, setup, candidates, threads, options)
         }
-        CampaignPart::Slice { .. } | CampaignPart::Count => {
-            try_part(alloc, component, setup, candidates, threads, options)
-        }
+        _ => try_part(alloc, component, setup, candidates, threads, options),
     }
 }
 

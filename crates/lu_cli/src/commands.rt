@@ -19,10 +19,11 @@ use crate::campaigning::answer_campaign;
 use crate::conforming::answer_conform;
 use crate::drawing::draw;
 use crate::explaining::{Presentation, answer_explain, answer_explain_against};
+use crate::failing::{View, answer_failing};
 use crate::judging::{answer_judge, answer_judge_against};
 use crate::order::{BundleCommand, CertifyOptions};
 use crate::refusal::Refusal;
-use crate::shown::read_shown;
+use crate::shown::{read_shown, shown_parts};
 use crate::texts::read_texts;
 use lu_grain::{certify_longer, certify_longer_by_workers};
 use lu_lang::Component;
@@ -71,7 +72,7 @@ fn answer_replay(alloc: Global, parts: &[&[u8]]) -> Result<Answer, Refusal>
 }
 
 /// The trace of the schedule, or where it is infeasible.
-fn trace(
+pub(crate) fn trace(
     alloc: Global,
     component: &Component,
     matrix: &Matrix,
@@ -101,17 +102,28 @@ fn trace_text(
     Ok(trace(alloc, component, matrix, &schedule)?)
 }
 
-/// `lineup trace`: component, matrix, and a schedule or a report.
-fn answer_trace(alloc: Global, parts: &[&[u8]]) -> Result<Answer, Refusal>
-    ensures { Answered (spec.IsTraceOf (texts parts.now)) result }
+/// Component, matrix, and a schedule or a report.
+fn trace_behind(alloc: Global, parts: &[&[u8]]) -> Result<Answer, Refusal>
+    ensures { Answered (spec.IsTraceBehind (texts parts.now)) result }
 {
-    let (component, matrix, shown) = exactly_three(parts).ok_or(Refusal::Parts)?;
+    let (component, matrix, shown) = shown_parts(parts).ok_or(Refusal::Parts)?;
     let case = read_texts(alloc, component, matrix)?;
     trace_text(alloc, &case.component, &case.matrix, shown)
 }
 
+/// `lineup trace`: component and matrix, and a schedule or a report; of component and matrix alone
+/// what fails.
+fn answer_trace(alloc: Global, parts: &[&[u8]]) -> Result<Answer, Refusal>
+    ensures { Answered (spec.IsTraceOf (texts parts.now)) result }
+{
+    match exactly_two(parts) {
+        Some((component, matrix)) => answer_failing(alloc, component, matrix, View::Trace),
+        None => trace_behind(alloc, parts),
+    }
+}
+
 /// The trace of the schedule from the setup on, or where it is infeasible.
-fn trace_from_setup(
+pub(crate) fn trace_from_setup(
     alloc: Global,
     component: &Component,
     matrix: &Matrix,
@@ -141,13 +153,24 @@ fn trace_text_from_setup(
     Ok(trace_from_setup(alloc, component, matrix, &schedule)?)
 }
 
-/// `lineup trace --setup`: component, matrix, and a schedule or a report.
+/// Component, matrix, and a schedule or a report.
+fn trace_from_setup_behind(alloc: Global, parts: &[&[u8]]) -> Result<Answer, Refusal>
+    ensures { Answered (spec.IsTraceFromSetupBehind (texts parts.now)) result }
+{
+    let (component, matrix, shown) = shown_parts(parts).ok_or(Refusal::Parts)?;
+    let case = read_texts(alloc, component, matrix)?;
+    trace_text_from_setup(alloc, &case.component, &case.matrix, shown)
+}
+
+/// `lineup trace --setup`: component and matrix, and a schedule or a report; of component and matrix alone
+/// what fails.
 fn answer_trace_from_setup(alloc: Global, parts: &[&[u8]]) -> Result<Answer, Refusal>
     ensures { Answered (spec.IsTraceFromSetupOf (texts parts.now)) result }
 {
-    let (component, matrix, shown) = exactly_three(parts).ok_or(Refusal::Parts)?;
-    let case = read_texts(alloc, component, matrix)?;
-    trace_text_from_setup(alloc, &case.component, &case.matrix, shown)
+    match exactly_two(parts) {
+        Some((component, matrix)) => answer_failing(alloc, component, matrix, View::TraceFromSetup),
+        None => trace_from_setup_behind(alloc, parts),
+    }
 }
 
 /// The picture of the schedule that a text says or a report shows.
@@ -164,13 +187,24 @@ fn draw_text(
     Ok(draw(alloc, component, matrix, &schedule, None)?)
 }
 
-/// `lineup draw`: component, matrix, and a schedule or a report.
+/// Component, matrix, and a schedule or a report.
+fn draw_behind(alloc: Global, parts: &[&[u8]]) -> Result<Answer, Refusal>
+    ensures { Answered (spec.IsDrawBehind (texts parts.now)) result }
+{
+    let (component, matrix, shown) = shown_parts(parts).ok_or(Refusal::Parts)?;
+    let case = read_texts(alloc, component, matrix)?;
+    draw_text(alloc, &case.component, &case.matrix, shown)
+}
+
+/// `lineup draw`: component and matrix, and a schedule or a report; of component and matrix alone
+/// what fails.
 fn answer_draw(alloc: Global, parts: &[&[u8]]) -> Result<Answer, Refusal>
     ensures { Answered (spec.IsDrawOf (texts parts.now)) result }
 {
-    let (component, matrix, shown) = exactly_three(parts).ok_or(Refusal::Parts)?;
-    let case = read_texts(alloc, component, matrix)?;
-    draw_text(alloc, &case.component, &case.matrix, shown)
+    match exactly_two(parts) {
+        Some((component, matrix)) => answer_failing(alloc, component, matrix, View::Picture),
+        None => draw_behind(alloc, parts),
+    }
 }
 
 /// The report of a serial offence.

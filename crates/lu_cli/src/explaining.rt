@@ -8,22 +8,25 @@ ghost use Rattle.lu_cli.specs.Drawing.{IsLeastPending, IsShownExplanation, IsSho
 ghost use Rattle.lu_cli.specs.Explaining as spec;
 ghost use Rattle.lu_cli.specs.Explaining.{ExplainsTarget, ExplainsFinding, ExplainsSchedule, IsPlayed, Presents};
 ghost use Rattle.lu_cli.specs.declared.explaining.Presentation.TheVariants.{Words, Picture};
-ghost use Rattle.lu_cli.specs.Replies.{IsExplainAgainstOf, IsExplainOf, IsExplainedAgainst, IsExplainedText, IsTarget, IsTargetRefusal};
+ghost use Rattle.lu_cli.specs.Failing.{IsFindingExplained};
+ghost use Rattle.lu_cli.specs.Replies.{IsExplainAgainstOf, IsExplainBehind, IsExplainOf, IsExplainedAgainst, IsExplainedText, IsTarget, IsTargetRefusal, view_of as spec_of_view};
 
 use crate::answer::{Answer, infeasible};
 use crate::drawing::draw;
+use crate::failing::{View, answer_failing};
 use crate::refusal::Refusal;
+use crate::shown::shown_parts;
 use crate::texts::read_texts;
 use lu_component::Component;
 use lu_explain::{Explanation, event_moves, explain as explain_history, write_explanations};
 use lu_history::{History, HistoryFault};
 use lu_machine::Status;
 use lu_replay::{Replay, ReplayFault, replay, set_or_offence};
-use lu_report::{Bounds, Finding, Report, read_report};
+use lu_report::{Bounds, Finding, MOST_MOVES, Report, read_report};
 use lu_serial::learn;
 use lu_spec::read_spec;
 use lu_test::{Matrix, Schedule, read_schedule, write_schedule};
-use lu_text::{exactly_four, exactly_three};
+use lu_text::{exactly_four, exactly_two};
 use lu_trie::SerialTree;
 use lu_witness::{Verdict, verdict};
 use std::alloc::{AllocError, Global};
@@ -262,7 +265,25 @@ fn explain<T: SerialTree>(
     }
 }
 
-/// The same by the serial runs, or that one of these offends.
+/// The schedule of a finding, explained by the serial runs within the bounds of a certificate, or
+/// that one of these offends.
+pub(crate) fn explain_finding_serially(
+    alloc: Global,
+    component: &Component,
+    matrix: &Matrix,
+    finding: &Finding,
+    by: Presentation,
+) -> Result<Answer, AllocError>
+    requires { CanRun component.now matrix.now }
+    ensures { IfOk result (IsFindingExplained by component.now matrix.now finding.now) }
+{
+    match set_or_offence(learn(alloc, alloc, component, matrix, MOST_MOVES)?) {
+        Ok(set) => explain_finding(alloc, component, matrix, &&set, finding, by),
+        Err(offence) => tell_offence(alloc, &offence),
+    }
+}
+
+/// A schedule or that of a report, explained by the serial runs, or that one of these offends.
 fn explain_serially(
     alloc: Global,
     component: &Component,
@@ -299,7 +320,18 @@ fn read_target(alloc: Global, text: &[u8]) -> Result<Target, Refusal>
     }
 }
 
-/// `lineup explain` and `lineup draw --explain`: component, matrix, and a schedule or a report.
+/// How what fails is shown, where it is explained so.
+fn view_of(by: Presentation) -> View
+    ensures { result ≡ spec_of_view by }
+{
+    match by {
+        Presentation::Words => View::Explanation,
+        Presentation::Picture => View::ExplainedPicture,
+    }
+}
+
+/// `lineup explain` and `lineup draw --explain`: component and matrix, and a schedule or a report;
+/// of component and matrix alone what fails.
 pub(crate) fn answer_explain(
     alloc: Global,
     bounds: Bounds,
@@ -308,9 +340,37 @@ pub(crate) fn answer_explain(
 ) -> Result<Answer, Refusal>
     ensures { Answered (IsExplainOf by bounds (texts parts.now)) result }
 {
-    let (component, matrix, target) = exactly_three(parts).ok_or(Refusal::Parts)?;
+    match exactly_two(parts) {
+        Some((component, matrix)) => answer_failing(alloc, component, matrix, view_of(by)),
+        None => explain_behind(alloc, bounds, parts, by),
+    }
+}
+
+/// Component, matrix, and a schedule or a report.
+fn explain_behind(
+    alloc: Global,
+    bounds: Bounds,
+    parts: &[&[u8]],
+    by: Presentation,
+) -> Result<Answer, Refusal>
+    ensures { Answered (IsExplainBehind by bounds (texts parts.now)) result }
+{
+    let (component, matrix, target) = shown_parts(parts).ok_or(Refusal::Parts)?;
     let case = read_texts(alloc, component, matrix)?;
     explain_text(alloc, &case.component, &case.matrix, bounds, target, by)
+}
+
+/// The bounds by which it is explained: a report has its own bound of serial runs.
+fn bounds_for(bounds: Bounds, target: &Target) -> Bounds
+    ensures { result ≡ spec.limits_for bounds target.now }
+{
+    match target {
+        Target::Schedule(_) => bounds,
+        Target::Report(report) => match report.serial() {
+            None => bounds,
+            Some(serial) => Bounds::new(bounds.bound(), serial).unwrap(),
+        },
+    }
 }
 
 /// The text of a schedule or of a report, explained by the serial runs.
@@ -326,6 +386,7 @@ fn explain_text(
     ensures { Answered (IsExplainedText by bounds component.now matrix.now target.now) result }
 {
     let target = read_target(alloc, target)?;
+    let bounds = bounds_for(bounds, &target);
     Ok(explain_serially(alloc, component, matrix, bounds, &target, by)?)
 }
 

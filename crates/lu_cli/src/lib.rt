@@ -11,6 +11,7 @@ mod conforming;
 mod counted;
 mod drawing;
 mod explaining;
+mod failing;
 mod input;
 mod judging;
 mod order;
@@ -21,6 +22,11 @@ mod shown;
 mod texts;
 
 pub use answer::Answer;
+pub use args::read_request;
 pub use counted::Counted;
-pub use program::{answer_alone, run};
+pub use order::{
+    ArgsFault, BundleCommand, CampaignOptions, CampaignPart, CampaignThreads, CertifyOptions,
+    Request, Showing,
+};
+pub use program::{answer_alone, answer_request, run};
 pub use texts::{Case, Fault, check_texts, check_texts_against, read_texts};

@@ -26,6 +26,16 @@ pub enum CampaignPart {
     Count,
 }
 
+/// What is asked of each matrix of a campaign.
+#[derive(Clone, Copy, Debug, PartialEq, Eq)]
+pub enum CampaignTrial {
+    /// That it passes a check.
+    Checked,
+
+    /// That the component is certified to be linearizable on it.
+    Certified,
+}
+
 /// The options of a campaign.
 #[derive(Clone, Copy, Debug, PartialEq, Eq)]
 pub struct CampaignOptions {
@@ -37,6 +47,8 @@ pub struct CampaignOptions {
     pub calls: u8,
 
     pub part: CampaignPart,
+
+    pub trial: CampaignTrial,
 }
 
 /// The options of a certificate.

@@ -156,8 +156,12 @@ fn say<W: Write>(output: &mut Counted<W>, text: &str, status: u8) -> u8
     }
 }
 
-/// The answer to what is asked for and a bundle, with all done on the calling thread.
-fn answer_request(alloc: Global, request: Request, bundle: &[u8]) -> Result<Answer, AllocError>
+/// The answer to what is asked for and a bundle. All is done on the calling thread.
+///
+/// # Errors
+///
+/// `AllocError` where memory was refused.
+pub fn answer_request(alloc: Global, request: Request, bundle: &[u8]) -> Result<Answer, AllocError>
     ensures { IfOk result (IsAnswerOf request bundle.now) }
 {
     if bundle.len() > MOST_BYTES {

@@ -1,6 +1,9 @@
-//! The schedule that a text says or a report shows.
+//! The schedule that a text says or a report shows, and the parts of a bundle before it.
 
-ghost use Rattle.std.specs.Prelude.{IfErr, IfOk};
+ghost use Rattle.std.specs.Prelude.{◌≡◌, IfErr, IfOk};
+ghost use Rattle.std.specs.Option.{option_map};
+ghost use Rattle.lu_text.specs.Lines.{texts};
+ghost use Rattle.lu_cli.specs.Failing as spec;
 ghost use Rattle.lu_cli.specs.Replies.{IsOfReport, IsTextOfSchedule, IsShownRefusal};
 
 use crate::refusal::Refusal;
@@ -28,5 +31,32 @@ pub(crate) fn read_shown(alloc: Global, text: &[u8]) -> Result<Schedule, Refusal
     match schedule_of_report(alloc, text)? {
         Some(schedule) => Ok(schedule),
         None => Ok(read_schedule(alloc, text)?),
+    }
+}
+
+/// Whether this is the line with which a certificate begins that shows a cut.
+fn is_verdict(text: &[u8]) -> bool
+    ensures { result ≡ spec.is_verdict text.now }
+{
+    text == b"not linearizable\n".as_slice()
+        || text == b"livelock\n".as_slice()
+        || text == b"undecided\n".as_slice()
+}
+
+/// The component, the matrix, and the schedule or the report. Matrix and report may stand as a
+/// certificate has them, behind its verdict, and that behind the matrix of which it is.
+pub(crate) fn shown_parts<'a>(parts: &[&'a [u8]]) -> Option<(&'a [u8], &'a [u8], &'a [u8])>
+    ensures { option_map (λ p. (p.0.now, p.1.now, p.2.now)) result
+        ≡ spec.shown_parts (texts parts.now) }
+{
+    match parts {
+        [component, matrix, shown] => Some((component, matrix, shown)),
+        [component, verdict, matrix, shown] if is_verdict(verdict) => {
+            Some((component, matrix, shown))
+        }
+        [component, _whole, verdict, matrix, shown] if is_verdict(verdict) => {
+            Some((component, matrix, shown))
+        }
+        _ => None,
     }
 }

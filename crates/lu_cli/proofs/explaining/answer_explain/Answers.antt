@@ -1,23 +1,18 @@
-use Rattle.std.proofs.Common.{◌≡◌, Some, rules}
-use Rattle.std.proofs.lemmas.Result.{err_from_is_err_and}
+use Rattle.std.proofs.Common.{◌≡◌, List, ℕ, Option, Some, rules, subst, sym}
+use Rattle.std.specs.Prelude.{MatchOption}
 use Rattle.lu_text.specs.Lines.{texts}
-use Rattle.lu_text.specs.Words.{exactly_three}
-use Rattle.lu_cli.specs.Replies.{IsExplainedText}
-use Rattle.lu_cli.proofs.Refuted.{texts_answered, texts_refused}
+use Rattle.lu_text.specs.Words.{exactly_two}
+use Rattle.lu_cli.specs.Failing.{IsShownAlone}
+use Rattle.lu_cli.specs.Refusals.{Answered}
+use Rattle.lu_cli.specs.Replies.{IsExplainBehind, ToTexts, view_of}
 use Rattle.lu_cli.proofs.explaining.answer_explain.Goals as goal
 
-pub returns-in_err-case : goal.returns-in_err-case
-returns-in_err-case c =
-    let p = c.in_ok-component in
-    let refused = err_from_is_err_and c.from_residual-in_err-case.result c.from_residual-in_err-case.ensures.1 in
-    let parts : exactly_three (texts c.args.parts.now) ≡ Some (p.component.now, p.matrix.now, p.target.now) = search rules in
-    rw (refused.1, refused.2, parts) (texts_refused p.component.now p.matrix.now c.in_err-case.field-0.0 (λ d m. IsExplainedText c.args.by c.args.bounds d m p.target.now) c.in_err-case.ensures.fault)
-
-pub returns : goal.returns
-returns c =
-    let p = c.in_ok-component in
-    let read = c.in_ok-case in
-    let parts : exactly_three (texts c.args.parts.now) ≡ Some (p.component.now, p.matrix.now, p.target.now) = search rules in
-    rw parts
-    (texts_answered p.component.now p.matrix.now read.case.component read.case.matrix (λ d m. IsExplainedText c.args.by c.args.bounds d m p.target.now)
-    read.ensures.read c.explain_text.result c.explain_text.ensures)
+pub returns-in-Some : goal.returns-in-Some
+returns-in-Some c =
+    let p = c.in-Some in
+    let all = texts c.args.parts.now in
+    let by = c.args.by in
+    let result = c.answer_failing.result in
+    let parts : exactly_two all ≡ Some (p.component.now, p.matrix.now) = search rules in
+    let shown : Answered (ToTexts p.component.now p.matrix.now (IsShownAlone (view_of by))) result = subst (λ v. Answered (ToTexts p.component.now p.matrix.now (IsShownAlone v)) result) c.view_of.ensures c.answer_failing.ensures in
+    subst (λ (found : Option (List ℕ × List ℕ)). Answered (λ answer. MatchOption found (IsExplainBehind by c.args.bounds all answer) (λ q. ToTexts q.0 q.1 (IsShownAlone (view_of by)) answer)) result) (sym parts) shown

@@ -1,0 +1,115 @@
+-- What `explain`, `trace` and `draw` show of a component and a matrix alone: what fails, by their
+-- certificate.
+use Rattle.std.specs.Prelude.{◌≡◌, ℕ, List, [], ◌∷◌, ◌++◌, Bool, ◌||◌, Option, Some, None, MatchOption, Result, IfOk, String, string_bytes, codes, if◌then◌else◌}
+use Rattle.std.specs.Str.{bytes_eq}
+use Rattle.lu_component.specs.Component.{Declarations}
+use Rattle.lu_test.specs.declared.schedule.Move.{Move}
+use Rattle.lu_test.specs.Matrix.{Matrix}
+use Rattle.lu_machine.specs.Starts.{CanRun}
+use Rattle.lu_report.specs.declared.report.Finding.{Finding}
+use Rattle.lu_report.specs.Limits.{most_moves}
+use Rattle.lu_report.specs.Parts.{Parts, shown_schedule}
+use Rattle.lu_certify.specs.declared.certificate.Certificate.{Certificate}
+use Rattle.lu_certify.specs.declared.certificate.Certificate.TheVariants.{Linearizable, NotLinearizable, Livelock, Undecided}
+use Rattle.lu_certify.specs.Certificates.{IsCertificate}
+use Rattle.lu_cli.specs.declared.explaining.Presentation.{Presentation}
+use Rattle.lu_cli.specs.declared.explaining.Presentation.TheVariants.{Words, Picture as Marked}
+use Rattle.lu_cli.specs.declared.failing.View.{View}
+use Rattle.lu_cli.specs.declared.failing.View.TheVariants.{Explanation, Trace, TraceFromSetup, Picture, ExplainedPicture}
+use Rattle.lu_cli.specs.Explaining.{BySerialRuns, IsExplainedSchedule, ToFinding}
+use Rattle.lu_cli.specs.Outcomes.{Answer}
+use Rattle.lu_cli.specs.Shows.{IsDrawn, IsTraced, IsTracedFromSetup, ShowsCertificate, two_texts, with_schedule}
+
+-- ---- the parts of a bundle
+
+-- the line with which a certificate begins that shows a cut
+abbrev pub is_verdict : List ℕ → Bool
+is_verdict text =
+    bytes_eq text (codes "not linearizable\n")
+    || (bytes_eq text (codes "livelock\n") || bytes_eq text (codes "undecided\n"))
+
+-- these three, where the part before them is such a line
+abbrev pub behind_verdict : List ℕ → List ℕ × List ℕ × List ℕ → Option (List ℕ × List ℕ × List ℕ)
+behind_verdict verdict parts = if is_verdict verdict then Some parts else None
+
+-- A component, a matrix, and a schedule or a report. Matrix and report may stand as a certificate
+-- has them, behind its verdict, and that behind the matrix of which it is.
+abbrev pub shown_parts : List (List ℕ) → Option (List ℕ × List ℕ × List ℕ)
+shown_parts [] = None
+shown_parts (c ∷ []) = None
+shown_parts (c ∷ m ∷ []) = None
+shown_parts (c ∷ m ∷ r ∷ []) = Some (c, m, r)
+shown_parts (c ∷ verdict ∷ m ∷ r ∷ []) = behind_verdict verdict (c, m, r)
+shown_parts (c ∷ whole ∷ verdict ∷ m ∷ r ∷ []) = behind_verdict verdict (c, m, r)
+shown_parts (a ∷ b ∷ c ∷ d ∷ e ∷ f ∷ parts) = None
+
+-- ---- what fails
+
+-- a text, with that of an answer below it
+abbrev pub below : List ℕ → Answer → List ℕ
+below text more = text ++ codes "---\n" ++ more.text
+
+abbrev pub failure : List ℕ → Answer
+failure text = record { text = text; status = 1 }
+
+-- the finding, explained by the serial runs within the bounds of a certificate
+abbrev pub IsFindingExplained : Presentation → Declarations → Matrix → Finding → Answer → Type 0
+IsFindingExplained by c m f =
+    BySerialRuns c m most_moves (λ members. ToFinding (IsExplainedSchedule by members c m) f)
+
+-- The cut and what shows that it fails, `text`, with what each move of the schedule does below; or
+-- the picture of the schedule alone.
+abbrev pub ShowsRun : View → Declarations → Matrix → List Move → List ℕ → Answer → Type 0
+ShowsRun Explanation c cut u text answer =
+    (steps : Answer) × IsTraced c cut u steps × (answer ≡ failure (below text steps))
+ShowsRun Trace c cut u text answer =
+    (steps : Answer) × IsTraced c cut u steps × (answer ≡ failure (below text steps))
+ShowsRun TraceFromSetup c cut u text answer =
+    (steps : Answer) × IsTracedFromSetup c cut u steps × (answer ≡ failure (below text steps))
+ShowsRun Picture c cut u text answer =
+    (picture : Answer) × IsDrawn c cut u picture × (answer ≡ failure picture.text)
+ShowsRun ExplainedPicture c cut u text answer =
+    (picture : Answer) × IsDrawn c cut u picture × (answer ≡ failure picture.text)
+
+-- the answer, where there is one, shows that of the text
+abbrev pub ShowsRunBelow : {E Z : Type 0} → View → Declarations → Matrix → List Move → String Z
+    → Result Answer E → Type 0
+ShowsRunBelow view c cut u text result =
+    IfOk result (ShowsRun view c cut u (string_bytes text))
+
+-- The same where the cut has this report, with why it fails between them, or in the picture, where
+-- that is asked for.
+abbrev pub ShowsFailing : View → Declarations → Matrix → Parts → List Move → Answer → Type 0
+ShowsFailing Explanation c cut r u answer =
+    (why : Answer) × IsFindingExplained Words c cut r.finding why
+    × ShowsRun Explanation c cut u (below (two_texts c cut r) why) answer
+ShowsFailing ExplainedPicture c cut r u answer =
+    (picture : Answer) × IsFindingExplained Marked c cut r.finding picture
+    × (answer ≡ failure picture.text)
+ShowsFailing Trace c cut r u answer = ShowsRun Trace c cut u (two_texts c cut r) answer
+ShowsFailing TraceFromSetup c cut r u answer =
+    ShowsRun TraceFromSetup c cut u (two_texts c cut r) answer
+ShowsFailing Picture c cut r u answer = ShowsRun Picture c cut u (two_texts c cut r) answer
+
+-- of a certificate the cut that fails or has a livelock is shown; another one as it is
+abbrev pub ShowsByView : View → Declarations → Certificate → Answer → Type 0
+ShowsByView view c (Linearizable members) answer = ShowsCertificate c (Linearizable members) answer
+ShowsByView view c (NotLinearizable cut r) answer =
+    MatchOption (shown_schedule r.finding) (ShowsCertificate c (NotLinearizable cut r) answer)
+    (λ u. ShowsFailing view c cut r u answer)
+ShowsByView view c (Livelock cut u) answer =
+    ShowsRun view c cut u (with_schedule c (cut, u)).text answer
+ShowsByView view c (Undecided cut r) answer = ShowsCertificate c (Undecided cut r) answer
+
+-- the cut that it names, if any, can be run
+abbrev pub CanRunCut : Declarations → Certificate → Type 0
+CanRunCut c (Linearizable members) = Unit {0}
+CanRunCut c (NotLinearizable cut r) = CanRun c cut
+CanRunCut c (Livelock cut u) = CanRun c cut
+CanRunCut c (Undecided cut r) = Unit {0}
+
+-- what is shown of the certificate, which has the bounds of `certify`
+abbrev pub IsShownAlone : View → Declarations → Matrix → Answer → Type 0
+IsShownAlone view c m answer =
+    (certificate : Certificate) × IsCertificate c m most_moves most_moves certificate
+    × ShowsByView view c certificate answer

@@ -1,0 +1,189 @@
+//! What is shown of a component and a matrix alone: what fails, by their certificate.
+
+ghost use Rattle.std.specs.Prelude.{◌≡◌, IfOk, string_bytes};
+ghost use Rattle.std.specs.Option.{option_map};
+ghost use Rattle.lu_test.specs.Matrix.{IsOf};
+ghost use Rattle.lu_machine.specs.Starts.{CanRun};
+ghost use Rattle.lu_report.specs.Parts.{shown_schedule};
+ghost use Rattle.lu_cli.specs.Refusals.{Answered};
+ghost use Rattle.lu_cli.specs.Failing as spec;
+ghost use Rattle.lu_certify.specs.Certificates.{NamesCutOf};
+ghost use Rattle.lu_cli.specs.Failing.{CanRunCut, ShowsRunBelow};
+ghost use Rattle.lu_cli.specs.Replies.{ToTexts};
+
+use crate::answer::{Answer, show_certificate, show_schedule, write_both};
+use crate::commands::{trace, trace_from_setup};
+use crate::drawing::draw;
+use crate::explaining::{Presentation, explain_finding_serially};
+use crate::refusal::Refusal;
+use crate::texts::read_texts;
+use lu_certify::{Certificate, certify};
+use lu_component::Component;
+use lu_report::{Finding, MOST_MOVES, Report};
+use lu_test::{Matrix, Schedule};
+use std::alloc::{AllocError, Global};
+
+/// How what fails is shown.
+#[derive(Clone, Copy)]
+pub(crate) enum View {
+    /// By its explanation, with what each move does.
+    Explanation,
+
+    /// By what each move does.
+    Trace,
+
+    /// By what the setup and each move does.
+    TraceFromSetup,
+
+    /// By a picture.
+    Picture,
+
+    /// By a picture with marks that explain it.
+    ExplainedPicture,
+}
+
+/// A failure with this text.
+fn failure(text: String) -> Answer
+    ensures { result ≡ spec.failure (string_bytes text) }
+{
+    Answer { text, status: 1 }
+}
+
+/// The text with that of an answer below it.
+fn below(mut text: String, more: &Answer) -> Result<String, AllocError>
+    ensures { IfOk result (λ t. string_bytes t ≡ spec.below (string_bytes text) more.now) }
+{
+    text.push_str("---\n")?;
+    text.push_str(more.text.as_str())?;
+    Ok(text)
+}
+
+/// A text with what each move of the schedule does below it; or the picture of the schedule alone.
+fn show_run(
+    alloc: Global,
+    component: &Component,
+    cut: &Matrix,
+    schedule: &Schedule,
+    text: String,
+    view: View,
+) -> Result<Answer, AllocError>
+    requires { CanRun component.now cut.now }
+    ensures { ShowsRunBelow view component.now cut.now schedule.now text result }
+{
+    match view {
+        View::Explanation | View::Trace => {
+            let steps = trace(alloc, component, cut, schedule)?;
+            Ok(failure(below(text, &steps)?))
+        }
+        View::TraceFromSetup => {
+            let steps = trace_from_setup(alloc, component, cut, schedule)?;
+            Ok(failure(below(text, &steps)?))
+        }
+        View::Picture | View::ExplainedPicture => {
+            let picture = draw(alloc, component, cut, schedule, None)?;
+            Ok(failure(picture.text))
+        }
+    }
+}
+
+/// The schedule of a finding; of a pass none.
+fn schedule_of(finding: &Finding) -> Option<&Schedule>
+    ensures { option_map (λ schedule. schedule.now) result ≡ shown_schedule finding.now }
+{
+    match finding {
+        Finding::SerialCut(schedule) => Some(schedule),
+        Finding::Nondeterministic { schedule, .. } => Some(schedule),
+        Finding::Fail { schedule, .. } => Some(schedule),
+        Finding::Pass(_) => None,
+    }
+}
+
+/// A cut that fails with this report, by this schedule.
+fn show_failing(
+    alloc: Global,
+    component: &Component,
+    cut: &Matrix,
+    report: &Report,
+    schedule: &Schedule,
+    view: View,
+) -> Result<Answer, AllocError>
+    requires { CanRun component.now cut.now }
+    ensures { IfOk result
+        (spec.ShowsFailing view component.now cut.now report.now schedule.now) }
+{
+    let finding = report.finding();
+    match view {
+        View::Explanation => {
+            let text = write_both(alloc, component, cut, report)?;
+            let why = explain_finding_serially(
+                alloc,
+                component,
+                cut,
+                finding,
+                Presentation::Words,
+            )?;
+            show_run(alloc, component, cut, schedule, below(text, &why)?, view)
+        }
+        View::ExplainedPicture => {
+            let by = Presentation::Picture;
+            let picture = explain_finding_serially(alloc, component, cut, finding, by)?;
+            Ok(failure(picture.text))
+        }
+        View::Trace | View::TraceFromSetup | View::Picture => {
+            let text = write_both(alloc, component, cut, report)?;
+            show_run(alloc, component, cut, schedule, text, view)
+        }
+    }
+}
+
+/// Of a certificate the cut that fails or has a livelock, shown so; another one as it is.
+fn show_by_view(
+    alloc: Global,
+    component: &Component,
+    certificate: &Certificate,
+    view: View,
+) -> Result<Answer, AllocError>
+    requires of { NamesCutOf component.now certificate.now }
+    requires runs { CanRunCut component.now certificate.now }
+    ensures { IfOk result (spec.ShowsByView view component.now certificate.now) }
+{
+    match certificate {
+        Certificate::Linearizable(_) => show_certificate(alloc, component, certificate),
+        Certificate::NotLinearizable { matrix, report } => match schedule_of(report.finding()) {
+            None => show_certificate(alloc, component, certificate),
+            Some(schedule) => show_failing(alloc, component, matrix, report, schedule, view),
+        },
+        Certificate::Livelock { matrix, schedule } => {
+            let shown = show_schedule(alloc, component, matrix, schedule)?;
+            show_run(alloc, component, matrix, schedule, shown.text, view)
+        }
+        Certificate::Undecided { .. } => show_certificate(alloc, component, certificate),
+    }
+}
+
+/// What fails of a component and a matrix, shown so; or their certificate, where nothing fails.
+fn show_alone(
+    alloc: Global,
+    component: &Component,
+    matrix: &Matrix,
+    view: View,
+) -> Result<Answer, AllocError>
+    requires { CanRun component.now matrix.now }
+    ensures { IfOk result (spec.IsShownAlone view component.now matrix.now) }
+{
+    let certificate = certify(alloc, component, matrix, MOST_MOVES, MOST_MOVES)?;
+    show_by_view(alloc, component, &certificate, view)
+}
+
+/// `lineup explain`, `trace` and `draw` of component and matrix alone.
+pub(crate) fn answer_failing(
+    alloc: Global,
+    component: &[u8],
+    matrix: &[u8],
+    view: View,
+) -> Result<Answer, Refusal>
+    ensures { Answered (ToTexts component.now matrix.now (spec.IsShownAlone view)) result }
+{
+    let case = read_texts(alloc, component, matrix)?;
+    Ok(show_alone(alloc, &case.component, &case.matrix, view)?)
+}
