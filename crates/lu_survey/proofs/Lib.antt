@@ -1,2 +1,3 @@
 pub mod InSlices
 pub mod InCampaigns
+pub mod InSurveys

@@ -1,13 +1,17 @@
 -- Laws of slices that follow one another.
 use Rattle.std.specs.Prelude.{◌≡◌, ℕ, ◌+◌, ◌^◌, ◌<◌, ◌≤◌, List}
+use Rattle.std.specs.Option.{option_or}
 use Rattle.lu_machine.specs.Starts.{AllEnd}
 use Rattle.lu_certify.specs.Certificates.{AreSame}
 use Rattle.lu_refine.specs.ByThread.{Asked, IsRoleChoice, IsWithinSlice, matrix_count}
 use Rattle.lu_refine.specs.Roles.{AreWithinLimits}
 use Rattle.lu_survey.specs.declared.certified_campaign.CertifiedCampaign.{CertifiedCampaign}
 use Rattle.lu_survey.specs.declared.certified_campaign.CertifiedCampaign.TheVariants.{AllLinearizable, First}
+use Rattle.lu_survey.specs.declared.survey.Survey.{Survey}
+use Rattle.lu_survey.specs.declared.survey.Tally.{Tally}
 use Rattle.lu_survey.specs.Certified.{IsCertifiedSlice}
 use Rattle.lu_survey.specs.Slices.{slice_size}
+use Rattle.lu_survey.specs.Surveys.{IsSurveyed}
 
 -- A slice from the first matrix to the end has all; and their number is one of 64 bits, where the
 -- limits hold.
@@ -47,3 +51,34 @@ OneCertifiedAnswer =
     (asked : Asked) (from to : ℕ) (found other : CertifiedCampaign) →
     AllEnd asked.component asked.setup → IsCertifiedSlice asked from to found →
     IsCertifiedSlice asked from to other → SayTheSame found other
+
+-- ---- surveys
+
+-- what two tallies say together: the sum, and the first of the earlier one, if there is one
+abbrev pub joined_tallies : Tally → Tally → Tally
+joined_tallies earlier later = record {
+  count = earlier.count + later.count;
+  first = option_or earlier.first later.first;
+}
+
+abbrev pub joined_surveys : Survey → Survey → Survey
+joined_surveys earlier later = record {
+  linearizable = joined_tallies earlier.linearizable later.linearizable;
+  not_linearizable = joined_tallies earlier.not_linearizable later.not_linearizable;
+  livelock = joined_tallies earlier.livelock later.livelock;
+  undecided = joined_tallies earlier.undecided later.undecided;
+}
+
+-- The surveys of two slices that follow one another say together what that of one slice does.
+abbrev pub SurveysJoin : Type 0
+SurveysJoin =
+    (asked : Asked) (from middle to : ℕ) (earlier later : Survey) →
+    from ≤ middle → middle ≤ to → IsSurveyed asked from middle earlier →
+    IsSurveyed asked middle to later → IsSurveyed asked from to (joined_surveys earlier later)
+
+-- A survey counts each matrix of the slice, with one kind.
+abbrev pub SurveyCountsAll : Type 0
+SurveyCountsAll =
+    (asked : Asked) (from to : ℕ) (survey : Survey) → IsSurveyed asked from to survey →
+    survey.linearizable.count + survey.not_linearizable.count
+    + (survey.livelock.count + survey.undecided.count) ≡ slice_size asked from to

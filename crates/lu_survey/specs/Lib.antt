@@ -1,3 +1,4 @@
 pub mod Slices
 pub mod Certified
+pub mod Surveys
 pub mod Laws

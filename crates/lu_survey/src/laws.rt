@@ -1,6 +1,6 @@
 //! Laws of slices. Their functions do nothing.
 
-ghost use Rattle.lu_survey.specs.Laws.{CertifiedJoin, OneCertifiedAnswer, WholeSlices};
+ghost use Rattle.lu_survey.specs.Laws.{CertifiedJoin, OneCertifiedAnswer, SurveyCountsAll, SurveysJoin, WholeSlices};
 
 /// A slice from the first matrix to a number that is no less than theirs has all of them. Within the
 /// limits there are fewer than 2 to the power of 64, so `u64::MAX` is such a number.
@@ -14,4 +14,12 @@ pub fn whole_slices()
 pub fn certified_join()
     ensures join { CertifiedJoin }
     ensures one_answer { OneCertifiedAnswer }
+{}
+
+/// The surveys of slices that follow one another give together that of one slice: the sums of the
+/// counts, and the first matrices of the earlier one, where it has some. The four counts of a survey
+/// make up the number of matrices of its slice.
+pub fn surveys_join()
+    ensures join { SurveysJoin }
+    ensures all { SurveyCountsAll }
 {}

@@ -3,6 +3,8 @@
 //! A campaign of checks counts as a pass a matrix of which all schedules were cut.
 //! [`certify_slice`] asks for more: on each matrix the component is linearizable, by its
 //! certificate (Herlihy and Wing, 1990; Burckhardt, Dern, Musuvathi and Tan, 2010).
+//! [`survey_slice`] goes on behind one on which it is not: it tells how many matrices have a
+//! certificate of each kind.
 //!
 //! ```text
 //! match certify_slice(alloc, roles, 0, u64::MAX)? {
@@ -15,6 +17,10 @@
 mod certified_campaign;
 mod certifying;
 pub mod laws;
+mod survey;
+mod surveying;
 
 pub use certified_campaign::CertifiedCampaign;
 pub use certifying::certify_slice;
+pub use survey::{CertifiedMatrix, Survey, Tally};
+pub use surveying::survey_slice;

@@ -1,0 +1,44 @@
+//! Surveys of slices of a campaign.
+
+ghost use Rattle.std.specs.Prelude.{IfOk, IfErr};
+ghost use Rattle.lu_refine.specs.ByThread.{CanAsk, IsRolesFault, asked_of};
+ghost use Rattle.lu_survey.specs.Surveys.{AreShownOf, IsSurveyAnswer};
+
+use crate::survey::{CertifiedMatrix, Survey};
+use lu_certify::certify;
+use lu_refine::{CampaignFault, Roles, count_matrices, matrix_at};
+use std::alloc::Global;
+
+/// Certifies the matrices with the numbers `from` to `to - 1`, as
+/// [`certify_slice`](crate::certify_slice) does, and goes on behind each: how many there are of each
+/// kind of certificate, and the first of each kind. Slices that follow one another say together
+/// what one slice says ([`surveys_join`](crate::laws::surveys_join)).
+///
+/// # Errors
+///
+/// Those of [`campaign_by_thread`](lu_refine::campaign_by_thread).
+pub fn survey_slice(
+    alloc: Global,
+    roles: Roles<'_>,
+    from: u64,
+    to: u64,
+) -> Result<Survey, CampaignFault>
+    requires { CanAsk (asked_of roles) }
+    ensures answer { IfOk result (IsSurveyAnswer (asked_of roles.entry) from to) }
+    ensures of { IfOk result (AreShownOf roles.entry.component.now) }
+    ensures fault { IfErr result (IsRolesFault roles.entry.candidates.now roles.entry.calls) }
+{
+    let count = count_matrices(alloc, roles.candidates, roles.calls)?;
+    let end = to.min(count);
+    let start = from.min(end);
+    let mut survey = Survey::none();
+    for number in start..end {
+        let matrix = matrix_at(alloc, roles, number)?;
+        let certificate = certify(alloc, roles.component, &matrix, roles.bound, roles.serial)?;
+        survey = survey.with(CertifiedMatrix {
+            matrix,
+            certificate,
+        });
+    }
+    Ok(survey)
+}
