@@ -1,3 +1,4 @@
 pub mod InSlices
 pub mod InCampaigns
 pub mod InSurveys
+pub mod InComparisons

@@ -1,15 +1,20 @@
 -- Laws of slices that follow one another.
 use Rattle.std.specs.Prelude.{◌≡◌, ℕ, ◌+◌, ◌^◌, ◌<◌, ◌≤◌, List}
 use Rattle.std.specs.Option.{option_or}
+use Rattle.lu_component.specs.Component.{Declarations}
 use Rattle.lu_machine.specs.Starts.{AllEnd}
 use Rattle.lu_certify.specs.Certificates.{AreSame}
 use Rattle.lu_refine.specs.ByThread.{Asked, IsRoleChoice, IsWithinSlice, matrix_count}
 use Rattle.lu_refine.specs.Roles.{AreWithinLimits}
 use Rattle.lu_survey.specs.declared.certified_campaign.CertifiedCampaign.{CertifiedCampaign}
 use Rattle.lu_survey.specs.declared.certified_campaign.CertifiedCampaign.TheVariants.{AllLinearizable, First}
+use Rattle.lu_survey.specs.declared.comparison.Comparison.{Comparison}
+use Rattle.lu_survey.specs.declared.comparison.Comparison.TheVariants as compared
+use Rattle.lu_survey.specs.declared.comparison.Comparison.TheVariants.{AllAgree}
 use Rattle.lu_survey.specs.declared.survey.Survey.{Survey}
 use Rattle.lu_survey.specs.declared.survey.Tally.{Tally}
 use Rattle.lu_survey.specs.Certified.{IsCertifiedSlice}
+use Rattle.lu_survey.specs.Comparing.{IsComparedSlice}
 use Rattle.lu_survey.specs.Slices.{slice_size}
 use Rattle.lu_survey.specs.Surveys.{IsSurveyed}
 
@@ -82,3 +87,20 @@ SurveyCountsAll =
     (asked : Asked) (from to : ℕ) (survey : Survey) → IsSurveyed asked from to survey →
     survey.linearizable.count + survey.not_linearizable.count
     + (survey.livelock.count + survey.undecided.count) ≡ slice_size asked from to
+
+-- ---- comparisons
+
+-- what two answers say together: the first matrix on which the component differs, or the sum
+abbrev pub joined_comparisons : Comparison → Comparison → Comparison
+joined_comparisons (compared.First matrix difference) later = compared.First matrix difference
+joined_comparisons (AllAgree count) (compared.First matrix difference) =
+    compared.First matrix difference
+joined_comparisons (AllAgree count) (AllAgree others) = AllAgree (count + others)
+
+-- Two slices that follow one another answer together what one slice does.
+abbrev pub ComparedJoin : Type 0
+ComparedJoin =
+    (trusted : Declarations) (asked : Asked) (from middle to : ℕ) (earlier later : Comparison) →
+    from ≤ middle → middle ≤ to → IsComparedSlice trusted asked from middle earlier →
+    IsComparedSlice trusted asked middle to later
+    → IsComparedSlice trusted asked from to (joined_comparisons earlier later)

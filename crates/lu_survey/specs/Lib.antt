@@ -1,4 +1,5 @@
 pub mod Slices
 pub mod Certified
 pub mod Surveys
+pub mod Comparing
 pub mod Laws

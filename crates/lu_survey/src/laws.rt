@@ -1,6 +1,6 @@
 //! Laws of slices. Their functions do nothing.
 
-ghost use Rattle.lu_survey.specs.Laws.{CertifiedJoin, OneCertifiedAnswer, SurveyCountsAll, SurveysJoin, WholeSlices};
+ghost use Rattle.lu_survey.specs.Laws.{CertifiedJoin, ComparedJoin, OneCertifiedAnswer, SurveyCountsAll, SurveysJoin, WholeSlices};
 
 /// A slice from the first matrix to a number that is no less than theirs has all of them. Within the
 /// limits there are fewer than 2 to the power of 64, so `u64::MAX` is such a number.
@@ -22,4 +22,10 @@ pub fn certified_join()
 pub fn surveys_join()
     ensures join { SurveysJoin }
     ensures all { SurveyCountsAll }
+{}
+
+/// Slices of a comparison that follow one another give together what one slice gives: the first
+/// answer that names a matrix, or, where none does, the sum of the counts.
+pub fn compared_join()
+    ensures { ComparedJoin }
 {}

@@ -4,7 +4,8 @@
 //! [`certify_slice`] asks for more: on each matrix the component is linearizable, by its
 //! certificate (Herlihy and Wing, 1990; Burckhardt, Dern, Musuvathi and Tan, 2010).
 //! [`survey_slice`] goes on behind one on which it is not: it tells how many matrices have a
-//! certificate of each kind.
+//! certificate of each kind. [`compare_slice`] holds a component against a trusted one, which says
+//! what its serial histories are to be.
 //!
 //! ```text
 //! match certify_slice(alloc, roles, 0, u64::MAX)? {
@@ -16,11 +17,17 @@
 
 mod certified_campaign;
 mod certifying;
+mod comparing;
+mod comparison;
 pub mod laws;
+mod operations;
 mod survey;
 mod surveying;
 
 pub use certified_campaign::CertifiedCampaign;
 pub use certifying::certify_slice;
+pub use comparing::compare_slice;
+pub use comparison::{Comparison, Difference};
+pub use operations::have_same_operations;
 pub use survey::{CertifiedMatrix, Survey, Tally};
 pub use surveying::survey_slice;
