@@ -126,8 +126,8 @@ IsComparedSlice trusted asked from to (First matrix difference) =
     IsFirstOther asked from to (AgreesAt trusted asked) (DiffersAt trusted asked difference) matrix
 
 -- the limits hold, and this is found
-abbrev pub IsComparedAnswer : Declarations → Asked → ℕ → ℕ → Comparison → Type 0
-IsComparedAnswer trusted asked from to found =
+abbrev pub IsCompared : Declarations → Asked → ℕ → ℕ → Comparison → Type 0
+IsCompared trusted asked from to found =
     AreWithinLimits asked.calls asked.candidates × IsComparedSlice trusted asked from to found
 
 -- the matrix that is found is one of the component

@@ -5,7 +5,7 @@ ghost use Rattle.lu_machine.specs.Starts.{CanRun};
 ghost use Rattle.lu_report.specs.Limits.{IsSerialBound, most_moves};
 ghost use Rattle.lu_replay.specs.Confirmed.{IsPass};
 ghost use Rattle.lu_refine.specs.ByThread.{IsRolesFault, asked_of};
-ghost use Rattle.lu_survey.specs.Comparing.{CanCompare, IsComparedAnswer, IsComparedOf, IsDifferenceBy, IsDifferenceIfAny};
+ghost use Rattle.lu_survey.specs.Comparing.{CanCompare, IsCompared, IsComparedOf, IsDifferenceBy, IsDifferenceIfAny};
 
 use crate::comparison::{Comparison, Difference};
 use lu_component::Component;
@@ -108,7 +108,7 @@ pub fn compare_slice(
 ) -> Result<Comparison, CampaignFault>
     requires { CanCompare (asked_of roles) trusted.now }
     ensures answer { IfOk result
-        (IsComparedAnswer trusted.entry.now (asked_of roles.entry) from to) }
+        (IsCompared trusted.entry.now (asked_of roles.entry) from to) }
     ensures of { IfOk result (IsComparedOf roles.entry.component.now) }
     ensures fault { IfErr result (IsRolesFault roles.entry.candidates.now roles.entry.calls) }
 {

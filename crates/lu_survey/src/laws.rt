@@ -2,8 +2,8 @@
 
 ghost use Rattle.lu_survey.specs.Laws.{CertifiedJoin, ComparedJoin, OneCertifiedAnswer, SurveyCountsAll, SurveysJoin, WholeSlices};
 
-/// A slice from the first matrix to a number that is no less than theirs has all of them. Within the
-/// limits there are fewer than 2 to the power of 64, so `u64::MAX` is such a number.
+/// A slice from the first matrix to a number that is no less than theirs has all of them. Within
+/// the limits there are fewer than 2 to the power of 64, so `u64::MAX` is such a number.
 pub fn whole_slices()
     ensures { WholeSlices }
 {}
@@ -17,8 +17,8 @@ pub fn certified_join()
 {}
 
 /// The surveys of slices that follow one another give together that of one slice: the sums of the
-/// counts, and the first matrices of the earlier one, where it has some. The four counts of a survey
-/// make up the number of matrices of its slice.
+/// counts, and the first matrices of the earlier one, where it has some. The four counts of a
+/// survey make up the number of matrices of its slice.
 pub fn surveys_join()
     ensures join { SurveysJoin }
     ensures all { SurveyCountsAll }
