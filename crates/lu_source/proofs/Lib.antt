@@ -1,0 +1,10 @@
+pub mod Standing
+pub mod Placed
+pub mod Same
+pub mod Following
+pub mod Schedules
+pub mod Planned
+pub mod Emitted
+pub mod Registers
+pub mod Bounded
+pub mod Made

@@ -1,0 +1,10 @@
+pub mod Trees
+pub mod Code
+pub mod Left
+pub mod Meaning
+pub mod Runs
+pub mod Shapes
+pub mod Expressions
+pub mod Evaluations
+pub mod Sound
+pub mod Programs

@@ -1,0 +1,224 @@
+-- What is read of a source names what is there.
+use Rattle.std.proofs.Common.{◌≡◌, ℕ, zero, suc, ◌+◌, ◌<◌, ◌^◌, nat_lt, Bool, true, false, ◌||◌, if◌then◌else◌, List, [], ◌∷◌, length, Option, Some, None, MatchOption, refl, lit<, arith}
+use Rattle.std.specs.Prelude.{Result, Ok, Err, codes}
+use Rattle.std.specs.List.{AllByRecursion}
+use Rattle.std.specs.Option.{option_map, unwrap_or}
+use Rattle.std.specs.Str.{bytes_eq}
+use Rattle.std.proofs.lemmas.Bool.{ltb-false, or_parts}
+use Rattle.lu_text.specs.Numbers.{value_in}
+use Rattle.lu_text.specs.Words.{Word}
+use Rattle.lu_text.proofs.NumberText.{value_small}
+use Rattle.lu_source.specs.Expressions.{Expr}
+use Rattle.lu_source.specs.Expressions.Expr.{Number, Local, Swap}
+use Rattle.lu_source_text.specs.declared.infix.Infix.{Infix}
+use Rattle.lu_source_text.specs.declared.infix.Infix.TheVariants.{Or as Or', And as And', Joins}
+use Rattle.lu_source_text.specs.Grammar.{Inner, Kind, Scope, all_read, behind_word, binding, cas_with, cell_with, closed_with, constant_from, either, expr_from, expr_of, first_number, infix_from, infix_in, is_free_name, is_word, joined, local_in, most_behind, name_with, named_expr, number_of, on_first, on_ok, or_fault, pick_from, shared_from, steps_for, unary_with, unless, where_some}
+use Rattle.lu_source_text.specs.declared.draft.Constant.{Constant}
+use Rattle.lu_source_text.specs.declared.draft.Shared.{Shared}
+use Rattle.lu_source_text.specs.declared.fault.SourceFaultKind.TheVariants.{Form, Number as Number', Limit, Name}
+use Rattle.lu_source.specs.Sound.{IsExpr}
+
+-- ---- results
+
+-- the fact holds of the value, if there is one
+abbrev pub Holds : {A : Type 0} → (A → Type 0) → Result A Kind → Type 0
+Holds P (Ok x) = P x
+Holds P (Err kind) = Unit {0}
+
+pub then_holds : {A B : Type 0} (P : A → Type 0) (Q : B → Type 0) (r : Result A Kind) (go : A → Result B Kind) → Holds P r → ((x : A) → P x → Holds Q (go x)) → Holds Q (on_ok r go)
+then_holds P Q (Ok x) go h f = f x h
+then_holds P Q (Err kind) go h f = tt
+
+pub if_holds : {A : Type 0} (P : A → Type 0) (b : Bool) (x y : Result A Kind) → Holds P x → Holds P y → Holds P (if b then x else y)
+if_holds P true x y hx hy = hx
+if_holds P false x y hx hy = hy
+
+pub unless_holds : {A : Type 0} (P : A → Type 0) (b : Bool) (kind : Kind) (r : Result A Kind) → (b ≡ false → Holds P r) → Holds P (unless b kind r)
+unless_holds P true kind r h = tt
+unless_holds P false kind r h = h refl
+
+pub or_holds : {A : Type 0} (P : A → Type 0) (kind : Kind) (o : Option A) → MatchOption o (Unit {0}) P → Holds P (or_fault kind o)
+or_holds P kind None h = tt
+or_holds P kind (Some x) h = h
+
+pub some_holds : {A B : Type 0} (P : A → Type 0) (Q : B → Type 0) (o : Option A) (other : Result B Kind) (go : A → Result B Kind) → MatchOption o (Unit {0}) P → Holds Q other → ((x : A) → P x → Holds Q (go x)) → Holds Q (where_some o other go)
+some_holds P Q None other go h k f = k
+some_holds P Q (Some x) other go h k f = f x h
+
+-- nothing is claimed of the value
+pub any_holds : {A : Type 0} (r : Result A Kind) → Holds (λ x. Unit {0}) r
+any_holds (Ok x) = tt
+any_holds (Err kind) = tt
+
+pub match_if : {A : Type 0} (P : A → Type 0) (b : Bool) (x y : Option A) → MatchOption x (Unit {0}) P → MatchOption y (Unit {0}) P → MatchOption (if b then x else y) (Unit {0}) P
+match_if P true x y hx hy = hx
+match_if P false x y hx hy = hy
+
+match_either : {A : Type 0} (P : A → Type 0) (x y : Option A) → MatchOption x (Unit {0}) P → MatchOption y (Unit {0}) P → MatchOption (either x y) (Unit {0}) P
+match_either P None y hx hy = hy
+match_either P (Some x) y hx hy = hx
+
+match_map : {A B : Type 0} (P : A → Type 0) (Q : B → Type 0) (f : A → B) (o : Option A) → MatchOption o (Unit {0}) P → ((x : A) → P x → Q (f x)) → MatchOption (option_map f o) (Unit {0}) Q
+match_map P Q f None h g = tt
+match_map P Q f (Some x) h g = g x h
+
+-- ---- numbers, and what names mean
+
+IsValue : ℕ → Type 0
+IsValue n = n < 2 ^ 32
+
+value_fine : (w : Word) → MatchOption (value_in w) (Unit {0}) IsValue
+unfolding IsValue
+value_fine w = by_value (value_in w) (value_small w)
+  where
+    by_value : (o : Option ℕ) → unwrap_or o 0 < 2 ^ 32 → MatchOption o (Unit {0}) (λ n. n < 2 ^ 32)
+    by_value None h = tt
+    by_value (Some n) h = h
+
+-- each constant is a value
+abbrev pub AreValues : List Constant → Type 0
+AreValues constants = AllByRecursion (λ c. c.value < 2 ^ 32) constants
+
+constant_fine : (constants : List Constant) (w : Word) → AreValues constants → MatchOption (constant_from constants w) (Unit {0}) IsValue
+unfolding IsValue
+constant_fine [] w h = tt
+constant_fine (c ∷ cs) w h = match_if (λ n. n < 2 ^ 32) (bytes_eq c.name w) (Some c.value) (constant_from cs w) h.0 (constant_fine cs w h.1)
+
+pub number_fine : (constants : List Constant) (w : Word) → AreValues constants → Holds (λ n. n < 2 ^ 32) (number_of constants w)
+unfolding IsValue
+number_fine constants w h = or_holds (λ n. n < 2 ^ 32) Number' (either (value_in w) (constant_from constants w)) (match_either (λ n. n < 2 ^ 32) (value_in w) (constant_from constants w) (value_fine w) (constant_fine constants w h))
+
+pub first_fine : (constants : List Constant) (ws : List Word) → AreValues constants → Holds (λ r. r.0 < 2 ^ 32) (first_number constants ws)
+first_fine constants [] h = tt
+first_fine constants (w ∷ ws) h = then_holds (λ n. n < 2 ^ 32) (λ (r : ℕ × List Word). r.0 < 2 ^ 32) (number_of constants w) (λ k. Ok (k, ws)) (number_fine constants w h) (λ k fine. fine)
+
+shared_within : (k : ℕ) (xs : List Shared) (w : Word) → MatchOption (shared_from k xs w) (Unit {0}) (λ r. r.0 < k + length xs)
+shared_within k [] w = tt
+shared_within k (x ∷ xs) w =
+    match_if (λ (r : ℕ × Bool). r.0 < k + length (x ∷ xs)) (bytes_eq x.array.name w) (Some (k, x.indexed)) (shared_from (k + 1) xs w) (omega arith)
+    (weaker (shared_from (k + 1) xs w) (shared_within (k + 1) xs w))
+  where
+    weaker : (o : Option (ℕ × Bool)) → MatchOption o (Unit {0}) (λ r. r.0 < k + 1 + length xs) → MatchOption o (Unit {0}) (λ r. r.0 < k + length (x ∷ xs))
+    weaker None h = tt
+    weaker (Some r) h = omega arith
+
+-- ---- expressions
+
+module _ (s : Scope) (values : AreValues s.constants) where
+  -- what is read is an expression of the source
+  abbrev Fine : Expr × List Word → Type 0
+  Fine r = IsExpr (length s.words) r.0
+
+  abbrev FineCell : (ℕ × Expr) × List Word → Type 0
+  FineCell r = (r.0.0 < length s.words) × IsExpr (length s.words) r.0.1
+
+  joined_fine : (by : Infix) (a b : Expr) → IsExpr (length s.words) a → IsExpr (length s.words) b → IsExpr (length s.words) (joined by a b)
+  joined_fine Or' a b x y = (x, y)
+  joined_fine And' a b x y = (x, y)
+  joined_fine (Joins by) a b x y = (x, y)
+
+  named_fine : (w : Word) → MatchOption (named_expr s w) (Unit {0}) (IsExpr (length s.words))
+  unfolding IsValue
+  named_fine w =
+      match_either (IsExpr (length s.words)) (option_map Local (local_in s.locals w)) (option_map Number (constant_from s.constants w))
+      (match_map (λ k. Unit {0}) (IsExpr (length s.words)) Local (local_in s.locals w) (any (local_in s.locals w)) (λ k h. tt))
+      (match_map (λ n. n < 2 ^ 32) (IsExpr (length s.words)) Number (constant_from s.constants w) (constant_fine s.constants w values) (λ n h. h))
+    where
+      any : (o : Option ℕ) → MatchOption o (Unit {0}) (λ k. Unit {0})
+      any None = tt
+      any (Some k) = tt
+
+  -- behind a word that stands there
+  pub behind_holds : {A : Type 0} (P : A → Type 0) (text : List ℕ) (ws : List Word) (go : List Word → Result A Kind) → ((rest : List Word) → Holds P (go rest)) → Holds P (on_ok (behind_word text ws) go)
+  behind_holds P text ws go h = then_holds (λ r. Unit {0}) P (behind_word text ws) go (any_holds (behind_word text ws)) (λ rest t. h rest)
+
+  -- a number
+  literal_fine : (w : Word) (ws : List Word) → Holds Fine (on_ok (or_fault Number' (value_in w)) (λ k. Ok (Number k, ws)))
+  unfolding IsValue
+  literal_fine w ws = then_holds (λ n. n < 2 ^ 32) Fine (or_fault Number' (value_in w)) _ (or_holds (λ n. n < 2 ^ 32) Number' (value_in w) (value_fine w)) (λ k h. h)
+
+  -- ---- inside of an expression
+
+  module _ (inner : Inner) (inner_fine : (least : ℕ) (ws : List Word) → Holds Fine (inner least ws)) where
+    closed_fine : (text : List ℕ) (ws : List Word) → Holds Fine (closed_with inner text ws)
+    closed_fine text ws = then_holds Fine Fine (inner 1 ws) _ (inner_fine 1 ws) (λ r h. behind_holds Fine text r.1 _ (λ more. h))
+
+    pub cell_fine : (w : Word) (ws : List Word) → Holds FineCell (cell_with inner s w ws)
+    cell_fine w ws =
+        then_holds (λ (r : ℕ × Bool). r.0 < 0 + length s.words) FineCell (or_fault Name (shared_from 0 s.words w)) _
+        (or_holds (λ (r : ℕ × Bool). r.0 < 0 + length s.words) Name (shared_from 0 s.words w) (shared_within 0 s.words w)) (λ r h.
+        if_holds FineCell r.1 _ _
+        (behind_holds FineCell (codes "[") ws _ (λ index.
+        then_holds Fine FineCell (closed_with inner (codes "]") index) _ (closed_fine (codes "]") index) (λ e k. (omega arith, k))))
+        (omega arith, lit< tt))
+
+    name_fine : (w : Word) (ws : List Word) → Holds Fine (name_with inner s w ws)
+    name_fine w ws =
+        some_holds (IsExpr (length s.words)) Fine (named_expr s w) _ (λ e. Ok (e, ws)) (named_fine w)
+        (then_holds FineCell Fine (cell_with inner s w ws) _ (cell_fine w ws) (λ r h. h)) (λ e h. h)
+
+    swap_fine : (ws : List Word) → Holds Fine (cas_with inner s ws)
+    swap_fine ws = behind_holds Fine (codes "(") ws _ (λ inside. of_first inside)
+      where
+        of_first : (inside : List Word) → Holds Fine (on_first inside (λ w rest.
+            on_ok (cell_with inner s w rest) (λ (cell, second). on_ok (behind_word (codes ",") second) (λ third.
+            on_ok (closed_with inner (codes ",") third) (λ (old, fourth).
+            on_ok (closed_with inner (codes ")") fourth) (λ (new, more).
+            Ok (Swap cell.0 cell.1 old new, more)))))))
+        of_first [] = tt
+        of_first (w ∷ rest) =
+            then_holds FineCell Fine (cell_with inner s w rest) _ (cell_fine w rest) (λ cell h.
+            behind_holds Fine (codes ",") cell.1 _ (λ third.
+            then_holds Fine Fine (closed_with inner (codes ",") third) _ (closed_fine (codes ",") third) (λ old k.
+            then_holds Fine Fine (closed_with inner (codes ")") old.1) _ (closed_fine (codes ")") old.1) (λ new l.
+            (h.0, h.1, k, l)))))
+
+    pick_fine : (ws : List Word) → Holds Fine (pick_from s.constants ws)
+    pick_fine ws =
+        behind_holds Fine (codes "(") ws _ (λ inside.
+        then_holds (λ r. Unit {0}) Fine (first_number s.constants inside) _ (any_holds (first_number s.constants inside)) (λ r t.
+        unless_holds Fine (nat_lt r.0 1 || nat_lt 8 r.0) Limit _ (λ small.
+        let parts = or_parts (nat_lt r.0 1) (nat_lt 8 r.0) small in
+        let low = ltb-false r.0 1 parts.0 in
+        let high = ltb-false 8 r.0 parts.1 in
+        behind_holds Fine (codes ")") r.1 _ (λ more. (low, high)))))
+
+    unary_fine : (w : Word) (ws : List Word) → Holds Fine (unary_with inner s w ws)
+    unary_fine w ws =
+        if_holds Fine (is_word w (codes "!")) _ _ (then_holds Fine Fine (inner 6 ws) _ (inner_fine 6 ws) (λ r h. h))
+        (if_holds Fine (is_word w (codes "(")) _ _ (closed_fine (codes ")") ws)
+        (if_holds Fine (is_word w (codes "cas")) _ _ (swap_fine ws)
+        (if_holds Fine (is_word w (codes "pick")) _ _ (pick_fine ws)
+        (if_holds Fine (is_word w (codes "true")) (Ok (Number 1, ws)) _ (lit< tt)
+        (if_holds Fine (is_word w (codes "false")) (Ok (Number 0, ws)) _ (lit< tt)
+        (if_holds Fine (is_free_name w) _ _ (name_fine w ws)
+        (literal_fine w ws)))))))
+
+  mutual
+    pub expr_fine : (n least : ℕ) (ws : List Word) → Holds Fine (expr_from n s least ws)
+    expr_fine zero least ws = tt
+    expr_fine (suc n) least [] = tt
+    expr_fine (suc n) least (w ∷ ws) =
+        then_holds Fine Fine (unary_with (expr_from n s) s w ws) (λ (left, more). infix_from n s least 5 left more) (unary_fine (expr_from n s) (expr_fine n) w ws) (λ r h. chain_fine n least 5 r.0 r.1 h)
+
+    chain_fine : (n least most : ℕ) (left : Expr) (ws : List Word) → IsExpr (length s.words) left → Holds Fine (infix_from n s least most left ws)
+    chain_fine zero least most left ws h = tt
+    chain_fine (suc n) least most left [] h = h
+    chain_fine (suc n) least most left (w ∷ ws) h =
+        some_holds (λ by. Unit {0}) Fine (infix_in w) (Ok (left, w ∷ ws)) _ (any (infix_in w)) h (λ by t.
+        if_holds Fine (nat_lt (binding by) least) (Ok (left, w ∷ ws)) _ h
+        (if_holds Fine (nat_lt most (binding by)) (Err Form) _ tt
+        (then_holds Fine Fine (expr_from n s (binding by + 1) ws) _ (expr_fine n (binding by + 1) ws) (λ r k.
+        chain_fine n least (most_behind by) (joined by left r.0) r.1 (joined_fine by left r.0 h k)))))
+      where
+        any : (o : Option Infix) → MatchOption o (Unit {0}) (λ by. Unit {0})
+        any None = tt
+        any (Some by) = tt
+
+  -- of a whole line's words
+  pub whole_fine : (ws : List Word) → Holds (IsExpr (length s.words)) (expr_of s ws)
+  whole_fine ws = then_holds Fine (IsExpr (length s.words)) (expr_from (steps_for ws) s 1 ws) all_read (expr_fine (steps_for ws) 1 ws) (λ r h. all_fine r h)
+    where
+      all_fine : (r : Expr × List Word) → Fine r → Holds (IsExpr (length s.words)) (all_read r)
+      all_fine (e, []) h = h
+      all_fine (e, w ∷ ws) h = tt

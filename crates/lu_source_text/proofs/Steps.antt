@@ -1,0 +1,19 @@
+-- One step of reading an expression.
+use Rattle.std.proofs.Common.{◌≡◌, ℕ, suc, add-one, ◌+◌, List, ◌∷◌, refl}
+use Rattle.std.specs.Prelude.{nat_lt, if◌then◌else◌, Ok, Err}
+use Rattle.lu_text.specs.Words.{Word}
+use Rattle.lu_source.specs.Expressions.{Expr}
+use Rattle.lu_source_text.specs.declared.fault.SourceFaultKind.TheVariants.{Form}
+use Rattle.lu_source_text.specs.Grammar.{Read', Scope, binding, expr_from, infix_from, infix_in, joined, most_behind, on_ok, unary_with, where_some}
+
+pub expr_more : (n m : ℕ) (s : Scope) (least : ℕ) (ws : List Word) (w : Word) (rest : List Word) → n ≡ m + 1 → ws ≡ w ∷ rest
+    → expr_from n s least ws ≡ on_ok (unary_with (expr_from m s) s w rest) (λ (left, more). infix_from m s least 5 left more)
+expr_more n m s least ws w rest e is = rw (e, is, add-one) refl
+
+pub infix_more : (n m : ℕ) (s : Scope) (least most : ℕ) (left : Expr) (ws : List Word) (w : Word) (rest : List Word) → n ≡ m + 1 → ws ≡ w ∷ rest
+    → infix_from n s least most left ws ≡ where_some (infix_in w) (Ok (left, w ∷ rest)) (λ by.
+    if nat_lt (binding by) least then Ok (left, w ∷ rest)
+    else (if nat_lt most (binding by) then Err Form
+    else on_ok (expr_from m s (binding by + 1) rest)
+    (λ (right, more). infix_from m s least (most_behind by) (joined by left right) more)))
+infix_more n m s least most left ws w rest e is = rw (e, is, add-one) refl

@@ -1,0 +1,23 @@
+use Rattle.std.proofs.Common.{◌+◌, ◌*◌}
+use Rattle.lu_source_text.proofs.expression.+expression.Given as goal
+
+abbrev pub decreases-expr_from : goal.decreases-expr_from
+decreases-expr_from l = 5 * l.steps
+
+abbrev pub decreases-infix_from : goal.decreases-infix_from
+decreases-infix_from l = 5 * l.steps
+
+abbrev pub decreases-closed_with : goal.decreases-closed_with
+decreases-closed_with l = 5 * l.steps + 1
+
+abbrev pub decreases-cell_with : goal.decreases-cell_with
+decreases-cell_with l = 5 * l.steps + 2
+
+abbrev pub decreases-name_with : goal.decreases-name_with
+decreases-name_with l = 5 * l.steps + 3
+
+abbrev pub decreases-cas_with : goal.decreases-cas_with
+decreases-cas_with l = 5 * l.steps + 3
+
+abbrev pub decreases-unary_with : goal.decreases-unary_with
+decreases-unary_with l = 5 * l.steps + 4

@@ -1,0 +1,750 @@
+-- The text of a source: what each line says, or what is wrong with it.
+use Rattle.std.specs.Prelude.{ℕ, zero, suc, ◌+◌, ◌*◌, ◌==◌, nat_lt, nat_le, Bool, true, false, not, ◌&&◌, ◌||◌, if◌then◌else◌, List, [], ◌∷◌, ◌++◌, drop, length, map, take, slice_index, Option, Some, None, is_some, Result, Ok, Err, codes}
+use Rattle.std.specs.List.{list_all, list_any}
+use Rattle.std.specs.Option.{unwrap_or, option_map}
+use Rattle.std.specs.Str.{bytes_eq}
+use Rattle.lu_text.specs.Names.{has_name_form, is_long, is_name_part}
+use Rattle.lu_text.specs.Numbers.{value_in}
+use Rattle.lu_text.specs.Lines.{before_comment, is_allowed, is_blank}
+use Rattle.lu_text.specs.Words.{Word}
+use Rattle.lu_text.specs.Faults.{Grammar}
+use Rattle.lu_component.specs.declared.instr.Operand.{Operand}
+use Rattle.lu_component.specs.declared.instr.Operand.TheVariants.{Num}
+use Rattle.lu_source_text.specs.declared.draft.Constant.{Constant}
+use Rattle.lu_source_text.specs.declared.draft.Shared.{Shared}
+pub use Rattle.lu_source_text.specs.declared.fault.SourceFaultKind.{SourceFaultKind as Kind}
+use Rattle.lu_source_text.specs.declared.fault.SourceFaultKind.TheVariants.{Byte, Missing, Form, Number as Number', Limit, Registers, Flow, Name}
+use Rattle.lu_source_text.specs.declared.infix.Infix.{Infix}
+use Rattle.lu_source_text.specs.declared.infix.Infix.TheVariants.{Or as Or', And as And', Joins}
+use Rattle.lu_source.specs.declared.tree.Action.{Action}
+use Rattle.lu_source.specs.declared.tree.Action.TheVariants as action
+use Rattle.lu_source.specs.Code.{falls, operation_code}
+use Rattle.lu_source.specs.Expressions.{Coded, Expr, as_test, coded, needed, past, put}
+use Rattle.lu_source.specs.Expressions.Expr.{Number, Local, Read, Swap, Pick, Binary, Not, And, Or}
+use Rattle.lu_source.specs.declared.expr.Operator.TheVariants.{Plus, Minus, Times, Equals, Differs, Below, Above, AtMost, AtLeast}
+use Rattle.lu_source.specs.Trees.{Operation, Program, Tree}
+use Rattle.lu_source.specs.Trees.Tree.{Nothing, Plain, Then, If, IfElse, Loop, Break, BreakUnless, Continue}
+
+-- ---- kinds of fault
+
+abbrev pub code_of : Kind → List ℕ
+code_of Byte = codes "O1"
+code_of Missing = codes "O7"
+code_of Form = codes "O2"
+code_of Number' = codes "O4"
+code_of Limit = codes "O5"
+code_of Registers = codes "O8"
+code_of Flow = codes "O6"
+code_of Name = codes "O3"
+
+-- what is made of a value where there is one, else this
+abbrev pub where_some : {A B : Type 0} → Option A → B → (A → B) → B
+where_some None other go = other
+where_some (Some x) other go = go x
+
+-- what comes of a value, or the first fault
+abbrev pub on_ok : {A B : Type 0} → Result A Kind → (A → Result B Kind) → Result B Kind
+on_ok (Ok x) go = go x
+on_ok (Err kind) go = Err kind
+
+-- a fault where the test holds, or else what follows
+abbrev pub unless : {A : Type 0} → Bool → Kind → Result A Kind → Result A Kind
+unless wrong kind rest = if wrong then Err kind else rest
+
+-- ---- words
+
+-- two bytes that are one word: `==`, `!=`, `<=`, `>=`, `&&` and `||`
+abbrev pub is_pair : ℕ → ℕ → Bool
+is_pair a b =
+    b == 61 && (a == 61 || (a == 33 || (a == 60 || a == 62)))
+    || (a == 38 && b == 38 || a == 124 && b == 124)
+
+-- how many letters, digits and `_` stand first
+abbrev pub name_len : List ℕ → ℕ
+name_len [] = 0
+name_len (b ∷ bs) = if is_name_part b then 1 + name_len bs else 0
+
+-- how long the first word is, or a blank: all letters, digits and `_`; or two bytes; or one
+abbrev pub item_len : List ℕ → ℕ
+item_len [] = 0
+item_len (b ∷ bs) =
+    if is_name_part b then 1 + name_len bs else (if is_pair b (slice_index bs 0) then 2 else 1)
+
+-- the words of the bytes, at most n of them and of blanks
+abbrev pub words_by : ℕ → List ℕ → List Word
+words_by zero bytes = []
+words_by (suc n) [] = []
+words_by (suc n) (b ∷ bs) =
+    (if is_blank b then [] else take (item_len (b ∷ bs)) (b ∷ bs) ∷ [])
+    ++ words_by n (drop (item_len (b ∷ bs)) (b ∷ bs))
+
+-- the words of bytes
+abbrev pub words_in : List ℕ → List Word
+words_in bytes = words_by (length bytes) bytes
+
+-- the words of a line, up to a comment
+abbrev pub source_words : List ℕ → List Word
+source_words line = words_in (before_comment line)
+
+abbrev pub is_word : List ℕ → Word → Bool
+is_word a b = bytes_eq a b
+
+-- keywords: of declarations, of statements, and of expressions
+abbrev pub declaring : List Word
+declaring =
+    codes "object" ∷ codes "local" ∷ codes "const" ∷ codes "word" ∷ codes "lock" ∷ codes "op" ∷ []
+
+abbrev pub stating : List Word
+stating =
+    codes "unlock" ∷ codes "let" ∷ codes "if" ∷ codes "else" ∷ codes "while" ∷ codes "loop"
+    ∷ codes "break" ∷ codes "continue" ∷ codes "return" ∷ codes "await" ∷ []
+
+abbrev pub valued : List Word
+valued = codes "cas" ∷ codes "pick" ∷ codes "true" ∷ codes "false" ∷ []
+
+abbrev pub is_among : List Word → Word → Bool
+is_among words word = list_any (is_word word) words
+
+-- what no name may be
+abbrev pub is_keyword : Word → Bool
+is_keyword word = is_among declaring word || (is_among stating word || is_among valued word)
+
+abbrev pub is_free_name : Word → Bool
+is_free_name word = has_name_form word && not (is_keyword word)
+
+-- ---- what is declared
+
+-- what opened a block: the operation, a test, the other side of a test, or a loop
+pub data Opening : Type 0 where
+  Whole : Opening
+  Test : Operand → Opening
+  Other : Operand → Tree → Opening
+  Turns : Opening
+
+-- An open block: what it does so far, how many locals there were before it, and whether it closes
+-- the block around with itself.
+pub record Block : Type 0 where
+  pub opening : Opening
+  pub does : Tree
+  pub locals : ℕ
+  pub chained : Bool
+
+-- an open operation, its locals by their registers, and its open blocks, the innermost first
+pub record Begun : Type 0 where
+  pub name : Word
+  pub args : ℕ
+  pub locals : List Word
+  pub blocks : List Block
+
+pub record Drafted : Type 0 where
+  pub name : Option Word
+  pub local : Option ℕ
+  pub constants : List Constant
+  pub words : List Shared
+  pub locks : List Word
+  pub operations : List Operation
+  pub begun : Option Begun
+
+abbrev pub nothing : Drafted
+nothing = record {
+  name = None;
+  local = None;
+  constants = [];
+  words = [];
+  locks = [];
+  operations = [];
+  begun = None;
+}
+
+-- where a name stands in a list of names, from k on
+abbrev pub place_from : ℕ → List Word → Word → Option ℕ
+place_from k [] name = None
+place_from k (x ∷ xs) name = if bytes_eq x name then Some k else place_from (k + 1) xs name
+
+abbrev pub constant_from : List Constant → Word → Option ℕ
+constant_from [] name = None
+constant_from (c ∷ cs) name = if bytes_eq c.name name then Some c.value else constant_from cs name
+
+-- the value of a constant
+abbrev pub constant_in : Drafted → Word → Option ℕ
+constant_in d name = constant_from d.constants name
+
+abbrev pub shared_from : ℕ → List Shared → Word → Option (ℕ × Bool)
+shared_from k [] name = None
+shared_from k (x ∷ xs) name =
+    if bytes_eq x.array.name name then Some (k, x.indexed) else shared_from (k + 1) xs name
+
+-- the number of a shared word, and whether an index follows
+abbrev pub shared_in : Drafted → Word → Option (ℕ × Bool)
+shared_in d name = shared_from 0 d.words name
+
+abbrev pub lock_in : Drafted → Word → Option ℕ
+lock_in d name = place_from 0 d.locks name
+
+-- the register of a local
+abbrev pub local_in : List Word → Word → Option ℕ
+local_in locals name = place_from 0 locals name
+
+-- whether an operation has the name
+abbrev pub is_operation : List Operation → Word → Bool
+is_operation [] name = false
+is_operation (o ∷ os) name = bytes_eq o.name name || is_operation os name
+
+-- whether the name means something already
+abbrev pub is_taken : Drafted → List Word → Word → Bool
+is_taken d locals name =
+    is_some (constant_in d name) || (is_some (shared_in d name) || (is_some (lock_in d name)
+    || is_some (local_in locals name)))
+
+-- ---- expressions
+
+-- what names mean where an expression stands
+pub record Scope : Type 0 where
+  pub constants : List Constant
+  pub words : List Shared
+  pub locals : List Word
+
+-- what is read of words, with the words behind it
+abbrev pub Read' : Type 0 → Type 0
+Read' A = Result (A × List Word) Kind
+
+-- the operator that a word is, where it is one
+abbrev pub infix_in : Word → Option Infix
+infix_in w =
+    if is_word w (codes "||") then Some Or'
+    else (if is_word w (codes "&&") then Some And'
+    else (if is_word w (codes "==") then Some (Joins Equals)
+    else (if is_word w (codes "!=") then Some (Joins Differs)
+    else (if is_word w (codes "<") then Some (Joins Below)
+    else (if is_word w (codes ">") then Some (Joins Above)
+    else (if is_word w (codes "<=") then Some (Joins AtMost)
+    else (if is_word w (codes ">=") then Some (Joins AtLeast)
+    else (if is_word w (codes "+") then Some (Joins Plus)
+    else (if is_word w (codes "-") then Some (Joins Minus)
+    else (if is_word w (codes "*") then Some (Joins Times)
+    else None))))))))))
+
+-- how tightly an operator binds: `||` 1, `&&` 2, comparisons 3, `+` and `-` 4, `*` 5
+abbrev pub binding : Infix → ℕ
+binding Or' = 1
+binding And' = 2
+binding (Joins Plus) = 4
+binding (Joins Minus) = 4
+binding (Joins Times) = 5
+binding (Joins _) = 3
+
+-- the expression that an operator makes of two
+abbrev pub joined : Infix → Expr → Expr → Expr
+joined Or' a b = Or a b
+joined And' a b = And a b
+joined (Joins by) a b = Binary by a b
+
+-- the words behind this one, which stands first
+abbrev pub behind_word : List ℕ → List Word → Result (List Word) Kind
+behind_word text [] = Err Form
+behind_word text (w ∷ ws) = if is_word w text then Ok ws else Err Form
+
+-- the first, or else the fault
+abbrev pub or_fault : {A : Type 0} → Kind → Option A → Result A Kind
+or_fault kind None = Err kind
+or_fault kind (Some x) = Ok x
+
+-- the first that is there
+abbrev pub either : {A : Type 0} → Option A → Option A → Option A
+either None other = other
+either (Some x) other = Some x
+
+-- a number: a literal, or a constant's name
+abbrev pub number_of : List Constant → Word → Result ℕ Kind
+number_of constants w = or_fault Number' (either (value_in w) (constant_from constants w))
+
+-- how tightly a further operator may bind behind this one: comparisons do not chain
+abbrev pub most_behind : Infix → ℕ
+most_behind by = if binding by == 3 then 2 else binding by
+
+-- what a name stands for that is not followed by an index
+abbrev pub named_expr : Scope → Word → Option Expr
+named_expr s w =
+    either (option_map Local (local_in s.locals w))
+    (option_map Number (constant_from s.constants w))
+
+-- a number and the words behind it
+abbrev pub first_number : List Constant → List Word → Read' ℕ
+first_number constants [] = Err Form
+first_number constants (w ∷ ws) = on_ok (number_of constants w) (λ k. Ok (k, ws))
+
+-- the first word, and what comes of it and the others
+abbrev pub on_first : {A : Type 0} → List Word → (Word → List Word → Result A Kind) → Result A Kind
+on_first [] go = Err Form
+on_first (w ∷ ws) go = go w ws
+
+-- How an expression is read that stands inside of another, with operators in it that bind at least
+-- so tightly.
+abbrev pub Inner : Type 0
+Inner = ℕ → List Word → Read' Expr
+
+-- an expression, and then this word
+abbrev pub closed_with : Inner → List ℕ → List Word → Read' Expr
+closed_with inner text ws =
+    on_ok (inner 1 ws) (λ (e, rest). on_ok (behind_word text rest) (λ more. Ok (e, more)))
+
+-- a shared word, with an index where it has many cells
+abbrev pub cell_with : Inner → Scope → Word → List Word → Read' (ℕ × Expr)
+cell_with inner s w ws =
+    on_ok (or_fault Name (shared_from 0 s.words w)) (λ (k, indexed).
+    if indexed then on_ok (behind_word (codes "[") ws) (λ index.
+    on_ok (closed_with inner (codes "]") index) (λ (i, rest). Ok ((k, i), rest)))
+    else Ok ((k, Number 0), ws))
+
+-- a local, a constant, or a cell
+abbrev pub name_with : Inner → Scope → Word → List Word → Read' Expr
+name_with inner s w ws =
+    where_some (named_expr s w)
+    (on_ok (cell_with inner s w ws) (λ (cell, rest). Ok (Read cell.0 cell.1, rest)))
+    (λ e. Ok (e, ws))
+
+-- `(CELL, OLD, NEW)` behind `cas`
+abbrev pub cas_with : Inner → Scope → List Word → Read' Expr
+cas_with inner s ws =
+    on_ok (behind_word (codes "(") ws) (λ inside. on_first inside (λ w rest.
+    on_ok (cell_with inner s w rest) (λ (cell, second).
+    on_ok (behind_word (codes ",") second) (λ third.
+    on_ok (closed_with inner (codes ",") third) (λ (old, fourth).
+    on_ok (closed_with inner (codes ")") fourth) (λ (new, more).
+    Ok (Swap cell.0 cell.1 old new, more)))))))
+
+-- `(K)` behind `pick`
+abbrev pub pick_from : List Constant → List Word → Read' Expr
+pick_from constants ws =
+    on_ok (behind_word (codes "(") ws) (λ inside.
+    on_ok (first_number constants inside) (λ (k, rest).
+    unless (nat_lt k 1 || nat_lt 8 k) Limit
+    (on_ok (behind_word (codes ")") rest) (λ more. Ok (Pick k, more)))))
+
+-- an expression without operators between two values in it, but for those in parentheses
+abbrev pub unary_with : Inner → Scope → Word → List Word → Read' Expr
+unary_with inner s w ws =
+    if is_word w (codes "!") then on_ok (inner 6 ws) (λ (e, rest). Ok (Not e, rest))
+    else (if is_word w (codes "(") then closed_with inner (codes ")") ws
+    else (if is_word w (codes "cas") then cas_with inner s ws
+    else (if is_word w (codes "pick") then pick_from s.constants ws
+    else (if is_word w (codes "true") then Ok (Number 1, ws)
+    else (if is_word w (codes "false") then Ok (Number 0, ws)
+    else (if is_free_name w then name_with inner s w ws
+    else on_ok (or_fault Number' (value_in w)) (λ k. Ok (Number k, ws))))))))
+
+-- Expressions, by so many steps at most: more than there are words is enough.
+abbrev mutual
+  -- operators that bind at least so tightly
+  pub expr_from : ℕ → Scope → ℕ → List Word → Read' Expr
+  expr_from zero s least ws = Err Form
+  expr_from (suc n) s least ws =
+      on_first ws (λ w rest. on_ok (unary_with (expr_from n s) s w rest)
+      (λ (left, more). infix_from n s least 5 left more))
+
+  -- operators behind a left side, at least and at most so tight
+  pub infix_from : ℕ → Scope → ℕ → ℕ → Expr → List Word → Read' Expr
+  infix_from zero s least most left ws = Err Form
+  infix_from (suc n) s least most left [] = Ok (left, [])
+  infix_from (suc n) s least most left (w ∷ ws) =
+      where_some (infix_in w) (Ok (left, w ∷ ws)) (λ by.
+      if nat_lt (binding by) least then Ok (left, w ∷ ws)
+      else (if nat_lt most (binding by) then Err Form
+      else on_ok (expr_from n s (binding by + 1) ws)
+      (λ (right, rest). infix_from n s least (most_behind by) (joined by left right) rest)))
+
+-- nothing is left of the words
+abbrev pub all_read : {A : Type 0} → A × List Word → Result A Kind
+all_read (x, []) = Ok x
+all_read (x, w ∷ ws) = Err Form
+
+-- as many steps as words may take
+abbrev pub steps_for : List Word → ℕ
+steps_for ws = length ws + 2
+
+-- expressions inside of one that these words are
+abbrev pub inner_of : Scope → List Word → Inner
+inner_of s ws = expr_from (steps_for ws) s
+
+-- an expression that all the words are
+abbrev pub expr_of : Scope → List Word → Result Expr Kind
+expr_of s ws = on_ok (expr_from (steps_for ws) s 1 ws) all_read
+
+-- an expression in front of `{`, which is the last word
+abbrev pub expr_before_brace : Scope → List Word → Result Expr Kind
+expr_before_brace s ws =
+    on_ok (expr_from (steps_for ws) s 1 ws) (λ (e, rest).
+    on_ok (behind_word (codes "{") rest) (λ more. all_read (e, more)))
+
+-- a new name
+abbrev pub new_name : Drafted → List Word → Word → Result Word Kind
+new_name d locals w =
+    unless (not (is_free_name w)) Form
+    (unless (is_long w) Limit
+    (unless (is_taken d locals w) Name (Ok w)))
+
+-- ---- declarations
+
+-- `object NAME`, the first line with words
+abbrev pub object_line : Drafted → List Word → Result Drafted Kind
+object_line d ws =
+    on_first ws (λ w rest. on_ok (all_read (w, rest)) (λ name.
+    unless (not (is_free_name name)) Form (unless (is_long name) Limit
+    (Ok (record d { name = Some name })))))
+
+-- `local L`, once, and before the first operation
+abbrev pub local_line : Drafted → List Word → Result Drafted Kind
+local_line d ws =
+    on_ok (first_number d.constants ws) (λ read. on_ok (all_read read) (λ most.
+    unless (is_some d.local || nat_lt 0 (length d.operations)) Form
+    (unless (nat_lt 16 most) Limit (Ok (record d { local = Some most })))))
+
+-- `const NAME = N`
+abbrev pub const_line : Drafted → List Word → Result Drafted Kind
+const_line d ws =
+    on_first ws (λ w rest. on_ok (new_name d [] w) (λ name.
+    on_ok (behind_word (codes "=") rest) (λ more. on_ok (first_number d.constants more) (λ read.
+    on_ok (all_read read) (λ n.
+    Ok (record d { constants = d.constants ++ record { name = name; value = n } ∷ [] }))))))
+
+-- `[LEN]` or nothing
+abbrev pub len_in : Drafted → List Word → Read' (ℕ × Bool)
+len_in d [] = Ok ((1, false), [])
+len_in d (w ∷ ws) =
+    if is_word w (codes "[") then on_ok (first_number d.constants ws) (λ (n, rest).
+    on_ok (behind_word (codes "]") rest) (λ more. Ok ((n, true), more)))
+    else Ok ((1, false), w ∷ ws)
+
+-- `= INIT` or nothing
+abbrev pub init_in : Drafted → List Word → Result ℕ Kind
+init_in d [] = Ok 0
+init_in d (w ∷ ws) =
+    on_ok (behind_word (codes "=") (w ∷ ws))
+    (λ rest. on_ok (first_number d.constants rest) all_read)
+
+-- `word NAME`, `word NAME = INIT`, `word NAME[LEN]` or `word NAME[LEN] = INIT`
+abbrev pub word_line : Drafted → List Word → Result Drafted Kind
+word_line d ws =
+    on_first ws (λ w rest. on_ok (new_name d [] w) (λ name. on_ok (len_in d rest) (λ (size, more).
+    on_ok (init_in d more) (λ init.
+    unless (nat_le 16 (length d.words) || (nat_lt size.0 1 || nat_lt 64 size.0)) Limit
+    (Ok (record d {
+      words = d.words ++ record {
+        array = record { name = name; len = size.0; init = init };
+        indexed = size.1;
+      } ∷ [];
+    }))))))
+
+-- `lock NAME`
+abbrev pub lock_line : Drafted → List Word → Result Drafted Kind
+lock_line d ws =
+    on_first ws (λ w rest. on_ok (new_name d [] w) (λ name. on_ok (all_read (name, rest)) (λ _.
+    unless (nat_le 8 (length d.locks)) Limit (Ok (record d { locks = d.locks ++ name ∷ [] })))))
+
+-- `)`, or names parted by commas and then `)`
+abbrev pub names_in : Drafted → List Word → List Word → Read' (List Word)
+names_in d names [] = Err Form
+names_in d names (w ∷ []) =
+    if is_word w (codes ")") && length names == 0 then Ok (names, []) else Err Form
+names_in d names (w ∷ c ∷ ws) =
+    if is_word w (codes ")") && length names == 0 then Ok (names, c ∷ ws)
+    else on_ok (new_name d names w) (λ name.
+    if is_word c (codes ",") then names_in d (names ++ name ∷ []) ws
+    else (if is_word c (codes ")") then Ok (names ++ name ∷ [], ws) else Err Form))
+
+-- an open block
+abbrev pub opened : Opening → ℕ → Bool → Block
+opened opening locals chained =
+    record { opening = opening; does = Nothing; locals = locals; chained = chained }
+
+-- `op NAME(A, B) {`
+abbrev pub op_line : Drafted → List Word → Result Drafted Kind
+op_line d ws =
+    on_first ws (λ name rest. unless (not (is_free_name name)) Form
+    (on_ok (behind_word (codes "(") rest) (λ inner. on_ok (names_in d [] inner) (λ (names, more).
+    on_ok (behind_word (codes "{") more) (λ end. on_ok (all_read (names, end)) (λ args.
+    unless (is_long name || (nat_le 16 (length d.operations) || nat_lt 4 (length args))) Limit
+    (unless (is_operation d.operations name) Name
+    (Ok (record d {
+      begun = Some (record {
+        name = name;
+        args = length args;
+        locals = args;
+        blocks = opened Whole 0 false ∷ [];
+      });
+    })))))))))
+
+abbrev pub declaration : Drafted → Word → List Word → Result Drafted Kind
+declaration d w ws =
+    if is_word w (codes "local") then local_line d ws
+    else (if is_word w (codes "const") then const_line d ws
+    else (if is_word w (codes "word") then word_line d ws
+    else (if is_word w (codes "lock") then lock_line d ws
+    else (if is_word w (codes "op") then op_line d ws
+    else Err Form))))
+
+-- ---- statements
+
+abbrev pub added_to : Begun → Tree → List Block → Result Begun Kind
+added_to b t [] = Err Flow
+added_to b t (block ∷ blocks) =
+    unless (not (falls block.does)) Flow
+    (Ok (record b { blocks = record block { does = Then block.does t } ∷ blocks }))
+
+-- the innermost block does this too; behind what does not come to its end stands nothing
+abbrev pub added : Begun → Tree → Result Begun Kind
+added b t = added_to b t b.blocks
+
+-- one block more, with what opened it
+abbrev pub deeper : Begun → Opening → Bool → Result Begun Kind
+deeper b opening chained =
+    unless (nat_le 16 (length b.blocks)) Limit
+    (Ok (record b { blocks = opened opening (length b.locals) chained ∷ b.blocks }))
+
+-- an expression's code, where there are registers enough; what is free begins behind the locals
+abbrev pub with_code : {A : Type 0} → Begun → Expr → ℕ → (Coded → Result A Kind) → Result A Kind
+with_code b e to go =
+    unless (nat_lt 8 (needed e to (length b.locals))) Registers (go (coded e to (length b.locals)))
+
+-- the same, to what is free
+abbrev pub with_value : {A : Type 0} → Begun → Expr → (Coded → Result A Kind) → Result A Kind
+with_value b e go = with_code b e (length b.locals) go
+
+abbrev pub scope_of : Drafted → Begun → Scope
+scope_of d b = record { constants = d.constants; words = d.words; locals = b.locals }
+
+-- `let NAME = EXPR`: a local more
+abbrev pub let_line : Drafted → Begun → List Word → Result Begun Kind
+let_line d b ws =
+    on_first ws (λ w rest. on_ok (new_name d b.locals w) (λ name.
+    on_ok (behind_word (codes "=") rest) (λ more. on_ok (expr_of (scope_of d b) more) (λ e.
+    unless (nat_le 8 (length b.locals)) Registers
+    (with_value b e (λ x. on_ok (added b (Then x.code (put (length b.locals) x.at))) (λ now.
+    Ok (record now { locals = now.locals ++ name ∷ [] }))))))))
+
+-- `NAME = EXPR` of a local
+abbrev pub set_line : Drafted → Begun → ℕ → List Word → Result Begun Kind
+set_line d b r ws =
+    on_ok (behind_word (codes "=") ws) (λ more. on_ok (expr_of (scope_of d b) more) (λ e.
+    with_code b e r (λ x. added b (Then x.code (put r x.at)))))
+
+-- the code of an index and of a value behind it
+abbrev pub with_both : {A : Type 0} → Begun → Expr → Expr → (Coded → Coded → Result A Kind)
+    → Result A Kind
+with_both b i e go =
+    let free = length b.locals in
+    with_value b i (λ x.
+    unless (nat_lt 8 (needed e (past free x.at) (past free x.at))) Registers
+    (go x (coded e (past free x.at) (past free x.at))))
+
+-- `NAME = EXPR` and `NAME[EXPR] = EXPR` of a shared word
+abbrev pub store_line : Drafted → Begun → Word → List Word → Result Begun Kind
+store_line d b w ws =
+    on_ok (cell_with (inner_of (scope_of d b) ws) (scope_of d b) w ws) (λ (cell, rest).
+    on_ok (behind_word (codes "=") rest) (λ more. on_ok (expr_of (scope_of d b) more) (λ e.
+    with_both b cell.1 e (λ x y.
+    added b (Then x.code (Then y.code (Plain (action.Store cell.0 x.at y.at))))))))
+
+-- neither reads what is shared nor changes it
+abbrev pub is_still : Expr → Bool
+is_still (Number n) = true
+is_still (Local r) = true
+is_still (Binary by a b) = is_still a && is_still b
+is_still (Not a) = is_still a
+is_still (And a b) = is_still a && is_still b
+is_still (Or a b) = is_still a && is_still b
+is_still _ = false
+
+-- the instruction by which a cell is awaited
+abbrev pub awaited : Word → Option (ℕ → Operand → Operand → Action)
+awaited w =
+    if is_word w (codes "==") then Some action.Await
+    else (if is_word w (codes "!=") then Some action.AwaitNot else None)
+
+-- `await CELL == EXPR` and `await CELL != EXPR`
+abbrev pub await_line : Drafted → Begun → List Word → Result Begun Kind
+await_line d b ws =
+    on_first ws (λ w rest. unless (not (is_free_name w)) Form
+    (on_ok (cell_with (inner_of (scope_of d b) rest) (scope_of d b) w rest) (λ (cell, more).
+    on_first more (λ by behind. on_ok (or_fault Form (awaited by)) (λ act.
+    on_ok (expr_of (scope_of d b) behind) (λ e.
+    unless (not (is_still cell.1 && is_still e)) Flow
+    (with_both b cell.1 e (λ x y.
+    added b (Then x.code (Then y.code (Plain (act cell.0 x.at y.at))))))))))))
+
+-- a test by an expression, whose value alone counts
+abbrev pub tested : Begun → Expr → (Begun → Operand → Result Begun Kind) → Result Begun Kind
+tested b e go = with_value b (as_test e) (λ x. on_ok (added b x.code) (λ now. go now x.at))
+
+-- `if EXPR {`
+abbrev pub if_line : Drafted → Begun → Bool → List Word → Result Begun Kind
+if_line d b chained ws =
+    on_ok (expr_before_brace (scope_of d b) ws) (λ e.
+    tested b e (λ now v. deeper now (Test v) chained))
+
+-- `while EXPR {`
+abbrev pub while_line : Drafted → Begun → List Word → Result Begun Kind
+while_line d b ws =
+    on_ok (expr_before_brace (scope_of d b) ws) (λ e. on_ok (deeper b Turns false) (λ inside.
+    tested inside e (λ now v. added now (BreakUnless v))))
+
+abbrev pub is_loop : Opening → Bool
+is_loop Turns = true
+is_loop _ = false
+
+-- whether some open block is a loop
+abbrev pub in_loop : Begun → Bool
+in_loop b = list_any (λ block. is_loop block.opening) b.blocks
+
+-- `break` or `continue`
+abbrev pub leave_line : Begun → Tree → List Word → Result Begun Kind
+leave_line b t ws =
+    on_ok (all_read (t, ws)) (λ what. unless (not (in_loop b)) Flow (added b what))
+
+-- `return` and `return EXPR`
+abbrev pub return_line : Drafted → Begun → List Word → Result Begun Kind
+return_line d b [] = added b (Plain (action.Return (Num 0)))
+return_line d b (w ∷ ws) =
+    on_ok (expr_of (scope_of d b) (w ∷ ws)) (λ e.
+    with_value b e (λ x. added b (Then x.code (Plain (action.Return x.at)))))
+
+-- `lock NAME` and `unlock NAME`
+abbrev pub owner_line : Drafted → Begun → (ℕ → Action) → List Word → Result Begun Kind
+owner_line d b act ws =
+    on_first ws (λ w rest. on_ok (all_read (w, rest)) (λ name.
+    on_ok (or_fault Name (lock_in d name)) (λ l. added b (Plain (act l)))))
+
+-- `cas(CELL, OLD, NEW)`, whose answer nobody asks for
+abbrev pub cas_line : Drafted → Begun → List Word → Result Begun Kind
+cas_line d b ws =
+    on_ok (expr_of (scope_of d b) (codes "cas" ∷ ws)) (λ e. with_value b e (λ x. added b x.code))
+
+-- ---- `}`
+
+-- what a block does that a `}` closes, behind which nothing else stands
+abbrev pub closed_by : Opening → Tree → Tree
+closed_by Whole does = does
+closed_by (Test v) does = If v does
+closed_by (Other v first) does = IfElse v first does
+closed_by Turns does = Loop does
+
+-- The block around does this too, which a block in it did; and it is closed itself where that block
+-- closes it.
+abbrev pub closing : Begun → Tree → Bool → List Block → Result Begun Kind
+closing b t both [] = Err Flow
+closing b t both (block ∷ blocks) =
+    unless (not (falls block.does)) Flow
+    (if both then closing b (closed_by block.opening (Then block.does t)) block.chained blocks
+    else Ok (record b { blocks = record block { does = Then block.does t } ∷ blocks }))
+
+-- the operation is there, where it has at most 64 instructions
+abbrev pub whole_line : Drafted → Begun → Tree → Result Drafted Kind
+whole_line d b t =
+    unless (nat_lt 64 (length (operation_code t))) Limit
+    (Ok (record d {
+      operations = d.operations ++ record { name = b.name; args = b.args; body = t } ∷ [];
+      begun = None;
+    }))
+
+-- the draft with this open operation
+abbrev pub going : Drafted → Begun → Drafted
+going d b = record d { begun = Some b }
+
+abbrev pub keeps_going : Drafted → Result Begun Kind → Result Drafted Kind
+keeps_going d made = on_ok made (λ b. Ok (going d b))
+
+-- `}`
+abbrev pub end_line : Drafted → Begun → Block → List Block → Result Drafted Kind
+end_line d b block blocks =
+    let outside = record b { locals = take block.locals b.locals } in
+    elim block.opening [
+      | Whole ↦ whole_line d b block.does
+      | _ ↦ keeps_going d (closing outside
+          (closed_by block.opening block.does) block.chained blocks)
+    ]
+
+-- the other side of the test of a block, where it is one of a test
+abbrev pub other_side : Begun → Block → List Block → Result Begun Kind
+other_side b block blocks =
+    elim block.opening [
+      | Test v ↦ Ok (record b {
+        locals = take block.locals b.locals;
+        blocks = opened (Other v block.does) block.locals block.chained ∷ blocks;
+      })
+      | _ ↦ Err Form
+    ]
+
+-- `} else {` and `} else if EXPR {`, behind `else`
+abbrev pub else_line : Drafted → Begun → Block → List Block → List Word → Result Begun Kind
+else_line d b block blocks ws =
+    on_ok (other_side b block blocks) (λ other.
+    on_first ws (λ w rest.
+    if is_word w (codes "{") then all_read (other, rest)
+    else (if is_word w (codes "if") then if_line d other true rest else Err Form)))
+
+abbrev pub close_line : Drafted → Begun → List Word → List Block → Result Drafted Kind
+close_line d b ws [] = Err Flow
+close_line d b [] (block ∷ blocks) = end_line d b block blocks
+close_line d b (w ∷ ws) (block ∷ blocks) =
+    if is_word w (codes "else") then keeps_going d (else_line d b block blocks ws) else Err Form
+
+-- ---- lines
+
+abbrev pub assign_line : Drafted → Begun → Word → List Word → Option ℕ → Result Begun Kind
+assign_line d b w ws None = store_line d b w ws
+assign_line d b w ws (Some r) = set_line d b r ws
+
+abbrev pub statement : Drafted → Begun → Word → List Word → Result Begun Kind
+statement d b w ws =
+    if is_word w (codes "let") then let_line d b ws
+    else (if is_word w (codes "if") then if_line d b false ws
+    else (if is_word w (codes "while") then on_ok (added b Nothing) (λ now. while_line d now ws)
+    else (if is_word w (codes "loop") then on_ok (added b Nothing) (λ now.
+    on_ok (behind_word (codes "{") ws) (λ rest. on_ok (all_read (now, rest)) (λ here.
+    deeper here Turns false)))
+    else (if is_word w (codes "break") then leave_line b Break ws
+    else (if is_word w (codes "continue") then leave_line b Continue ws
+    else (if is_word w (codes "return") then return_line d b ws
+    else (if is_word w (codes "lock") then owner_line d b action.Lock ws
+    else (if is_word w (codes "unlock") then owner_line d b action.Unlock ws
+    else (if is_word w (codes "await") then await_line d b ws
+    else (if is_word w (codes "cas") then cas_line d b ws
+    else (if not (is_free_name w) then Err Form
+    else assign_line d b w ws (local_in b.locals w))))))))))))
+
+abbrev pub inside : Drafted → Begun → Word → List Word → Result Drafted Kind
+inside d b w ws =
+    if is_word w (codes "}") then close_line d b ws b.blocks
+    else keeps_going d (statement d b w ws)
+
+-- The first line with words is the `object` line. Then come declarations, and in an open operation
+-- statements.
+abbrev pub by_state : Drafted → Option Word → Option Begun → Word → List Word → Result Drafted Kind
+by_state d None begun w ws = if is_word w (codes "object") then object_line d ws else Err Missing
+by_state d (Some name) None w ws = declaration d w ws
+by_state d (Some name) (Some b) w ws = inside d b w ws
+
+abbrev pub by_words : Drafted → List Word → Result Drafted Kind
+by_words d [] = Ok d
+by_words d (w ∷ ws) = by_state d d.name d.begun w ws
+
+unfoldable pub line_of : Drafted → List ℕ → Result Drafted Kind
+line_of d line = if list_all is_allowed line then by_words d (source_words line) else Err Byte
+
+abbrev pub program_of : Drafted → Option Word → Option Begun → Result Program Kind
+program_of d None begun = Err Missing
+program_of d (Some name) (Some b) = Err Missing
+program_of d (Some name) None = Ok (record {
+  name = name;
+  local = unwrap_or d.local 16;
+  arrays = map (λ w. w.array) d.words;
+  locks = d.locks;
+  operations = d.operations;
+})
+
+abbrev pub source_grammar : Grammar Kind Drafted Program
+source_grammar = record {
+  nothing = nothing;
+  line = line_of;
+  finish = λ d. program_of d d.name d.begun;
+}

@@ -1,0 +1,296 @@
+//! Reading of expressions.
+
+ghost use Rattle.std.specs.Prelude.{◌≡◌, ◌<◌, ◌≤◌, IfOk, length};
+ghost use Rattle.std.specs.Option.{option_map};
+ghost use Rattle.lu_text.specs.Lines.{texts};
+ghost use Rattle.lu_source.specs.Evaluations.{expr_of};
+ghost use Rattle.lu_source.specs.Expressions.Expr.{Not, Swap};
+ghost use Rattle.lu_source_text.specs.Grammar as spec;
+ghost use Rattle.lu_source_text.specs.Reads.{ReadsCell, ReadsExpr, ReadsNumber, ReadsWords, meanings};
+
+use crate::draft::Constant;
+use crate::fault::{Refusal, SourceFaultKind};
+use crate::infix::{Infix, binding, infix_in, most_behind};
+use crate::names::{constant_from, is_free_name, number_of, place_from, shared_from};
+use crate::scope::{Cell, Scope};
+use lu_source::Expr;
+use lu_text::{Name, value_in};
+use std::alloc::{AllocError, Global};
+
+/// An expression, and the words behind it.
+type Parsed<'a> = (Expr, &'a [&'a [u8]]);
+
+/// The words behind this one, which stands first.
+pub(crate) fn behind_word<'a>(text: &[u8], words: &'a [&'a [u8]]) -> Result<&'a [&'a [u8]], Refusal>
+    ensures { ReadsWords result (spec.behind_word text.now (texts words.now)) }
+{
+    let Some((word, rest)) = words.split_first() else {
+        return Err(Refusal::Kind(SourceFaultKind::Form));
+    };
+    if *word == text {
+        Ok(rest)
+    } else {
+        Err(Refusal::Kind(SourceFaultKind::Form))
+    }
+}
+
+/// A number, and the words behind it.
+pub(crate) fn first_number<'a>(
+    constants: &[Constant],
+    words: &'a [&'a [u8]],
+) -> Result<(u32, &'a [&'a [u8]]), Refusal>
+    ensures { ReadsNumber result (spec.first_number constants.now (texts words.now)) }
+{
+    let Some((word, rest)) = words.split_first() else {
+        return Err(Refusal::Kind(SourceFaultKind::Form));
+    };
+    match number_of(constants, word) {
+        None => Err(Refusal::Kind(SourceFaultKind::Number)),
+        Some(number) => Ok((number, rest)),
+    }
+}
+
+/// The register of a local.
+pub(crate) fn local_in(locals: &[Name], word: &[u8]) -> Option<u8>
+    requires { length locals.now ≤ 8 }
+    ensures { result ≡ spec.local_in locals.now word.now }
+{
+    Some(place_from(0, locals, word)? as u8)
+}
+
+/// What a name stands for that is not followed by an index.
+fn named_expr(scope: Scope<'_>, word: &[u8]) -> Option<Expr>
+    ensures { option_map expr_of result ≡ spec.named_expr (meanings scope.entry) word.now }
+{
+    if let Some(register) = local_in(scope.locals, word) {
+        return Some(Expr::Local(register));
+    }
+    match constant_from(scope.constants, word) {
+        None => None,
+        Some(value) => Some(Expr::Number(value)),
+    }
+}
+
+/// The expression that an operator makes of two.
+fn joined(alloc: Global, by: Infix, left: Expr, right: Expr) -> Result<Expr, AllocError>
+    ensures { IfOk result
+        (λ expr. expr_of expr ≡ spec.joined by (expr_of left) (expr_of right)) }
+{
+    let left = Box::new(alloc, left)?;
+    let right = Box::new(alloc, right)?;
+    Ok(match by {
+        Infix::Or => Expr::Or(left, right),
+        Infix::And => Expr::And(left, right),
+        Infix::Joins(operator) => Expr::Binary(operator, left, right),
+    })
+}
+
+/// `(K)` behind `pick`.
+fn pick_from<'a>(constants: &[Constant], words: &'a [&'a [u8]]) -> Result<Parsed<'a>, Refusal>
+    ensures { ReadsExpr result (spec.pick_from constants.now (texts words.now)) }
+{
+    let inside = behind_word(b"(".as_slice(), words)?;
+    let (count, rest) = first_number(constants, inside)?;
+    if count < 1 || count > 8 {
+        return Err(Refusal::Kind(SourceFaultKind::Limit));
+    }
+    let more = behind_word(b")".as_slice(), rest)?;
+    Ok((Expr::Pick(count as u8), more))
+}
+
+/// An expression, and then a word.
+#[cycle(expression)]
+fn closed_with<'a>(
+    alloc: Global,
+    steps: usize,
+    scope: Scope<'_>,
+    text: &[u8],
+    words: &'a [&'a [u8]],
+) -> Result<Parsed<'a>, Refusal>
+    ensures { ReadsExpr result (spec.closed_with
+        (spec.expr_from steps (meanings scope.entry)) text.now (texts words.now)) }
+{
+    let (expr, rest) = expr_from(alloc, steps, scope, 1, words)?;
+    let more = behind_word(text, rest)?;
+    Ok((expr, more))
+}
+
+/// A cell of a shared word, with an index where it has many.
+#[cycle(expression)]
+pub(crate) fn cell_with<'a>(
+    alloc: Global,
+    steps: usize,
+    scope: Scope<'_>,
+    word: &[u8],
+    words: &'a [&'a [u8]],
+) -> Result<(Cell, &'a [&'a [u8]]), Refusal>
+    ensures { ReadsCell result (spec.cell_with
+        (spec.expr_from steps (meanings scope.entry)) (meanings scope.entry)
+        word.now (texts words.now)) }
+{
+    let Some((place, indexed)) = shared_from(0, scope.words, word) else {
+        return Err(Refusal::Kind(SourceFaultKind::Name));
+    };
+    let array = place as u8;
+    if indexed {
+        let inside = behind_word(b"[".as_slice(), words)?;
+        let (index, rest) = closed_with(alloc, steps, scope, b"]".as_slice(), inside)?;
+        Ok((Cell { array, index }, rest))
+    } else {
+        let index = Expr::Number(0);
+        Ok((Cell { array, index }, words))
+    }
+}
+
+/// A local, a constant or a cell.
+#[cycle(expression)]
+fn name_with<'a>(
+    alloc: Global,
+    steps: usize,
+    scope: Scope<'_>,
+    word: &[u8],
+    words: &'a [&'a [u8]],
+) -> Result<Parsed<'a>, Refusal>
+    ensures { ReadsExpr result (spec.name_with
+        (spec.expr_from steps (meanings scope.entry)) (meanings scope.entry)
+        word.now (texts words.now)) }
+{
+    if let Some(expr) = named_expr(scope, word) {
+        return Ok((expr, words));
+    }
+    let (cell, rest) = cell_with(alloc, steps, scope, word, words)?;
+    let index = Box::new(alloc, cell.index)?;
+    Ok((Expr::Read(cell.array, index), rest))
+}
+
+/// `(CELL, OLD, NEW)` behind `cas`.
+#[cycle(expression)]
+fn cas_with<'a>(
+    alloc: Global,
+    steps: usize,
+    scope: Scope<'_>,
+    words: &'a [&'a [u8]],
+) -> Result<Parsed<'a>, Refusal>
+    ensures { ReadsExpr result (spec.cas_with
+        (spec.expr_from steps (meanings scope.entry)) (meanings scope.entry) (texts words.now)) }
+{
+    let inside = behind_word(b"(".as_slice(), words)?;
+    let Some((word, rest)) = inside.split_first() else {
+        return Err(Refusal::Kind(SourceFaultKind::Form));
+    };
+    let (cell, second) = cell_with(alloc, steps, scope, word, rest)?;
+    let third = behind_word(b",".as_slice(), second)?;
+    let (old, fourth) = closed_with(alloc, steps, scope, b",".as_slice(), third)?;
+    let (new, more) = closed_with(alloc, steps, scope, b")".as_slice(), fourth)?;
+    Ok((swap(alloc, cell, old, new)?, more))
+}
+
+fn swap(alloc: Global, cell: Cell, old: Expr, new: Expr) -> Result<Expr, AllocError>
+    ensures { IfOk result (λ expr. expr_of expr
+        ≡ Swap cell.array (expr_of cell.index) (expr_of old) (expr_of new)) }
+{
+    let index = Box::new(alloc, cell.index)?;
+    let old = Box::new(alloc, old)?;
+    let new = Box::new(alloc, new)?;
+    Ok(Expr::Swap(cell.array, index, old, new))
+}
+
+/// The opposite of an expression.
+fn opposite(alloc: Global, expr: Expr) -> Result<Expr, AllocError>
+    ensures { IfOk result (λ not. expr_of not ≡ Not (expr_of expr)) }
+{
+    Ok(Expr::Not(Box::new(alloc, expr)?))
+}
+
+/// An expression without operators between two values in it, but for those in parentheses.
+#[cycle(expression)]
+fn unary_with<'a>(
+    alloc: Global,
+    steps: usize,
+    scope: Scope<'_>,
+    word: &[u8],
+    words: &'a [&'a [u8]],
+) -> Result<Parsed<'a>, Refusal>
+    ensures { ReadsExpr result (spec.unary_with
+        (spec.expr_from steps (meanings scope.entry)) (meanings scope.entry)
+        word.now (texts words.now)) }
+{
+    if word == b"!".as_slice() {
+        let (expr, rest) = expr_from(alloc, steps, scope, 6, words)?;
+        Ok((opposite(alloc, expr)?, rest))
+    } else if word == b"(".as_slice() {
+        closed_with(alloc, steps, scope, b")".as_slice(), words)
+    } else if word == b"cas".as_slice() {
+        cas_with(alloc, steps, scope, words)
+    } else if word == b"pick".as_slice() {
+        pick_from(scope.constants, words)
+    } else if word == b"true".as_slice() {
+        Ok((Expr::Number(1), words))
+    } else if word == b"false".as_slice() {
+        Ok((Expr::Number(0), words))
+    } else if is_free_name(word) {
+        name_with(alloc, steps, scope, word, words)
+    } else {
+        match value_in(word) {
+            None => Err(Refusal::Kind(SourceFaultKind::Number)),
+            Some(value) => Ok((Expr::Number(value), words)),
+        }
+    }
+}
+
+/// An expression with operators in it that bind at least so tightly, by so many steps at most.
+#[cycle(expression)]
+pub(crate) fn expr_from<'a>(
+    alloc: Global,
+    steps: usize,
+    scope: Scope<'_>,
+    least: u8,
+    words: &'a [&'a [u8]],
+) -> Result<Parsed<'a>, Refusal>
+    ensures { ReadsExpr result
+        (spec.expr_from steps (meanings scope.entry) least (texts words.now)) }
+{
+    if steps == 0 {
+        return Err(Refusal::Kind(SourceFaultKind::Form));
+    }
+    let Some((word, rest)) = words.split_first() else {
+        return Err(Refusal::Kind(SourceFaultKind::Form));
+    };
+    let (left, more) = unary_with(alloc, steps - 1, scope, word, rest)?;
+    infix_from(alloc, steps - 1, scope, least, 5, left, more)
+}
+
+/// Operators behind a left side, which bind at least and at most so tightly.
+#[cycle(expression)]
+fn infix_from<'a>(
+    alloc: Global,
+    steps: usize,
+    scope: Scope<'_>,
+    least: u8,
+    most: u8,
+    left: Expr,
+    words: &'a [&'a [u8]],
+) -> Result<Parsed<'a>, Refusal>
+    ensures { ReadsExpr result
+        (spec.infix_from steps (meanings scope.entry) least most (expr_of left) (texts words.now)) }
+{
+    if steps == 0 {
+        return Err(Refusal::Kind(SourceFaultKind::Form));
+    }
+    let Some((word, rest)) = words.split_first() else {
+        return Ok((left, words));
+    };
+    let Some(by) = infix_in(word) else {
+        return Ok((left, words));
+    };
+    let binds = binding(by);
+    if binds < least {
+        return Ok((left, words));
+    }
+    if most < binds {
+        return Err(Refusal::Kind(SourceFaultKind::Form));
+    }
+    let (right, more) = expr_from(alloc, steps - 1, scope, binds + 1, rest)?;
+    let both = joined(alloc, by, left, right)?;
+    infix_from(alloc, steps - 1, scope, least, most_behind(by), both, more)
+}

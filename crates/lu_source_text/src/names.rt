@@ -1,0 +1,122 @@
+//! What names and numbers of a source mean.
+
+ghost use Rattle.std.specs.Prelude.{◌≡◌, ◌+◌, ◌<◌, ◌^◌, length, IfSome};
+ghost use Rattle.std.specs.Option.{option_map};
+ghost use Rattle.lu_source_text.specs.Grammar as spec;
+ghost use Rattle.lu_source_text.specs.Grammar.{declaring, either, is_among, stating, valued};
+ghost use Rattle.lu_text.specs.Numbers.{value_in as a_value};
+
+use crate::draft::{Constant, Shared};
+use lu_text::{Name, has_name_form, value_in};
+
+/// Where a name stands in a list of names, counted on from a number.
+pub fn place_from(before: usize, names: &[Name], word: &[u8]) -> Option<usize>
+    requires { before + length names.now < 2 ^ 64 }
+    ensures place { result ≡ spec.place_from before names.now word.now }
+    ensures within { IfSome result (λ place. place < before + length names.now) }
+{
+    match names {
+        [] => None,
+        [first, rest @ ..] => {
+            if first.is(word) {
+                Some(before)
+            } else {
+                place_from(before + 1, rest, word)
+            }
+        }
+    }
+}
+
+/// The value of the constant of this name.
+pub fn constant_from(constants: &[Constant], word: &[u8]) -> Option<u32>
+    ensures { result ≡ spec.constant_from constants.now word.now }
+{
+    match constants {
+        [] => None,
+        [first, rest @ ..] => {
+            if first.name.is(word) {
+                Some(first.value)
+            } else {
+                constant_from(rest, word)
+            }
+        }
+    }
+}
+
+/// The number of the shared word of this name, counted on from a number, and whether it is written
+/// with an index.
+pub fn shared_from(before: usize, shared: &[Shared], word: &[u8]) -> Option<(usize, bool)>
+    requires { before + length shared.now < 2 ^ 64 }
+    ensures shared { result ≡ spec.shared_from before shared.now word.now }
+    ensures within { IfSome result (λ found. found.0 < before + length shared.now) }
+{
+    match shared {
+        [] => None,
+        [first, rest @ ..] => {
+            if first.array.name.is(word) {
+                Some((before, first.indexed))
+            } else {
+                shared_from(before + 1, rest, word)
+            }
+        }
+    }
+}
+
+/// The number that a word means: a literal, or a constant's name.
+pub fn number_of(constants: &[Constant], word: &[u8]) -> Option<u32>
+    ensures { result ≡ either (a_value word.now) (spec.constant_from constants.now word.now) }
+{
+    match value_in(word) {
+        Some(value) => Some(value),
+        None => constant_from(constants, word),
+    }
+}
+
+/// Whether the word may be a name: it has the form of one, and is no keyword.
+pub(crate) fn is_free_name(word: &[u8]) -> bool
+    ensures { result ≡ spec.is_free_name word.now }
+{
+    has_name_form(word) && !is_keyword(word)
+}
+
+/// Whether a word is one that no name may be.
+fn is_keyword(word: &[u8]) -> bool
+    ensures { result ≡ spec.is_keyword word.now }
+{
+    declares(word) || states(word) || stands_for_value(word)
+}
+
+fn declares(word: &[u8]) -> bool
+    ensures { result ≡ is_among declaring word.now }
+{
+    word == b"object".as_slice()
+        || word == b"local".as_slice()
+        || word == b"const".as_slice()
+        || word == b"word".as_slice()
+        || word == b"lock".as_slice()
+        || word == b"op".as_slice()
+}
+
+fn states(word: &[u8]) -> bool
+    ensures { result ≡ is_among stating word.now }
+{
+    word == b"unlock".as_slice()
+        || word == b"let".as_slice()
+        || word == b"if".as_slice()
+        || word == b"else".as_slice()
+        || word == b"while".as_slice()
+        || word == b"loop".as_slice()
+        || word == b"break".as_slice()
+        || word == b"continue".as_slice()
+        || word == b"return".as_slice()
+        || word == b"await".as_slice()
+}
+
+fn stands_for_value(word: &[u8]) -> bool
+    ensures { result ≡ is_among valued word.now }
+{
+    word == b"cas".as_slice()
+        || word == b"pick".as_slice()
+        || word == b"true".as_slice()
+        || word == b"false".as_slice()
+}

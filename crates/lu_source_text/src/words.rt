@@ -1,0 +1,90 @@
+//! The words of a source's line.
+
+ghost use Rattle.std.specs.Prelude.{◌≡◌, ◌<◌, ◌≤◌, length, IfOk};
+ghost use Rattle.lu_text.specs.Lines.{texts};
+ghost use Rattle.lu_text.specs.Lines as lines;
+ghost use Rattle.lu_text.specs.Names as names;
+ghost use Rattle.lu_source_text.specs.Grammar as spec;
+
+use lu_text::before_comment;
+use std::alloc::{AllocError, Global};
+
+fn is_blank(byte: u8) -> bool
+    ensures { result ≡ lines.is_blank byte }
+{
+    matches!(byte, b' ' | b'\t' | b'\r')
+}
+
+fn is_name_part(byte: u8) -> bool
+    ensures { result ≡ names.is_name_part byte }
+{
+    byte.is_ascii_alphabetic() || byte == b'_' || byte.is_ascii_digit()
+}
+
+/// Whether two bytes are one word.
+fn is_pair(first: u8, second: u8) -> bool
+    ensures { result ≡ spec.is_pair first second }
+{
+    second == b'=' && (first == b'=' || first == b'!' || first == b'<' || first == b'>')
+        || (first == b'&' && second == b'&' || first == b'|' && second == b'|')
+}
+
+/// How many letters, digits and `_` stand first.
+fn name_len(bytes: &[u8]) -> usize
+    ensures len { result ≡ spec.name_len bytes.now }
+    ensures within { result ≤ length bytes.now }
+{
+    match bytes {
+        [] => 0,
+        [first, rest @ ..] => {
+            if is_name_part(*first) {
+                1 + name_len(rest)
+            } else {
+                0
+            }
+        }
+    }
+}
+
+/// How long the first word is, or a blank.
+fn item_len(bytes: &[u8]) -> usize
+    ensures len { result ≡ spec.item_len bytes.now }
+    ensures within { result ≤ length bytes.now }
+    ensures some { 0 < length bytes.now → 0 < result }
+{
+    match bytes {
+        [] => 0,
+        [first, rest @ ..] => {
+            if is_name_part(*first) {
+                return 1 + name_len(rest);
+            }
+            match rest {
+                [] => 1,
+                [second, ..] => { if is_pair(*first, *second) { 2 } else { 1 } }
+            }
+        }
+    }
+}
+
+fn words_in(alloc: Global, bytes: &[u8]) -> Result<Vec<&[u8]>, AllocError>
+    ensures { IfOk result (λ words. texts words.items ≡ spec.words_in bytes.now) }
+{
+    let mut words = Vec::new(alloc);
+    let mut rest = bytes;
+    while !rest.is_empty() {
+        let blank = is_blank(rest[0]);
+        let (item, behind) = rest.split_at(item_len(rest));
+        if !blank {
+            words.push(item)?;
+        }
+        rest = behind;
+    }
+    Ok(words)
+}
+
+/// The words of a line, up to a comment.
+pub fn source_words(alloc: Global, line: &[u8]) -> Result<Vec<&[u8]>, AllocError>
+    ensures { IfOk result (λ words. texts words.items ≡ spec.source_words line.now) }
+{
+    words_in(alloc, before_comment(line))
+}
