@@ -10,7 +10,7 @@ mod tree;
 
 pub use compiling::{compile, compile_operation};
 pub use emit::{comes_out, flatten};
-pub use expr::{Evaluation, Expr, Operator, REGISTERS, coded, put, then};
+pub use expr::{Evaluation, Expr, Operator, REGISTERS, coded, past, put, then};
 pub use laws::compiler_laws;
 pub use shape::{breaks, continues, falls, instr_of, size};
 pub use tree::{Action, Operation, Stmt};

@@ -1,11 +1,11 @@
 -- What is declared so far makes a component.
 use Rattle.std.proofs.Common.{◌≡◌, ℕ, ◌+◌, ◌<◌, ◌≤◌, ◌^◌, nat_lt, Bool, true, false, not, ◌||◌, if◌then◌else◌, List, [], ◌∷◌, ◌++◌, length, map, Option, Some, None, is_some, MatchOption, refl, sym, ap, ◌∙◌, subst, lit<, arith, length-append}
-use Rattle.std.specs.Prelude.{Result, Ok, Err, codes, nat_le, take}
-use Rattle.std.specs.List.{AllByRecursion, IsDistinct, list_all, list_any}
+use Rattle.std.specs.Prelude.{Result, Ok, Err, codes, nat_le}
+use Rattle.std.specs.List.{AllByRecursion, IsDistinct, list_all}
 use Rattle.std.specs.Option.{unwrap_or}
 use Rattle.std.specs.Str.{bytes_eq}
 use Rattle.std.proofs.lemmas.Bool.{leb-false, ltb-false, or_parts, not-false, not_from_true, and_parts}
-use Rattle.std.proofs.lemmas.List.{length-map, length-take}
+use Rattle.std.proofs.lemmas.List.{length-map}
 use Rattle.std.proofs.lemmas.List.Elements.{All-from_recursion}
 use Rattle.lu_text.specs.Faults.{lines_after, on_line, then_lines}
 use Rattle.lu_text.specs.declared.fault.Fault.{Fault}
@@ -19,11 +19,10 @@ use Rattle.lu_component.specs.Component.{AreDistinct, IsArray, IsComponent, IsIn
 use Rattle.lu_source.specs.declared.tree.Action.{Action}
 use Rattle.lu_source.specs.declared.tree.Action.TheVariants.{Set, Compute, Load, Store, Cas, Lock, Unlock, Await, AwaitNot, Pick, Return}
 use Rattle.lu_source.specs.Code.{instr_of, op_of, operation_code}
-use Rattle.lu_source_text.specs.Grammar.{Begun, Block, Drafted, Kind, Opening, all_read, behind_word, by_state, by_words, close_line, closed_by, closing, constant_in, const_line, declaration, else_line, end_line, first_number, init_in, inside, is_free_name, is_operation, is_taken, is_word, keeps_going, is_keyword, len_in, line_of, local_in, local_line, lock_in, lock_line, names_in, new_name, nothing, object_line, on_first, on_ok, op_line, place_from, program_of, shared_from, shared_in, source_grammar, source_words, statement, whole_line, word_line}
+use Rattle.lu_source_text.specs.Grammar.{Begun, Block, Drafted, Kind, all_read, aside, begun_as, last_number, op_fault, where_some, behind_word, by_state, by_words, close_line, closes, end_block, whole_of, constant_in, const_line, declaration, else_line, end_line, first_number, init_in, inside, is_free_name, is_operation, is_taken, is_whole, is_word, keeps_going, is_keyword, len_in, line_of, local_in, local_line, lock_in, lock_line, names_in, new_name, nothing, object_line, on_first, on_ok, op_line, place_from, program_of, shared_from, shared_in, source_grammar, source_words, statement, whole_line, word_line}
 use Rattle.lu_source_text.specs.declared.draft.Constant.{Constant}
 use Rattle.lu_source_text.specs.declared.draft.Shared.{Shared}
 use Rattle.lu_source_text.specs.declared.fault.SourceFaultKind.TheVariants.{Form, Limit, Name}
-use Rattle.lu_source_text.specs.Grammar.Opening.{Whole, Test, Other, Turns}
 use Rattle.lu_source.specs.Runs.{compiled}
 use Rattle.lu_source_text.specs.Readers.{SourceSound}
 use Rattle.lu_source.specs.Sound.{IsTree}
@@ -31,11 +30,11 @@ use Rattle.lu_source.specs.Trees.{Operation, Program, Tree}
 use Rattle.lu_source.specs.Trees.Tree.{Nothing, Plain, Then, If, IfElse, Loop, Break, BreakUnless, Continue}
 use Rattle.lu_source.proofs.Bounded.{code_sound}
 use Rattle.lu_source_text.proofs.Kept.{AreValues, Holds, any_holds, first_fine, if_holds, then_holds, unless_holds}
-use Rattle.lu_source_text.proofs.Lines.{Goes, GoesOn, IsBlock, IsGoing, closed_sound, closing_fine, else_fine, statement_fine}
+use Rattle.lu_source_text.proofs.Lines.{Goes, GoesOn, IsBlock, IsGoing, else_fine, end_fine, statement_fine}
 
 -- ---- lists
 
-map_last : {X Y : Type 0} (f : X → Y) (xs : List X) (x : X) → map f (xs ++ x ∷ []) ≡ map f xs ++ f x ∷ []
+pub map_last : {X Y : Type 0} (f : X → Y) (xs : List X) (x : X) → map f (xs ++ x ∷ []) ≡ map f xs ++ f x ∷ []
 map_last f [] x = refl
 map_last f (y ∷ ys) x = ap (λ zs. f y ∷ zs) (map_last f ys x)
 
@@ -200,22 +199,22 @@ module _ (d : Drafted) (h : IsDraft d) where
 
   local_kept : (ws : List Word) → Holds IsDraft (local_line d ws)
   local_kept ws =
-      any_hold IsDraft (first_number d.constants ws) _ (λ read. any_hold IsDraft (all_read read) _ (λ most.
+      any_hold IsDraft (last_number d.constants ws) _ (λ most.
       unless_holds IsDraft (is_some d.local || nat_lt 0 (length d.operations)) Form _ (λ once. unless_holds IsDraft (nat_lt 16 most) Limit _ (λ few.
-      record { name = h.name; local = ltb-false 16 most few; values = h.values; words_few = h.words_few; words = h.words; words_apart = h.words_apart; locks_few = h.locks_few; locks = h.locks; locks_apart = h.locks_apart; operations_few = h.operations_few; operations = h.operations; operations_apart = h.operations_apart; begun = h.begun }))))
+      record { name = h.name; local = ltb-false 16 most few; values = h.values; words_few = h.words_few; words = h.words; words_apart = h.words_apart; locks_few = h.locks_few; locks = h.locks; locks_apart = h.locks_apart; operations_few = h.operations_few; operations = h.operations; operations_apart = h.operations_apart; begun = h.begun })))
+
+  number_holds : (ws : List Word) → Holds (λ n. n < 2 ^ 32) (last_number d.constants ws)
+  number_holds ws = then_holds (λ (r : ℕ × List Word). r.0 < 2 ^ 32) (λ n. n < 2 ^ 32) (first_number d.constants ws) all_read (first_fine d.constants ws h.values) (λ r small. read_all (λ n. n < 2 ^ 32) r.0 r.1 small)
 
   const_kept : (ws : List Word) → Holds IsDraft (const_line d ws)
   const_kept ws =
       on_word IsDraft ws _ (λ w rest. any_hold IsDraft (new_name d [] w) _ (λ name. any_hold IsDraft (behind_word (codes "=") rest) _ (λ more.
-      then_holds (λ (r : ℕ × List Word). r.0 < 2 ^ 32) IsDraft (first_number d.constants more) _ (first_fine d.constants more h.values) (λ read small.
-      then_holds (λ n. n < 2 ^ 32) IsDraft (all_read read) _ (read_all (λ n. n < 2 ^ 32) read.0 read.1 small) (λ n fine.
-      record { name = h.name; local = h.local; values = each_last (λ (c : Constant). c.value < 2 ^ 32) d.constants (record { name = name; value = n }) h.values fine; words_few = h.words_few; words = h.words; words_apart = h.words_apart; locks_few = h.locks_few; locks = h.locks; locks_apart = h.locks_apart; operations_few = h.operations_few; operations = h.operations; operations_apart = h.operations_apart; begun = h.begun })))))
+      then_holds (λ n. n < 2 ^ 32) IsDraft (last_number d.constants more) _ (number_holds more) (λ n fine.
+      record { name = h.name; local = h.local; values = each_last (λ (c : Constant). c.value < 2 ^ 32) d.constants (record { name = name; value = n }) h.values fine; words_few = h.words_few; words = h.words; words_apart = h.words_apart; locks_few = h.locks_few; locks = h.locks; locks_apart = h.locks_apart; operations_few = h.operations_few; operations = h.operations; operations_apart = h.operations_apart; begun = h.begun }))))
 
   init_fine : (ws : List Word) → Holds (λ n. n < 2 ^ 32) (init_in d ws)
   init_fine [] = lit< tt
-  init_fine (w ∷ ws) =
-      any_hold (λ n. n < 2 ^ 32) (behind_word (codes "=") (w ∷ ws)) _ (λ rest.
-      then_holds (λ (r : ℕ × List Word). r.0 < 2 ^ 32) (λ n. n < 2 ^ 32) (first_number d.constants rest) all_read (first_fine d.constants rest h.values) (λ r small. read_all (λ n. n < 2 ^ 32) r.0 r.1 small))
+  init_fine (w ∷ ws) = any_hold (λ n. n < 2 ^ 32) (behind_word (codes "=") (w ∷ ws)) (last_number d.constants) (λ rest. number_holds rest)
 
   word_kept : d.begun ≡ None → (ws : List Word) → Holds IsDraft (word_line d ws)
   word_kept none ws =
@@ -281,16 +280,26 @@ module _ (d : Drafted) (h : IsDraft d) where
   op_kept : (ws : List Word) → Holds IsDraft (op_line d ws)
   op_kept ws =
       on_word IsDraft ws _ (λ name rest. unless_holds IsDraft (not (is_free_name name)) Form _ (λ free.
-      any_hold IsDraft (behind_word (codes "(") rest) _ (λ inner. any_hold IsDraft (names_in d [] inner) _ (λ named.
+      any_hold IsDraft (behind_word (codes "(") rest) _ (λ inner. any_hold IsDraft (names_in d inner) _ (λ named.
       any_hold IsDraft (behind_word (codes "{") named.1) _ (λ end. any_hold IsDraft (all_read (named.0, end)) _ (λ args.
-      unless_holds IsDraft (is_long name || (nat_le 16 (length d.operations) || nat_lt 4 (length args))) Limit _ (λ few.
-      unless_holds IsDraft (is_operation d.operations name) Name _ (λ fresh.
-      let parts = or_parts (is_long name) (nat_le 16 (length d.operations) || nat_lt 4 (length args)) few in
-      let more = or_parts (nat_le 16 (length d.operations)) (nat_lt 4 (length args)) parts.1 in
-      let room : length d.operations < 16 = omega (arith, leb-false 16 (length d.operations) more.0) in
-      let four : length args ≤ 4 = ltb-false 4 (length args) more.1 in
-      let eight : length args ≤ 8 = omega arith in
-      record { name = h.name; local = h.local; values = h.values; words_few = h.words_few; words = h.words; words_apart = h.words_apart; locks_few = h.locks_few; locks = h.locks; locks_apart = h.locks_apart; operations_few = h.operations_few; operations = h.operations; operations_apart = h.operations_apart; begun = (record { name = name_from name (free_name name free) parts.0; args = four; locals = eight; blocks = ((tt, tt), tt) }, room, fresh) }))))))))
+      op_holds name args (free_name name free)))))))
+    where
+      op_holds : (name : Word) (args : List Word) → not (has_name_form name) ≡ false → Holds IsDraft (where_some (op_fault d name args) (Ok (record d { begun = Some (begun_as name args) })) Err)
+      op_holds name args form = by_limits (is_long name || (nat_le 16 (length d.operations) || nat_lt 4 (length args))) refl
+        where
+          by_name : (t : Bool) → is_operation d.operations name ≡ t → (is_long name || (nat_le 16 (length d.operations) || nat_lt 4 (length args))) ≡ false → Holds IsDraft (where_some (if t then Some Name else None) (Ok (record d { begun = Some (begun_as name args) })) Err)
+          by_name true fresh few = tt
+          by_name false fresh few =
+              let parts = or_parts (is_long name) (nat_le 16 (length d.operations) || nat_lt 4 (length args)) few in
+              let more = or_parts (nat_le 16 (length d.operations)) (nat_lt 4 (length args)) parts.1 in
+              let room : length d.operations < 16 = omega (arith, leb-false 16 (length d.operations) more.0) in
+              let four : length args ≤ 4 = ltb-false 4 (length args) more.1 in
+              let eight : length args ≤ 8 = omega arith in
+              record { name = h.name; local = h.local; values = h.values; words_few = h.words_few; words = h.words; words_apart = h.words_apart; locks_few = h.locks_few; locks = h.locks; locks_apart = h.locks_apart; operations_few = h.operations_few; operations = h.operations; operations_apart = h.operations_apart; begun = (record { name = name_from name form parts.0; args = four; locals = eight; blocks = ((tt, tt), tt) }, room, fresh) }
+
+          by_limits : (t : Bool) → (is_long name || (nat_le 16 (length d.operations) || nat_lt 4 (length args))) ≡ t → Holds IsDraft (where_some (if t then Some Limit else (if is_operation d.operations name then Some Name else None)) (Ok (record d { begun = Some (begun_as name args) })) Err)
+          by_limits true few = tt
+          by_limits false few = by_name (is_operation d.operations name) refl few
 
   declaration_kept : d.begun ≡ None → (w : Word) (ws : List Word) → Holds IsDraft (declaration d w ws)
   declaration_kept none w ws =
@@ -310,26 +319,14 @@ module _ (d : Drafted) (h : IsDraft d) where
 
   whole_kept : (b : Begun) (t : Tree) → IsOpenIn (length d.words) (length d.locks) d.operations b → IsTree (length d.words) (length d.locks) t → Holds IsDraft (whole_line d b t)
   whole_kept b t open_now fine =
-      unless_holds IsDraft (nat_lt 64 (length (operation_code t))) Limit _ (λ few.
-      let one : Operation = record { name = b.name; args = b.args; body = t } in
-      let l : length (d.operations ++ one ∷ []) ≡ length d.operations + 1 = length_last d.operations one in
-      let room = open_now.1 in
-      record {
-        name = h.name;
-        local = h.local;
-        values = h.values;
-        words_few = h.words_few;
-        words = h.words;
-        words_apart = h.words_apart;
-        locks_few = h.locks_few;
-        locks = h.locks;
-        locks_apart = h.locks_apart;
-        operations_few = omega (arith, l);
-        operations = each_last (IsDone (length d.words) (length d.locks)) d.operations one h.operations (record { name = open_now.0.name; args = open_now.0.args; body = fine; few = ltb-false 64 (length (operation_code t)) few });
-        operations_apart = operations_more d.operations one h.operations_apart (operation_absent d.operations b.name open_now.2);
-        begun = tt;
-      })
+      then_holds (λ (o : Operation). (o ≡ record { name = b.name; args = b.args; body = t }) × (length (operation_code t) ≤ 64)) IsDraft (whole_of b t) _
+      (unless_holds (λ (o : Operation). (o ≡ record { name = b.name; args = b.args; body = t }) × (length (operation_code t) ≤ 64)) (nat_lt 64 (length (operation_code t))) Limit _ (λ few. (refl, ltb-false 64 (length (operation_code t)) few))) (λ o made.
+      subst (λ (x : Operation). IsDraft (record d { operations = d.operations ++ x ∷ []; begun = None })) (sym made.0)
+      (with_one made.1))
     where
+      one : Operation
+      one = record { name = b.name; args = b.args; body = t }
+
       operations_more : (os : List Operation) (one : Operation) → AreDistinct (map (λ (o : Op). o.name) (map op_of os)) → AllByRecursion (λ (o : Operation). bytes_eq o.name one.name ≡ false) os → AreDistinct (map (λ (o : Op). o.name) (map op_of (os ++ one ∷ [])))
       operations_more os one apart absent =
           let names = map (λ (o : Op). o.name) (map op_of os) in
@@ -338,46 +335,62 @@ module _ (d : Drafted) (h : IsDraft d) where
           let all = each_map (λ (n : Word). bytes_eq n one.name ≡ false) (λ (o : Op). o.name) (map op_of os) (each_map (λ (o : Op). bytes_eq o.name one.name ≡ false) op_of os absent) in
           subst AreDistinct (sym same) (distinct_last names one.name apart all)
 
-  end_kept : (b : Begun) (block : Block) (blocks : List Block) → IsOpenIn (length d.words) (length d.locks) d.operations b → IsBlock (length d.words) (length d.locks) block → AllByRecursion (IsBlock (length d.words) (length d.locks)) blocks → Holds IsDraft (end_line d b block blocks)
-  end_kept b block blocks open_now one all = by_opening block.opening
-    where
-      fewer : length (take block.locals b.locals) ≤ 8
-      fewer = let few = open_now.0.locals in omega (arith, length-take block.locals b.locals)
+      with_one : length (operation_code t) ≤ 64 → IsDraft (record d { operations = d.operations ++ one ∷ []; begun = None })
+      with_one few =
+          let l : length (d.operations ++ one ∷ []) ≡ length d.operations + 1 = length_last d.operations one in
+          let room = open_now.1 in
+          record {
+            name = h.name;
+            local = h.local;
+            values = h.values;
+            words_few = h.words_few;
+            words = h.words;
+            words_apart = h.words_apart;
+            locks_few = h.locks_few;
+            locks = h.locks;
+            locks_apart = h.locks_apart;
+            operations_few = omega (arith, l);
+            operations = each_last (IsDone (length d.words) (length d.locks)) d.operations one h.operations (record { name = open_now.0.name; args = open_now.0.args; body = fine; few = few });
+            operations_apart = operations_more d.operations one h.operations_apart (operation_absent d.operations b.name open_now.2);
+            begun = tt;
+          }
 
-      closes : Holds IsDraft (keeps_going d (closing (record b { locals = take block.locals b.locals }) (closed_by block.opening block.does) block.chained blocks))
-      closes =
-          let outer : Begun = record b { locals = take block.locals b.locals } in
-          let going_outer : IsGoing (length d.words) (length d.locks) outer = record { name = open_now.0.name; args = open_now.0.args; locals = fewer; blocks = open_now.0.blocks } in
-          going_kept outer (closing outer (closed_by block.opening block.does) block.chained blocks) (going_outer, open_now.1, open_now.2)
-          (fits_to (length d.words) (length d.locks) outer (closing outer (closed_by block.opening block.does) block.chained blocks)
-          (closing_fine d h.values outer (closed_by block.opening block.does) block.chained blocks going_outer (closed_sound d h.values block.opening block.does one.1 one.0) all))
+  ends_kept : (b : Begun) (block : Block) → IsOpenIn (length d.words) (length d.locks) d.operations b → IsBlock (length d.words) (length d.locks) block → Holds IsDraft (keeps_going d (end_block b block))
+  ends_kept b block open_now one = going_kept b (end_block b block) open_now (end_fine d h.values b block open_now.0 one)
 
-      by_opening : (opening : Opening) → Holds IsDraft (elim opening [
-        | Whole ↦ whole_line d b block.does
-        | _ ↦ keeps_going d (closing (record b { locals = take block.locals b.locals }) (closed_by block.opening block.does) block.chained blocks)
-      ])
-      by_opening Whole = whole_kept b block.does open_now one.0
-      by_opening (Test v) = closes
-      by_opening (Other v t) = closes
-      by_opening Turns = closes
+  end_kept : (b : Begun) (block : Block) → IsOpenIn (length d.words) (length d.locks) d.operations b → IsBlock (length d.words) (length d.locks) block → Holds IsDraft (end_line d b block)
+  end_kept b block open_now one = if_holds IsDraft (is_whole block.opening) _ _ (whole_kept b block.does open_now one.0) (ends_kept b block open_now one)
+
+  closes_kept : (b : Begun) (block : Block) (ws : List Word) → IsOpenIn (length d.words) (length d.locks) d.operations b → IsBlock (length d.words) (length d.locks) block → Holds IsDraft (closes d b block ws)
+  closes_kept b block [] open_now one = end_kept b block open_now one
+  closes_kept b block (w ∷ ws) open_now one =
+      if_holds IsDraft (is_word w (codes "else")) _ _ (going_kept b (else_line d b block ws) open_now (else_fine d h.values b block ws open_now.0 one)) tt
 
   close_kept : (b : Begun) (ws : List Word) (blocks : List Block) → IsOpenIn (length d.words) (length d.locks) d.operations b → AllByRecursion (IsBlock (length d.words) (length d.locks)) blocks → Holds IsDraft (close_line d b ws blocks)
   close_kept b ws [] open_now all = tt
-  close_kept b [] (block ∷ blocks) open_now all = end_kept b block blocks open_now all.0 all.1
-  close_kept b (w ∷ ws) (block ∷ blocks) open_now all =
-      if_holds IsDraft (is_word w (codes "else")) _ _ (going_kept b (else_line d b block blocks ws) open_now (else_fine d h.values b block blocks ws open_now.0 all.0 all.1)) tt
+  close_kept b ws (block ∷ blocks) open_now all =
+      let now : Begun = record b { blocks = blocks } in
+      let going_now : IsGoing (length d.words) (length d.locks) now = record { name = open_now.0.name; args = open_now.0.args; locals = open_now.0.locals; blocks = all.1 } in
+      closes_kept now block ws (going_now, open_now.1, open_now.2) all.0
 
   inside_kept : (b : Begun) (w : Word) (ws : List Word) → IsOpenIn (length d.words) (length d.locks) d.operations b → Holds IsDraft (inside d b w ws)
   inside_kept b w ws open_now =
-      if_holds IsDraft (is_word w (codes "}")) _ _ (close_kept b ws b.blocks open_now open_now.0.blocks)
-      (going_kept b (statement d b w ws) open_now (statement_fine d h.values b w ws open_now.0))
+      unless_holds IsDraft (nat_le 256 b.lines) Limit _ (λ few.
+      let now : Begun = record b { lines = b.lines + 1 } in
+      let going_now : IsGoing (length d.words) (length d.locks) now = record { name = open_now.0.name; args = open_now.0.args; locals = open_now.0.locals; blocks = open_now.0.blocks } in
+      if_holds IsDraft (is_word w (codes "}")) _ _ (close_kept now ws b.blocks (going_now, open_now.1, open_now.2) open_now.0.blocks)
+      (going_kept now (statement d now w ws) (going_now, open_now.1, open_now.2) (statement_fine d h.values now w ws going_now)))
 
-  -- ---- lines
+  aside_is : IsDraft (aside d)
+  aside_is = record { name = h.name; local = h.local; values = h.values; words_few = h.words_few; words = h.words; words_apart = h.words_apart; locks_few = h.locks_few; locks = h.locks; locks_apart = h.locks_apart; operations_few = h.operations_few; operations = h.operations; operations_apart = h.operations_apart; begun = tt }
 
+-- ---- lines
+
+module _ (d : Drafted) (h : IsDraft d) where
   state_kept : (name : Option Word) (begun : Option Begun) → d.begun ≡ begun → MatchOption begun (Unit {0}) (IsOpenIn (length d.words) (length d.locks) d.operations) → (w : Word) (ws : List Word) → Holds IsDraft (by_state d name begun w ws)
-  state_kept None begun at k w ws = if_holds IsDraft (is_word w (codes "object")) _ _ (object_kept ws) tt
-  state_kept (Some name) None at k w ws = declaration_kept at w ws
-  state_kept (Some name) (Some b) at k w ws = inside_kept b w ws k
+  state_kept None begun at k w ws = if_holds IsDraft (is_word w (codes "object")) _ _ (object_kept d h ws) tt
+  state_kept (Some name) None at k w ws = declaration_kept d h at w ws
+  state_kept (Some name) (Some b) at k w ws = inside_kept (aside d) (aside_is d h) b w ws k
 
   words_kept : (ws : List Word) → Holds IsDraft (by_words d ws)
   words_kept [] = h
@@ -385,7 +398,9 @@ module _ (d : Drafted) (h : IsDraft d) where
 
   line_kept : (line : List ℕ) → Holds IsDraft (line_of d line)
   unfolding line_of
-  line_kept line = if_holds IsDraft (list_all is_allowed line) _ _ (words_kept (source_words line)) tt
+  line_kept line =
+      if_holds IsDraft (list_all is_allowed line) _ _
+      (unless_holds IsDraft (nat_lt 256 (length (source_words line))) Limit _ (λ few. words_kept (source_words line))) tt
 
 -- ---- texts
 

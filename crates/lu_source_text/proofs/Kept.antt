@@ -157,7 +157,7 @@ module _ (s : Scope) (values : AreValues s.constants) where
         some_holds (IsExpr (length s.words)) Fine (named_expr s w) _ (λ e. Ok (e, ws)) (named_fine w)
         (then_holds FineCell Fine (cell_with inner s w ws) _ (cell_fine w ws) (λ r h. h)) (λ e h. h)
 
-    swap_fine : (ws : List Word) → Holds Fine (cas_with inner s ws)
+    pub swap_fine : (ws : List Word) → Holds Fine (cas_with inner s ws)
     swap_fine ws = behind_holds Fine (codes "(") ws _ (λ inside. of_first inside)
       where
         of_first : (inside : List Word) → Holds Fine (on_first inside (λ w rest.

@@ -2,5 +2,8 @@ mod Examples
 pub mod Kept
 pub mod Lines
 pub mod Drafts
+pub mod Innermost
+pub mod First
+pub mod Sizes
 pub mod Steps
 pub mod Worded

@@ -8,7 +8,6 @@ use Rattle.std.proofs.lemmas.List.{length-take}
 use Rattle.lu_text.specs.Names.{IsName}
 use Rattle.lu_text.specs.Words.{Word}
 use Rattle.lu_component.specs.declared.instr.Operand.{Operand}
-use Rattle.lu_component.specs.declared.instr.Operand.TheVariants.{Num}
 use Rattle.lu_component.specs.Component.{IsInstr, IsOperand}
 use Rattle.lu_source.specs.declared.expr.Operator.TheVariants.{Plus, Minus, Times, Equals, Differs, Below, Above, AtMost, AtLeast}
 use Rattle.lu_source.specs.declared.tree.Action.{Action}
@@ -16,13 +15,13 @@ use Rattle.lu_source.specs.declared.tree.Action.TheVariants as action
 use Rattle.lu_source.specs.Code.{falls, instr_of}
 use Rattle.lu_source.specs.Expressions.{Coded, Expr, as_test, coded, needed, past, put}
 use Rattle.lu_source.specs.Expressions.Expr.{Number, Local, Read, Swap, Pick, Binary, Not, And, Or}
-use Rattle.lu_source_text.specs.Grammar.{Begun, Block, Drafted, Kind, Opening, added, added_to, all_read, await_line, awaited, behind_word, cas_line, cell_with, closed_by, closing, deeper, else_line, expr_before_brace, expr_from, expr_of, if_line, in_loop, inner_of, is_free_name, is_still, is_word, leave_line, let_line, local_in, lock_in, new_name, on_first, on_ok, opened, or_fault, other_side, owner_line, place_from, return_line, scope_of, set_line, statement, steps_for, store_line, tested, unless, while_line, with_both, with_code, assign_line}
+use Rattle.lu_source_text.specs.Grammar.{Begun, Block, Drafted, Kind, Opening, added, added_to, all_read, assign_tree, await_tree, awaiting, awaits_equal, behind_word, both_of, cas_of, cas_tree, cas_with, cell_in, closed_by, closing, code_for, deeper, does_too, else_line, end_block, let_in, expr_before_brace, expr_from, expr_of, if_line, in_loop, inner_of, is_free_name, is_still, is_word, leave_tree, let_line, local_in, lock_in, lock_number, loop_line, new_name, on_first, on_ok, or_fault, other_side, owner_tree, place_from, return_tree, scope_of, set_tree, simple, statement, steps_for, store_tree, tested, while_line, with_blocks}
 use Rattle.lu_source_text.specs.declared.fault.SourceFaultKind.TheVariants.{Form, Limit, Registers, Flow, Name}
 use Rattle.lu_source_text.specs.Grammar.Opening.{Whole, Test, Other, Turns}
 use Rattle.lu_source.specs.Sound.{IsExpr, IsTree}
 use Rattle.lu_source.specs.Trees.{Tree}
 use Rattle.lu_source.specs.Trees.Tree.{Nothing, Plain, Then, Break, BreakUnless, Continue}
-use Rattle.lu_source_text.proofs.Kept.{AreValues, Holds, any_holds, if_holds, or_holds, then_holds, unless_holds, whole_fine, cell_fine, expr_fine}
+use Rattle.lu_source_text.proofs.Kept.{AreValues, Holds, any_holds, if_holds, or_holds, then_holds, unless_holds, whole_fine, cell_fine, expr_fine, swap_fine}
 use Rattle.lu_source.proofs.Registers.{coded_sound, put_sound}
 
 -- ---- an open operation
@@ -59,17 +58,9 @@ place_within k (x ∷ xs) w n is = by_test (bytes_eq x w) is (place_within (k + 
     by_test true is rest = let same : k ≡ n = cc in omega arith
     by_test false is rest = let l = rest is in omega arith
 
--- the operands of an `await` and the instruction
-awaited_fine : (arrays locks : ℕ) (w : Word) → MatchOption (awaited w) (Unit {0}) (λ act. (k : ℕ) (x y : Operand) → k < arrays → IsOperand x → IsOperand y → IsInstr arrays locks 0 (instr_of (act k x y)))
-awaited_fine arrays locks w = by_first (is_word w (codes "=="))
-  where
-    by_second : (t : Bool) → MatchOption (if t then Some action.AwaitNot else None) (Unit {0}) (λ act. (k : ℕ) (x y : Operand) → k < arrays → IsOperand x → IsOperand y → IsInstr arrays locks 0 (instr_of (act k x y)))
-    by_second true = λ k x y h i j. (h, i, j)
-    by_second false = tt
-
-    by_first : (t : Bool) → MatchOption (if t then Some action.Await else (if is_word w (codes "!=") then Some action.AwaitNot else None)) (Unit {0}) (λ act. (k : ℕ) (x y : Operand) → k < arrays → IsOperand x → IsOperand y → IsInstr arrays locks 0 (instr_of (act k x y)))
-    by_first true = λ k x y h i j. (h, i, j)
-    by_first false = by_second (is_word w (codes "!="))
+awaiting_fine : (arrays locks : ℕ) (equal : Bool) (k : ℕ) (x y : Operand) → k < arrays → IsOperand x → IsOperand y → IsInstr arrays locks 0 (instr_of (awaiting equal k x y))
+awaiting_fine arrays locks true k x y h i j = (h, i, j)
+awaiting_fine arrays locks false k x y h i j = (h, i, j)
 
 module _ (d : Drafted) (values : AreValues d.constants) where
   abbrev Fits : Begun → Begun → Type 0
@@ -78,14 +69,25 @@ module _ (d : Drafted) (values : AreValues d.constants) where
   abbrev Sound : Tree → Type 0
   Sound t = IsTree (length d.words) (length d.locks) t
 
+  too_fine : (block : Block) (t : Tree) → IsBlock (length d.words) (length d.locks) block → Sound t → Holds (IsBlock (length d.words) (length d.locks)) (does_too block t)
+  too_fine block t one fine = unless_holds (IsBlock (length d.words) (length d.locks)) (not (falls block.does)) Flow _ (λ so. ((one.0, fine), one.1))
+
+  -- open blocks name what is there
+  abbrev AreBlocks : List Block → Type 0
+  AreBlocks blocks = AllByRecursion (IsBlock (length d.words) (length d.locks)) blocks
+
+  pub blocks_fine : (b : Begun) (r : Result (List Block) Kind) → IsGoing (length d.words) (length d.locks) b → Holds AreBlocks r → Holds (Fits b) (with_blocks b r)
+  blocks_fine b r is all = then_holds AreBlocks (Fits b) r _ all (λ now h. (record { name = is.name; args = is.args; locals = is.locals; blocks = h }, refl, refl))
+
   added_fine : (b : Begun) (t : Tree) → IsGoing (length d.words) (length d.locks) b → Sound t → Holds (Fits b) (added b t)
-  added_fine b t is fine = into b.blocks is.blocks
+  added_fine b t is fine = blocks_fine b (added_to t b.blocks) is (into b.blocks is.blocks)
     where
-      into : (blocks : List Block) → AllByRecursion (IsBlock (length d.words) (length d.locks)) blocks → Holds (Fits b) (added_to b t blocks)
+      into : (blocks : List Block) → AreBlocks blocks → Holds AreBlocks (added_to t blocks)
       into [] all = tt
-      into (block ∷ blocks) all =
-          unless_holds (Fits b) (not (falls block.does)) Flow _ (λ so.
-          (record { name = is.name; args = is.args; locals = is.locals; blocks = (((all.0.0, fine), all.0.1), all.1) }, refl, refl))
+      into (block ∷ blocks) all = then_holds (IsBlock (length d.words) (length d.locks)) AreBlocks (does_too block t) _ (too_fine block t all.0 fine) (λ now one. (one, all.1))
+
+  tree_added : (b : Begun) (r : Result Tree Kind) → IsGoing (length d.words) (length d.locks) b → Holds Sound r → Holds (Fits b) (on_ok r (added b))
+  tree_added b r is fine = then_holds Sound (Fits b) r (added b) fine (λ t h. added_fine b t is h)
 
   deeper_fine : (b : Begun) (opening : Opening) (chained : Bool) → IsGoing (length d.words) (length d.locks) b → IsOpening (length d.words) (length d.locks) opening → Holds (Fits b) (deeper b opening chained)
   deeper_fine b opening chained is fine =
@@ -93,11 +95,13 @@ module _ (d : Drafted) (values : AreValues d.constants) where
       (record { name = is.name; args = is.args; locals = is.locals; blocks = ((tt, fine), is.blocks) }, refl, refl))
 
   -- with an expression's code
-  code_fine : {A : Type 0} (P : A → Type 0) (b : Begun) (e : Expr) (to : ℕ) (go : Coded → Result A Kind) → IsExpr (length d.words) e → to ≤ length b.locals → (Sound (coded e to (length b.locals)).code → IsOperand (coded e to (length b.locals)).at → Holds P (go (coded e to (length b.locals)))) → Holds P (with_code b e to go)
-  code_fine P b e to go fine le next =
-      unless_holds P (nat_lt 8 (needed e to (length b.locals))) Registers _ (λ so.
-      let x = coded_sound (length d.words) (length d.locks) e to (length b.locals) fine (ltb-false 8 (needed e to (length b.locals)) so) le in
-      next x.0 x.1)
+  code_fine : {A : Type 0} (P : A → Type 0) (e : Expr) (to free : ℕ) (go : Coded → Result A Kind) → IsExpr (length d.words) e → to ≤ free → ((x : Coded) → x ≡ coded e to free → Sound x.code → IsOperand x.at → Holds P (go x)) → Holds P (on_ok (code_for e to free) go)
+  code_fine P e to free go fine le next =
+      then_holds (λ x. (x ≡ coded e to free) × Sound x.code × IsOperand x.at) P (code_for e to free) go
+      (unless_holds (λ x. (x ≡ coded e to free) × Sound x.code × IsOperand x.at) (nat_lt 8 (needed e to free)) Registers _ (λ so.
+      let x = coded_sound (length d.words) (length d.locks) e to free fine (ltb-false 8 (needed e to free) so) le in
+      (refl, x.0, x.1)))
+      (λ x h. next x h.0 h.1 h.2)
 
   -- an expression of the line
   expr_holds : {A : Type 0} (P : A → Type 0) (b : Begun) (ws : List Word) (go : Expr → Result A Kind) → ((e : Expr) → IsExpr (length d.words) e → Holds P (go e)) → Holds P (on_ok (expr_of (scope_of d b) ws) go)
@@ -115,49 +119,54 @@ module _ (d : Drafted) (values : AreValues d.constants) where
 
   let_fine : (b : Begun) (ws : List Word) → IsGoing (length d.words) (length d.locks) b → Holds (Goes (length d.words) (length d.locks) b) (let_line d b ws)
   let_fine b ws is =
-      first_holds (Goes (length d.words) (length d.locks) b) ws _ (λ w rest. whatever (Goes (length d.words) (length d.locks) b) (new_name d b.locals w) _ (λ name.
-      words_hold (Goes (length d.words) (length d.locks) b) (codes "=") rest _ (λ more. expr_holds (Goes (length d.words) (length d.locks) b) b more _ (λ e fine.
-      unless_holds (Goes (length d.words) (length d.locks) b) (nat_le 8 (length b.locals)) Registers _ (λ so.
-      let small : length b.locals < 8 = omega (arith, leb-false 8 (length b.locals) so) in
-      code_fine (Goes (length d.words) (length d.locks) b) b e (length b.locals) (λ x. on_ok (added b (Then x.code (put (length b.locals) x.at))) (λ now. Ok (record now { locals = now.locals ++ name ∷ [] }))) fine (omega arith) (λ code at.
-      let x = coded e (length b.locals) (length b.locals) in
-      then_holds (Fits b) (Goes (length d.words) (length d.locks) b) (added b (Then x.code (put (length b.locals) x.at))) _ (added_fine b (Then x.code (put (length b.locals) x.at)) is (code, put_sound _ _ (length b.locals) x.at small at)) (λ now h.
-      let more_locals : length (now.locals ++ name ∷ []) ≤ 8 = (let l = ap length h.1 in omega (arith, length-append now.locals (name ∷ []), l)) in
-      let after : Begun = record now { locals = now.locals ++ name ∷ [] } in
-      let out : Goes (length d.words) (length d.locks) b after = (record { name = h.0.name; args = h.0.args; locals = more_locals; blocks = h.0.blocks }, h.2) in out)))))))
+      then_holds (λ (r : Word × Tree). (length b.locals < 8) × Sound r.1) (Goes (length d.words) (length d.locks) b) (let_in d b ws) _ (in_fine ws) (λ r h.
+      then_holds (Fits b) (Goes (length d.words) (length d.locks) b) (added b r.1) _ (added_fine b r.1 is h.1) (λ now g.
+      let more_locals : length (now.locals ++ r.0 ∷ []) ≤ 8 = (let l = ap length g.1 in let few = h.0 in omega (arith, length-append now.locals (r.0 ∷ []), l)) in
+      let after : Begun = record now { locals = now.locals ++ r.0 ∷ [] } in
+      let out : Goes (length d.words) (length d.locks) b after = (record { name = g.0.name; args = g.0.args; locals = more_locals; blocks = g.0.blocks }, g.2) in out))
+    where
+      in_fine : (ws : List Word) → Holds (λ (r : Word × Tree). (length b.locals < 8) × Sound r.1) (let_in d b ws)
+      in_fine ws =
+          let P : Word × Tree → Type 0 = λ r. (length b.locals < 8) × Sound r.1 in
+          first_holds P ws _ (λ w rest. whatever P (new_name d b.locals w) _ (λ name.
+          words_hold P (codes "=") rest _ (λ more. expr_holds P b more _ (λ e fine.
+          unless_holds P (nat_le 8 (length b.locals)) Registers _ (λ so.
+          let small : length b.locals < 8 = omega (arith, leb-false 8 (length b.locals) so) in
+          code_fine P e (length b.locals) (length b.locals) (λ x. Ok (name, Then x.code (put (length b.locals) x.at))) fine (omega arith) (λ x is_x code at.
+          (small, (code, put_sound _ _ (length b.locals) x.at small at))))))))
 
-  set_fine : (b : Begun) (r : ℕ) (ws : List Word) → IsGoing (length d.words) (length d.locks) b → r < length b.locals → Holds (Fits b) (set_line d b r ws)
-  set_fine b r ws is within =
-      words_hold (Fits b) (codes "=") ws _ (λ more. expr_holds (Fits b) b more _ (λ e fine.
-      code_fine (Fits b) b e r (λ x. added b (Then x.code (put r x.at))) fine (omega arith) (λ code at.
-      let small : r < 8 = (let l = is.locals in omega arith) in
-      added_fine b (Then (coded e r (length b.locals)).code (put r (coded e r (length b.locals)).at)) is (code, put_sound _ _ r (coded e r (length b.locals)).at small at))))
+  set_fine : (b : Begun) (r : ℕ) (ws : List Word) → length b.locals ≤ 8 → r < length b.locals → Holds Sound (set_tree d b r ws)
+  set_fine b r ws few within =
+      words_hold Sound (codes "=") ws _ (λ more. expr_holds Sound b more _ (λ e fine.
+      code_fine Sound e r (length b.locals) (λ x. Ok (Then x.code (put r x.at))) fine (omega arith) (λ x is_x code at.
+      let small : r < 8 = omega arith in
+      (code, put_sound _ _ r x.at small at))))
 
-  both_fine : {A : Type 0} (P : A → Type 0) (b : Begun) (i e : Expr) (go : Coded → Coded → Result A Kind) → IsExpr (length d.words) i → IsExpr (length d.words) e → ((x y : Coded) → Sound x.code → IsOperand x.at → Sound y.code → IsOperand y.at → Holds P (go x y)) → Holds P (with_both b i e go)
+  both_fine : {A : Type 0} (P : A → Type 0) (b : Begun) (i e : Expr) (go : Coded → Coded → Result A Kind) → IsExpr (length d.words) i → IsExpr (length d.words) e → ((x y : Coded) → Sound x.code → IsOperand x.at → Sound y.code → IsOperand y.at → Holds P (go x y)) → Holds P (on_ok (both_of b i e) (λ (x, y). go x y))
   both_fine P b i e go fi fe next =
-      code_fine P b i (length b.locals) (λ x. unless (nat_lt 8 (needed e (past (length b.locals) x.at) (past (length b.locals) x.at))) Registers (go x (coded e (past (length b.locals) x.at) (past (length b.locals) x.at)))) fi (omega arith) (λ code at.
-      let f = past (length b.locals) (coded i (length b.locals) (length b.locals)).at in
-      unless_holds P (nat_lt 8 (needed e f f)) Registers _ (λ so.
-      let y = coded_sound (length d.words) (length d.locks) e f f fe (ltb-false 8 (needed e f f) so) (omega arith) in
-      next (coded i (length b.locals) (length b.locals)) (coded e f f) code at y.0 y.1))
+      then_holds (λ (z : Coded × Coded). Sound z.0.code × IsOperand z.0.at × Sound z.1.code × IsOperand z.1.at) P (both_of b i e) (λ (x, y). go x y)
+      (code_fine (λ (z : Coded × Coded). Sound z.0.code × IsOperand z.0.at × Sound z.1.code × IsOperand z.1.at) i (length b.locals) (length b.locals) _ fi (omega arith) (λ x is_x cx ax.
+      code_fine (λ (z : Coded × Coded). Sound z.0.code × IsOperand z.0.at × Sound z.1.code × IsOperand z.1.at) e (past (length b.locals) x.at) (past (length b.locals) x.at) _ fe (omega arith) (λ y is_y cy ay.
+      (cx, ax, cy, ay))))
+      (λ z h. next z.0 z.1 h.0 h.1 h.2 h.3)
 
-  cell_holds : {A : Type 0} (P : A → Type 0) (b : Begun) (w : Word) (ws : List Word) (go : (ℕ × Expr) × List Word → Result A Kind) → ((r : (ℕ × Expr) × List Word) → r.0.0 < length d.words → IsExpr (length d.words) r.0.1 → Holds P (go r)) → Holds P (on_ok (cell_with (inner_of (scope_of d b) ws) (scope_of d b) w ws) go)
-  cell_holds P b w ws go next = then_holds (λ (r : (ℕ × Expr) × List Word). (r.0.0 < length d.words) × IsExpr (length d.words) r.0.1) P (cell_with (inner_of (scope_of d b) ws) (scope_of d b) w ws) go (cell_fine (scope_of d b) values (inner_of (scope_of d b) ws) (expr_fine (scope_of d b) values (steps_for ws)) w ws) (λ r h. next r h.0 h.1)
+  cell_holds : {A : Type 0} (P : A → Type 0) (b : Begun) (w : Word) (ws : List Word) (go : (ℕ × Expr) × List Word → Result A Kind) → ((r : (ℕ × Expr) × List Word) → r.0.0 < length d.words → IsExpr (length d.words) r.0.1 → Holds P (go r)) → Holds P (on_ok (cell_in (scope_of d b) w ws) go)
+  cell_holds P b w ws go next = then_holds (λ (r : (ℕ × Expr) × List Word). (r.0.0 < length d.words) × IsExpr (length d.words) r.0.1) P (cell_in (scope_of d b) w ws) go (cell_fine (scope_of d b) values (inner_of (scope_of d b) ws) (expr_fine (scope_of d b) values (steps_for ws)) w ws) (λ r h. next r h.0 h.1)
 
-  store_fine : (b : Begun) (w : Word) (ws : List Word) → IsGoing (length d.words) (length d.locks) b → Holds (Fits b) (store_line d b w ws)
-  store_fine b w ws is =
-      cell_holds (Fits b) b w ws _ (λ r within fi. words_hold (Fits b) (codes "=") r.1 _ (λ more.
-      expr_holds (Fits b) b more _ (λ e fe. both_fine (Fits b) b r.0.1 e _ fi fe (λ x y cx ax cy ay.
-      added_fine b (Then x.code (Then y.code (Plain (action.Store r.0.0 x.at y.at)))) is (cx, (cy, (within, ax, ay)))))))
+  store_fine : (b : Begun) (w : Word) (ws : List Word) → Holds Sound (store_tree d b w ws)
+  store_fine b w ws =
+      cell_holds Sound b w ws _ (λ r within fi. words_hold Sound (codes "=") r.1 _ (λ more.
+      expr_holds Sound b more _ (λ e fe. both_fine Sound b r.0.1 e _ fi fe (λ x y cx ax cy ay.
+      (cx, (cy, (within, ax, ay)))))))
 
-  await_fine : (b : Begun) (ws : List Word) → IsGoing (length d.words) (length d.locks) b → Holds (Fits b) (await_line d b ws)
-  await_fine b ws is =
-      first_holds (Fits b) ws _ (λ w rest. unless_holds (Fits b) (not (is_free_name w)) Form _ (λ so.
-      cell_holds (Fits b) b w rest _ (λ r within fi. first_holds (Fits b) r.1 _ (λ by behind.
-      then_holds (λ act. (k : ℕ) (x y : Operand) → k < length d.words → IsOperand x → IsOperand y → IsInstr (length d.words) (length d.locks) 0 (instr_of (act k x y))) (Fits b) (or_fault Form (awaited by)) _ (or_holds _ Form (awaited by) (awaited_fine (length d.words) (length d.locks) by)) (λ act acts.
-      expr_holds (Fits b) b behind _ (λ e fe. unless_holds (Fits b) (not (is_still r.0.1 && is_still e)) Flow _ (λ still.
-      both_fine (Fits b) b r.0.1 e _ fi fe (λ x y cx ax cy ay.
-      added_fine b (Then x.code (Then y.code (Plain (act r.0.0 x.at y.at)))) is (cx, (cy, acts r.0.0 x.at y.at within ax ay))))))))))
+  await_fine : (b : Begun) (ws : List Word) → Holds Sound (await_tree d b ws)
+  await_fine b ws =
+      first_holds Sound ws _ (λ w rest. unless_holds Sound (not (is_free_name w)) Form _ (λ so.
+      cell_holds Sound b w rest _ (λ r within fi. first_holds Sound r.1 _ (λ by behind.
+      whatever Sound (or_fault Form (awaits_equal by)) _ (λ equal.
+      expr_holds Sound b behind _ (λ e fe. unless_holds Sound (not (is_still r.0.1 && is_still e)) Flow _ (λ still.
+      both_fine Sound b r.0.1 e _ fi fe (λ x y cx ax cy ay.
+      (cx, (cy, awaiting_fine (length d.words) (length d.locks) equal r.0.0 x.at y.at within ax ay))))))))))
 
   test_fine : (e : Expr) → IsExpr (length d.words) e → IsExpr (length d.words) (as_test e)
   test_fine (Number n) h = h
@@ -194,12 +203,12 @@ module _ (d : Drafted) (values : AreValues d.constants) where
   fits_goes a (Ok c) h = (h.0, h.2)
   fits_goes a (Err kind) h = tt
 
-  tested_fine : (b : Begun) (e : Expr) (go : Begun → Operand → Result Begun Kind) → IsGoing (length d.words) (length d.locks) b → IsExpr (length d.words) e → ((now : Begun) (v : Operand) → IsGoing (length d.words) (length d.locks) now → IsOperand v → Holds (Fits now) (go now v)) → Holds (Fits b) (tested b e go)
+  tested_fine : (b : Begun) (e : Expr) (go : Begun → Operand → Result Begun Kind) → IsGoing (length d.words) (length d.locks) b → IsExpr (length d.words) e → ((now : Begun) (v : Operand) → IsGoing (length d.words) (length d.locks) now → IsOperand v → Holds (Fits now) (go now v)) → Holds (Fits b) (on_ok (tested b e) (λ (now, v). go now v))
   tested_fine b e go is fine next =
-      code_fine (Fits b) b (as_test e) (length b.locals) (λ x. on_ok (added b x.code) (λ now. go now x.at)) (test_fine e fine) (omega arith) (λ code at.
-      let x = coded (as_test e) (length b.locals) (length b.locals) in
-      then_holds (Fits b) (Fits b) (added b x.code) _ (added_fine b x.code is code) (λ now h.
-      fits_weaker b now (go now x.at) h (next now x.at h.0 at)))
+      then_holds (λ (r : Begun × Operand). Fits b r.0 × IsOperand r.1) (Fits b) (tested b e) (λ (now, v). go now v)
+      (code_fine (λ (r : Begun × Operand). Fits b r.0 × IsOperand r.1) (as_test e) (length b.locals) (length b.locals) _ (test_fine e fine) (omega arith) (λ x is_x code at.
+      then_holds (Fits b) (λ (r : Begun × Operand). Fits b r.0 × IsOperand r.1) (added b x.code) _ (added_fine b x.code is code) (λ now h. (h, at))))
+      (λ r h. fits_weaker b r.0 (go r.0 r.1) h.0 (next r.0 r.1 h.0.0 h.1))
 
   brace_holds : (P : Begun → Type 0) (b : Begun) (ws : List Word) (go : Expr → Result Begun Kind) → ((e : Expr) → IsExpr (length d.words) e → Holds P (go e)) → Holds P (on_ok (expr_before_brace (scope_of d b) ws) go)
   brace_holds P b ws go next =
@@ -218,17 +227,16 @@ module _ (d : Drafted) (values : AreValues d.constants) where
   while_fine : (b : Begun) (ws : List Word) → IsGoing (length d.words) (length d.locks) b → Holds (Fits b) (while_line d b ws)
   while_fine b ws is =
       brace_holds (Fits b) b ws _ (λ e fine. then_holds (Fits b) (Fits b) (deeper b Turns false) _ (deeper_fine b Turns false is tt) (λ inner h.
-      fits_weaker b inner (tested inner e (λ now v. added now (BreakUnless v))) h (tested_fine inner e _ h.0 fine (λ now v going_now at. added_fine now (BreakUnless v) going_now at))))
+      fits_weaker b inner (on_ok (tested inner e) (λ (now, v). added now (BreakUnless v))) h (tested_fine inner e _ h.0 fine (λ now v going_now at. added_fine now (BreakUnless v) going_now at))))
 
-  leave_fine : (b : Begun) (t : Tree) (ws : List Word) → IsGoing (length d.words) (length d.locks) b → Sound t → Holds (Fits b) (leave_line b t ws)
-  leave_fine b t [] is fine = unless_holds (Fits b) (not (in_loop b)) Flow _ (λ so. added_fine b t is fine)
-  leave_fine b t (w ∷ ws) is fine = tt
+  leave_fine : (b : Begun) (t : Tree) (ws : List Word) → Sound t → Holds Sound (leave_tree b t ws)
+  leave_fine b t [] fine = unless_holds Sound (not (in_loop b.blocks)) Flow (Ok t) (λ so. fine)
+  leave_fine b t (w ∷ ws) fine = tt
 
-  return_fine : (b : Begun) (ws : List Word) → IsGoing (length d.words) (length d.locks) b → Holds (Fits b) (return_line d b ws)
-  return_fine b [] is = added_fine b (Plain (action.Return (Num 0))) is (lit< tt)
-  return_fine b (w ∷ ws) is =
-      expr_holds (Fits b) b (w ∷ ws) _ (λ e fine. code_fine (Fits b) b e (length b.locals) (λ x. added b (Then x.code (Plain (action.Return x.at)))) fine (omega arith) (λ code at.
-      added_fine b (Then (coded e (length b.locals) (length b.locals)).code (Plain (action.Return (coded e (length b.locals) (length b.locals)).at))) is (code, at)))
+  return_fine : (b : Begun) (ws : List Word) → Holds Sound (return_tree d b ws)
+  return_fine b [] = lit< tt
+  return_fine b (w ∷ ws) =
+      expr_holds Sound b (w ∷ ws) _ (λ e fine. code_fine Sound e (length b.locals) (length b.locals) (λ x. Ok (Then x.code (Plain (action.Return x.at)))) fine (omega arith) (λ x is_x code at. (code, at)))
 
   lock_there : (w : Word) → MatchOption (lock_in d w) (Unit {0}) (λ l. l < 0 + length d.locks)
   lock_there w = by_place (lock_in d w) refl
@@ -237,16 +245,23 @@ module _ (d : Drafted) (values : AreValues d.constants) where
       by_place None at = tt
       by_place (Some l) at = place_within 0 d.locks w l at
 
-  owner_fine : (b : Begun) (act : ℕ → Action) (ws : List Word) → IsGoing (length d.words) (length d.locks) b → ((l : ℕ) → l < length d.locks → IsInstr (length d.words) (length d.locks) 0 (instr_of (act l))) → Holds (Fits b) (owner_line d b act ws)
-  owner_fine b act ws is fine =
-      first_holds (Fits b) ws _ (λ w rest. whatever (Fits b) (all_read (w, rest)) _ (λ name.
-      then_holds (λ l. l < 0 + length d.locks) (Fits b) (or_fault Name (lock_in d name)) _ (or_holds (λ l. l < 0 + length d.locks) Name (lock_in d name) (lock_there name)) (λ l within.
-      added_fine b (Plain (act l)) is (fine l (omega arith)))))
+  owner_fine : (act : ℕ → Action) (ws : List Word) → ((l : ℕ) → l < length d.locks → IsInstr (length d.words) (length d.locks) 0 (instr_of (act l))) → Holds Sound (owner_tree d act ws)
+  owner_fine act ws fine =
+      then_holds (λ l. l < 0 + length d.locks) Sound (lock_number d ws) _
+      (first_holds (λ l. l < 0 + length d.locks) ws _ (λ w rest. whatever (λ l. l < 0 + length d.locks) (all_read (w, rest)) _ (λ name.
+      or_holds (λ l. l < 0 + length d.locks) Name (lock_in d name) (lock_there name))))
+      (λ l within. fine l (omega arith))
 
-  cas_line_fine : (b : Begun) (ws : List Word) → IsGoing (length d.words) (length d.locks) b → Holds (Fits b) (cas_line d b ws)
-  cas_line_fine b ws is =
-      expr_holds (Fits b) b (codes "cas" ∷ ws) _ (λ e fine. code_fine (Fits b) b e (length b.locals) (λ x. added b x.code) fine (omega arith) (λ code at.
-      added_fine b (coded e (length b.locals) (length b.locals)).code is code))
+  cas_line_fine : (b : Begun) (ws : List Word) → Holds Sound (cas_tree d b ws)
+  cas_line_fine b ws =
+      then_holds (IsExpr (length d.words)) Sound (cas_of (scope_of d b) ws) _
+      (then_holds (λ (r : Expr × List Word). IsExpr (length d.words) r.0) (IsExpr (length d.words)) (cas_with (inner_of (scope_of d b) ws) (scope_of d b) ws) all_read
+      (swap_fine (scope_of d b) values (inner_of (scope_of d b) ws) (expr_fine (scope_of d b) values (steps_for ws)) ws) (λ r h. all_fine r.0 r.1 h))
+      (λ e fine. code_fine Sound e (length b.locals) (length b.locals) (λ x. Ok x.code) fine (omega arith) (λ x is_x code at. code))
+    where
+      all_fine : (e : Expr) (ws : List Word) → IsExpr (length d.words) e → Holds (IsExpr (length d.words)) (all_read (e, ws))
+      all_fine e [] h = h
+      all_fine e (w ∷ ws) h = tt
 
   -- ---- `}`
 
@@ -256,36 +271,27 @@ module _ (d : Drafted) (values : AreValues d.constants) where
   closed_sound (Other v x) t is fine = (is.0, is.1, fine)
   closed_sound Turns t is fine = fine
 
-  pub closing_fine : (b : Begun) (t : Tree) (both : Bool) (blocks : List Block) → IsGoing (length d.words) (length d.locks) b → Sound t → AllByRecursion (IsBlock (length d.words) (length d.locks)) blocks → Holds (Fits b) (closing b t both blocks)
-  closing_fine b t both [] is fine all = tt
-  closing_fine b t both (block ∷ blocks) is fine all =
-      unless_holds (Fits b) (not (falls block.does)) Flow _ (λ so.
-      if_holds (Fits b) both (closing b (closed_by block.opening (Then block.does t)) block.chained blocks) _
-      (closing_fine b (closed_by block.opening (Then block.does t)) block.chained blocks is (closed_sound block.opening (Then block.does t) all.0.1 (all.0.0, fine)) all.1)
-      (record { name = is.name; args = is.args; locals = is.locals; blocks = (((all.0.0, fine), all.0.1), all.1) }, refl, refl))
+  pub closing_fine : (t : Tree) (both : Bool) (blocks : List Block) → Sound t → AreBlocks blocks → Holds AreBlocks (closing t both blocks)
+  closing_fine t both [] fine all = tt
+  closing_fine t both (block ∷ blocks) fine all =
+      then_holds (IsBlock (length d.words) (length d.locks)) AreBlocks (does_too block t) _ (too_fine block t all.0 fine) (λ now one.
+      if_holds AreBlocks both (closing (closed_by now.opening now.does) now.chained blocks) _
+      (closing_fine (closed_by now.opening now.does) now.chained blocks (closed_sound now.opening now.does one.1 one.0) all.1)
+      (one, all.1))
 
-  other_fine : (b : Begun) (block : Block) (blocks : List Block) → IsGoing (length d.words) (length d.locks) b → IsBlock (length d.words) (length d.locks) block → AllByRecursion (IsBlock (length d.words) (length d.locks)) blocks → Holds (Goes (length d.words) (length d.locks) b) (other_side b block blocks)
-  other_fine b block blocks is one all = by_opening block.opening one.1
-    where
-      fewer : (n : ℕ) (xs : List Word) → length xs ≤ 8 → length (take n xs) ≤ 8
-      fewer n xs few = omega (arith, length-take n xs)
+  fewer : (n : ℕ) (xs : List Word) → length xs ≤ 8 → length (take n xs) ≤ 8
+  fewer n xs few = omega (arith, length-take n xs)
 
-      by_opening : (opening : Opening) → IsOpening (length d.words) (length d.locks) opening → Holds (Goes (length d.words) (length d.locks) b) (elim opening [
-        | Test v ↦ Ok (record b {
-          locals = take block.locals b.locals;
-          blocks = opened (Other v block.does) block.locals block.chained ∷ blocks;
-        })
-        | _ ↦ Err Form
-      ])
-      by_opening Whole h = tt
-      by_opening (Other v t) h = tt
-      by_opening Turns h = tt
-      by_opening (Test v) h =
-          (record { name = is.name; args = is.args; locals = fewer block.locals b.locals is.locals; blocks = ((tt, (h, one.0)), all) }, refl)
+  other_fine : (b : Begun) (block : Block) (opening : Opening) → IsGoing (length d.words) (length d.locks) b → Sound block.does → IsOpening (length d.words) (length d.locks) opening → Holds (Goes (length d.words) (length d.locks) b) (other_side b block opening)
+  other_fine b block Whole is fine h = tt
+  other_fine b block (Other v t) is fine h = tt
+  other_fine b block Turns is fine h = tt
+  other_fine b block (Test v) is fine h =
+      (record { name = is.name; args = is.args; locals = fewer block.locals b.locals is.locals; blocks = ((tt, (h, fine)), is.blocks) }, refl)
 
-  pub else_fine : (b : Begun) (block : Block) (blocks : List Block) (ws : List Word) → IsGoing (length d.words) (length d.locks) b → IsBlock (length d.words) (length d.locks) block → AllByRecursion (IsBlock (length d.words) (length d.locks)) blocks → Holds (Goes (length d.words) (length d.locks) b) (else_line d b block blocks ws)
-  else_fine b block blocks ws is one all =
-      then_holds (Goes (length d.words) (length d.locks) b) (Goes (length d.words) (length d.locks) b) (other_side b block blocks) _ (other_fine b block blocks is one all) (λ other h.
+  pub else_fine : (b : Begun) (block : Block) (ws : List Word) → IsGoing (length d.words) (length d.locks) b → IsBlock (length d.words) (length d.locks) block → Holds (Goes (length d.words) (length d.locks) b) (else_line d b block ws)
+  else_fine b block ws is one =
+      then_holds (Goes (length d.words) (length d.locks) b) (Goes (length d.words) (length d.locks) b) (other_side b block block.opening) _ (other_fine b block block.opening is one.0 one.1) (λ other h.
       first_holds (Goes (length d.words) (length d.locks) b) ws _ (λ w rest.
       if_holds (Goes (length d.words) (length d.locks) b) (is_word w (codes "{")) _ _ (read_fine other rest h)
       (if_holds (Goes (length d.words) (length d.locks) b) (is_word w (codes "if")) _ _ (goes_weaker b other (if_line d other true rest) h.1 (fits_goes other (if_line d other true rest) (if_fine other true rest h.0))) tt)))
@@ -294,11 +300,38 @@ module _ (d : Drafted) (values : AreValues d.constants) where
       read_fine other [] h = h
       read_fine other (w ∷ ws) h = tt
 
+  pub end_fine : (b : Begun) (block : Block) → IsGoing (length d.words) (length d.locks) b → IsBlock (length d.words) (length d.locks) block → Holds (Goes (length d.words) (length d.locks) b) (end_block b block)
+  end_fine b block is one =
+      let outer : Begun = record b { locals = take block.locals b.locals } in
+      let going_outer : IsGoing (length d.words) (length d.locks) outer = record { name = is.name; args = is.args; locals = fewer block.locals b.locals is.locals; blocks = is.blocks } in
+      goes_weaker b outer (end_block b block) refl
+      (fits_goes outer (end_block b block) (blocks_fine outer (closing (closed_by block.opening block.does) block.chained b.blocks) going_outer
+      (closing_fine (closed_by block.opening block.does) block.chained b.blocks (closed_sound block.opening block.does one.1 one.0) is.blocks)))
+
   -- ---- statements
 
-  assign_fine : (b : Begun) (w : Word) (ws : List Word) (o : Option ℕ) → local_in b.locals w ≡ o → IsGoing (length d.words) (length d.locks) b → Holds (Fits b) (assign_line d b w ws o)
-  assign_fine b w ws None at is = store_fine b w ws is
-  assign_fine b w ws (Some r) at is = set_fine b r ws is (let l = place_within 0 b.locals w r at in omega arith)
+  assign_fine : (b : Begun) (w : Word) (ws : List Word) (o : Option ℕ) → local_in b.locals w ≡ o → length b.locals ≤ 8 → Holds Sound (assign_tree d b w ws o)
+  assign_fine b w ws None at few = store_fine b w ws
+  assign_fine b w ws (Some r) at few = set_fine b r ws few (let l = place_within 0 b.locals w r at in omega arith)
+
+  simple_fine : (b : Begun) (w : Word) (ws : List Word) → length b.locals ≤ 8 → Holds Sound (simple d b w ws)
+  simple_fine b w ws few =
+      if_holds Sound (is_word w (codes "break")) _ _ (leave_fine b Break ws tt)
+      (if_holds Sound (is_word w (codes "continue")) _ _ (leave_fine b Continue ws tt)
+      (if_holds Sound (is_word w (codes "return")) _ _ (return_fine b ws)
+      (if_holds Sound (is_word w (codes "lock")) _ _ (owner_fine action.Lock ws (λ l h. h))
+      (if_holds Sound (is_word w (codes "unlock")) _ _ (owner_fine action.Unlock ws (λ l h. h))
+      (if_holds Sound (is_word w (codes "await")) _ _ (await_fine b ws)
+      (if_holds Sound (is_word w (codes "cas")) _ _ (cas_line_fine b ws)
+      (if_holds Sound (not (is_free_name w)) (Err Form) _ tt
+      (assign_fine b w ws (local_in b.locals w) refl few))))))))
+
+  loop_fine : (b : Begun) (ws : List Word) → IsGoing (length d.words) (length d.locks) b → Holds (Fits b) (loop_line b ws)
+  loop_fine b ws is = words_hold (Fits b) (codes "{") ws _ (λ rest. by_rest rest)
+    where
+      by_rest : (rest : List Word) → Holds (Fits b) (on_ok (all_read (b, rest)) (λ here. deeper here Turns false))
+      by_rest [] = deeper_fine b Turns false is tt
+      by_rest (w ∷ ws) = tt
 
   pub statement_fine : (b : Begun) (w : Word) (ws : List Word) → IsGoing (length d.words) (length d.locks) b → Holds (Goes (length d.words) (length d.locks) b) (statement d b w ws)
   statement_fine b w ws is =
@@ -306,17 +339,5 @@ module _ (d : Drafted) (values : AreValues d.constants) where
       if_holds G (is_word w (codes "let")) _ _ (let_fine b ws is)
       (if_holds G (is_word w (codes "if")) _ _ (fits_goes b _ (if_fine b false ws is))
       (if_holds G (is_word w (codes "while")) _ _ (fits_goes b _ (then_holds (Fits b) (Fits b) (added b Nothing) _ (added_fine b Nothing is tt) (λ now h. fits_weaker b now _ h (while_fine now ws h.0))))
-      (if_holds G (is_word w (codes "loop")) _ _ (fits_goes b _ (then_holds (Fits b) (Fits b) (added b Nothing) _ (added_fine b Nothing is tt) (λ now h. words_hold (Fits b) (codes "{") ws _ (λ rest. loop_fine now rest h))))
-      (if_holds G (is_word w (codes "break")) _ _ (fits_goes b _ (leave_fine b Break ws is tt))
-      (if_holds G (is_word w (codes "continue")) _ _ (fits_goes b _ (leave_fine b Continue ws is tt))
-      (if_holds G (is_word w (codes "return")) _ _ (fits_goes b _ (return_fine b ws is))
-      (if_holds G (is_word w (codes "lock")) _ _ (fits_goes b _ (owner_fine b action.Lock ws is (λ l h. h)))
-      (if_holds G (is_word w (codes "unlock")) _ _ (fits_goes b _ (owner_fine b action.Unlock ws is (λ l h. h)))
-      (if_holds G (is_word w (codes "await")) _ _ (fits_goes b _ (await_fine b ws is))
-      (if_holds G (is_word w (codes "cas")) _ _ (fits_goes b _ (cas_line_fine b ws is))
-      (if_holds G (not (is_free_name w)) (Err Form) _ tt
-      (fits_goes b _ (assign_fine b w ws (local_in b.locals w) refl is)))))))))))))
-    where
-      loop_fine : (now : Begun) (rest : List Word) → Fits b now → Holds (Fits b) (on_ok (all_read (now, rest)) (λ here. deeper here Turns false))
-      loop_fine now [] h = fits_weaker b now _ h (deeper_fine now Turns false h.0 tt)
-      loop_fine now (w ∷ ws) h = tt
+      (if_holds G (is_word w (codes "loop")) _ _ (fits_goes b _ (then_holds (Fits b) (Fits b) (added b Nothing) _ (added_fine b Nothing is tt) (λ now h. fits_weaker b now _ h (loop_fine now ws h.0))))
+      (fits_goes b _ (tree_added b (simple d b w ws) is (simple_fine b w ws is.locals))))))

@@ -1,10 +1,10 @@
--- One step of reading an expression.
-use Rattle.std.proofs.Common.{◌≡◌, ℕ, suc, add-one, ◌+◌, List, ◌∷◌, refl}
-use Rattle.std.specs.Prelude.{nat_lt, if◌then◌else◌, Ok, Err}
+-- One step of reading an expression, and of names.
+use Rattle.std.proofs.Common.{◌≡◌, ℕ, add-one, ◌+◌, List, [], ◌∷◌, ◌++◌, refl}
+use Rattle.std.specs.Prelude.{codes, nat_lt, if◌then◌else◌, Ok, Err}
 use Rattle.lu_text.specs.Words.{Word}
 use Rattle.lu_source.specs.Expressions.{Expr}
 use Rattle.lu_source_text.specs.declared.fault.SourceFaultKind.TheVariants.{Form}
-use Rattle.lu_source_text.specs.Grammar.{Read', Scope, binding, expr_from, infix_from, infix_in, joined, most_behind, on_ok, unary_with, where_some}
+use Rattle.lu_source_text.specs.Grammar.{Drafted, Scope, is_word, names_from, new_name, binding, expr_from, infix_from, infix_in, joined, most_behind, on_ok, unary_with, where_some}
 
 pub expr_more : (n m : ℕ) (s : Scope) (least : ℕ) (ws : List Word) (w : Word) (rest : List Word) → n ≡ m + 1 → ws ≡ w ∷ rest
     → expr_from n s least ws ≡ on_ok (unary_with (expr_from m s) s w rest) (λ (left, more). infix_from m s least 5 left more)
@@ -17,3 +17,9 @@ pub infix_more : (n m : ℕ) (s : Scope) (least most : ℕ) (left : Expr) (ws : 
     else on_ok (expr_from m s (binding by + 1) rest)
     (λ (right, more). infix_from m s least (most_behind by) (joined by left right) more)))
 infix_more n m s least most left ws w rest e is = rw (e, is, add-one) refl
+
+pub names_more : (d : Drafted) (names : List Word) (ws : List Word) (w c : Word) (rest : List Word) → ws ≡ w ∷ c ∷ rest
+    → names_from d names ws ≡ on_ok (new_name d names w) (λ name.
+    if is_word c (codes ",") then names_from d (names ++ name ∷ []) rest
+    else (if is_word c (codes ")") then Ok (names ++ name ∷ [], rest) else Err Form))
+names_more d names ws w c rest is = rw is refl

@@ -1,5 +1,5 @@
 -- The text of a source: what each line says, or what is wrong with it.
-use Rattle.std.specs.Prelude.{ℕ, zero, suc, ◌+◌, ◌*◌, ◌==◌, nat_lt, nat_le, Bool, true, false, not, ◌&&◌, ◌||◌, if◌then◌else◌, List, [], ◌∷◌, ◌++◌, drop, length, map, take, slice_index, Option, Some, None, is_some, Result, Ok, Err, codes}
+use Rattle.std.specs.Prelude.{ℕ, zero, suc, ◌+◌, ◌==◌, nat_lt, nat_le, Bool, true, false, not, ◌&&◌, ◌||◌, if◌then◌else◌, List, [], ◌∷◌, ◌++◌, drop, length, map, take, slice_index, Option, Some, None, is_some, Result, Ok, Err, codes}
 use Rattle.std.specs.List.{list_all, list_any}
 use Rattle.std.specs.Option.{unwrap_or, option_map}
 use Rattle.std.specs.Str.{bytes_eq}
@@ -25,17 +25,7 @@ use Rattle.lu_source.specs.declared.expr.Operator.TheVariants.{Plus, Minus, Time
 use Rattle.lu_source.specs.Trees.{Operation, Program, Tree}
 use Rattle.lu_source.specs.Trees.Tree.{Nothing, Plain, Then, If, IfElse, Loop, Break, BreakUnless, Continue}
 
--- ---- kinds of fault
-
-abbrev pub code_of : Kind → List ℕ
-code_of Byte = codes "O1"
-code_of Missing = codes "O7"
-code_of Form = codes "O2"
-code_of Number' = codes "O4"
-code_of Limit = codes "O5"
-code_of Registers = codes "O8"
-code_of Flow = codes "O6"
-code_of Name = codes "O3"
+-- ---- values, or faults
 
 -- what is made of a value where there is one, else this
 abbrev pub where_some : {A B : Type 0} → Option A → B → (A → B) → B
@@ -129,10 +119,12 @@ pub record Block : Type 0 where
   pub locals : ℕ
   pub chained : Bool
 
--- an open operation, its locals by their registers, and its open blocks, the innermost first
+-- An open operation: how many lines it has so far, its locals by their registers, and its open
+-- blocks, the innermost first.
 pub record Begun : Type 0 where
   pub name : Word
   pub args : ℕ
+  pub lines : ℕ
   pub locals : List Word
   pub blocks : List Block
 
@@ -370,11 +362,19 @@ inner_of s ws = expr_from (steps_for ws) s
 abbrev pub expr_of : Scope → List Word → Result Expr Kind
 expr_of s ws = on_ok (expr_from (steps_for ws) s 1 ws) all_read
 
+-- `(CELL, OLD, NEW)` behind `cas`, which all the words are
+abbrev pub cas_of : Scope → List Word → Result Expr Kind
+cas_of s ws = on_ok (cas_with (inner_of s ws) s ws) all_read
+
 -- an expression in front of `{`, which is the last word
 abbrev pub expr_before_brace : Scope → List Word → Result Expr Kind
 expr_before_brace s ws =
     on_ok (expr_from (steps_for ws) s 1 ws) (λ (e, rest).
     on_ok (behind_word (codes "{") rest) (λ more. all_read (e, more)))
+
+-- a number, behind which no word is left
+abbrev pub last_number : List Constant → List Word → Result ℕ Kind
+last_number constants ws = on_ok (first_number constants ws) all_read
 
 -- a new name
 abbrev pub new_name : Drafted → List Word → Word → Result Word Kind
@@ -395,17 +395,16 @@ object_line d ws =
 -- `local L`, once, and before the first operation
 abbrev pub local_line : Drafted → List Word → Result Drafted Kind
 local_line d ws =
-    on_ok (first_number d.constants ws) (λ read. on_ok (all_read read) (λ most.
+    on_ok (last_number d.constants ws) (λ most.
     unless (is_some d.local || nat_lt 0 (length d.operations)) Form
-    (unless (nat_lt 16 most) Limit (Ok (record d { local = Some most })))))
+    (unless (nat_lt 16 most) Limit (Ok (record d { local = Some most }))))
 
 -- `const NAME = N`
 abbrev pub const_line : Drafted → List Word → Result Drafted Kind
 const_line d ws =
     on_first ws (λ w rest. on_ok (new_name d [] w) (λ name.
-    on_ok (behind_word (codes "=") rest) (λ more. on_ok (first_number d.constants more) (λ read.
-    on_ok (all_read read) (λ n.
-    Ok (record d { constants = d.constants ++ record { name = name; value = n } ∷ [] }))))))
+    on_ok (behind_word (codes "=") rest) (λ more. on_ok (last_number d.constants more) (λ n.
+    Ok (record d { constants = d.constants ++ record { name = name; value = n } ∷ [] })))))
 
 -- `[LEN]` or nothing
 abbrev pub len_in : Drafted → List Word → Read' (ℕ × Bool)
@@ -419,8 +418,7 @@ len_in d (w ∷ ws) =
 abbrev pub init_in : Drafted → List Word → Result ℕ Kind
 init_in d [] = Ok 0
 init_in d (w ∷ ws) =
-    on_ok (behind_word (codes "=") (w ∷ ws))
-    (λ rest. on_ok (first_number d.constants rest) all_read)
+    on_ok (behind_word (codes "=") (w ∷ ws)) (last_number d.constants)
 
 -- `word NAME`, `word NAME = INIT`, `word NAME[LEN]` or `word NAME[LEN] = INIT`
 abbrev pub word_line : Drafted → List Word → Result Drafted Kind
@@ -441,38 +439,50 @@ lock_line d ws =
     on_first ws (λ w rest. on_ok (new_name d [] w) (λ name. on_ok (all_read (name, rest)) (λ _.
     unless (nat_le 8 (length d.locks)) Limit (Ok (record d { locks = d.locks ++ name ∷ [] })))))
 
--- `)`, or names parted by commas and then `)`
-abbrev pub names_in : Drafted → List Word → List Word → Read' (List Word)
-names_in d names [] = Err Form
-names_in d names (w ∷ []) =
-    if is_word w (codes ")") && length names == 0 then Ok (names, []) else Err Form
-names_in d names (w ∷ c ∷ ws) =
-    if is_word w (codes ")") && length names == 0 then Ok (names, c ∷ ws)
-    else on_ok (new_name d names w) (λ name.
-    if is_word c (codes ",") then names_in d (names ++ name ∷ []) ws
+-- names parted by commas, and then `)`
+abbrev pub names_from : Drafted → List Word → List Word → Read' (List Word)
+names_from d names [] = Err Form
+names_from d names (w ∷ []) = Err Form
+names_from d names (w ∷ c ∷ ws) =
+    on_ok (new_name d names w) (λ name.
+    if is_word c (codes ",") then names_from d (names ++ name ∷ []) ws
     else (if is_word c (codes ")") then Ok (names ++ name ∷ [], ws) else Err Form))
+
+-- `)`, or names and then `)`
+abbrev pub names_in : Drafted → List Word → Read' (List Word)
+names_in d ws =
+    on_first ws (λ w rest.
+    if is_word w (codes ")") then Ok ([], rest) else names_from d [] ws)
 
 -- an open block
 abbrev pub opened : Opening → ℕ → Bool → Block
 opened opening locals chained =
     record { opening = opening; does = Nothing; locals = locals; chained = chained }
 
+-- an operation that does nothing yet: its arguments are its locals
+abbrev pub begun_as : Word → List Word → Begun
+begun_as name args = record {
+  name = name;
+  args = length args;
+  lines = 0;
+  locals = args;
+  blocks = opened Whole 0 false ∷ [];
+}
+
+-- what is wrong with one operation more, of this name and with these arguments
+abbrev pub op_fault : Drafted → Word → List Word → Option Kind
+op_fault d name args =
+    if is_long name || (nat_le 16 (length d.operations) || nat_lt 4 (length args)) then Some Limit
+    else (if is_operation d.operations name then Some Name else None)
+
 -- `op NAME(A, B) {`
 abbrev pub op_line : Drafted → List Word → Result Drafted Kind
 op_line d ws =
     on_first ws (λ name rest. unless (not (is_free_name name)) Form
-    (on_ok (behind_word (codes "(") rest) (λ inner. on_ok (names_in d [] inner) (λ (names, more).
+    (on_ok (behind_word (codes "(") rest) (λ inner. on_ok (names_in d inner) (λ (names, more).
     on_ok (behind_word (codes "{") more) (λ end. on_ok (all_read (names, end)) (λ args.
-    unless (is_long name || (nat_le 16 (length d.operations) || nat_lt 4 (length args))) Limit
-    (unless (is_operation d.operations name) Name
-    (Ok (record d {
-      begun = Some (record {
-        name = name;
-        args = length args;
-        locals = args;
-        blocks = opened Whole 0 false ∷ [];
-      });
-    })))))))))
+    where_some (op_fault d name args) (Ok (record d { begun = Some (begun_as name args) }))
+    Err))))))
 
 abbrev pub declaration : Drafted → Word → List Word → Result Drafted Kind
 declaration d w ws =
@@ -485,15 +495,23 @@ declaration d w ws =
 
 -- ---- statements
 
-abbrev pub added_to : Begun → Tree → List Block → Result Begun Kind
-added_to b t [] = Err Flow
-added_to b t (block ∷ blocks) =
-    unless (not (falls block.does)) Flow
-    (Ok (record b { blocks = record block { does = Then block.does t } ∷ blocks }))
+-- The block does this too. Behind what does not come to its end stands nothing.
+abbrev pub does_too : Block → Tree → Result Block Kind
+does_too block t =
+    unless (not (falls block.does)) Flow (Ok (record block { does = Then block.does t }))
 
--- the innermost block does this too; behind what does not come to its end stands nothing
+-- the innermost of these blocks does this too
+abbrev pub added_to : Tree → List Block → Result (List Block) Kind
+added_to t [] = Err Flow
+added_to t (block ∷ blocks) = on_ok (does_too block t) (λ now. Ok (now ∷ blocks))
+
+-- the operation with these open blocks
+abbrev pub with_blocks : Begun → Result (List Block) Kind → Result Begun Kind
+with_blocks b blocks = on_ok blocks (λ now. Ok (record b { blocks = now }))
+
+-- the innermost block does this too
 abbrev pub added : Begun → Tree → Result Begun Kind
-added b t = added_to b t b.blocks
+added b t = with_blocks b (added_to t b.blocks)
 
 -- one block more, with what opened it
 abbrev pub deeper : Begun → Opening → Bool → Result Begun Kind
@@ -501,49 +519,56 @@ deeper b opening chained =
     unless (nat_le 16 (length b.blocks)) Limit
     (Ok (record b { blocks = opened opening (length b.locals) chained ∷ b.blocks }))
 
--- an expression's code, where there are registers enough; what is free begins behind the locals
-abbrev pub with_code : {A : Type 0} → Begun → Expr → ℕ → (Coded → Result A Kind) → Result A Kind
-with_code b e to go =
-    unless (nat_lt 8 (needed e to (length b.locals))) Registers (go (coded e to (length b.locals)))
+-- an expression's code, where there are registers enough: its last value goes to `to`, and what it
+-- needs in between stands in registers from `free` on
+abbrev pub code_for : Expr → ℕ → ℕ → Result Coded Kind
+code_for e to free = unless (nat_lt 8 (needed e to free)) Registers (Ok (coded e to free))
 
--- the same, to what is free
-abbrev pub with_value : {A : Type 0} → Begun → Expr → (Coded → Result A Kind) → Result A Kind
-with_value b e go = with_code b e (length b.locals) go
+-- the same behind the locals
+abbrev pub value_of : Begun → Expr → Result Coded Kind
+value_of b e = code_for e (length b.locals) (length b.locals)
+
+-- the code of an index, and of a value behind it
+abbrev pub both_of : Begun → Expr → Expr → Result (Coded × Coded) Kind
+both_of b i e =
+    on_ok (value_of b i) (λ x.
+    on_ok (code_for e (past (length b.locals) x.at) (past (length b.locals) x.at)) (λ y.
+    Ok (x, y)))
 
 abbrev pub scope_of : Drafted → Begun → Scope
 scope_of d b = record { constants = d.constants; words = d.words; locals = b.locals }
 
--- `let NAME = EXPR`: a local more
-abbrev pub let_line : Drafted → Begun → List Word → Result Begun Kind
-let_line d b ws =
+-- the name of `let NAME = EXPR`, and what gives it its value
+abbrev pub let_in : Drafted → Begun → List Word → Result (Word × Tree) Kind
+let_in d b ws =
     on_first ws (λ w rest. on_ok (new_name d b.locals w) (λ name.
     on_ok (behind_word (codes "=") rest) (λ more. on_ok (expr_of (scope_of d b) more) (λ e.
     unless (nat_le 8 (length b.locals)) Registers
-    (with_value b e (λ x. on_ok (added b (Then x.code (put (length b.locals) x.at))) (λ now.
-    Ok (record now { locals = now.locals ++ name ∷ [] }))))))))
+    (on_ok (value_of b e) (λ x. Ok (name, Then x.code (put (length b.locals) x.at))))))))
+
+-- `let NAME = EXPR`: a local more
+abbrev pub let_line : Drafted → Begun → List Word → Result Begun Kind
+let_line d b ws =
+    on_ok (let_in d b ws) (λ (name, t). on_ok (added b t) (λ now.
+    Ok (record now { locals = now.locals ++ name ∷ [] })))
+
+-- a cell, and the words behind it
+abbrev pub cell_in : Scope → Word → List Word → Read' (ℕ × Expr)
+cell_in s w ws = cell_with (inner_of s ws) s w ws
 
 -- `NAME = EXPR` of a local
-abbrev pub set_line : Drafted → Begun → ℕ → List Word → Result Begun Kind
-set_line d b r ws =
+abbrev pub set_tree : Drafted → Begun → ℕ → List Word → Result Tree Kind
+set_tree d b r ws =
     on_ok (behind_word (codes "=") ws) (λ more. on_ok (expr_of (scope_of d b) more) (λ e.
-    with_code b e r (λ x. added b (Then x.code (put r x.at)))))
-
--- the code of an index and of a value behind it
-abbrev pub with_both : {A : Type 0} → Begun → Expr → Expr → (Coded → Coded → Result A Kind)
-    → Result A Kind
-with_both b i e go =
-    let free = length b.locals in
-    with_value b i (λ x.
-    unless (nat_lt 8 (needed e (past free x.at) (past free x.at))) Registers
-    (go x (coded e (past free x.at) (past free x.at))))
+    on_ok (code_for e r (length b.locals)) (λ x. Ok (Then x.code (put r x.at)))))
 
 -- `NAME = EXPR` and `NAME[EXPR] = EXPR` of a shared word
-abbrev pub store_line : Drafted → Begun → Word → List Word → Result Begun Kind
-store_line d b w ws =
-    on_ok (cell_with (inner_of (scope_of d b) ws) (scope_of d b) w ws) (λ (cell, rest).
+abbrev pub store_tree : Drafted → Begun → Word → List Word → Result Tree Kind
+store_tree d b w ws =
+    on_ok (cell_in (scope_of d b) w ws) (λ (cell, rest).
     on_ok (behind_word (codes "=") rest) (λ more. on_ok (expr_of (scope_of d b) more) (λ e.
-    with_both b cell.1 e (λ x y.
-    added b (Then x.code (Then y.code (Plain (action.Store cell.0 x.at y.at))))))))
+    on_ok (both_of b cell.1 e) (λ (x, y).
+    Ok (Then x.code (Then y.code (Plain (action.Store cell.0 x.at y.at))))))))
 
 -- neither reads what is shared nor changes it
 abbrev pub is_still : Expr → Bool
@@ -555,69 +580,89 @@ is_still (And a b) = is_still a && is_still b
 is_still (Or a b) = is_still a && is_still b
 is_still _ = false
 
--- the instruction by which a cell is awaited
-abbrev pub awaited : Word → Option (ℕ → Operand → Operand → Action)
-awaited w =
-    if is_word w (codes "==") then Some action.Await
-    else (if is_word w (codes "!=") then Some action.AwaitNot else None)
+-- whether a cell is awaited to be a value, or to be another
+abbrev pub awaits_equal : Word → Option Bool
+awaits_equal w =
+    if is_word w (codes "==") then Some true
+    else (if is_word w (codes "!=") then Some false else None)
+
+-- the action by which a cell is awaited
+abbrev pub awaiting : Bool → ℕ → Operand → Operand → Action
+awaiting equal w i v = if equal then action.Await w i v else action.AwaitNot w i v
 
 -- `await CELL == EXPR` and `await CELL != EXPR`
-abbrev pub await_line : Drafted → Begun → List Word → Result Begun Kind
-await_line d b ws =
+abbrev pub await_tree : Drafted → Begun → List Word → Result Tree Kind
+await_tree d b ws =
     on_first ws (λ w rest. unless (not (is_free_name w)) Form
-    (on_ok (cell_with (inner_of (scope_of d b) rest) (scope_of d b) w rest) (λ (cell, more).
-    on_first more (λ by behind. on_ok (or_fault Form (awaited by)) (λ act.
+    (on_ok (cell_in (scope_of d b) w rest) (λ (cell, more).
+    on_first more (λ by behind. on_ok (or_fault Form (awaits_equal by)) (λ equal.
     on_ok (expr_of (scope_of d b) behind) (λ e.
     unless (not (is_still cell.1 && is_still e)) Flow
-    (with_both b cell.1 e (λ x y.
-    added b (Then x.code (Then y.code (Plain (act cell.0 x.at y.at))))))))))))
-
--- a test by an expression, whose value alone counts
-abbrev pub tested : Begun → Expr → (Begun → Operand → Result Begun Kind) → Result Begun Kind
-tested b e go = with_value b (as_test e) (λ x. on_ok (added b x.code) (λ now. go now x.at))
-
--- `if EXPR {`
-abbrev pub if_line : Drafted → Begun → Bool → List Word → Result Begun Kind
-if_line d b chained ws =
-    on_ok (expr_before_brace (scope_of d b) ws) (λ e.
-    tested b e (λ now v. deeper now (Test v) chained))
-
--- `while EXPR {`
-abbrev pub while_line : Drafted → Begun → List Word → Result Begun Kind
-while_line d b ws =
-    on_ok (expr_before_brace (scope_of d b) ws) (λ e. on_ok (deeper b Turns false) (λ inside.
-    tested inside e (λ now v. added now (BreakUnless v))))
+    (on_ok (both_of b cell.1 e) (λ (x, y).
+    Ok (Then x.code (Then y.code (Plain (awaiting equal cell.0 x.at y.at))))))))))))
 
 abbrev pub is_loop : Opening → Bool
 is_loop Turns = true
 is_loop _ = false
 
 -- whether some open block is a loop
-abbrev pub in_loop : Begun → Bool
-in_loop b = list_any (λ block. is_loop block.opening) b.blocks
+abbrev pub in_loop : List Block → Bool
+in_loop [] = false
+in_loop (block ∷ blocks) = is_loop block.opening || in_loop blocks
 
 -- `break` or `continue`
-abbrev pub leave_line : Begun → Tree → List Word → Result Begun Kind
-leave_line b t ws =
-    on_ok (all_read (t, ws)) (λ what. unless (not (in_loop b)) Flow (added b what))
+abbrev pub leave_tree : Begun → Tree → List Word → Result Tree Kind
+leave_tree b t ws =
+    on_ok (all_read (t, ws)) (λ what. unless (not (in_loop b.blocks)) Flow (Ok what))
 
 -- `return` and `return EXPR`
-abbrev pub return_line : Drafted → Begun → List Word → Result Begun Kind
-return_line d b [] = added b (Plain (action.Return (Num 0)))
-return_line d b (w ∷ ws) =
+abbrev pub return_tree : Drafted → Begun → List Word → Result Tree Kind
+return_tree d b [] = Ok (Plain (action.Return (Num 0)))
+return_tree d b (w ∷ ws) =
     on_ok (expr_of (scope_of d b) (w ∷ ws)) (λ e.
-    with_value b e (λ x. added b (Then x.code (Plain (action.Return x.at)))))
+    on_ok (value_of b e) (λ x. Ok (Then x.code (Plain (action.Return x.at)))))
+
+-- the lock of `lock NAME` and `unlock NAME`
+abbrev pub lock_number : Drafted → List Word → Result ℕ Kind
+lock_number d ws =
+    on_first ws (λ w rest. on_ok (all_read (w, rest)) (λ name. or_fault Name (lock_in d name)))
 
 -- `lock NAME` and `unlock NAME`
-abbrev pub owner_line : Drafted → Begun → (ℕ → Action) → List Word → Result Begun Kind
-owner_line d b act ws =
-    on_first ws (λ w rest. on_ok (all_read (w, rest)) (λ name.
-    on_ok (or_fault Name (lock_in d name)) (λ l. added b (Plain (act l)))))
+abbrev pub owner_tree : Drafted → (ℕ → Action) → List Word → Result Tree Kind
+owner_tree d act ws = on_ok (lock_number d ws) (λ l. Ok (Plain (act l)))
 
 -- `cas(CELL, OLD, NEW)`, whose answer nobody asks for
-abbrev pub cas_line : Drafted → Begun → List Word → Result Begun Kind
-cas_line d b ws =
-    on_ok (expr_of (scope_of d b) (codes "cas" ∷ ws)) (λ e. with_value b e (λ x. added b x.code))
+abbrev pub cas_tree : Drafted → Begun → List Word → Result Tree Kind
+cas_tree d b ws =
+    on_ok (cas_of (scope_of d b) ws) (λ e. on_ok (value_of b e) (λ x. Ok x.code))
+
+-- `NAME = EXPR` and `NAME[EXPR] = EXPR`, where the name is of this local or of none
+abbrev pub assign_tree : Drafted → Begun → Word → List Word → Option ℕ → Result Tree Kind
+assign_tree d b w ws None = store_tree d b w ws
+assign_tree d b w ws (Some r) = set_tree d b r ws
+
+-- what is tested by an expression of which only counts whether it is 0
+abbrev pub tested : Begun → Expr → Result (Begun × Operand) Kind
+tested b e =
+    on_ok (value_of b (as_test e)) (λ x. on_ok (added b x.code) (λ now. Ok (now, x.at)))
+
+-- `if EXPR {`
+abbrev pub if_line : Drafted → Begun → Bool → List Word → Result Begun Kind
+if_line d b chained ws =
+    on_ok (expr_before_brace (scope_of d b) ws) (λ e.
+    on_ok (tested b e) (λ (now, v). deeper now (Test v) chained))
+
+-- `while EXPR {`
+abbrev pub while_line : Drafted → Begun → List Word → Result Begun Kind
+while_line d b ws =
+    on_ok (expr_before_brace (scope_of d b) ws) (λ e. on_ok (deeper b Turns false) (λ inside.
+    on_ok (tested inside e) (λ (now, v). added now (BreakUnless v))))
+
+-- `loop {`
+abbrev pub loop_line : Begun → List Word → Result Begun Kind
+loop_line b ws =
+    on_ok (behind_word (codes "{") ws) (λ rest. on_ok (all_read (b, rest)) (λ here.
+    deeper here Turns false))
 
 -- ---- `}`
 
@@ -630,21 +675,24 @@ closed_by Turns does = Loop does
 
 -- The block around does this too, which a block in it did; and it is closed itself where that block
 -- closes it.
-abbrev pub closing : Begun → Tree → Bool → List Block → Result Begun Kind
-closing b t both [] = Err Flow
-closing b t both (block ∷ blocks) =
-    unless (not (falls block.does)) Flow
-    (if both then closing b (closed_by block.opening (Then block.does t)) block.chained blocks
-    else Ok (record b { blocks = record block { does = Then block.does t } ∷ blocks }))
+abbrev pub closing : Tree → Bool → List Block → Result (List Block) Kind
+closing t both [] = Err Flow
+closing t both (block ∷ blocks) =
+    on_ok (does_too block t) (λ now.
+    if both then closing (closed_by now.opening now.does) now.chained blocks
+    else Ok (now ∷ blocks))
 
--- the operation is there, where it has at most 64 instructions
+-- the operation, where it has at most 64 instructions
+abbrev pub whole_of : Begun → Tree → Result Operation Kind
+whole_of b t =
+    unless (nat_lt 64 (length (operation_code t))) Limit
+    (Ok (record { name = b.name; args = b.args; body = t }))
+
+-- the operation is there
 abbrev pub whole_line : Drafted → Begun → Tree → Result Drafted Kind
 whole_line d b t =
-    unless (nat_lt 64 (length (operation_code t))) Limit
-    (Ok (record d {
-      operations = d.operations ++ record { name = b.name; args = b.args; body = t } ∷ [];
-      begun = None;
-    }))
+    on_ok (whole_of b t) (λ o.
+    Ok (record d { operations = d.operations ++ o ∷ []; begun = None }))
 
 -- the draft with this open operation
 abbrev pub going : Drafted → Begun → Drafted
@@ -653,83 +701,110 @@ going d b = record d { begun = Some b }
 abbrev pub keeps_going : Drafted → Result Begun Kind → Result Drafted Kind
 keeps_going d made = on_ok made (λ b. Ok (going d b))
 
--- `}`
-abbrev pub end_line : Drafted → Begun → Block → List Block → Result Drafted Kind
-end_line d b block blocks =
-    let outside = record b { locals = take block.locals b.locals } in
-    elim block.opening [
-      | Whole ↦ whole_line d b block.does
-      | _ ↦ keeps_going d (closing outside
-          (closed_by block.opening block.does) block.chained blocks)
-    ]
+-- a block ends, and with it its locals; the blocks around do what it did
+abbrev pub end_block : Begun → Block → Result Begun Kind
+end_block b block =
+    with_blocks (record b { locals = take block.locals b.locals })
+    (closing (closed_by block.opening block.does) block.chained b.blocks)
 
--- the other side of the test of a block, where it is one of a test
-abbrev pub other_side : Begun → Block → List Block → Result Begun Kind
-other_side b block blocks =
-    elim block.opening [
-      | Test v ↦ Ok (record b {
-        locals = take block.locals b.locals;
-        blocks = opened (Other v block.does) block.locals block.chained ∷ blocks;
-      })
-      | _ ↦ Err Form
-    ]
+abbrev pub is_whole : Opening → Bool
+is_whole Whole = true
+is_whole (Test v) = false
+is_whole (Other v t) = false
+is_whole Turns = false
+
+-- `}`
+abbrev pub end_line : Drafted → Begun → Block → Result Drafted Kind
+end_line d b block =
+    if is_whole block.opening then whole_line d b block.does
+    else keeps_going d (end_block b block)
+
+-- the other side of the test of a block, where it was opened by one
+abbrev pub other_side : Begun → Block → Opening → Result Begun Kind
+other_side b block (Test v) = Ok (record b {
+  locals = take block.locals b.locals;
+  blocks = opened (Other v block.does) block.locals block.chained ∷ b.blocks;
+})
+other_side b block Whole = Err Form
+other_side b block (Other v t) = Err Form
+other_side b block Turns = Err Form
 
 -- `} else {` and `} else if EXPR {`, behind `else`
-abbrev pub else_line : Drafted → Begun → Block → List Block → List Word → Result Begun Kind
-else_line d b block blocks ws =
-    on_ok (other_side b block blocks) (λ other.
+abbrev pub else_line : Drafted → Begun → Block → List Word → Result Begun Kind
+else_line d b block ws =
+    on_ok (other_side b block block.opening) (λ other.
     on_first ws (λ w rest.
     if is_word w (codes "{") then all_read (other, rest)
     else (if is_word w (codes "if") then if_line d other true rest else Err Form)))
 
+-- a line that begins with `}`, where this is the innermost block, and these words come behind
+abbrev pub closes : Drafted → Begun → Block → List Word → Result Drafted Kind
+closes d b block [] = end_line d b block
+closes d b block (w ∷ ws) =
+    if is_word w (codes "else") then keeps_going d (else_line d b block ws) else Err Form
+
 abbrev pub close_line : Drafted → Begun → List Word → List Block → Result Drafted Kind
 close_line d b ws [] = Err Flow
-close_line d b [] (block ∷ blocks) = end_line d b block blocks
-close_line d b (w ∷ ws) (block ∷ blocks) =
-    if is_word w (codes "else") then keeps_going d (else_line d b block blocks ws) else Err Form
+close_line d b ws (block ∷ blocks) = closes d (record b { blocks = blocks }) block ws
 
 -- ---- lines
 
-abbrev pub assign_line : Drafted → Begun → Word → List Word → Option ℕ → Result Begun Kind
-assign_line d b w ws None = store_line d b w ws
-assign_line d b w ws (Some r) = set_line d b r ws
+-- a statement that opens no block and declares no local
+abbrev pub simple : Drafted → Begun → Word → List Word → Result Tree Kind
+simple d b w ws =
+    if is_word w (codes "break") then leave_tree b Break ws
+    else (if is_word w (codes "continue") then leave_tree b Continue ws
+    else (if is_word w (codes "return") then return_tree d b ws
+    else (if is_word w (codes "lock") then owner_tree d action.Lock ws
+    else (if is_word w (codes "unlock") then owner_tree d action.Unlock ws
+    else (if is_word w (codes "await") then await_tree d b ws
+    else (if is_word w (codes "cas") then cas_tree d b ws
+    else (if not (is_free_name w) then Err Form
+    else assign_tree d b w ws (local_in b.locals w))))))))
 
 abbrev pub statement : Drafted → Begun → Word → List Word → Result Begun Kind
 statement d b w ws =
     if is_word w (codes "let") then let_line d b ws
     else (if is_word w (codes "if") then if_line d b false ws
     else (if is_word w (codes "while") then on_ok (added b Nothing) (λ now. while_line d now ws)
-    else (if is_word w (codes "loop") then on_ok (added b Nothing) (λ now.
-    on_ok (behind_word (codes "{") ws) (λ rest. on_ok (all_read (now, rest)) (λ here.
-    deeper here Turns false)))
-    else (if is_word w (codes "break") then leave_line b Break ws
-    else (if is_word w (codes "continue") then leave_line b Continue ws
-    else (if is_word w (codes "return") then return_line d b ws
-    else (if is_word w (codes "lock") then owner_line d b action.Lock ws
-    else (if is_word w (codes "unlock") then owner_line d b action.Unlock ws
-    else (if is_word w (codes "await") then await_line d b ws
-    else (if is_word w (codes "cas") then cas_line d b ws
-    else (if not (is_free_name w) then Err Form
-    else assign_line d b w ws (local_in b.locals w))))))))))))
+    else (if is_word w (codes "loop") then on_ok (added b Nothing) (λ now. loop_line now ws)
+    else on_ok (simple d b w ws) (added b))))
 
-abbrev pub inside : Drafted → Begun → Word → List Word → Result Drafted Kind
-inside d b w ws =
+abbrev pub line_inside : Drafted → Begun → Word → List Word → Result Drafted Kind
+line_inside d b w ws =
     if is_word w (codes "}") then close_line d b ws b.blocks
     else keeps_going d (statement d b w ws)
+
+-- a line of an operation, which has at most 256 of them
+abbrev pub inside : Drafted → Begun → Word → List Word → Result Drafted Kind
+inside d b w ws =
+    unless (nat_le 256 b.lines) Limit (line_inside d (record b { lines = b.lines + 1 }) w ws)
+
+-- what is declared, without the open operation
+abbrev pub aside : Drafted → Drafted
+aside d = record d { begun = None }
+
+-- the first line with words
+abbrev pub object_first : Drafted → Word → List Word → Result Drafted Kind
+object_first d w ws = if is_word w (codes "object") then object_line d ws else Err Missing
 
 -- The first line with words is the `object` line. Then come declarations, and in an open operation
 -- statements.
 abbrev pub by_state : Drafted → Option Word → Option Begun → Word → List Word → Result Drafted Kind
-by_state d None begun w ws = if is_word w (codes "object") then object_line d ws else Err Missing
+by_state d None begun w ws = object_first d w ws
 by_state d (Some name) None w ws = declaration d w ws
-by_state d (Some name) (Some b) w ws = inside d b w ws
+by_state d (Some name) (Some b) w ws = inside (aside d) b w ws
 
 abbrev pub by_words : Drafted → List Word → Result Drafted Kind
 by_words d [] = Ok d
 by_words d (w ∷ ws) = by_state d d.name d.begun w ws
 
+-- a line of words, of which there are at most 256
+abbrev pub short_line : Drafted → List Word → Result Drafted Kind
+short_line d ws = unless (nat_lt 256 (length ws)) Limit (by_words d ws)
+
 unfoldable pub line_of : Drafted → List ℕ → Result Drafted Kind
-line_of d line = if list_all is_allowed line then by_words d (source_words line) else Err Byte
+line_of d line = if list_all is_allowed line then short_line d (source_words line) else Err Byte
 
 abbrev pub program_of : Drafted → Option Word → Option Begun → Result Program Kind
 program_of d None begun = Err Missing

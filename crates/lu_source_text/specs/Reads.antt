@@ -1,16 +1,28 @@
 -- What the reader's functions return: what the definitions say, unless memory ran out.
-use Rattle.std.specs.Prelude.{◌≡◌, ℕ, List, Result, Ok, Err}
+use Rattle.std.specs.Prelude.{◌≡◌, ℕ, Bool, List, [], ◌∷◌, ◌++◌, Some, Result, Ok, Err, Vec}
 use denote.Ref.{Bor}
 use Rattle.lu_text.specs.Lines.{texts}
 use Rattle.lu_text.specs.Words.{Word}
 use Rattle.lu_source.specs.declared.expr.Expr.{Expr as Boxed}
 use Rattle.lu_source.specs.Evaluations.{expr_of}
-use Rattle.lu_source.specs.Expressions.{Expr}
+use Rattle.lu_source.specs.declared.expr.Evaluation.{Evaluation}
+use Rattle.lu_source.specs.declared.tree.Stmt.{Stmt}
+use Rattle.lu_source.specs.Expressions.{Coded, Expr}
+use Rattle.lu_source.specs.Shapes.{tree_of}
+use Rattle.lu_source.specs.declared.tree.Operation.{Operation as HeldOperation}
+use Rattle.lu_source.specs.Programs.{operation_of}
+use Rattle.lu_source.specs.Trees.{Operation, Tree}
 use Rattle.lu_source_text.specs.declared.fault.Refusal.{Refusal}
 use Rattle.lu_source_text.specs.declared.fault.Refusal.TheVariants.{Kind as OfKind, Memory}
 use Rattle.lu_source_text.specs.declared.scope.Cell.{Cell}
 use Rattle.lu_source_text.specs.declared.scope.Scope.{Scope as Lent}
-use Rattle.lu_source_text.specs.Grammar.{Kind, Scope}
+use Rattle.lu_source_text.specs.Drafts.{begun_of, block_of, drafted_of}
+use Rattle.lu_source_text.specs.declared.draft.Block.{Block as HeldBlock}
+use Rattle.lu_source_text.specs.declared.draft.Begun.{Begun as HeldBegun}
+use Rattle.lu_source_text.specs.declared.draft.Draft.{Draft}
+use Rattle.lu_source_text.specs.declared.draft.Constant.{Constant}
+use Rattle.lu_source_text.specs.declared.draft.Shared.{Shared}
+use Rattle.lu_source_text.specs.Grammar.{Begun, Block, Drafted, Kind, Scope, const_line, local_line, lock_line, object_line, op_line, word_line}
 
 -- a refusal is the fault, unless memory ran out
 abbrev pub IsRefused : {B : Type 0} → Refusal → Result B Kind → Type 0
@@ -30,6 +42,52 @@ Left = Bor (List (Bor Word))
 abbrev pub with_rest : {A B : Type 0} → (A → B) → A × Left → B × List Word
 with_rest seen read = (seen read.0, texts read.1.now)
 
+-- the value itself
+abbrev pub ReadsAlone : {A : Type 0} → Result A Refusal → Result A Kind → Type 0
+ReadsAlone returned meant = Reads (λ x. x) returned meant
+
+abbrev pub ReadsDraft : Result Draft Refusal → Result Drafted Kind → Type 0
+ReadsDraft returned meant = Reads drafted_of returned meant
+
+abbrev pub ReadsBegun : Result HeldBegun Refusal → Result Begun Kind → Type 0
+ReadsBegun returned meant = Reads begun_of returned meant
+
+abbrev pub ReadsValue : Result ℕ Refusal → Result ℕ Kind → Type 0
+ReadsValue returned meant = ReadsAlone returned meant
+
+-- a length, whether it is written, and the words behind it
+abbrev pub ReadsSize : Result (ℕ × Bool × Left) Refusal → Result ((ℕ × Bool) × List Word) Kind
+    → Type 0
+ReadsSize returned meant = Reads (λ (n, written, rest). ((n, written), texts rest.now)) returned meant
+
+abbrev pub ReadsNames : {Z : Type 0} → Result (Vec Word Z × Left) Refusal
+    → Result (List Word × List Word) Kind → Type 0
+ReadsNames returned meant = Reads (with_rest (λ names. names.items)) returned meant
+
+-- ---- what a line puts into the draft
+
+abbrev pub ReadsObject : Drafted → Result Word Refusal → List Word → Type 0
+ReadsObject d returned ws = Reads (λ name. record d { name = Some name }) returned (object_line d ws)
+
+abbrev pub ReadsLocal : Drafted → Result ℕ Refusal → List Word → Type 0
+ReadsLocal d returned ws = Reads (λ most. record d { local = Some most }) returned (local_line d ws)
+
+abbrev pub ReadsConstant : Drafted → Result Constant Refusal → List Word → Type 0
+ReadsConstant d returned ws =
+    Reads (λ one. record d { constants = d.constants ++ one ∷ [] }) returned (const_line d ws)
+
+abbrev pub ReadsShared : Drafted → Result Shared Refusal → List Word → Type 0
+ReadsShared d returned ws =
+    Reads (λ one. record d { words = d.words ++ one ∷ [] }) returned (word_line d ws)
+
+abbrev pub ReadsLock : Drafted → Result Word Refusal → List Word → Type 0
+ReadsLock d returned ws =
+    Reads (λ lock. record d { locks = d.locks ++ lock ∷ [] }) returned (lock_line d ws)
+
+abbrev pub ReadsOp : Drafted → Result HeldBegun Refusal → List Word → Type 0
+ReadsOp d returned ws =
+    Reads (λ b. record d { begun = Some (begun_of b) }) returned (op_line d ws)
+
 abbrev pub ReadsWords : Result Left Refusal → Result (List Word) Kind → Type 0
 ReadsWords returned meant = Reads (λ rest. texts rest.now) returned meant
 
@@ -45,6 +103,36 @@ cell_of cell = (cell.array, expr_of cell.index)
 
 abbrev pub ReadsCell : Result (Cell × Left) Refusal → Result ((ℕ × Expr) × List Word) Kind → Type 0
 ReadsCell returned meant = Reads (with_rest cell_of) returned meant
+
+-- ---- in an open operation
+
+-- an expression that all the words are
+abbrev pub ReadsWhole : Result Boxed Refusal → Result Expr Kind → Type 0
+ReadsWhole returned meant = Reads expr_of returned meant
+
+abbrev pub ReadsTree : Result Stmt Refusal → Result Tree Kind → Type 0
+ReadsTree returned meant = Reads tree_of returned meant
+
+-- code without the boxes of its statements
+abbrev pub coded_of : Evaluation → Coded
+coded_of x = record { code = tree_of x.code; at = x.at }
+
+abbrev pub ReadsCode : Result Evaluation Refusal → Result Coded Kind → Type 0
+ReadsCode returned meant = Reads coded_of returned meant
+
+abbrev pub ReadsBoth : Result (Evaluation × Evaluation) Refusal → Result (Coded × Coded) Kind
+    → Type 0
+ReadsBoth returned meant = Reads (λ (x, y). (coded_of x, coded_of y)) returned meant
+
+abbrev pub ReadsBlock : Result HeldBlock Refusal → Result Block Kind → Type 0
+ReadsBlock returned meant = Reads block_of returned meant
+
+-- a name, and a statement
+abbrev pub ReadsLet : Result (Word × Stmt) Refusal → Result (Word × Tree) Kind → Type 0
+ReadsLet returned meant = Reads (λ (name, t). (name, tree_of t)) returned meant
+
+abbrev pub ReadsOperation : Result HeldOperation Refusal → Result Operation Kind → Type 0
+ReadsOperation returned meant = Reads operation_of returned meant
 
 -- what names mean there
 abbrev pub meanings : Lent → Scope

@@ -165,7 +165,7 @@ fn name_with<'a>(
 
 /// `(CELL, OLD, NEW)` behind `cas`.
 #[cycle(expression)]
-fn cas_with<'a>(
+pub(crate) fn cas_with<'a>(
     alloc: Global,
     steps: usize,
     scope: Scope<'_>,

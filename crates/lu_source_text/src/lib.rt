@@ -1,18 +1,27 @@
 //! Texts of sources: what they say, line by line, and the components that they stand for.
 #![tactic(auto)]
 
+mod blocks;
+mod closing;
+mod declaration;
 mod draft;
 mod expression;
 mod fault;
 mod infix;
 mod laws;
 mod names;
+mod reading;
 mod scope;
+mod simple;
+mod source;
+mod statement;
 mod words;
 
 pub use draft::{Constant, Shared};
-pub use fault::{Refusal, SourceFaultKind};
+pub use fault::{SourceFault, SourceFaultKind};
 pub use infix::Infix;
 pub use laws::reader_laws;
 pub use names::{constant_from, number_of, place_from, shared_from};
+pub use reading::{compile_text, read_source};
+pub use source::Source;
 pub use words::source_words;

@@ -1,4 +1,4 @@
-use Rattle.std.proofs.Common.{rules, ◌≡◌, ◌+◌, ◌-◌, ◌∷◌, arith}
+use Rattle.std.proofs.Common.{rules, ◌≡◌, ◌-◌, ◌∷◌, arith}
 use Rattle.lu_text.specs.Lines.{texts}
 use Rattle.lu_source.specs.Evaluations.{expr_of}
 use Rattle.lu_source_text.specs.Reads.{meanings}

@@ -1,0 +1,112 @@
+//! The open blocks of an operation, the innermost last.
+
+ghost use Rattle.std.specs.Prelude.{◌≡◌, ◌<◌, ◌∷◌, [], length, nat_le, IfOk, IfSome, MatchOption, Ok};
+ghost use Rattle.lu_source.specs.Shapes.{tree_of};
+ghost use Rattle.lu_source_text.specs.Drafts.{block_of, blocks_of, opening_of};
+ghost use Rattle.lu_source_text.specs.Grammar as spec;
+ghost use Rattle.lu_source_text.specs.Reads.{Reads, ReadsBlock, ReadsTree};
+
+use crate::draft::{Block, Opening};
+use crate::fault::{Refusal, SourceFaultKind};
+use lu_source::{Stmt, falls, then};
+use std::alloc::{AllocError, Global};
+
+/// One block more, inside of the others.
+pub(crate) fn push_block(blocks: &mut Vec<Block>, block: Block) -> Result<(), AllocError>
+    ensures { IfOk result
+        (λ _. blocks_of blocks.new.items ≡ block_of block ∷ blocks_of blocks.old.items) }
+{
+    blocks.push(block)?;
+    Ok(())
+}
+
+/// The innermost block, which is taken out.
+pub(crate) fn pop_block(blocks: &mut Vec<Block>) -> Option<Block>
+    ensures taken { MatchOption result (blocks_of blocks.old.items ≡ [])
+        (λ block. blocks_of blocks.old.items ≡ block_of block ∷ blocks_of blocks.new.items) }
+    ensures fewer { IfSome result (λ _. length blocks.new.items < length blocks.old.items) }
+{
+    blocks.pop()
+}
+
+/// Whether there are 16 blocks, the most that there may be.
+pub(crate) fn are_deep(blocks: &[Block]) -> bool
+    ensures { result ≡ nat_le 16 (length (blocks_of blocks.now)) }
+{
+    blocks.len() >= 16
+}
+
+/// The block does this too.
+fn does_too(alloc: Global, block: Block, stmt: Stmt) -> Result<Block, Refusal>
+    ensures { ReadsBlock result (spec.does_too (block_of block) (tree_of stmt)) }
+{
+    if !falls(&block.does) {
+        return Err(Refusal::Kind(SourceFaultKind::Flow));
+    }
+    let Block {
+        opening,
+        does,
+        locals,
+        chained,
+    } = block;
+    let does = then(alloc, does, stmt)?;
+    Ok(Block {
+        opening,
+        does,
+        locals,
+        chained,
+    })
+}
+
+/// The innermost of the blocks does this too.
+pub(crate) fn add_to(alloc: Global, blocks: &mut Vec<Block>, stmt: Stmt) -> Result<(), Refusal>
+    ensures { Reads (λ _. blocks_of blocks.new.items) result
+        (spec.added_to (tree_of stmt) (blocks_of blocks.old.items)) }
+{
+    let Some(block) = pop_block(blocks) else {
+        return Err(Refusal::Kind(SourceFaultKind::Flow));
+    };
+    let block = does_too(alloc, block, stmt)?;
+    push_block(blocks, block)?;
+    Ok(())
+}
+
+/// What a block does that a `}` closes, behind which nothing else stands.
+pub(crate) fn closed_by(alloc: Global, opening: Opening, does: Stmt) -> Result<Stmt, Refusal>
+    ensures { ReadsTree result (Ok (spec.closed_by (opening_of opening) (tree_of does))) }
+{
+    match opening {
+        Opening::Whole => Ok(does),
+        Opening::Test(value) => Ok(Stmt::If(value, Box::new(alloc, does)?)),
+        Opening::Other(value, first) => {
+            let first = Box::new(alloc, first)?;
+            Ok(Stmt::IfElse(value, first, Box::new(alloc, does)?))
+        }
+        Opening::Turns => Ok(Stmt::Loop(Box::new(alloc, does)?)),
+    }
+}
+
+/// The block around does this too, which a block in it did; and it is closed itself where that
+/// block closes it.
+pub(crate) fn close_into(
+    alloc: Global,
+    blocks: &mut Vec<Block>,
+    stmt: Stmt,
+    both: bool,
+) -> Result<(), Refusal>
+    ensures { Reads (λ _. blocks_of blocks.new.items) result
+        (spec.closing (tree_of stmt) both (blocks_of blocks.old.items)) }
+{
+    let Some(block) = pop_block(blocks) else {
+        return Err(Refusal::Kind(SourceFaultKind::Flow));
+    };
+    let now = does_too(alloc, block, stmt)?;
+    if both {
+        let chained = now.chained;
+        let whole = closed_by(alloc, now.opening, now.does)?;
+        close_into(alloc, blocks, whole, chained)
+    } else {
+        push_block(blocks, now)?;
+        Ok(())
+    }
+}

@@ -1,0 +1,170 @@
+//! Reading of the lines that close a block.
+
+ghost use Rattle.std.specs.Prelude.{◌≡◌, length, nat_lt};
+ghost use Rattle.lu_source.specs.Code.{operation_code};
+ghost use Rattle.lu_text.specs.Lines.{texts};
+ghost use Rattle.lu_source.specs.Shapes.{tree_of};
+ghost use Rattle.lu_source_text.specs.Drafts.{begun_of, block_of, drafted_of, opening_of};
+ghost use Rattle.lu_source_text.specs.Grammar as spec;
+ghost use Rattle.lu_source_text.specs.Reads.{Reads, ReadsDraft, ReadsOperation};
+
+use crate::blocks::{close_into, closed_by, pop_block, push_block};
+use crate::declaration::open_block;
+use crate::draft::{Begun, Block, Draft, Opening};
+use crate::fault::{Refusal, SourceFaultKind};
+use crate::statement::if_line;
+use lu_source::{Operation, Stmt, comes_out, size};
+use std::alloc::Global;
+
+/// Whether the statement has more than 64 instructions as an operation.
+fn is_too_long(body: &Stmt) -> bool
+    ensures { result ≡ nat_lt 64 (length (operation_code (tree_of body.now))) }
+{
+    let len = size(body);
+    if comes_out(body) { len >= 64 } else { len > 64 }
+}
+
+/// The operation, where it has at most 64 instructions.
+fn whole_of(begun: Begun, body: Stmt) -> Result<Operation, Refusal>
+    ensures { ReadsOperation result (spec.whole_of (begun_of begun) (tree_of body)) }
+{
+    if is_too_long(&body) {
+        return Err(Refusal::Kind(SourceFaultKind::Limit));
+    }
+    Ok(Operation {
+        name: begun.name,
+        args: begun.args,
+        body,
+    })
+}
+
+/// The operation is there.
+fn whole_line(mut draft: Draft, begun: Begun, body: Stmt) -> Result<Draft, Refusal>
+    ensures { ReadsDraft result
+        (spec.whole_line (drafted_of draft) (begun_of begun) (tree_of body)) }
+{
+    let operation = whole_of(begun, body)?;
+    draft.operations.push(operation)?;
+    draft.begun = None;
+    Ok(draft)
+}
+
+/// A block ends, and with it its locals; the blocks around do what it did.
+fn end_block(alloc: Global, begun: &mut Begun, block: Block) -> Result<(), Refusal>
+    ensures { Reads (λ _. begun_of begun.new) result
+        (spec.end_block (begun_of begun.old) (block_of block)) }
+{
+    let chained = block.chained;
+    begun.locals.truncate(block.locals);
+    let whole = closed_by(alloc, block.opening, block.does)?;
+    close_into(alloc, &mut begun.blocks, whole, chained)
+}
+
+/// The draft with this open operation.
+fn going(mut draft: Draft, begun: Begun) -> Draft
+    ensures { drafted_of result ≡ spec.going (drafted_of draft) (begun_of begun) }
+{
+    draft.begun = Some(begun);
+    draft
+}
+
+fn is_whole(opening: &Opening) -> bool
+    ensures { result ≡ spec.is_whole (opening_of opening.now) }
+{
+    matches!(opening, Opening::Whole)
+}
+
+/// `}`
+fn end_line(alloc: Global, draft: Draft, mut begun: Begun, block: Block) -> Result<Draft, Refusal>
+    ensures { ReadsDraft result
+        (spec.end_line (drafted_of draft) (begun_of begun) (block_of block)) }
+{
+    if is_whole(&block.opening) {
+        whole_line(draft, begun, block.does)
+    } else {
+        end_block(alloc, &mut begun, block)?;
+        Ok(going(draft, begun))
+    }
+}
+
+/// The other side of the test of a block, where it was opened by one.
+fn other_side(begun: &mut Begun, block: Block) -> Result<(), Refusal>
+    ensures { Reads (λ _. begun_of begun.new) result
+        (spec.other_side (begun_of begun.old) (block_of block) (block_of block).opening) }
+{
+    let Opening::Test(value) = block.opening else {
+        return Err(Refusal::Kind(SourceFaultKind::Form));
+    };
+    begun.locals.truncate(block.locals);
+    let other = Opening::Other(value, block.does);
+    push_block(
+        &mut begun.blocks,
+        open_block(other, block.locals, block.chained),
+    )?;
+    Ok(())
+}
+
+/// `} else {` and `} else if EXPR {`, behind `else`.
+fn else_line(
+    alloc: Global,
+    draft: &Draft,
+    begun: &mut Begun,
+    block: Block,
+    words: &[&[u8]],
+) -> Result<(), Refusal>
+    ensures { Reads (λ _. begun_of begun.new) result (spec.else_line
+        (drafted_of draft.now) (begun_of begun.old) (block_of block) (texts words.now)) }
+{
+    other_side(begun, block)?;
+    let Some((word, rest)) = words.split_first() else {
+        return Err(Refusal::Kind(SourceFaultKind::Form));
+    };
+    if *word == b"{".as_slice() {
+        match rest.split_first() {
+            None => Ok(()),
+            Some(_) => Err(Refusal::Kind(SourceFaultKind::Form)),
+        }
+    } else if *word == b"if".as_slice() {
+        if_line(alloc, draft, begun, true, rest)
+    } else {
+        Err(Refusal::Kind(SourceFaultKind::Form))
+    }
+}
+
+/// A line that begins with `}`, where this is the innermost block, and these words come behind.
+fn closes(
+    alloc: Global,
+    draft: Draft,
+    mut begun: Begun,
+    block: Block,
+    words: &[&[u8]],
+) -> Result<Draft, Refusal>
+    ensures { ReadsDraft result (spec.closes
+        (drafted_of draft) (begun_of begun) (block_of block) (texts words.now)) }
+{
+    let Some((word, rest)) = words.split_first() else {
+        return end_line(alloc, draft, begun, block);
+    };
+    if *word == b"else".as_slice() {
+        else_line(alloc, &draft, &mut begun, block, rest)?;
+        Ok(going(draft, begun))
+    } else {
+        Err(Refusal::Kind(SourceFaultKind::Form))
+    }
+}
+
+/// A line that begins with `}`, and the words behind it.
+pub(crate) fn close_line(
+    alloc: Global,
+    draft: Draft,
+    mut begun: Begun,
+    words: &[&[u8]],
+) -> Result<Draft, Refusal>
+    ensures { ReadsDraft result (spec.close_line
+        (drafted_of draft) (begun_of begun) (texts words.now) (begun_of begun).blocks) }
+{
+    match pop_block(&mut begun.blocks) {
+        None => Err(Refusal::Kind(SourceFaultKind::Flow)),
+        Some(block) => closes(alloc, draft, begun, block, words),
+    }
+}

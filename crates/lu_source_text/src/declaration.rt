@@ -1,0 +1,366 @@
+//! Reading of declarations.
+
+ghost use Rattle.std.specs.Prelude.{◌≡◌, ◌<◌, ◌≤◌, ◌^◌, length, map, IfOk, Ok};
+ghost use Rattle.lu_text.specs.Names.{IsName};
+ghost use Rattle.lu_source_text.specs.Drafts.{block_of, drafted_of, opening_of};
+ghost use Rattle.lu_text.specs.Lines.{texts};
+ghost use Rattle.lu_source.specs.Programs.{operation_of};
+ghost use Rattle.lu_source_text.specs.Grammar as spec;
+ghost use Rattle.lu_source_text.specs.Reads.{ReadsAlone, ReadsBegun, ReadsConstant, ReadsDraft, ReadsLocal, ReadsLock, ReadsNames, ReadsObject, ReadsOp, ReadsShared, ReadsSize, ReadsValue};
+
+use crate::draft::{Begun, Block, Constant, Draft, Opening, Shared};
+use crate::expression::{behind_word, first_number};
+use crate::fault::{Refusal, SourceFaultKind};
+use crate::names::{constant_from, is_free_name, place_from, shared_from};
+use lu_component::Array;
+use lu_source::{Operation, Stmt};
+use lu_text::{Name, is_long};
+use std::alloc::Global;
+
+/// Whether the name means something already.
+fn is_taken(draft: &Draft, locals: &[Name], word: &[u8]) -> bool
+    ensures { result ≡ spec.is_taken (drafted_of draft.now) locals.now word.now }
+{
+    constant_from(&draft.constants, word).is_some()
+        || shared_from(0, &draft.words, word).is_some()
+        || place_from(0, &draft.locks, word).is_some()
+        || place_from(0, locals, word).is_some()
+}
+
+/// A new name.
+pub(crate) fn new_name(
+    alloc: Global,
+    draft: &Draft,
+    locals: &[Name],
+    word: &[u8],
+) -> Result<Name, Refusal>
+    ensures { ReadsAlone result (spec.new_name (drafted_of draft.now) locals.now word.now) }
+{
+    if !is_free_name(word) {
+        return Err(Refusal::Kind(SourceFaultKind::Form));
+    }
+    if is_long(word) {
+        return Err(Refusal::Kind(SourceFaultKind::Limit));
+    }
+    if is_taken(draft, locals, word) {
+        return Err(Refusal::Kind(SourceFaultKind::Name));
+    }
+    Ok(Name::new(alloc, word)?)
+}
+
+/// The name of `object NAME`.
+fn object_in(alloc: Global, draft: &Draft, words: &[&[u8]]) -> Result<Name, Refusal>
+    ensures { ReadsObject (drafted_of draft.now) result (texts words.now) }
+{
+    let Some((word, rest)) = words.split_first() else {
+        return Err(Refusal::Kind(SourceFaultKind::Form));
+    };
+    if let Some(_) = rest.split_first() {
+        return Err(Refusal::Kind(SourceFaultKind::Form));
+    }
+    if !is_free_name(word) {
+        return Err(Refusal::Kind(SourceFaultKind::Form));
+    }
+    if is_long(word) {
+        return Err(Refusal::Kind(SourceFaultKind::Limit));
+    }
+    Ok(Name::new(alloc, word)?)
+}
+
+/// `object NAME`
+pub(crate) fn object_line(
+    alloc: Global,
+    mut draft: Draft,
+    words: &[&[u8]],
+) -> Result<Draft, Refusal>
+    ensures { ReadsDraft result (spec.object_line (drafted_of draft) (texts words.now)) }
+{
+    draft.name = Some(object_in(alloc, &draft, words)?);
+    Ok(draft)
+}
+
+/// A number, behind which no word is left.
+fn last_number(constants: &[Constant], words: &[&[u8]]) -> Result<u32, Refusal>
+    ensures { ReadsValue result (spec.last_number constants.now (texts words.now)) }
+{
+    let (number, rest) = first_number(constants, words)?;
+    if let Some(_) = rest.split_first() {
+        return Err(Refusal::Kind(SourceFaultKind::Form));
+    }
+    Ok(number)
+}
+
+/// The number of `local L`.
+fn local_in(draft: &Draft, words: &[&[u8]]) -> Result<u8, Refusal>
+    ensures { ReadsLocal (drafted_of draft.now) result (texts words.now) }
+{
+    let most = last_number(&draft.constants, words)?;
+    if draft.local.is_some() || !draft.operations.is_empty() {
+        return Err(Refusal::Kind(SourceFaultKind::Form));
+    }
+    if most > 16 {
+        return Err(Refusal::Kind(SourceFaultKind::Limit));
+    }
+    Ok(most as u8)
+}
+
+/// `local L`
+fn local_line(mut draft: Draft, words: &[&[u8]]) -> Result<Draft, Refusal>
+    ensures { ReadsDraft result (spec.local_line (drafted_of draft) (texts words.now)) }
+{
+    draft.local = Some(local_in(&draft, words)?);
+    Ok(draft)
+}
+
+/// The constant of `const NAME = N`.
+fn constant_in(alloc: Global, draft: &Draft, words: &[&[u8]]) -> Result<Constant, Refusal>
+    ensures { ReadsConstant (drafted_of draft.now) result (texts words.now) }
+{
+    let Some((word, rest)) = words.split_first() else {
+        return Err(Refusal::Kind(SourceFaultKind::Form));
+    };
+    let name = new_name(alloc, draft, &[], word)?;
+    let more = behind_word(b"=".as_slice(), rest)?;
+    let value = last_number(&draft.constants, more)?;
+    Ok(Constant { name, value })
+}
+
+/// `const NAME = N`
+fn const_line(alloc: Global, mut draft: Draft, words: &[&[u8]]) -> Result<Draft, Refusal>
+    ensures { ReadsDraft result (spec.const_line (drafted_of draft) (texts words.now)) }
+{
+    let constant = constant_in(alloc, &draft, words)?;
+    draft.constants.push(constant)?;
+    Ok(draft)
+}
+
+/// `[LEN]` or nothing: the length, whether it is written, and the words behind it.
+fn len_in<'a>(draft: &Draft, words: &'a [&'a [u8]]) -> Result<(u32, bool, &'a [&'a [u8]]), Refusal>
+    ensures { ReadsSize result (spec.len_in (drafted_of draft.now) (texts words.now)) }
+{
+    let Some((word, rest)) = words.split_first() else {
+        return Ok((1, false, words));
+    };
+    if *word != b"[".as_slice() {
+        return Ok((1, false, words));
+    }
+    let (len, more) = first_number(&draft.constants, rest)?;
+    let end = behind_word(b"]".as_slice(), more)?;
+    Ok((len, true, end))
+}
+
+/// `= INIT` or nothing.
+fn init_in(draft: &Draft, words: &[&[u8]]) -> Result<u32, Refusal>
+    ensures { ReadsValue result (spec.init_in (drafted_of draft.now) (texts words.now)) }
+{
+    if words.split_first().is_none() {
+        return Ok(0);
+    }
+    let rest = behind_word(b"=".as_slice(), words)?;
+    last_number(&draft.constants, rest)
+}
+
+/// The shared word of a line `word`.
+fn shared_in(alloc: Global, draft: &Draft, words: &[&[u8]]) -> Result<Shared, Refusal>
+    ensures shared { ReadsShared (drafted_of draft.now) result (texts words.now) }
+    ensures room { IfOk result (λ _. length draft.now.words.items < 16) }
+{
+    let Some((word, rest)) = words.split_first() else {
+        return Err(Refusal::Kind(SourceFaultKind::Form));
+    };
+    let name = new_name(alloc, draft, &[], word)?;
+    let (len, indexed, more) = len_in(draft, rest)?;
+    let init = init_in(draft, more)?;
+    if draft.words.len() >= 16 || len < 1 || len > 64 {
+        return Err(Refusal::Kind(SourceFaultKind::Limit));
+    }
+    let len = len as u8;
+    let array = Array { name, len, init };
+    Ok(Shared { array, indexed })
+}
+
+/// `word NAME`, `word NAME = INIT`, `word NAME[LEN]` or `word NAME[LEN] = INIT`
+fn word_line(alloc: Global, mut draft: Draft, words: &[&[u8]]) -> Result<Draft, Refusal>
+    ensures { ReadsDraft result (spec.word_line (drafted_of draft) (texts words.now)) }
+{
+    let shared = shared_in(alloc, &draft, words)?;
+    draft.words.push(shared)?;
+    Ok(draft)
+}
+
+/// The name of `lock NAME`, outside an operation.
+fn lock_in(alloc: Global, draft: &Draft, words: &[&[u8]]) -> Result<Name, Refusal>
+    ensures lock { ReadsLock (drafted_of draft.now) result (texts words.now) }
+    ensures room { IfOk result (λ _. length draft.now.locks.items < 8) }
+{
+    let Some((word, rest)) = words.split_first() else {
+        return Err(Refusal::Kind(SourceFaultKind::Form));
+    };
+    let name = new_name(alloc, draft, &[], word)?;
+    if let Some(_) = rest.split_first() {
+        return Err(Refusal::Kind(SourceFaultKind::Form));
+    }
+    if draft.locks.len() >= 8 {
+        return Err(Refusal::Kind(SourceFaultKind::Limit));
+    }
+    Ok(name)
+}
+
+/// `lock NAME`, outside an operation
+fn lock_line(alloc: Global, mut draft: Draft, words: &[&[u8]]) -> Result<Draft, Refusal>
+    ensures { ReadsDraft result (spec.lock_line (drafted_of draft) (texts words.now)) }
+{
+    let lock = lock_in(alloc, &draft, words)?;
+    draft.locks.push(lock)?;
+    Ok(draft)
+}
+
+/// Names parted by commas and then `)`, behind the names that were there; and the words behind.
+fn names_from<'a>(
+    alloc: Global,
+    draft: &Draft,
+    mut names: Vec<Name>,
+    words: &'a [&'a [u8]],
+) -> Result<(Vec<Name>, &'a [&'a [u8]]), Refusal>
+    ensures { ReadsNames result
+        (spec.names_from (drafted_of draft.now) names.items (texts words.now)) }
+{
+    let Some((word, rest)) = words.split_first() else {
+        return Err(Refusal::Kind(SourceFaultKind::Form));
+    };
+    let Some((sign, more)) = rest.split_first() else {
+        return Err(Refusal::Kind(SourceFaultKind::Form));
+    };
+    names.push(new_name(alloc, draft, &names, word)?)?;
+    if *sign == b",".as_slice() {
+        names_from(alloc, draft, names, more)
+    } else if *sign == b")".as_slice() {
+        Ok((names, more))
+    } else {
+        Err(Refusal::Kind(SourceFaultKind::Form))
+    }
+}
+
+/// `)`, or names and then `)`; and the words behind.
+fn names_in<'a>(
+    alloc: Global,
+    draft: &Draft,
+    words: &'a [&'a [u8]],
+) -> Result<(Vec<Name>, &'a [&'a [u8]]), Refusal>
+    ensures { ReadsNames result (spec.names_in (drafted_of draft.now) (texts words.now)) }
+{
+    let Some((word, rest)) = words.split_first() else {
+        return Err(Refusal::Kind(SourceFaultKind::Form));
+    };
+    if *word == b")".as_slice() {
+        return Ok((Vec::new(alloc), rest));
+    }
+    names_from(alloc, draft, Vec::new(alloc), words)
+}
+
+/// Whether an operation has the name.
+fn is_operation(operations: &[Operation], word: &[u8]) -> bool
+    ensures { result ≡ spec.is_operation (map operation_of operations.now) word.now }
+{
+    match operations {
+        [] => false,
+        [first, rest @ ..] => first.name.is(word) || is_operation(rest, word),
+    }
+}
+
+/// Whether an operation more may be named so, with these arguments.
+fn op_fault(draft: &Draft, word: &[u8], locals: &[Name]) -> Option<SourceFaultKind>
+    ensures { result ≡ spec.op_fault (drafted_of draft.now) word.now locals.now }
+{
+    if is_long(word) || draft.operations.len() >= 16 || locals.len() > 4 {
+        return Some(SourceFaultKind::Limit);
+    }
+    if is_operation(&draft.operations, word) {
+        return Some(SourceFaultKind::Name);
+    }
+    None
+}
+
+/// The operation that `op NAME(A, B) {` opens.
+fn op_in(alloc: Global, draft: &Draft, words: &[&[u8]]) -> Result<Begun, Refusal>
+    ensures { ReadsOp (drafted_of draft.now) result (texts words.now) }
+{
+    let Some((word, rest)) = words.split_first() else {
+        return Err(Refusal::Kind(SourceFaultKind::Form));
+    };
+    if !is_free_name(word) {
+        return Err(Refusal::Kind(SourceFaultKind::Form));
+    }
+    let inside = behind_word(b"(".as_slice(), rest)?;
+    let (locals, more) = names_in(alloc, draft, inside)?;
+    let end = behind_word(b"{".as_slice(), more)?;
+    if let Some(_) = end.split_first() {
+        return Err(Refusal::Kind(SourceFaultKind::Form));
+    }
+    match op_fault(draft, word, &locals) {
+        Some(kind) => Err(Refusal::Kind(kind)),
+        None => begin(alloc, word, locals),
+    }
+}
+
+/// `op NAME(A, B) {`
+fn op_line(alloc: Global, mut draft: Draft, words: &[&[u8]]) -> Result<Draft, Refusal>
+    ensures { ReadsDraft result (spec.op_line (drafted_of draft) (texts words.now)) }
+{
+    draft.begun = Some(op_in(alloc, &draft, words)?);
+    Ok(draft)
+}
+
+/// An operation that does nothing yet.
+fn begin(alloc: Global, word: &[u8], locals: Vec<Name>) -> Result<Begun, Refusal>
+    requires named { IsName word.now }
+    requires few { length locals.items ≤ 4 }
+    ensures { ReadsBegun result (Ok (spec.begun_as word.now locals.items)) }
+{
+    let name = Name::new(alloc, word)?;
+    let mut blocks = Vec::new(alloc);
+    blocks.push(open_block(Opening::Whole, 0, false))?;
+    Ok(Begun {
+        name,
+        args: locals.len() as u8,
+        lines: 0,
+        locals,
+        blocks,
+    })
+}
+
+/// A block that does nothing yet.
+pub(crate) fn open_block(opening: Opening, locals: usize, chained: bool) -> Block
+    ensures { block_of result ≡ spec.opened (opening_of opening) locals chained }
+{
+    Block {
+        opening,
+        does: Stmt::Nothing,
+        locals,
+        chained,
+    }
+}
+
+/// A line outside of operations.
+pub(crate) fn declaration(
+    alloc: Global,
+    draft: Draft,
+    word: &[u8],
+    words: &[&[u8]],
+) -> Result<Draft, Refusal>
+    ensures { ReadsDraft result (spec.declaration (drafted_of draft) word.now (texts words.now)) }
+{
+    if word == b"local".as_slice() {
+        local_line(draft, words)
+    } else if word == b"const".as_slice() {
+        const_line(alloc, draft, words)
+    } else if word == b"word".as_slice() {
+        word_line(alloc, draft, words)
+    } else if word == b"lock".as_slice() {
+        lock_line(alloc, draft, words)
+    } else if word == b"op".as_slice() {
+        op_line(alloc, draft, words)
+    } else {
+        Err(Refusal::Kind(SourceFaultKind::Form))
+    }
+}

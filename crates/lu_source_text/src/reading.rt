@@ -1,0 +1,233 @@
+//! Reading of sources, line by line.
+
+ghost use Rattle.std.specs.Prelude.{◌≡◌, ◌<◌, ◌≤◌, ◌∷◌, length, map, Ok, IfOk};
+ghost use Rattle.lu_text.specs.Faults.{Gives, OnLine, TellsFirst, meaning_of, meaning_of_lines, on_line};
+ghost use Rattle.lu_text.specs.Lines.{texts};
+ghost use Rattle.lu_text.specs.Results.{HasItems};
+ghost use Rattle.lu_source_text.specs.Drafts.{begun_of, drafted_of};
+ghost use Rattle.lu_source_text.specs.Grammar as spec;
+ghost use Rattle.lu_source_text.specs.Grammar.{source_grammar};
+ghost use Rattle.lu_source_text.specs.Readers.{GivesDraft, GivesSource, IsCompiledFrom, component_meant};
+ghost use Rattle.lu_source_text.specs.Reads.{ReadsDraft};
+
+use crate::closing::close_line;
+use crate::declaration::{declaration, object_line};
+use crate::draft::{Begun, Draft, Shared};
+use crate::fault::{Refusal, SourceFault, SourceFaultKind};
+use crate::source::Source;
+use crate::statement::statement;
+use crate::words::source_words;
+use lu_component::{Array, Component};
+use lu_source::compile;
+use lu_text::{Fault, are_allowed, lines_of};
+use std::alloc::{AllocError, Global};
+
+/// Nothing is declared yet.
+fn new_draft(alloc: Global) -> Draft
+    ensures { drafted_of result ≡ spec.nothing }
+{
+    Draft {
+        name: None,
+        local: None,
+        constants: Vec::new(alloc),
+        words: Vec::new(alloc),
+        locks: Vec::new(alloc),
+        operations: Vec::new(alloc),
+        begun: None,
+    }
+}
+
+/// A line of an operation.
+fn line_inside(
+    alloc: Global,
+    mut draft: Draft,
+    mut begun: Begun,
+    word: &[u8],
+    words: &[&[u8]],
+) -> Result<Draft, Refusal>
+    ensures { ReadsDraft result (spec.line_inside
+        (drafted_of draft) (begun_of begun) word.now (texts words.now)) }
+{
+    if word == b"}".as_slice() {
+        close_line(alloc, draft, begun, words)
+    } else {
+        statement(alloc, &draft, &mut begun, word, words)?;
+        draft.begun = Some(begun);
+        Ok(draft)
+    }
+}
+
+/// A line of an operation, which has at most 256 of them.
+fn inside(
+    alloc: Global,
+    draft: Draft,
+    mut begun: Begun,
+    word: &[u8],
+    words: &[&[u8]],
+) -> Result<Draft, Refusal>
+    ensures { ReadsDraft result (spec.inside
+        (drafted_of draft) (begun_of begun) word.now (texts words.now)) }
+{
+    if begun.lines >= 256 {
+        return Err(Refusal::Kind(SourceFaultKind::Limit));
+    }
+    begun.lines += 1;
+    line_inside(alloc, draft, begun, word, words)
+}
+
+/// The first line with words.
+fn object_first(alloc: Global, draft: Draft, word: &[u8], words: &[&[u8]]) -> Result<Draft, Refusal>
+    ensures { ReadsDraft result
+        (spec.object_first (drafted_of draft) word.now (texts words.now)) }
+{
+    if word == b"object".as_slice() {
+        object_line(alloc, draft, words)
+    } else {
+        Err(Refusal::Kind(SourceFaultKind::Missing))
+    }
+}
+
+fn by_state(alloc: Global, mut draft: Draft, word: &[u8], words: &[&[u8]]) -> Result<Draft, Refusal>
+    ensures { ReadsDraft result (spec.by_words (drafted_of draft) (word.now ∷ texts words.now)) }
+{
+    if draft.name.is_none() {
+        return object_first(alloc, draft, word, words);
+    }
+    match draft.begun.take() {
+        None => declaration(alloc, draft, word, words),
+        Some(begun) => inside(alloc, draft, begun, word, words),
+    }
+}
+
+/// A line of words, of which there are at most 256.
+fn short_line(alloc: Global, draft: Draft, words: &[&[u8]]) -> Result<Draft, Refusal>
+    ensures { ReadsDraft result (spec.short_line (drafted_of draft) (texts words.now)) }
+{
+    if words.len() > 256 {
+        return Err(Refusal::Kind(SourceFaultKind::Limit));
+    }
+    match words.split_first() {
+        None => Ok(draft),
+        Some((word, rest)) => by_state(alloc, draft, word, rest),
+    }
+}
+
+#[tactic(auto, unfolding(crate::specs::Grammar::line_of))]
+fn read_line(alloc: Global, draft: Draft, text: &[u8]) -> Result<Draft, Refusal>
+    ensures { ReadsDraft result (spec.line_of (drafted_of draft) text.now) }
+{
+    if !are_allowed(text) {
+        return Err(Refusal::Kind(SourceFaultKind::Byte));
+    }
+    let words = source_words(alloc, text)?;
+    short_line(alloc, draft, &words)
+}
+
+/// The draft behind a line, or the fault with the line's number.
+fn line_read(alloc: Global, line: usize, draft: Draft, text: &[u8]) -> Result<Draft, SourceFault>
+    ensures { GivesDraft line result (spec.line_of (drafted_of draft) text.now) }
+{
+    match read_line(alloc, draft, text) {
+        Ok(next) => Ok(next),
+        Err(Refusal::Kind(kind)) => Err(Fault::At(kind, line)),
+        Err(Refusal::Memory) => Err(Fault::Memory),
+    }
+}
+
+/// The arrays of shared words.
+fn arrays_of(alloc: Global, words: Vec<Shared>) -> Result<Vec<Array>, AllocError>
+    ensures { HasItems result (map (λ w. w.array) words.items) }
+{
+    words.into_iter().map(|word| word.array).collect(alloc)
+}
+
+/// What is declared at the end of the text.
+fn finish(alloc: Global, line: usize, draft: Draft) -> Result<Source, SourceFault>
+    ensures { GivesSource result
+        (on_line line (spec.program_of (drafted_of draft) (drafted_of draft).name (drafted_of draft).begun)) }
+{
+    let Draft {
+        name,
+        local,
+        words,
+        locks,
+        operations,
+        begun,
+        ..
+    } = draft;
+    match (name, begun) {
+        (Some(name), None) => {
+            let arrays = arrays_of(alloc, words)?;
+            Ok(Source {
+                name,
+                local: local.unwrap_or(16),
+                arrays,
+                locks,
+                operations,
+            })
+        }
+        _ => Err(Fault::At(SourceFaultKind::Missing, line)),
+    }
+}
+
+fn read_lines(alloc: Global, lines: &[&[u8]]) -> Result<Source, SourceFault>
+    ensures { GivesSource result (meaning_of_lines source_grammar (texts lines.now)) }
+{
+    let mut draft = new_draft(alloc);
+    for (before, text) in lines.iter().enumerate() {
+        draft = line_read(alloc, before + 1, draft, text)?;
+    }
+    finish(alloc, lines.len() + 1, draft)
+}
+
+/// Reads a source from its text.
+///
+/// A fault is the first one of the text by line, and on a line the first from left to right. One at
+/// the end of the text carries the number of lines plus one.
+///
+/// # Errors
+///
+/// The first fault of the text, or that there is no memory for the source.
+pub fn read_source(alloc: Global, text: &[u8]) -> Result<Source, SourceFault>
+    // Which source, or which fault.
+    ensures { GivesSource result (meaning_of source_grammar text.now) }
+{
+    let lines = lines_of(alloc, text)?;
+    read_lines(alloc, &lines)
+}
+
+fn component_of(alloc: Global, text: &[u8]) -> Result<Component, SourceFault>
+    ensures read { IfOk result (λ c. IsCompiledFrom text.now c) }
+    ensures exact { Gives result (component_meant text.now) }
+{
+    let source = read_source(alloc, text)?;
+    let component = compile(
+        alloc,
+        source.name,
+        source.local,
+        source.arrays,
+        source.locks,
+        &source.operations,
+    )?;
+    Ok(component)
+}
+
+/// The component that a source's text is compiled to. It does as the source: of each matrix, the
+/// schedules of the one are those of the other, with the same histories.
+///
+/// A fault is the first one of the text by line, and on a line the first from left to right. One at
+/// the end of the text carries the number of lines plus one.
+///
+/// # Errors
+///
+/// The first fault of the text, or that there is no memory for the component.
+pub fn compile_text(alloc: Global, text: &[u8]) -> Result<Component, SourceFault>
+    // The component of the source that the text spells, which does as that source.
+    ensures read { IfOk result (λ c. IsCompiledFrom text.now c) }
+    // Which component, or which fault.
+    ensures exact { Gives result (component_meant text.now) }
+    // No line before the fault's has one.
+    ensures first { TellsFirst source_grammar text.now result }
+{
+    component_of(alloc, text)
+}

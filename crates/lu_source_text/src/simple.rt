@@ -1,0 +1,391 @@
+//! Reading of statements that open no block and declare no local.
+
+ghost use Rattle.std.specs.Prelude.{◌≡◌, ◌<◌, ◌≤◌, length, IfOk};
+ghost use Rattle.std.specs.List.{list_any};
+ghost use Rattle.lu_source.specs.Trees.Tree.{Plain, Then};
+ghost use Rattle.lu_text.specs.Lines.{texts};
+ghost use Rattle.lu_source.specs.Evaluations.{expr_of};
+ghost use Rattle.lu_source.specs.Expressions as expressions;
+ghost use Rattle.lu_source.specs.Shapes.{tree_of};
+ghost use Rattle.lu_source_text.specs.Drafts.{begun_of, blocks_of, drafted_of, opening_of};
+ghost use Rattle.lu_source_text.specs.Grammar as spec;
+ghost use Rattle.lu_source_text.specs.Reads.{Reads, ReadsBoth, ReadsCell, ReadsCode, ReadsTree, ReadsWhole};
+
+use crate::draft::{Begun, Block, Draft, Opening};
+use crate::expression::{behind_word, cas_with, cell_with, expr_from, local_in};
+use crate::fault::{Refusal, SourceFaultKind};
+use crate::names::{is_free_name, place_from};
+use crate::scope::{Cell, Scope};
+use lu_component::Operand;
+use lu_source::{Action, Evaluation, Expr, Stmt, coded, past, put, then};
+use std::alloc::{AllocError, Global};
+
+/// An expression that all the words are.
+pub(crate) fn expr_in(
+    alloc: Global,
+    draft: &Draft,
+    begun: &Begun,
+    words: &[&[u8]],
+) -> Result<Expr, Refusal>
+    ensures { ReadsWhole result (spec.expr_of
+        (spec.scope_of (drafted_of draft.now) (begun_of begun.now)) (texts words.now)) }
+{
+    let scope = Scope {
+        constants: &draft.constants,
+        words: &draft.words,
+        locals: &begun.locals,
+    };
+    let (expr, rest) = expr_from(alloc, words.len() + 2, scope, 1, words)?;
+    if let Some(_) = rest.split_first() {
+        return Err(Refusal::Kind(SourceFaultKind::Form));
+    }
+    Ok(expr)
+}
+
+/// An expression in front of `{`, which is the last word.
+pub(crate) fn expr_before_brace(
+    alloc: Global,
+    draft: &Draft,
+    begun: &Begun,
+    words: &[&[u8]],
+) -> Result<Expr, Refusal>
+    ensures { ReadsWhole result (spec.expr_before_brace
+        (spec.scope_of (drafted_of draft.now) (begun_of begun.now)) (texts words.now)) }
+{
+    let scope = Scope {
+        constants: &draft.constants,
+        words: &draft.words,
+        locals: &begun.locals,
+    };
+    let (expr, rest) = expr_from(alloc, words.len() + 2, scope, 1, words)?;
+    let more = behind_word(b"{".as_slice(), rest)?;
+    if let Some(_) = more.split_first() {
+        return Err(Refusal::Kind(SourceFaultKind::Form));
+    }
+    Ok(expr)
+}
+
+/// `(CELL, OLD, NEW)` behind `cas`, which all the words are.
+fn cas_in(alloc: Global, draft: &Draft, begun: &Begun, words: &[&[u8]]) -> Result<Expr, Refusal>
+    ensures { ReadsWhole result (spec.cas_of
+        (spec.scope_of (drafted_of draft.now) (begun_of begun.now)) (texts words.now)) }
+{
+    let scope = Scope {
+        constants: &draft.constants,
+        words: &draft.words,
+        locals: &begun.locals,
+    };
+    let (expr, rest) = cas_with(alloc, words.len() + 2, scope, words)?;
+    if let Some(_) = rest.split_first() {
+        return Err(Refusal::Kind(SourceFaultKind::Form));
+    }
+    Ok(expr)
+}
+
+/// A cell of a shared word, and the words behind it.
+fn cell_in<'a>(
+    alloc: Global,
+    draft: &Draft,
+    begun: &Begun,
+    word: &[u8],
+    words: &'a [&'a [u8]],
+) -> Result<(Cell, &'a [&'a [u8]]), Refusal>
+    ensures { ReadsCell result (spec.cell_in
+        (spec.scope_of (drafted_of draft.now) (begun_of begun.now)) word.now (texts words.now)) }
+{
+    let scope = Scope {
+        constants: &draft.constants,
+        words: &draft.words,
+        locals: &begun.locals,
+    };
+    cell_with(alloc, words.len() + 2, scope, word, words)
+}
+
+/// An expression's code, where there are registers enough.
+fn code_for(alloc: Global, expr: &Expr, to: u8, free: u8) -> Result<Evaluation, Refusal>
+    ensures { ReadsCode result (spec.code_for (expr_of expr.now) to free) }
+{
+    match coded(alloc, expr, to, free)? {
+        None => Err(Refusal::Kind(SourceFaultKind::Registers)),
+        Some(evaluation) => Ok(evaluation),
+    }
+}
+
+/// The same behind the locals.
+pub(crate) fn value_of(alloc: Global, begun: &Begun, expr: &Expr) -> Result<Evaluation, Refusal>
+    ensures { ReadsCode result (spec.value_of (begun_of begun.now) (expr_of expr.now)) }
+{
+    let free = begun.locals.len() as u8;
+    code_for(alloc, expr, free, free)
+}
+
+/// The code of an index, and of a value behind it.
+fn both_of(
+    alloc: Global,
+    begun: &Begun,
+    index: &Expr,
+    expr: &Expr,
+) -> Result<(Evaluation, Evaluation), Refusal>
+    ensures { ReadsBoth result
+        (spec.both_of (begun_of begun.now) (expr_of index.now) (expr_of expr.now)) }
+{
+    let first = value_of(alloc, begun, index)?;
+    let free = past(begun.locals.len() as u8, first.at);
+    let second = code_for(alloc, expr, free, free)?;
+    Ok((first, second))
+}
+
+/// The code, and then the register becomes its value.
+pub(crate) fn put_value(alloc: Global, value: Evaluation, register: u8) -> Result<Stmt, AllocError>
+    ensures { IfOk result
+        (λ t. tree_of t ≡ Then (tree_of value.code) (expressions.put register value.at)) }
+{
+    then(alloc, value.code, put(register, value.at))
+}
+
+/// The codes, and then the action.
+fn both_then(alloc: Global, first: Stmt, second: Stmt, action: Action) -> Result<Stmt, AllocError>
+    ensures { IfOk result
+        (λ t. tree_of t ≡ Then (tree_of first) (Then (tree_of second) (Plain action))) }
+{
+    let behind = then(alloc, second, Stmt::Plain(action))?;
+    then(alloc, first, behind)
+}
+
+/// `NAME = EXPR` of a local.
+fn set_tree(
+    alloc: Global,
+    draft: &Draft,
+    begun: &Begun,
+    register: u8,
+    words: &[&[u8]],
+) -> Result<Stmt, Refusal>
+    ensures { ReadsTree result (spec.set_tree
+        (drafted_of draft.now) (begun_of begun.now) register (texts words.now)) }
+{
+    let more = behind_word(b"=".as_slice(), words)?;
+    let expr = expr_in(alloc, draft, begun, more)?;
+    let value = code_for(alloc, &expr, register, begun.locals.len() as u8)?;
+    Ok(put_value(alloc, value, register)?)
+}
+
+/// `NAME = EXPR` and `NAME[EXPR] = EXPR` of a shared word.
+fn store_tree(
+    alloc: Global,
+    draft: &Draft,
+    begun: &Begun,
+    word: &[u8],
+    words: &[&[u8]],
+) -> Result<Stmt, Refusal>
+    ensures { ReadsTree result (spec.store_tree
+        (drafted_of draft.now) (begun_of begun.now) word.now (texts words.now)) }
+{
+    let (cell, rest) = cell_in(alloc, draft, begun, word, words)?;
+    let more = behind_word(b"=".as_slice(), rest)?;
+    let expr = expr_in(alloc, draft, begun, more)?;
+    let (index, value) = both_of(alloc, begun, &cell.index, &expr)?;
+    let action = Action::Store {
+        array: cell.array,
+        index: index.at,
+        value: value.at,
+    };
+    Ok(both_then(alloc, index.code, value.code, action)?)
+}
+
+/// Neither reads what is shared nor changes it.
+fn is_still(expr: &Expr) -> bool
+    ensures { result ≡ spec.is_still (expr_of expr.now) }
+{
+    match expr {
+        Expr::Number(_) | Expr::Local(_) => true,
+        Expr::Binary(_, left, right) => is_still(left) && is_still(right),
+        Expr::Not(inner) => is_still(inner),
+        Expr::And(left, right) => is_still(left) && is_still(right),
+        Expr::Or(left, right) => is_still(left) && is_still(right),
+        Expr::Read(_, _) | Expr::Swap(_, _, _, _) | Expr::Pick(_) => false,
+    }
+}
+
+/// Whether a cell is awaited to be a value, or to be another; none where the word says neither.
+fn awaits_equal(word: &[u8]) -> Option<bool>
+    ensures { result ≡ spec.awaits_equal word.now }
+{
+    if word == b"==".as_slice() {
+        Some(true)
+    } else if word == b"!=".as_slice() {
+        Some(false)
+    } else {
+        None
+    }
+}
+
+/// The action by which a cell is awaited.
+fn awaiting(equal: bool, array: u8, index: Operand, value: Operand) -> Action
+    ensures { result ≡ spec.awaiting equal array index value }
+{
+    if equal {
+        Action::Await {
+            array,
+            index,
+            value,
+        }
+    } else {
+        Action::AwaitNot {
+            array,
+            index,
+            value,
+        }
+    }
+}
+
+/// `await CELL == EXPR` and `await CELL != EXPR`.
+fn await_tree(alloc: Global, draft: &Draft, begun: &Begun, words: &[&[u8]]) -> Result<Stmt, Refusal>
+    ensures { ReadsTree result (spec.await_tree
+        (drafted_of draft.now) (begun_of begun.now) (texts words.now)) }
+{
+    let Some((word, rest)) = words.split_first() else {
+        return Err(Refusal::Kind(SourceFaultKind::Form));
+    };
+    if !is_free_name(word) {
+        return Err(Refusal::Kind(SourceFaultKind::Form));
+    }
+    let (cell, more) = cell_in(alloc, draft, begun, word, rest)?;
+    let Some((by, behind)) = more.split_first() else {
+        return Err(Refusal::Kind(SourceFaultKind::Form));
+    };
+    let Some(equal) = awaits_equal(by) else {
+        return Err(Refusal::Kind(SourceFaultKind::Form));
+    };
+    let expr = expr_in(alloc, draft, begun, behind)?;
+    if !(is_still(&cell.index) && is_still(&expr)) {
+        return Err(Refusal::Kind(SourceFaultKind::Flow));
+    }
+    let (index, value) = both_of(alloc, begun, &cell.index, &expr)?;
+    let action = awaiting(equal, cell.array, index.at, value.at);
+    Ok(both_then(alloc, index.code, value.code, action)?)
+}
+
+fn is_loop(block: &Block) -> bool
+    ensures { result ≡ spec.is_loop (opening_of block.now.opening) }
+{
+    matches!(block.opening, Opening::Turns)
+}
+
+fn has_loop(blocks: &[Block]) -> bool
+    ensures { result ≡ list_any (λ b. spec.is_loop (opening_of b.opening)) blocks.now }
+{
+    blocks.iter().any(|block| is_loop(block))
+}
+
+/// Whether some open block is a loop.
+fn in_loop(blocks: &[Block]) -> bool
+    ensures { result ≡ spec.in_loop (blocks_of blocks.now) }
+{
+    has_loop(blocks)
+}
+
+/// `break` or `continue`.
+fn leave_tree(begun: &Begun, stmt: Stmt, words: &[&[u8]]) -> Result<Stmt, Refusal>
+    ensures { ReadsTree result
+        (spec.leave_tree (begun_of begun.now) (tree_of stmt) (texts words.now)) }
+{
+    if let Some(_) = words.split_first() {
+        return Err(Refusal::Kind(SourceFaultKind::Form));
+    }
+    if !in_loop(&begun.blocks) {
+        return Err(Refusal::Kind(SourceFaultKind::Flow));
+    }
+    Ok(stmt)
+}
+
+/// `return` and `return EXPR`.
+fn return_tree(
+    alloc: Global,
+    draft: &Draft,
+    begun: &Begun,
+    words: &[&[u8]],
+) -> Result<Stmt, Refusal>
+    ensures { ReadsTree result (spec.return_tree
+        (drafted_of draft.now) (begun_of begun.now) (texts words.now)) }
+{
+    let None = words.split_first() else {
+        let expr = expr_in(alloc, draft, begun, words)?;
+        let value = value_of(alloc, begun, &expr)?;
+        return Ok(then(alloc, value.code, Stmt::Plain(Action::Return(value.at)))?);
+    };
+    Ok(Stmt::Plain(Action::Return(Operand::Num(0))))
+}
+
+/// The number of the lock of `lock NAME` and `unlock NAME`.
+fn lock_number(draft: &Draft, words: &[&[u8]]) -> Result<u8, Refusal>
+    ensures { Reads (λ l. l) result (spec.lock_number (drafted_of draft.now) (texts words.now)) }
+{
+    let Some((word, rest)) = words.split_first() else {
+        return Err(Refusal::Kind(SourceFaultKind::Form));
+    };
+    if let Some(_) = rest.split_first() {
+        return Err(Refusal::Kind(SourceFaultKind::Form));
+    }
+    match place_from(0, &draft.locks, word) {
+        None => Err(Refusal::Kind(SourceFaultKind::Name)),
+        Some(place) => Ok(place as u8),
+    }
+}
+
+/// `cas(CELL, OLD, NEW)`, whose answer nobody asks for.
+fn cas_tree(alloc: Global, draft: &Draft, begun: &Begun, words: &[&[u8]]) -> Result<Stmt, Refusal>
+    ensures { ReadsTree result (spec.cas_tree
+        (drafted_of draft.now) (begun_of begun.now) (texts words.now)) }
+{
+    let expr = cas_in(alloc, draft, begun, words)?;
+    Ok(value_of(alloc, begun, &expr)?.code)
+}
+
+/// `NAME = EXPR` and `NAME[EXPR] = EXPR`.
+fn assign_tree(
+    alloc: Global,
+    draft: &Draft,
+    begun: &Begun,
+    word: &[u8],
+    words: &[&[u8]],
+) -> Result<Stmt, Refusal>
+    ensures { ReadsTree result (spec.assign_tree (drafted_of draft.now) (begun_of begun.now)
+        word.now (texts words.now) (spec.local_in (begun_of begun.now).locals word.now)) }
+{
+    match local_in(&begun.locals, word) {
+        None => store_tree(alloc, draft, begun, word, words),
+        Some(register) => set_tree(alloc, draft, begun, register, words),
+    }
+}
+
+/// A statement that opens no block and declares no local.
+pub(crate) fn simple(
+    alloc: Global,
+    draft: &Draft,
+    begun: &Begun,
+    word: &[u8],
+    words: &[&[u8]],
+) -> Result<Stmt, Refusal>
+    ensures { ReadsTree result (spec.simple
+        (drafted_of draft.now) (begun_of begun.now) word.now (texts words.now)) }
+{
+    if word == b"break".as_slice() {
+        leave_tree(begun, Stmt::Break, words)
+    } else if word == b"continue".as_slice() {
+        leave_tree(begun, Stmt::Continue, words)
+    } else if word == b"return".as_slice() {
+        return_tree(alloc, draft, begun, words)
+    } else if word == b"lock".as_slice() {
+        Ok(Stmt::Plain(Action::Lock(lock_number(draft, words)?)))
+    } else if word == b"unlock".as_slice() {
+        Ok(Stmt::Plain(Action::Unlock(lock_number(draft, words)?)))
+    } else if word == b"await".as_slice() {
+        await_tree(alloc, draft, begun, words)
+    } else if word == b"cas".as_slice() {
+        cas_tree(alloc, draft, begun, words)
+    } else if !is_free_name(word) {
+        Err(Refusal::Kind(SourceFaultKind::Form))
+    } else {
+        assign_tree(alloc, draft, begun, word, words)
+    }
+}

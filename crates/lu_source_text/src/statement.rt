@@ -1,0 +1,173 @@
+//! Reading of the lines of an operation.
+
+ghost use Rattle.std.specs.Prelude.{◌≡◌, ◌<◌, length, IfOk};
+ghost use Rattle.lu_text.specs.Lines.{texts};
+ghost use Rattle.lu_source.specs.Evaluations.{expr_of};
+ghost use Rattle.lu_source.specs.Expressions as expressions;
+ghost use Rattle.lu_source.specs.Shapes.{tree_of};
+ghost use Rattle.lu_source_text.specs.Drafts.{begun_of, block_of, drafted_of, opening_of};
+ghost use Rattle.lu_source_text.specs.Grammar as spec;
+ghost use Rattle.lu_source_text.specs.Reads.{Reads, ReadsLet};
+
+use crate::blocks::{add_to, are_deep, push_block};
+use crate::declaration::{new_name, open_block};
+use crate::draft::{Begun, Draft, Opening};
+use crate::expression::behind_word;
+use crate::fault::{Refusal, SourceFaultKind};
+use crate::simple::{expr_before_brace, expr_in, put_value, simple, value_of};
+use lu_component::Operand;
+use lu_source::{Expr, Operator, Stmt};
+use lu_text::Name;
+use std::alloc::Global;
+
+/// The innermost block does this too.
+fn add(alloc: Global, begun: &mut Begun, stmt: Stmt) -> Result<(), Refusal>
+    ensures { Reads (λ _. begun_of begun.new) result
+        (spec.added (begun_of begun.old) (tree_of stmt)) }
+{
+    add_to(alloc, &mut begun.blocks, stmt)
+}
+
+/// One block more, with what opened it.
+fn deeper(begun: &mut Begun, opening: Opening, chained: bool) -> Result<(), Refusal>
+    ensures { Reads (λ _. begun_of begun.new) result
+        (spec.deeper (begun_of begun.old) (opening_of opening) chained) }
+{
+    if are_deep(&begun.blocks) {
+        return Err(Refusal::Kind(SourceFaultKind::Limit));
+    }
+    let block = open_block(opening, begun.locals.len(), chained);
+    push_block(&mut begun.blocks, block)?;
+    Ok(())
+}
+
+/// The name of `let NAME = EXPR`, and the statement that gives it its value.
+fn let_in(
+    alloc: Global,
+    draft: &Draft,
+    begun: &Begun,
+    words: &[&[u8]],
+) -> Result<(Name, Stmt), Refusal>
+    ensures read { ReadsLet result (spec.let_in
+        (drafted_of draft.now) (begun_of begun.now) (texts words.now)) }
+    ensures room { IfOk result (λ _. length begun.now.locals.items < 8) }
+{
+    let Some((word, rest)) = words.split_first() else {
+        return Err(Refusal::Kind(SourceFaultKind::Form));
+    };
+    let name = new_name(alloc, draft, &begun.locals, word)?;
+    let more = behind_word(b"=".as_slice(), rest)?;
+    let expr = expr_in(alloc, draft, begun, more)?;
+    if begun.locals.len() >= 8 {
+        return Err(Refusal::Kind(SourceFaultKind::Registers));
+    }
+    let value = value_of(alloc, begun, &expr)?;
+    let stmt = put_value(alloc, value, begun.locals.len() as u8)?;
+    Ok((name, stmt))
+}
+
+/// `let NAME = EXPR`: a local more.
+fn let_line(alloc: Global, draft: &Draft, begun: &mut Begun, words: &[&[u8]]) -> Result<(), Refusal>
+    ensures { Reads (λ _. begun_of begun.new) result (spec.let_line
+        (drafted_of draft.now) (begun_of begun.old) (texts words.now)) }
+{
+    let (name, stmt) = let_in(alloc, draft, begun, words)?;
+    add_to(alloc, &mut begun.blocks, stmt)?;
+    begun.locals.push(name)?;
+    Ok(())
+}
+
+/// An expression of which only counts whether it is 0: a difference serves for `!=`.
+fn as_test(expr: Expr) -> Expr
+    ensures { expr_of result ≡ expressions.as_test (expr_of expr) }
+{
+    match expr {
+        Expr::Binary(Operator::Differs, left, right) => {
+            Expr::Binary(Operator::Minus, left, right)
+        }
+        other => other,
+    }
+}
+
+/// What is tested by an expression.
+fn tested(alloc: Global, begun: &mut Begun, expr: Expr) -> Result<Operand, Refusal>
+    ensures { Reads (λ v. (begun_of begun.new, v)) result
+        (spec.tested (begun_of begun.old) (expr_of expr)) }
+{
+    let test = as_test(expr);
+    let value = value_of(alloc, begun, &test)?;
+    let at = value.at;
+    add(alloc, begun, value.code)?;
+    Ok(at)
+}
+
+/// `if EXPR {`
+pub(crate) fn if_line(
+    alloc: Global,
+    draft: &Draft,
+    begun: &mut Begun,
+    chained: bool,
+    words: &[&[u8]],
+) -> Result<(), Refusal>
+    ensures { Reads (λ _. begun_of begun.new) result (spec.if_line
+        (drafted_of draft.now) (begun_of begun.old) chained (texts words.now)) }
+{
+    let expr = expr_before_brace(alloc, draft, begun, words)?;
+    let value = tested(alloc, begun, expr)?;
+    deeper(begun, Opening::Test(value), chained)
+}
+
+/// `while EXPR {`
+fn while_line(
+    alloc: Global,
+    draft: &Draft,
+    begun: &mut Begun,
+    words: &[&[u8]],
+) -> Result<(), Refusal>
+    ensures { Reads (λ _. begun_of begun.new) result (spec.while_line
+        (drafted_of draft.now) (begun_of begun.old) (texts words.now)) }
+{
+    let expr = expr_before_brace(alloc, draft, begun, words)?;
+    deeper(begun, Opening::Turns, false)?;
+    let value = tested(alloc, begun, expr)?;
+    add(alloc, begun, Stmt::BreakUnless(value))
+}
+
+/// `loop {`
+fn loop_line(begun: &mut Begun, words: &[&[u8]]) -> Result<(), Refusal>
+    ensures { Reads (λ _. begun_of begun.new) result (spec.loop_line
+        (begun_of begun.old) (texts words.now)) }
+{
+    let rest = behind_word(b"{".as_slice(), words)?;
+    if let Some(_) = rest.split_first() {
+        return Err(Refusal::Kind(SourceFaultKind::Form));
+    }
+    deeper(begun, Opening::Turns, false)
+}
+
+/// A line of an operation that closes no block.
+pub(crate) fn statement(
+    alloc: Global,
+    draft: &Draft,
+    begun: &mut Begun,
+    word: &[u8],
+    words: &[&[u8]],
+) -> Result<(), Refusal>
+    ensures { Reads (λ _. begun_of begun.new) result (spec.statement
+        (drafted_of draft.now) (begun_of begun.old) word.now (texts words.now)) }
+{
+    if word == b"let".as_slice() {
+        let_line(alloc, draft, begun, words)
+    } else if word == b"if".as_slice() {
+        if_line(alloc, draft, begun, false, words)
+    } else if word == b"while".as_slice() {
+        add(alloc, begun, Stmt::Nothing)?;
+        while_line(alloc, draft, begun, words)
+    } else if word == b"loop".as_slice() {
+        add(alloc, begun, Stmt::Nothing)?;
+        loop_line(begun, words)
+    } else {
+        let stmt = simple(alloc, draft, begun, word, words)?;
+        add(alloc, begun, stmt)
+    }
+}
