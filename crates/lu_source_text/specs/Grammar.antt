@@ -1,6 +1,6 @@
 -- The text of a source: what each line says, or what is wrong with it.
 use Rattle.std.specs.Prelude.{ℕ, zero, suc, ◌+◌, ◌==◌, nat_lt, nat_le, Bool, true, false, not, ◌&&◌, ◌||◌, if◌then◌else◌, List, [], ◌∷◌, ◌++◌, drop, length, map, take, slice_index, Option, Some, None, is_some, Result, Ok, Err, codes}
-use Rattle.std.specs.List.{list_all, list_any}
+use Rattle.std.specs.List.{list_all, list_any, position}
 use Rattle.std.specs.Option.{unwrap_or, option_map}
 use Rattle.std.specs.Str.{bytes_eq}
 use Rattle.lu_text.specs.Names.{has_name_form, is_long, is_name_part}
@@ -51,8 +51,7 @@ is_pair a b =
 
 -- how many letters, digits and `_` stand first
 abbrev pub name_len : List ℕ → ℕ
-name_len [] = 0
-name_len (b ∷ bs) = if is_name_part b then 1 + name_len bs else 0
+name_len bytes = unwrap_or (position (λ b. not (is_name_part b)) bytes) (length bytes)
 
 -- how long the first word is, or a blank: all letters, digits and `_`; or two bytes; or one
 abbrev pub item_len : List ℕ → ℕ

@@ -29,11 +29,14 @@ pub(crate) fn pop_block(blocks: &mut Vec<Block>) -> Option<Block>
     blocks.pop()
 }
 
-/// Whether there are 16 blocks, the most that there may be.
+/// The most blocks that are open at a time.
+const MOST_BLOCKS: usize = 16;
+
+/// Whether there are as many blocks as there may be.
 pub(crate) fn are_deep(blocks: &[Block]) -> bool
     ensures { result ≡ nat_le 16 (length (blocks_of blocks.now)) }
 {
-    blocks.len() >= 16
+    blocks.len() >= MOST_BLOCKS
 }
 
 /// The block does this too.

@@ -12,7 +12,9 @@ use crate::draft::{Begun, Block, Constant, Draft, Opening, Shared};
 use crate::expression::{behind_word, first_number};
 use crate::fault::{Refusal, SourceFaultKind};
 use crate::names::{constant_from, is_free_name, place_from, shared_from};
-use lu_component::Array;
+use lu_component::{
+    Array, MOST_ARGUMENTS, MOST_ARRAYS, MOST_CELLS, MOST_LOCAL, MOST_LOCKS, MOST_OPS,
+};
 use lu_source::{Operation, Stmt};
 use lu_text::{Name, is_long};
 use std::alloc::Global;
@@ -98,7 +100,7 @@ fn local_in(draft: &Draft, words: &[&[u8]]) -> Result<u8, Refusal>
     if draft.local.is_some() || !draft.operations.is_empty() {
         return Err(Refusal::Kind(SourceFaultKind::Form));
     }
-    if most > 16 {
+    if most > MOST_LOCAL {
         return Err(Refusal::Kind(SourceFaultKind::Limit));
     }
     Ok(most as u8)
@@ -171,7 +173,7 @@ fn shared_in(alloc: Global, draft: &Draft, words: &[&[u8]]) -> Result<Shared, Re
     let name = new_name(alloc, draft, &[], word)?;
     let (len, indexed, more) = len_in(draft, rest)?;
     let init = init_in(draft, more)?;
-    if draft.words.len() >= 16 || len < 1 || len > 64 {
+    if draft.words.len() >= MOST_ARRAYS || len < 1 || len > MOST_CELLS {
         return Err(Refusal::Kind(SourceFaultKind::Limit));
     }
     let len = len as u8;
@@ -200,7 +202,7 @@ fn lock_in(alloc: Global, draft: &Draft, words: &[&[u8]]) -> Result<Name, Refusa
     if let Some(_) = rest.split_first() {
         return Err(Refusal::Kind(SourceFaultKind::Form));
     }
-    if draft.locks.len() >= 8 {
+    if draft.locks.len() >= MOST_LOCKS {
         return Err(Refusal::Kind(SourceFaultKind::Limit));
     }
     Ok(name)
@@ -272,7 +274,10 @@ fn is_operation(operations: &[Operation], word: &[u8]) -> bool
 fn op_fault(draft: &Draft, word: &[u8], locals: &[Name]) -> Option<SourceFaultKind>
     ensures { result ≡ spec.op_fault (drafted_of draft.now) word.now locals.now }
 {
-    if is_long(word) || draft.operations.len() >= 16 || locals.len() > 4 {
+    if is_long(word)
+        || draft.operations.len() >= MOST_OPS
+        || locals.len() > MOST_ARGUMENTS as usize
+    {
         return Some(SourceFaultKind::Limit);
     }
     if is_operation(&draft.operations, word) {

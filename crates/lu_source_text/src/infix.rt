@@ -7,7 +7,7 @@ use lu_source::Operator;
 
 /// An operator between two expressions.
 #[derive(Clone, Copy, Debug, Drop, PartialEq, Eq)]
-pub enum Infix {
+pub(crate) enum Infix {
     /// `||`
     Or,
 

@@ -17,11 +17,7 @@ mod source;
 mod statement;
 mod words;
 
-pub use draft::{Constant, Shared};
 pub use fault::{SourceFault, SourceFaultKind};
-pub use infix::Infix;
 pub use laws::reader_laws;
-pub use names::{constant_from, number_of, place_from, shared_from};
 pub use reading::{compile_text, read_source};
 pub use source::Source;
-pub use words::source_words;

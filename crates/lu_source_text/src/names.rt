@@ -10,7 +10,7 @@ use crate::draft::{Constant, Shared};
 use lu_text::{Name, has_name_form, value_in};
 
 /// Where a name stands in a list of names, counted on from a number.
-pub fn place_from(before: usize, names: &[Name], word: &[u8]) -> Option<usize>
+pub(crate) fn place_from(before: usize, names: &[Name], word: &[u8]) -> Option<usize>
     requires { before + length names.now < 2 ^ 64 }
     ensures place { result ≡ spec.place_from before names.now word.now }
     ensures within { IfSome result (λ place. place < before + length names.now) }
@@ -28,7 +28,7 @@ pub fn place_from(before: usize, names: &[Name], word: &[u8]) -> Option<usize>
 }
 
 /// The value of the constant of this name.
-pub fn constant_from(constants: &[Constant], word: &[u8]) -> Option<u32>
+pub(crate) fn constant_from(constants: &[Constant], word: &[u8]) -> Option<u32>
     ensures { result ≡ spec.constant_from constants.now word.now }
 {
     match constants {
@@ -45,7 +45,7 @@ pub fn constant_from(constants: &[Constant], word: &[u8]) -> Option<u32>
 
 /// The number of the shared word of this name, counted on from a number, and whether it is written
 /// with an index.
-pub fn shared_from(before: usize, shared: &[Shared], word: &[u8]) -> Option<(usize, bool)>
+pub(crate) fn shared_from(before: usize, shared: &[Shared], word: &[u8]) -> Option<(usize, bool)>
     requires { before + length shared.now < 2 ^ 64 }
     ensures shared { result ≡ spec.shared_from before shared.now word.now }
     ensures within { IfSome result (λ found. found.0 < before + length shared.now) }
@@ -63,7 +63,7 @@ pub fn shared_from(before: usize, shared: &[Shared], word: &[u8]) -> Option<(usi
 }
 
 /// The number that a word means: a literal, or a constant's name.
-pub fn number_of(constants: &[Constant], word: &[u8]) -> Option<u32>
+pub(crate) fn number_of(constants: &[Constant], word: &[u8]) -> Option<u32>
     ensures { result ≡ either (a_value word.now) (spec.constant_from constants.now word.now) }
 {
     match value_in(word) {

@@ -22,6 +22,12 @@ use lu_source::compile;
 use lu_text::{Fault, are_allowed, lines_of};
 use std::alloc::{AllocError, Global};
 
+/// The most lines that an operation has.
+const MOST_LINES: u16 = 256;
+
+/// The most words that a line has.
+const MOST_WORDS: usize = 256;
+
 /// Nothing is declared yet.
 fn new_draft(alloc: Global) -> Draft
     ensures { drafted_of result ≡ spec.nothing }
@@ -68,7 +74,7 @@ fn inside(
     ensures { ReadsDraft result (spec.inside
         (drafted_of draft) (begun_of begun) word.now (texts words.now)) }
 {
-    if begun.lines >= 256 {
+    if begun.lines >= MOST_LINES {
         return Err(Refusal::Kind(SourceFaultKind::Limit));
     }
     begun.lines += 1;
@@ -103,7 +109,7 @@ fn by_state(alloc: Global, mut draft: Draft, word: &[u8], words: &[&[u8]]) -> Re
 fn short_line(alloc: Global, draft: Draft, words: &[&[u8]]) -> Result<Draft, Refusal>
     ensures { ReadsDraft result (spec.short_line (drafted_of draft) (texts words.now)) }
 {
-    if words.len() > 256 {
+    if words.len() > MOST_WORDS {
         return Err(Refusal::Kind(SourceFaultKind::Limit));
     }
     match words.split_first() {

@@ -16,7 +16,7 @@ use crate::expression::behind_word;
 use crate::fault::{Refusal, SourceFaultKind};
 use crate::simple::{expr_before_brace, expr_in, put_value, simple, value_of};
 use lu_component::Operand;
-use lu_source::{Expr, Operator, Stmt};
+use lu_source::{Expr, Operator, REGISTERS, Stmt};
 use lu_text::Name;
 use std::alloc::Global;
 
@@ -58,7 +58,7 @@ fn let_in(
     let name = new_name(alloc, draft, &begun.locals, word)?;
     let more = behind_word(b"=".as_slice(), rest)?;
     let expr = expr_in(alloc, draft, begun, more)?;
-    if begun.locals.len() >= 8 {
+    if begun.locals.len() >= REGISTERS as usize {
         return Err(Refusal::Kind(SourceFaultKind::Registers));
     }
     let value = value_of(alloc, begun, &expr)?;

@@ -1,6 +1,7 @@
 //! The words of a source's line.
 
-ghost use Rattle.std.specs.Prelude.{◌≡◌, ◌<◌, ◌≤◌, length, IfOk};
+ghost use Rattle.std.specs.Prelude.{◌≡◌, ◌<◌, ◌≤◌, length, not, IfOk, IfSome};
+ghost use Rattle.std.specs.List.{position};
 ghost use Rattle.lu_text.specs.Lines.{texts};
 ghost use Rattle.lu_text.specs.Lines as lines;
 ghost use Rattle.lu_text.specs.Names as names;
@@ -29,20 +30,22 @@ fn is_pair(first: u8, second: u8) -> bool
         || (first == b'&' && second == b'&' || first == b'|' && second == b'|')
 }
 
+/// Where the first byte stands that is no letter, digit or `_`.
+fn name_end(bytes: &[u8]) -> Option<usize>
+    ensures place { result ≡ position (λ b. not (names.is_name_part b)) bytes.now }
+    ensures within { IfSome result (λ place. place < length bytes.now) }
+{
+    bytes.iter().position(|byte| !is_name_part(*byte))
+}
+
 /// How many letters, digits and `_` stand first.
 fn name_len(bytes: &[u8]) -> usize
     ensures len { result ≡ spec.name_len bytes.now }
     ensures within { result ≤ length bytes.now }
 {
-    match bytes {
-        [] => 0,
-        [first, rest @ ..] => {
-            if is_name_part(*first) {
-                1 + name_len(rest)
-            } else {
-                0
-            }
-        }
+    match name_end(bytes) {
+        None => bytes.len(),
+        Some(place) => place,
     }
 }
 
@@ -83,7 +86,7 @@ fn words_in(alloc: Global, bytes: &[u8]) -> Result<Vec<&[u8]>, AllocError>
 }
 
 /// The words of a line, up to a comment.
-pub fn source_words(alloc: Global, line: &[u8]) -> Result<Vec<&[u8]>, AllocError>
+pub(crate) fn source_words(alloc: Global, line: &[u8]) -> Result<Vec<&[u8]>, AllocError>
     ensures { IfOk result (λ words. texts words.items ≡ spec.source_words line.now) }
 {
     words_in(alloc, before_comment(line))
