@@ -28,7 +28,7 @@ certified_join asked from middle to (AllLinearizable count) (AllLinearizable oth
 
 -- ---- one answer
 
-one_certificate : (asked : Asked) (choice : List ℕ) (a b : Certificate) → AllEnd asked.component asked.setup → IsRoleCertificate asked choice a → IsRoleCertificate asked choice b → AreSame a b
+pub one_certificate : (asked : Asked) (choice : List ℕ) (a b : Certificate) → AllEnd asked.component asked.setup → IsRoleCertificate asked choice a → IsRoleCertificate asked choice b → AreSame a b
 one_certificate asked choice a b ends x y = (certificate_decides asked.component (role_matrix asked choice) asked.bound asked.serial a ends x).1 b y
 
 says_too : (a b : Certificate) → AreSame a b → SaysLinearizable a → SaysLinearizable b

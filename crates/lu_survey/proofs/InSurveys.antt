@@ -1,6 +1,7 @@
 -- Surveys, as they grow, and of slices that follow one another.
 use Rattle.std.proofs.Common.{arith, ◌≡◌, ◌<◌, ◌≤◌, ℕ, suc, ◌+◌, ◌-◌, ◌^◌, Bool, true, false, cond, List, [], ◌∷◌, ◌++◌, length, length-append, Option, Some, None, refl, sym, ap, subst, ◌∙◌, inl, inr}
 use Rattle.std.specs.Prelude.{IfSome, count_by, find, min}
+use Rattle.std.specs.List.{AllZip}
 use Rattle.std.specs.Option.{option_or}
 use Rattle.std.proofs.lemmas.Bool.{cases_lt}
 use Rattle.std.proofs.lemmas.List.{nil_from_length}
@@ -9,12 +10,17 @@ use Rattle.std.proofs.lemmas.List.Sums.{count_by-le-length, sum_by-append, sum_b
 use Rattle.lu_component.specs.Component.{Declarations}
 use Rattle.lu_certify.specs.declared.certificate.Certificate.{Certificate}
 use Rattle.lu_certify.specs.declared.certificate.Certificate.TheVariants.{Linearizable, Livelock, NotLinearizable, Undecided}
-use Rattle.lu_refine.specs.ByThread.{Asked, IsMatrixAt, matrix_count}
+use Rattle.lu_certify.specs.Certificates.{AreSame}
+use Rattle.lu_history.specs.declared.serial.SerialOp.{SerialOp}
+use Rattle.lu_machine.specs.Starts.{AllEnd}
+use Rattle.lu_refine.specs.ByThread.{Asked, IsMatrixAt, bases_of, matrix_count, role_matrix}
+use Rattle.lu_refine.proofs.Numbered.{place_same}
 use Rattle.lu_survey.specs.declared.survey.CertifiedMatrix.{CertifiedMatrix}
 use Rattle.lu_survey.specs.declared.survey.Survey.{Survey}
 use Rattle.lu_survey.specs.declared.survey.Tally.{Tally}
 use Rattle.lu_survey.specs.Certified.{IsRoleCertificate}
-use Rattle.lu_survey.specs.Laws.{SurveyCountsAll, SurveysJoin, joined_tallies}
+use Rattle.lu_survey.specs.Laws.{AreSameFirst, AreSameTallies, OneSurvey, SurveyCountsAll, SurveysJoin, joined_tallies}
+use Rattle.lu_survey.proofs.InCampaigns.{one_certificate}
 use Rattle.lu_survey.specs.Surveys.{AreCertifiedFrom, AreShownOf, AreSliceCertified, HasRoom, IsCertifiedAt, IsShownOf, IsSurveyed, IsSurveyOf, IsTally, is_linearizable, is_livelock, is_not_linearizable, is_undecided, survey_by, tally_with}
 
 -- ---- lists
@@ -233,3 +239,78 @@ pub counts_all : SurveyCountsAll
 counts_all asked from to survey is =
     let all = all_counted is.0 in
     omega (arith, all, is.1.size, is.2.linearizable.count, is.2.not_linearizable.count, is.2.livelock.count, is.2.undecided.count)
+
+-- ---- one survey
+
+abbrev one_if : Bool → ℕ
+one_if b = cond b 1 0
+
+abbrev Alike : CertifiedMatrix → CertifiedMatrix → Type 0
+Alike x y = (x.matrix ≡ y.matrix) × AreSame x.certificate y.certificate
+
+alike_at : (asked : Asked) (number : ℕ) (x y : CertifiedMatrix) → AllEnd asked.component asked.setup → IsCertifiedAt asked number x → IsCertifiedAt asked number y → Alike x y
+alike_at asked number x y ends a b =
+    let same : a.choice ≡ b.choice = place_same (bases_of asked) a.choice b.choice a.chosen b.chosen (a.is_at ∙ sym b.is_at) in (
+      a.fills ∙ (ap (role_matrix asked) same ∙ sym b.fills),
+      one_certificate asked b.choice x.certificate y.certificate ends (subst (λ (choice : List ℕ). IsRoleCertificate asked choice x.certificate) same a.certified) b.certified,
+    )
+
+lists_alike : (asked : Asked) (number : ℕ) (xs ys : List CertifiedMatrix) → AllEnd asked.component asked.setup → length xs ≡ length ys → AreCertifiedFrom asked number xs → AreCertifiedFrom asked number ys → AllZip Alike xs ys
+lists_alike asked number [] [] ends long a b = tt
+lists_alike asked number [] (y ∷ ys) ends long a b = absurd (omega arith)
+lists_alike asked number (x ∷ xs) [] ends long a b = absurd (omega arith)
+lists_alike asked number (x ∷ xs) (y ∷ ys) ends long a b =
+    (alike_at asked number x y ends a.0 b.0, lists_alike asked (number + 1) xs ys ends (omega arith) a.1 b.1)
+
+first_same : (x y : CertifiedMatrix) (b d : Bool) → b ≡ d → Alike x y → (r q : Option CertifiedMatrix) → AreSameFirst r q → AreSameFirst (cond b (Some x) r) (cond d (Some y) q)
+first_same x y true true e alike r q same = alike
+first_same x y true false e alike r q same = absurd (cc)
+first_same x y false true e alike r q same = absurd (cc)
+first_same x y false false e alike r q same = same
+
+module _ (is_kind : Certificate → Bool) (sets : (members others : List (List SerialOp)) → is_kind (Linearizable members) ≡ is_kind (Linearizable others)) where
+  kinds_same : (a b : Certificate) → AreSame a b → is_kind a ≡ is_kind b
+  kinds_same (Linearizable members) (Linearizable others) same = sets members others
+  kinds_same (Linearizable members) (NotLinearizable smaller r) same = absurd same
+  kinds_same (Linearizable members) (Livelock smaller u) same = absurd same
+  kinds_same (Linearizable members) (Undecided smaller r) same = absurd same
+  kinds_same (NotLinearizable smaller r) b same = ap is_kind same
+  kinds_same (Livelock smaller u) b same = ap is_kind same
+  kinds_same (Undecided smaller r) b same = ap is_kind same
+
+  numbers_same : (xs ys : List CertifiedMatrix) → AllZip Alike xs ys → number_of is_kind xs ≡ number_of is_kind ys
+  numbers_same [] [] all = refl
+  numbers_same [] (y ∷ ys) all = absurd all
+  numbers_same (x ∷ xs) [] all = absurd all
+  numbers_same (x ∷ xs) (y ∷ ys) all =
+      let here : one_if (is_kind x.certificate) ≡ one_if (is_kind y.certificate) = ap one_if (kinds_same x.certificate y.certificate all.0.1) in
+      let rest = numbers_same xs ys all.1 in
+      let one = counted is_kind x xs in
+      let other = counted is_kind y ys in
+      omega (arith, here, rest, one, other)
+
+  firsts_same : (xs ys : List CertifiedMatrix) → AllZip Alike xs ys → AreSameFirst (find (λ (one : CertifiedMatrix). is_kind one.certificate) xs) (find (λ (one : CertifiedMatrix). is_kind one.certificate) ys)
+  firsts_same [] [] all = tt
+  firsts_same [] (y ∷ ys) all = absurd all
+  firsts_same (x ∷ xs) [] all = absurd all
+  firsts_same (x ∷ xs) (y ∷ ys) all =
+      first_same x y (is_kind x.certificate) (is_kind y.certificate) (kinds_same x.certificate y.certificate all.0.1) all.0
+      (find (λ (one : CertifiedMatrix). is_kind one.certificate) xs) (find (λ (one : CertifiedMatrix). is_kind one.certificate) ys) (firsts_same xs ys all.1)
+
+  tallies_same : (xs ys : List CertifiedMatrix) (a b : Tally) → AllZip Alike xs ys → IsTally is_kind xs a → IsTally is_kind ys b → AreSameTallies a b
+  tallies_same xs ys a b all x y =
+      let number = numbers_same xs ys all in (
+        omega (arith, number, x.count, y.count),
+        subst (λ (o : Option CertifiedMatrix). AreSameFirst o b.first) (sym x.first)
+            (subst (AreSameFirst (find (λ (one : CertifiedMatrix). is_kind one.certificate) xs)) (sym y.first) (firsts_same xs ys all)),
+      )
+
+pub one_survey : OneSurvey
+one_survey asked from to survey other ends x y =
+    let all = lists_alike asked from x.0 y.0 ends (x.1.size ∙ sym y.1.size) x.1.each y.1.each in
+    record {
+      linearizable = tallies_same is_linearizable (λ members others. refl) x.0 y.0 survey.linearizable other.linearizable all x.2.linearizable y.2.linearizable;
+      not_linearizable = tallies_same is_not_linearizable (λ members others. refl) x.0 y.0 survey.not_linearizable other.not_linearizable all x.2.not_linearizable y.2.not_linearizable;
+      livelock = tallies_same is_livelock (λ members others. refl) x.0 y.0 survey.livelock other.livelock all x.2.livelock y.2.livelock;
+      undecided = tallies_same is_undecided (λ members others. refl) x.0 y.0 survey.undecided other.undecided all x.2.undecided y.2.undecided;
+    }

@@ -1,5 +1,5 @@
 -- Laws of slices that follow one another.
-use Rattle.std.specs.Prelude.{◌≡◌, ℕ, ◌+◌, ◌^◌, ◌<◌, ◌≤◌, List}
+use Rattle.std.specs.Prelude.{◌≡◌, ℕ, ◌+◌, ◌^◌, ◌<◌, ◌≤◌, List, Option, Some, None}
 use Rattle.std.specs.Option.{option_or}
 use Rattle.lu_component.specs.Component.{Declarations}
 use Rattle.lu_machine.specs.Starts.{AllEnd}
@@ -11,6 +11,7 @@ use Rattle.lu_survey.specs.declared.certified_campaign.CertifiedCampaign.TheVari
 use Rattle.lu_survey.specs.declared.comparison.Comparison.{Comparison}
 use Rattle.lu_survey.specs.declared.comparison.Comparison.TheVariants as compared
 use Rattle.lu_survey.specs.declared.comparison.Comparison.TheVariants.{AllAgree}
+use Rattle.lu_survey.specs.declared.survey.CertifiedMatrix.{CertifiedMatrix}
 use Rattle.lu_survey.specs.declared.survey.Survey.{Survey}
 use Rattle.lu_survey.specs.declared.survey.Tally.{Tally}
 use Rattle.lu_survey.specs.Certified.{IsCertifiedSlice}
@@ -87,6 +88,30 @@ SurveyCountsAll =
     (asked : Asked) (from to : ℕ) (survey : Survey) → IsSurveyed asked from to survey →
     survey.linearizable.count + survey.not_linearizable.count
     + (survey.livelock.count + survey.undecided.count) ≡ slice_size asked from to
+
+-- the same first matrix with the same certificate, or none in both
+abbrev pub AreSameFirst : Option CertifiedMatrix → Option CertifiedMatrix → Type 0
+AreSameFirst None None = Unit {0}
+AreSameFirst None (Some other) = ⊥
+AreSameFirst (Some one) None = ⊥
+AreSameFirst (Some one) (Some other) =
+    (one.matrix ≡ other.matrix) × AreSame one.certificate other.certificate
+
+abbrev pub AreSameTallies : Tally → Tally → Type 0
+AreSameTallies tally other = (tally.count ≡ other.count) × AreSameFirst tally.first other.first
+
+pub record AreSameSurveys (survey other : Survey) : Type 0 where
+  pub linearizable : AreSameTallies survey.linearizable other.linearizable
+  pub not_linearizable : AreSameTallies survey.not_linearizable other.not_linearizable
+  pub livelock : AreSameTallies survey.livelock other.livelock
+  pub undecided : AreSameTallies survey.undecided other.undecided
+
+-- A slice has one survey, where the calls of the setup end.
+abbrev pub OneSurvey : Type 0
+OneSurvey =
+    (asked : Asked) (from to : ℕ) (survey other : Survey) → AllEnd asked.component asked.setup →
+    IsSurveyed asked from to survey → IsSurveyed asked from to other
+    → AreSameSurveys survey other
 
 -- ---- comparisons
 

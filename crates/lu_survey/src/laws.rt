@@ -1,6 +1,6 @@
 //! Laws of slices. Their functions do nothing.
 
-ghost use Rattle.lu_survey.specs.Laws.{CertifiedJoin, ComparedJoin, OneCertifiedAnswer, SurveyCountsAll, SurveysJoin, WholeSlices};
+ghost use Rattle.lu_survey.specs.Laws.{CertifiedJoin, ComparedJoin, OneCertifiedAnswer, OneSurvey, SurveyCountsAll, SurveysJoin, WholeSlices};
 
 /// A slice from the first matrix to a number that is no less than theirs has all of them. Within
 /// the limits there are fewer than 2 to the power of 64, so `u64::MAX` is such a number.
@@ -18,10 +18,11 @@ pub fn certified_join()
 
 /// The surveys of slices that follow one another give together that of one slice: the sums of the
 /// counts, and the first matrices of the earlier one, where it has some. The four counts of a
-/// survey make up the number of matrices of its slice.
+/// survey make up the number of matrices of its slice, and a slice has one survey.
 pub fn surveys_join()
     ensures join { SurveysJoin }
     ensures all { SurveyCountsAll }
+    ensures one_survey { OneSurvey }
 {}
 
 /// Slices of a comparison that follow one another give together what one slice gives: the first

@@ -1,4 +1,4 @@
-use Rattle.lu_survey.proofs.InSurveys.{counts_all, surveys_join}
+use Rattle.lu_survey.proofs.InSurveys.{counts_all, one_survey, surveys_join}
 use Rattle.lu_survey.proofs.laws.surveys_join.Goals as goal
 
 pub returns-clause-join : goal.returns-clause-join
@@ -6,3 +6,6 @@ returns-clause-join _ = surveys_join
 
 pub returns-clause-all : goal.returns-clause-all
 returns-clause-all _ = counts_all
+
+pub returns-clause-one_survey : goal.returns-clause-one_survey
+returns-clause-one_survey _ = one_survey
