@@ -1,5 +1,5 @@
 -- States are discovered from the places of a list, one after the other.
-use Rattle.std.proofs.Common.{arith, ◌≡◌, ℕ, ◌+◌, ◌<◌, ◌≤◌, Bool, true, List, [], ◌∷◌, ◌++◌, length, map, Some, None, slice_get, sym, ◌∙◌, ap, subst, inl, inr, length-append}
+use Rattle.std.proofs.Common.{arith, ◌≡◌, ℕ, ◌+◌, ◌<◌, ◌≤◌, Bool, true, List, [], ◌∷◌, ◌++◌, length, map, Some, None, slice_get, sym, ◌∙◌, ap, subst, inl, inr, length-append, refl}
 use Rattle.std.specs.Prelude.{◌↔◌, IsTrue}
 use Rattle.std.specs.List.{IsDistinct}
 use Rattle.std.proofs.lemmas.Bool.{cases_lt}
@@ -86,12 +86,15 @@ module _ (s : State) (found : Discovered) (place : ℕ) (ended : List Bool) (kno
   -- no list that has all is shorter
   pub no_fewer : IsDistinct position_eq found.positions.keys → HasFewStates s 262144 → length found.positions.keys ≤ 262144
   no_fewer distinct few =
-      let there : (i : ℕ) (position : Position) → slice_get found.positions.keys i ≡ Some position → IsAmong few.0 (at_position s position) = λ i position at.
-      (let one = entry_of i position at in
-      let reached = all_at (IsReachedSo s) known.searched.entries known.searched.reached i one.0 one.1 in
-      subst (λ (p : Position). IsAmong few.0 (at_position s p)) one.2
-      (leads_among few.0 few.1.closed s few.1.start one.0.path (state_of s one.0) reached.history reached.leads)) in
-      let less = no_more position_eq (at_position s) (stand_equal s) found.positions.keys distinct few.0 there in
+      let there : (i : ℕ) (position : Position) → slice_get found.positions.keys i ≡ Some position → (state : State) × IsAmong few.0 state × (at_position s position ≡ state) = λ i position at. (
+        at_position s position,
+        (let one = entry_of i position at in
+            let reached = all_at (IsReachedSo s) known.searched.entries known.searched.reached i one.0 one.1 in
+            subst (λ (p : Position). IsAmong few.0 (at_position s p)) one.2
+            (leads_among few.0 few.1.closed s few.1.start one.0.path (state_of s one.0) reached.history reached.leads)),
+        refl,
+      ) in
+      let less = no_more position_eq (λ position state. at_position s position ≡ state) (λ p q state one other. stand_equal s p q (one ∙ sym other)) found.positions.keys distinct few.0 there in
       let most = few.2 in
       omega (arith, less, most)
 

@@ -1,23 +1,26 @@
 -- Levels of a breadth-first search: the first bad node has the fewest moves.
-use Rattle.std.proofs.Common.{arith, ◌≡◌, ℕ, ◌+◌, ◌<◌, ◌≤◌, List, [], ◌∷◌, ◌++◌, length, length-append, Option, Some, slice_get, refl, sym, ◌∙◌, ap, subst, inl, inr}
+use Rattle.std.proofs.Common.{arith, ◌≡◌, ℕ, ◌+◌, ◌<◌, ◌≤◌, List, [], ◌∷◌, ◌++◌, length, length-append, Option, Some, None, slice_get, refl, sym, ◌∙◌, ap, subst, inl, inr}
+use Rattle.std.specs.Global.{Vec}
 use Rattle.std.proofs.lemmas.Bool.{cases_lt}
 use Rattle.std.proofs.lemmas.List.{length_push}
 use Rattle.std.proofs.lemmas.Option.{same_Some, slice_get_within}
 use Rattle.lu_test.specs.declared.schedule.Move.{Move}
 use Rattle.lu_machine.specs.declared.event.Event.{Event}
-use Rattle.lu_machine.specs.Ends.{IsEnded}
 use Rattle.lu_machine.specs.Runs.{Leads, with_event}
-use Rattle.lu_machine.specs.States.{State}
+use Rattle.lu_machine.specs.Positions.{CanStandAt}
+use Rattle.lu_machine.specs.States.{State, progress}
 use Rattle.lu_machine.specs.Steps.{Step}
 use Rattle.lu_machine.proofs.Paths.{child_leads, leads_split}
 use Rattle.lu_history.specs.declared.serial.SerialOp.{SerialOp}
-use Rattle.lu_witness.specs.Goodness.{IsGoodAt}
+use Rattle.lu_history.specs.Standing.{Agree}
 use Rattle.lu_graph.specs.declared.kept.Kept.{Kept}
-use Rattle.lu_graph.specs.Growing.{AddsNext, AddsNode, IsKeptAs, IsNext}
-use Rattle.lu_graph.specs.Nodes.{IsBadAt, IsShortestBad, Node, longer, next_node, node_of}
-use Rattle.lu_graph.specs.Visiting.{AreVisited, its}
+use Rattle.lu_graph.specs.Growing.{AddsNext, ComesBy, HasStart, IsNext}
+use Rattle.lu_graph.specs.Judging.{IsOneOf}
+use Rattle.lu_graph.specs.Nodes.{IsBadAt, IsGoodIfEnded, IsShortestBad, longer}
+use Rattle.lu_graph.specs.Visiting.{AreVisited, IsFor, IsReached, its}
 use Rattle.lu_graph.proofs.Among.{all_at, at_either, at_first, at_left}
-use Rattle.lu_graph.proofs.Explored.{AreGoodBefore}
+use Rattle.lu_graph.proofs.Closing.{for_its, for_next}
+use Rattle.lu_graph.proofs.Explored.{AreGoodBefore, start_is}
 
 -- the last move of a schedule
 last_move : (u : List Move) (n : ℕ) → length u ≡ n + 1 → (v : List Move) × (m : Move) × (length v ≡ n) × (u ≡ v ++ m ∷ [])
@@ -39,75 +42,82 @@ without_last s v m last h leads =
     let second : parts.second ≡ with_event event [] = made.5 ∙ ap (with_event event) made.4.1 in
     (parts.mid, front, event, parts.begins, step, parts.whole ∙ ap (λ x. front ++ x) second)
 
--- the node is kept, before this place
-abbrev IsKeptBefore : State → List Kept → ℕ → Node → Type 0
-IsKeptBefore s list place node = (i : ℕ) × (kept : Kept) × (i < place) × (slice_get list i ≡ Some kept) × (its s kept ≡ node)
+-- it is kept for this state and this history, before the place
+abbrev IsKeptBefore : State → List (Vec SerialOp) → List Kept → ℕ → State → List Event → Type 0
+IsKeptBefore s members list place end h = (i : ℕ) × (kept : Kept) × (i < place) × (slice_get list i ≡ Some kept) × IsFor s members end h kept
 
--- each schedule of fewer moves leads to a node that is kept before this place
-abbrev pub LeadBefore : State → List Kept → ℕ → ℕ → Type 0
-LeadBefore s list moves place =
-    (u : List Move) (end : State) (h : List Event) → length u < moves → Leads s u end h → IsKeptBefore s list place (node_of end h)
+-- each schedule of fewer moves leads to what is kept before this place
+abbrev pub LeadBefore : State → List (Vec SerialOp) → List Kept → ℕ → ℕ → Type 0
+LeadBefore s members list moves place =
+    (u : List Move) (end : State) (h : List Event) → length u < moves → Leads s u end h → IsKeptBefore s members list place end h
 
 -- a schedule of so many moves leads to it
-abbrev pub IsReachedIn : State → ℕ → Kept → Type 0
-IsReachedIn s moves kept = (u : List Move) × (length u ≡ moves) × Leads s u (its s kept).state (its s kept).history
+pub record IsReachedIn (s : State) (members : List (Vec SerialOp)) (moves : ℕ) (kept : Kept) : Type 0 where
+  pub way : IsReached s members kept
+  pub long : length way.schedule ≡ moves
 
 -- The search has come to this place: those before it are good where they have ended, and are all to
 -- which schedules of fewer moves lead. From there to the end of the level schedules of so many
 -- moves lead, and behind it schedules of one more.
-pub record AreSearched (Set : List SerialOp → Type 0) (s : State) (list : List Kept) (place moves end : ℕ) : Type 0 where
-  pub good : AreGoodBefore Set s list place
-  pub past : LeadBefore s list moves place
-  pub level : LeadBefore s list (moves + 1) end
+pub record AreSearched (members : List (Vec SerialOp)) (s : State) (list : List Kept) (place moves end : ℕ) : Type 0 where
+  pub good : AreGoodBefore s members list place
+  pub past : LeadBefore s members list moves place
+  pub level : LeadBefore s members list (moves + 1) end
   pub within : end ≤ length list
-  pub now : (i : ℕ) (kept : Kept) → place ≤ i → i < end → slice_get list i ≡ Some kept → IsReachedIn s moves kept
-  pub next : (i : ℕ) (kept : Kept) → end ≤ i → slice_get list i ≡ Some kept → IsReachedIn s (moves + 1) kept
+  pub now : (i : ℕ) (kept : Kept) → place ≤ i → i < end → slice_get list i ≡ Some kept → IsReachedIn s members moves kept
+  pub next : (i : ℕ) (kept : Kept) → end ≤ i → slice_get list i ≡ Some kept → IsReachedIn s members (moves + 1) kept
 
-module _ (Set : List SerialOp → Type 0) (s : State) where
-  pub searched_none : (list : List Kept) → AddsNode s.component s.matrix (node_of s []) [] list → AreSearched Set s list 0 0 (length list)
-  searched_none list adds = record {
+module _ (s : State) (members : List (Vec SerialOp)) where
+  pub searched_none : (list : List Kept) → Agree (progress s) [] → HasStart members s list → AreSearched members s list 0 0 (length list)
+  searched_none list agree start = record {
     good = λ i kept lt. absurd (omega arith);
     past = λ u end h lt. absurd (omega arith);
     level = first;
     within = omega arith;
     now = λ i kept le lt is.
-        (let one = all_at (IsKeptAs s.component s.matrix (node_of s [])) adds.grows.0 adds.grows.2 i kept (subst (λ (x : List Kept). slice_get x i ≡ Some kept) adds.grows.1 is) in
-        ([], refl, (ap (λ (x : Node). x.state) one.1, ap (λ (x : Node). x.history) one.1)));
+        (let adds = start.2 in
+        let one = all_at (λ (k : Kept). CanStandAt s.component s.matrix k.position × ComesBy s.component s.matrix members s start.0 None k) adds.grows.0 adds.grows.2 i kept (subst (λ (x : List Kept). slice_get x i ≡ Some kept) adds.grows.1 is) in
+        record {
+          way = record { schedule = []; history = []; leads = (one.1.state, refl); is = for_its s members kept s [] (start_is s members agree list start kept one.1) };
+          long = refl;
+        });
     next = λ i kept le is. (let lt = slice_get_within list i kept is in absurd (omega (arith, lt, le)));
   }
     where
-      first : LeadBefore s list (0 + 1) (length list)
-      first [] end h lt leads = (
-        adds.there.0,
-        adds.there.1,
-        slice_get_within list adds.there.0 adds.there.1 adds.there.2,
-        adds.there.2,
-        adds.there.3 ∙ (ap (λ x. node_of x []) (sym leads.0) ∙ ap (λ x. node_of end x) (sym leads.1)),
-      )
+      first : LeadBefore s members list (0 + 1) (length list)
+      first [] end h lt leads =
+          let there = start.2.there in
+          let here = start_is s members agree list start there.1 there.3 in (
+            there.0,
+            there.1,
+            slice_get_within list there.0 there.1 there.2,
+            there.2,
+            subst (λ x. IsFor s members end x there.1) (sym leads.1) (subst (λ x. IsFor s members x [] there.1) (sym leads.0) here),
+          )
       first (m ∷ u) end h lt leads = absurd (omega (arith, lt))
 
-  module _ (list : List Kept) (place moves end : ℕ) (known : AreSearched Set s list place moves end) where
+  module _ (list : List Kept) (place moves end : ℕ) (known : AreSearched members s list place moves end) where
     -- the level has ended at this place
-    module _ (visited : AreVisited s list place) (ended : end ≤ place) where
+    module _ (visited : AreVisited members s list place) (ended : end ≤ place) where
       -- one move behind a node of the level
-      move_on : (i : ℕ) (one : Kept) → i < end → slice_get list i ≡ Some one → (mid last : State) (first : List Event) → its s one ≡ node_of mid first → (m : Move) (event : Option Event) → Step mid m last event → IsKeptBefore s list (length list) (node_of last (longer first event))
+      move_on : (i : ℕ) (one : Kept) → i < end → slice_get list i ≡ Some one → (mid last : State) (first : List Event) → IsFor s members mid first one → (m : Move) (event : Option Event) → Step mid m last event → IsKeptBefore s members list (length list) last (longer first event)
       move_on i one lt at mid last first is m event step =
-          let there = visited.closed i one (omega (arith, lt, ended)) at m last event (subst (λ (x : Node). Step x.state m last event) (sym is) step) in
-          (there.0, there.1, slice_get_within list there.0 there.1 there.2, there.2, subst (λ (x : Node). its s there.1 ≡ next_node x last event) is there.3)
+          let there = visited.closed i one (omega (arith, lt, ended)) at m last event (subst (λ x. Step x m last event) (sym is.state) step) in
+          (there.0, there.1, slice_get_within list there.0 there.1 there.2, there.2, for_next s members one there.1 mid first is m last event step there.3)
 
-      behind : (u : List Move) (last : State) (h : List Event) → length u ≡ moves + 1 → Leads s u last h → IsKeptBefore s list (length list) (node_of last h)
+      behind : (u : List Move) (last : State) (h : List Event) → length u ≡ moves + 1 → Leads s u last h → IsKeptBefore s members list (length list) last h
       behind u last h long leads =
           let cut = last_move u moves long in
           let shorter = cut.2 in
           let way = without_last s cut.0 cut.1 last h (subst (λ (x : List Move). Leads s x last h) cut.3 leads) in
           let before = known.level cut.0 way.0 way.1 (omega (arith, shorter)) way.3 in
-          subst (λ x. IsKeptBefore s list (length list) (node_of last x)) (sym way.5) (move_on before.0 before.1 before.2 before.3 way.0 last way.1 before.4 cut.1 way.2 way.4)
+          subst (λ x. IsKeptBefore s members list (length list) last x) (sym way.5) (move_on before.0 before.1 before.2 before.3 way.0 last way.1 before.4 cut.1 way.2 way.4)
 
-      pub searched_level : AreSearched Set s list place (moves + 1) (length list)
+      pub searched_level : AreSearched members s list place (moves + 1) (length list)
       searched_level = record {
         good = known.good;
         past = λ u last h lt leads. (let x = known.level u last h lt leads in let less = x.2 in (x.0, x.1, omega (arith, less, ended), x.3, x.4));
-        level = λ u last h lt leads. elim (cases_lt (length u) (moves + 1)) as (λ _. IsKeptBefore s list (length list) (node_of last h)) [
+        level = λ u last h lt leads. elim (cases_lt (length u) (moves + 1)) as (λ _. IsKeptBefore s members list (length list) last h) [
           | inl less ↦ (let x = known.level u last h less leads in (x.0, x.1, slice_get_within list x.0 x.1 x.3, x.3, x.4))
           | inr least ↦ behind u last h (omega (arith, lt, least)) leads
         ];
@@ -118,50 +128,62 @@ module _ (Set : List SerialOp → Type 0) (s : State) where
 
     -- the node at this place is gone through
     module _ (less : place < end) (kept : Kept) (at : slice_get list place ≡ Some kept) where
-      reached : IsReachedIn s moves kept
+      reached : IsReachedIn s members moves kept
       reached = known.now place kept (omega arith) less at
 
-      module _ (new : List Kept) (adds : AddsNext (its s kept).state (its s kept).history list new) (good : IsEnded (its s kept).state → IsGoodAt Set (its s kept).state (its s kept).history) where
+      module _ (new : List Kept) (adds : AddsNext members (its s kept) kept.alive.items list new) (good : (x : State) (h : List Event) → IsFor s members x h kept → IsGoodIfEnded (IsOneOf members) x h) where
         stood : (i : ℕ) (one : Kept) → i < length list → slice_get new i ≡ Some one → slice_get list i ≡ Some one
         stood i one lt is = at_first list adds.grows.0 i one lt (subst (λ (x : List Kept). slice_get x i ≡ Some one) adds.grows.1 is)
 
         still : (i : ℕ) (one : Kept) → slice_get list i ≡ Some one → slice_get new i ≡ Some one
         still i one is = subst (λ (x : List Kept). slice_get x i ≡ Some one) (sym adds.grows.1) (at_left list adds.grows.0 i one is)
 
-        next_reached : (one : Kept) → IsNext (its s kept).state (its s kept).history one → IsReachedIn s (moves + 1) one
-        next_reached one (m, next, event, step, is) =
-            let way = child_leads s reached.0 (its s kept).state (its s kept).history reached.2 m next event step in
-            let long = length_push reached.0 m in
-            let before = reached.1 in
-            (reached.0 ++ m ∷ [], omega (arith, long, before), subst (λ (x : Node). Leads s (reached.0 ++ m ∷ []) x.state x.history) (sym is.1) way)
+        next_reached : (one : Kept) → CanStandAt s.component s.matrix one.position × IsNext members (its s kept) kept.alive.items one → IsReachedIn s members (moves + 1) one
+        next_reached one (stands, (m, next, event, step, by)) =
+            let u = reached.way.schedule in
+            let h = reached.way.history in
+            let way = child_leads s u (its s kept) h reached.way.leads m next event step in
+            let made = for_next s members kept one (its s kept) h reached.way.is m next event step by in
+            let long = length_push u m in
+            let before = reached.long in
+            record {
+              way = record {
+                schedule = u ++ m ∷ [];
+                history = longer h event;
+                leads = subst (λ x. Leads s (u ++ m ∷ []) x (longer h event)) (sym made.state) way;
+                is = for_its s members one next (longer h event) made;
+              };
+              long = omega (arith, long, before);
+            }
 
-        pub searched_more : AreSearched Set s new (place + 1) moves end
+        pub searched_more : AreSearched members s new (place + 1) moves end
         searched_more = record {
-          good = λ i one lt is ended. (let within = known.within in elim (cases_lt i place) as (λ _. IsGoodAt Set (its s one).state (its s one).history) [
-            | inl before ↦ known.good i one before (stood i one (omega (arith, before, less, within)) is) ended
+          good = λ i one lt is x h for. (let within = known.within in elim (cases_lt i place) as (λ _. IsGoodIfEnded (IsOneOf members) x h) [
+            | inl before ↦ known.good i one before (stood i one (omega (arith, before, less, within)) is) x h for
             | inr least ↦
                 (let here : i ≡ place = omega (arith, lt, least) in
                 let same : kept ≡ one = same_Some kept one (sym at ∙ (ap (slice_get list) (sym here) ∙ stood i one (omega (arith, here, less, within)) is)) in
-                subst (λ x. IsGoodAt Set (its s x).state (its s x).history) same (good (subst (λ x. IsEnded (its s x).state) (sym same) ended)))
+                good x h (subst (IsFor s members x h) (sym same) for))
           ]);
           past = λ u last h lt leads. (let x = known.past u last h lt leads in let before = x.2 in (x.0, x.1, omega (arith, before), still x.0 x.1 x.3, x.4));
           level = λ u last h lt leads. (let x = known.level u last h lt leads in (x.0, x.1, x.2, still x.0 x.1 x.3, x.4));
           within = (let within = known.within in let long = ap length adds.grows.1 in let sum = length-append list adds.grows.0 in omega (arith, within, long, sum));
           now = λ i one le lt is. (let within = known.within in known.now i one (omega (arith, le)) lt (stood i one (omega (arith, lt, within)) is));
-          next = λ i one le is. elim (at_either list adds.grows.0 i one (subst (λ (x : List Kept). slice_get x i ≡ Some one) adds.grows.1 is)) as (λ _. IsReachedIn s (moves + 1) one) [
+          next = λ i one le is. elim (at_either list adds.grows.0 i one (subst (λ (x : List Kept). slice_get x i ≡ Some one) adds.grows.1 is)) as (λ _. IsReachedIn s members (moves + 1) one) [
             | inl old ↦ known.next i one le old.1
-            | inr more ↦ next_reached one (all_at (IsNext (its s kept).state (its s kept).history) adds.grows.0 adds.grows.2 more.0 one more.2)
+            | inr more ↦ next_reached one (all_at (λ (k : Kept). CanStandAt s.component s.matrix k.position × IsNext members (its s kept) kept.alive.items k) adds.grows.0 adds.grows.2 more.0 one more.2)
           ];
         }
 
       -- it is bad, and none before it is
-      pub shortest_bad : IsBadAt Set (its s kept).state (its s kept).history → IsShortestBad Set s moves
-      shortest_bad bad = record {
-        schedule = reached.0;
-        long = reached.1;
-        bad = record { end = (its s kept).state; history = (its s kept).history; leads = reached.2; holds = bad };
-        shortest = λ v lt ends.
-            (let x = known.past v ends.end ends.history lt ends.leads in
-            let fine = known.good x.0 x.1 x.2 x.3 (subst (λ (n : Node). IsEnded n.state) (sym x.4) ends.holds.0) in
-            ends.holds.1 (subst (λ (n : Node). IsGoodAt Set n.state n.history) x.4 fine));
-      }
+      pub shortest_bad : ((h : List Event) → IsFor s members (its s kept) h kept → IsBadAt (IsOneOf members) (its s kept) h) → IsShortestBad (IsOneOf members) s moves
+      shortest_bad bad =
+          let way = reached.way in
+          record {
+            schedule = way.schedule;
+            long = reached.long;
+            bad = record { end = its s kept; history = way.history; leads = way.leads; holds = bad way.history way.is };
+            shortest = λ v lt ends.
+                (let x = known.past v ends.end ends.history lt ends.leads in
+                ends.holds.1 (known.good x.0 x.1 x.2 x.3 ends.end ends.history x.4 ends.holds.0));
+          }

@@ -1,6 +1,14 @@
-pub mod Closing
+mod Closing
 mod ForEver
 mod StayAlive
+mod Possible
+mod Standings
+mod Counted
+mod Followed
+mod Wholes
+mod Listed
+mod AlikeLaws
+pub mod OtherSet
 mod Among
 mod Grown
 mod Added
@@ -9,6 +17,7 @@ mod Levels
 mod Judged
 mod Same
 mod Many
+mod Alike
 mod Visiting
 mod Earlier
 mod OneState

@@ -12,35 +12,37 @@ some_at [] i lt = absurd (omega arith)
 some_at (x ∷ xs) zero lt = (x, refl)
 some_at (x ∷ xs) (suc i) lt = some_at xs i (omega arith)
 
--- what is kept, and of what each stands for one
-module _ {K N : Type 0} (eq : K → K → Bool) (its : K → N) (alike : (a b : K) → its a ≡ its b → eq a b ≡ true) (list : List K) (distinct : IsDistinct eq list) (all : List N) (there : (i : ℕ) (kept : K) → slice_get list i ≡ Some kept → IsAmong all (its kept)) where
+-- what is kept, and for which of all each is
+module _ {K N : Type 0} (eq : K → K → Bool) (IsLike : K → N → Type 0) (alike : (a b : K) (n : N) → IsLike a n → IsLike b n → eq a b ≡ true) (list : List K) (distinct : IsDistinct eq list) (all : List N) (there : (i : ℕ) (kept : K) → slice_get list i ≡ Some kept → (n : N) × IsAmong all n × IsLike kept n) where
   abbrev slot : (i : ℕ) (o : Option K) → slice_get list i ≡ o → ℕ
   slot i None is = 0
-  slot i (Some kept) is = (there i kept is).0
+  slot i (Some kept) is = (there i kept is).1.0
 
-  slot_is : (i : ℕ) (kept : K) (o : Option K) (is : slice_get list i ≡ o) → o ≡ Some kept → slice_get all (slot i o is) ≡ Some (its kept)
+  slot_is : (i : ℕ) (kept : K) (o : Option K) (is : slice_get list i ≡ o) → o ≡ Some kept → (n : N) × (slice_get all (slot i o is) ≡ Some n) × IsLike kept n
   slot_is i kept None is e = absurd (cc)
   slot_is i kept (Some one) is e =
-      subst (λ x. slice_get all (there i one is).0 ≡ Some (its x)) (same_Some one kept e) (there i one is).1
+      ((there i one is).0, (there i one is).1.1, subst (λ x. IsLike x (there i one is).0) (same_Some one kept e) (there i one is).2)
 
   abbrev place : ℕ → ℕ
   place i = slot i (slice_get list i) refl
 
-  place_is : (i : ℕ) (kept : K) → slice_get list i ≡ Some kept → slice_get all (place i) ≡ Some (its kept)
+  place_is : (i : ℕ) (kept : K) → slice_get list i ≡ Some kept → (n : N) × (slice_get all (place i) ≡ Some n) × IsLike kept n
   place_is i kept is = slot_is i kept (slice_get list i) refl is
 
   into : Into place (length list) (length all)
   into i lt =
       let one = some_at list i lt in
-      slice_get_within all (place i) (its one.0) (place_is i one.0 one.1)
+      let is = place_is i one.0 one.1 in
+      slice_get_within all (place i) is.0 is.1
 
   never_equal : (i j : ℕ) → i < j → j < length list → place i ≡ place j → ⊥
   never_equal i j lt within same =
       let x = some_at list i (omega arith) in
       let y = some_at list j within in
-      let one : its x.0 ≡ its y.0 =
-      same_Some (its x.0) (its y.0) (sym (place_is i x.0 x.1) ∙ (ap (slice_get all) same ∙ place_is j y.0 y.1)) in
-      let equal : eq x.0 y.0 ≡ true = alike x.0 y.0 one in
+      let first = place_is i x.0 x.1 in
+      let second = place_is j y.0 y.1 in
+      let one : second.0 ≡ first.0 = same_Some second.0 first.0 (sym second.1 ∙ (ap (slice_get all) (sym same) ∙ first.1)) in
+      let equal : eq x.0 y.0 ≡ true = alike x.0 y.0 first.0 first.2 (subst (IsLike y.0) one second.2) in
       let apart = apart_from_distinct eq list i j x.0 distinct lt within in
       let here : get_or list i x.0 ≡ x.0 = get_or_from_slice_get list i x.0 x.0 x.1 in
       let other : get_or list j x.0 ≡ y.0 = get_or_from_slice_get list j y.0 x.0 y.1 in

@@ -1,72 +1,77 @@
 -- How the list of nodes that are kept grows.
-use Rattle.std.specs.Prelude.{◌≡◌, ℕ, List, ◌++◌, All, Option, Some, slice_get}
+use Rattle.std.specs.Prelude.{◌≡◌, ℕ, List, [], ◌++◌, All, Bool, IfSome, Option, Some, None, slice_get}
+use Rattle.std.specs.Global.{Vec}
 use Rattle.lu_component.specs.Component.{Declarations}
 use Rattle.lu_test.specs.declared.schedule.Move.{Move}
 use Rattle.lu_test.specs.Matrix.{Matrix}
 use Rattle.lu_machine.specs.declared.event.Event.{Event}
-use Rattle.lu_machine.specs.declared.position.Position.{Position}
+use Rattle.lu_machine.specs.Events.{IsEventInRange}
 use Rattle.lu_machine.specs.Positions.{CanStandAt}
-use Rattle.lu_machine.specs.States.{State, progress}
+use Rattle.lu_machine.specs.States.{State}
 use Rattle.lu_machine.specs.Steps.{Step}
-use Rattle.lu_history.specs.Histories.{IsWellFormed}
-use Rattle.lu_history.specs.Standing.{Agree}
+use Rattle.lu_history.specs.declared.serial.SerialOp.{SerialOp}
 use Rattle.lu_graph.specs.declared.kept.Kept.{Kept}
-use Rattle.lu_graph.specs.Nodes.{Node, longer, next_node, node_of}
+use Rattle.lu_graph.specs.Alive.{AreTold}
+use Rattle.lu_graph.specs.Judging.{Follows}
 
--- the node for which it stands, of a run of the component and the matrix
-abbrev pub shown : Declarations → Matrix → Kept → Node
-shown c matrix kept = record {
-  state = record {
-    component = c;
-    matrix = matrix;
-    cells = kept.position.cells.items;
-    locks = kept.position.locks.items;
-    threads = kept.position.threads.items;
-  };
-  history = kept.events.items;
+-- the state for which it stands, of a run of the component and the matrix
+abbrev pub state_of : Declarations → Matrix → Kept → State
+state_of c matrix kept = record {
+  component = c;
+  matrix = matrix;
+  cells = kept.position.cells.items;
+  locks = kept.position.locks.items;
+  threads = kept.position.threads.items;
 }
 
--- a machine of the same component and matrix as in s can stand there
-abbrev pub IsPositionOf : State → Position → Type 0
-IsPositionOf s position = CanStandAt s.component s.matrix position
+-- it stands for the state s, to which this event led, or none, where these members were possible
+pub record ComesBy (c : Declarations) (matrix : Matrix) (members : List (Vec SerialOp)) (s : State)
+    (alive : List Bool) (event : Option Event) (kept : Kept) : Type 0 where
+  pub state : state_of c matrix kept ≡ s
+  pub follows : Follows members s alive event kept.alive.items
 
--- a machine can stand there, and the events are a history that may have led there
-pub record IsSound (c : Declarations) (matrix : Matrix) (kept : Kept) : Type 0 where
-  pub stands : CanStandAt c matrix kept.position
-  pub well_formed : IsWellFormed kept.events.items
-  pub agree : Agree (progress (shown c matrix kept).state) kept.events.items
+-- one of the list is such
+abbrev pub Keeps : (Kept → Type 0) → List Kept → Type 0
+Keeps Such list = (i : ℕ) × (kept : Kept) × (slice_get list i ≡ Some kept) × Such kept
 
--- it is sound, and stands for this node
-abbrev pub IsKeptAs : Declarations → Matrix → Node → Kept → Type 0
-IsKeptAs c matrix node kept = IsSound c matrix kept × (shown c matrix kept ≡ node)
+-- new is old, and behind it only such, and a machine can stand there
+abbrev pub GrowsBy : Declarations → Matrix → (Kept → Type 0) → List Kept → List Kept → Type 0
+GrowsBy c matrix Such old new =
+    (more : List Kept) × (new ≡ old ++ more)
+    × All (λ kept. CanStandAt c matrix kept.position × Such kept) more
 
--- one of the list stands for the node
-abbrev pub Keeps : Declarations → Matrix → List Kept → Node → Type 0
-Keeps c matrix list node =
-    (i : ℕ) × (kept : Kept) × (slice_get list i ≡ Some kept) × (shown c matrix kept ≡ node)
-
--- new is old, and behind it only such
-abbrev pub GrowsBy : (Kept → Type 0) → List Kept → List Kept → Type 0
-GrowsBy Such old new = (more : List Kept) × (new ≡ old ++ more) × All Such more
-
--- the node is there, and no other is added
-pub record AddsNode (c : Declarations) (matrix : Matrix) (node : Node)
+-- one such is there, and no other is added
+pub record AddsOne (c : Declarations) (matrix : Matrix) (Such : Kept → Type 0)
     (old new : List Kept) : Type 0 where
-  pub there : Keeps c matrix new node
-  pub grows : GrowsBy (IsKeptAs c matrix node) old new
+  pub there : Keeps Such new
+  pub grows : GrowsBy c matrix Such old new
 
--- the node of s behind these events, and one more or none, is there, and no other is added
-abbrev pub AddsHere : State → List Event → Option Event → List Kept → List Kept → Type 0
-AddsHere s h event old new = AddsNode s.component s.matrix (node_of s (longer h event)) old new
+-- so it is of the node of s, to which this event led, or none
+abbrev pub AddsHere : List (Vec SerialOp) → State → List Bool → Option Event → List Kept
+    → List Kept → Type 0
+AddsHere members s alive event old new =
+    AddsOne s.component s.matrix (ComesBy s.component s.matrix members s alive event) old new
 
--- it stands for a node to which a move of s leads, behind the history h
-abbrev pub IsNext : State → List Event → Kept → Type 0
-IsNext s h kept =
+-- it stands for the state next, to which a move of s leads with this event, or none
+pub record IsNextBy (members : List (Vec SerialOp)) (s : State) (alive : List Bool) (next : State)
+    (event : Option Event) (kept : Kept) : Type 0 where
+  pub range : IfSome event IsEventInRange
+  pub comes : ComesBy s.component s.matrix members next alive event kept
+
+-- a move of s leads to it
+abbrev pub IsNext : List (Vec SerialOp) → State → List Bool → Kept → Type 0
+IsNext members s alive kept =
     (m : Move) × (next : State) × (event : Option Event) × Step s m next event
-    × IsKeptAs s.component s.matrix (next_node (node_of s h) next event) kept
+    × IsNextBy members s alive next event kept
 
--- all nodes to which moves of s lead are there, behind the history h, and no others are added
-pub record AddsNext (s : State) (h : List Event) (old new : List Kept) : Type 0 where
+-- all nodes to which moves of s lead are there, and no others are added
+pub record AddsNext (members : List (Vec SerialOp)) (s : State) (alive : List Bool)
+    (old new : List Kept) : Type 0 where
   pub there : (m : Move) (next : State) (event : Option Event) → Step s m next event
-      → Keeps s.component s.matrix new (next_node (node_of s h) next event)
-  pub grows : GrowsBy (IsNext s h) old new
+      → Keeps (IsNextBy members s alive next event) new
+  pub grows : GrowsBy s.component s.matrix (IsNext members s alive) old new
+
+-- the list has the node of s, before any event, and no other
+abbrev pub HasStart : List (Vec SerialOp) → State → List Kept → Type 0
+HasStart members s list =
+    (alive : List Bool) × AreTold members [] alive × AddsHere members s alive None [] list

@@ -1,9 +1,11 @@
+pub mod Alive
 pub mod Nodes
 pub mod Laws
+pub mod Judging
 pub mod Growing
+pub mod Listing
 pub mod Visiting
 pub mod Hopeless
 pub mod Discovering
 pub mod Marking
 pub mod Exploring
-pub mod Alive

@@ -1,15 +1,15 @@
--- Nodes: states, with the histories of schedules that lead there. Sets of them that no move leaves.
+-- Nodes: states, with the histories of schedules that lead there; and how all schedules end.
 use Rattle.std.specs.Prelude.{◌≡◌, ◌↔◌, ℕ, ◌<◌, ◌≤◌, Bool, IfOk, IsTrue, MatchBool, Result, List, [], ◌++◌, length, Option, Some, slice_get}
 use Rattle.lu_test.specs.declared.schedule.Move.{Move}
 use Rattle.lu_machine.specs.declared.event.Event.{Event}
 use Rattle.lu_machine.specs.Ends.{IsEnded}
-use Rattle.lu_machine.specs.Runs.{with_event}
+use Rattle.lu_machine.specs.Runs.{Leads, with_event}
 use Rattle.lu_machine.specs.Schedules.{Reaches}
 use Rattle.lu_machine.specs.States.{State}
-use Rattle.lu_machine.specs.Steps.{Step}
 use Rattle.lu_graph.specs.declared.ending.Ending.{Ending}
 use Rattle.lu_graph.specs.declared.ending.Ending.TheVariants.{Well, Badly, TooMany}
 use Rattle.lu_history.specs.declared.serial.SerialOp.{SerialOp}
+use Rattle.lu_graph.specs.Alive.{IsPossible}
 use Rattle.lu_witness.specs.Goodness.{IsGoodAt}
 use Rattle.lu_witness.specs.Witnesses.{IsMember}
 
@@ -24,28 +24,26 @@ node_of s h = record { state = s; history = h }
 abbrev pub longer : List Event → Option Event → List Event
 longer h event = h ++ with_event event []
 
--- where a move leads from the node: to this state, with this event or none
-abbrev pub next_node : Node → State → Option Event → Node
-next_node node next event = node_of next (longer node.history event)
-
 -- it is one of the list
 abbrev pub IsAmong : {A : Type 0} → List A → A → Type 0
 IsAmong list x = (i : ℕ) × (slice_get list i ≡ Some x)
 
--- with each node of the list, each to which a move of it leads
-abbrev pub IsClosed : List Node → Type 0
-IsClosed nodes =
-    (node : Node) (m : Move) (next : State) (event : Option Event) →
-    IsAmong nodes node → Step node.state m next event → IsAmong nodes (next_node node next event)
+-- Two nodes are alike for a set of serial histories: they have one state, and the same histories of
+-- the set can still become witnesses of theirs.
+abbrev pub AreAlike : (List SerialOp → Type 0) → Node → Node → Type 0
+AreAlike Set a b =
+    (a.state ≡ b.state)
+    × ((q : List SerialOp) → Set q → IsPossible q a.history ↔ IsPossible q b.history)
 
--- the start s, before any event, and with each node each to which a move of it leads
-pub record HasAllNodes (s : State) (nodes : List Node) : Type 0 where
-  pub start : IsAmong nodes (node_of s [])
-  pub closed : IsClosed nodes
+-- each schedule from s, of any length, leads to a node that is like one of the list
+abbrev pub HasAllNodes : (List SerialOp → Type 0) → State → List Node → Type 0
+HasAllNodes Set s nodes =
+    (u : List Move) (end : State) (h : List Event) → Leads s u end h
+    → (node : Node) × IsAmong nodes node × AreAlike Set node (node_of end h)
 
--- a list of no more than so many nodes has all of them
-abbrev pub HasFewNodes : State → ℕ → Type 0
-HasFewNodes s most = (nodes : List Node) × HasAllNodes s nodes × (length nodes ≤ most)
+-- so it is of a list of no more than so many nodes
+abbrev pub HasFewNodes : (List SerialOp → Type 0) → State → ℕ → Type 0
+HasFewNodes Set s most = (nodes : List Node) × HasAllNodes Set s nodes × (length nodes ≤ most)
 
 -- it is good, if it has ended
 abbrev pub IsGoodIfEnded : (List SerialOp → Type 0) → State → List Event → Type 0
@@ -59,12 +57,6 @@ IsBadAt Set s h = IsEnded s × (IsGoodAt Set s h → ⊥)
 abbrev pub TellsGood : (List SerialOp → Type 0) → State → List Event → Bool → Type 0
 TellsGood Set s h good = MatchBool good (IsGoodIfEnded Set s h) (IsBadAt Set s h)
 
--- each node of the list that has ended is good
-abbrev pub EndGood : (List SerialOp → Type 0) → List Node → Type 0
-EndGood Set nodes =
-    (node : Node) → IsAmong nodes node → IsEnded node.state
-    → IsGoodAt Set node.state node.history
-
 -- each ended schedule, of any length, is good
 abbrev pub EndsWell : (List SerialOp → Type 0) → State → Type 0
 EndsWell Set s =
@@ -72,7 +64,7 @@ EndsWell Set s =
 
 -- there are no more than 262,144 nodes, and each ended schedule, of any length, is good
 abbrev pub EndsWellOnFewNodes : (List SerialOp → Type 0) → State → Type 0
-EndsWellOnFewNodes Set s = HasFewNodes s 262144 × EndsWell Set s
+EndsWellOnFewNodes Set s = HasFewNodes Set s 262144 × EndsWell Set s
 
 -- the schedule u ends, and is not good
 abbrev pub EndsBadly : (List SerialOp → Type 0) → State → List Move → Type 0
@@ -91,8 +83,8 @@ pub record IsShortestBad (Set : List SerialOp → Type 0) (s : State) (moves : �
 abbrev pub IsEnding : (List SerialOp → Type 0) → ℕ → State → Ending → Type 0
 IsEnding Set bound s Well = EndsWellOnFewNodes Set s
 IsEnding Set bound s (Badly moves) =
-    IsShortestBad Set s moves × (bound < moves → HasFewNodes s 262144)
-IsEnding Set bound s TooMany = HasFewNodes s 262144 → ⊥
+    IsShortestBad Set s moves × (bound < moves → HasFewNodes Set s 262144)
+IsEnding Set bound s TooMany = HasFewNodes Set s 262144 → ⊥
 
 -- so it is of the result, if there is one, for the set of these members
 abbrev pub TellsEnding : {E : Type 0} → List (List SerialOp) → ℕ → Result Ending E → State → Type 0
@@ -103,5 +95,5 @@ abbrev pub Tells : {E : Type 0} → Type 0 → Result Bool E → Type 0
 Tells P result = IfOk result (λ answer. IsTrue answer ↔ P)
 
 -- the answer, if there is one, is whether there are no more than 262,144 nodes
-abbrev pub TellsFewNodes : {E : Type 0} → Result Bool E → State → Type 0
-TellsFewNodes result s = Tells (HasFewNodes s 262144) result
+abbrev pub TellsFewNodes : {E : Type 0} → (List SerialOp → Type 0) → Result Bool E → State → Type 0
+TellsFewNodes Set result s = Tells (HasFewNodes Set s 262144) result

@@ -1,41 +1,60 @@
 -- What is known of the nodes that are kept, as a breadth-first search goes through them.
 use Rattle.std.specs.Prelude.{◌≡◌, ℕ, ◌+◌, ◌<◌, ◌≤◌, ◌⊎◌, List, [], All, Option, Some, slice_get}
+use Rattle.std.specs.Global.{Vec}
 use Rattle.lu_component.specs.Component.{Declarations}
 use Rattle.lu_test.specs.declared.schedule.Move.{Move}
 use Rattle.lu_test.specs.Matrix.{Matrix}
 use Rattle.lu_machine.specs.declared.event.Event.{Event}
+use Rattle.lu_machine.specs.Positions.{CanStandAt}
 use Rattle.lu_machine.specs.Runs.{Leads}
 use Rattle.lu_machine.specs.Starts.{FromEachStart}
-use Rattle.lu_machine.specs.States.{State}
+use Rattle.lu_machine.specs.States.{State, progress}
 use Rattle.lu_machine.specs.Steps.{Step}
+use Rattle.lu_history.specs.declared.serial.SerialOp.{SerialOp}
+use Rattle.lu_history.specs.Histories.{IsWellFormed}
+use Rattle.lu_history.specs.Standing.{Agree}
 use Rattle.lu_graph.specs.declared.kept.Kept.{Kept}
 use Rattle.lu_graph.specs.declared.level.Level.{Level}
-use Rattle.lu_graph.specs.Growing.{IsSound, Keeps, shown}
-use Rattle.lu_graph.specs.Nodes.{Node, next_node, node_of}
+use Rattle.lu_graph.specs.Alive.{AreTold}
+use Rattle.lu_graph.specs.Growing.{IsNextBy, Keeps, state_of}
 
--- the node of what is kept, in runs that start in s
-abbrev pub its : State → Kept → Node
-its s kept = shown s.component s.matrix kept
+-- the state of what is kept, in runs that start in s
+abbrev pub its : State → Kept → State
+its s kept = state_of s.component s.matrix kept
 
--- a schedule leads from s to the node
-abbrev pub IsReached : State → Node → Type 0
-IsReached s node = (u : List Move) × Leads s u node.state node.history
+-- it stands for the state `end` behind the history h, which may have led there
+pub record IsFor (s : State) (members : List (Vec SerialOp)) (end : State) (h : List Event)
+    (kept : Kept) : Type 0 where
+  pub state : its s kept ≡ end
+  pub well_formed : IsWellFormed h
+  pub agree : Agree (progress end) h
+  pub told : AreTold members h kept.alive.items
 
-abbrev pub IsReachedAndSound : State → Kept → Type 0
-IsReachedAndSound s kept = IsSound s.component s.matrix kept × IsReached s (its s kept)
+-- a schedule leads from s to it
+pub record IsReached (s : State) (members : List (Vec SerialOp)) (kept : Kept) : Type 0 where
+  pub schedule : List Move
+  pub history : List Event
+  pub leads : Leads s schedule (its s kept) history
+  pub is : IsFor s members (its s kept) history kept
 
--- The start s is kept; each that is kept is sound, and a schedule leads from s to it; and with each
--- before this place, all to which its moves lead are kept.
-pub record AreVisited (s : State) (list : List Kept) (place : ℕ) : Type 0 where
-  pub start : Keeps s.component s.matrix list (node_of s [])
-  pub reached : All (IsReachedAndSound s) list
+abbrev pub IsReachedAndSound : State → List (Vec SerialOp) → Kept → Type 0
+IsReachedAndSound s members kept =
+    CanStandAt s.component s.matrix kept.position × IsReached s members kept
+
+-- The start s is kept; to each that is kept a schedule leads from s, and a machine can stand there;
+-- and with each before this place, all to which its moves lead are kept.
+pub record AreVisited (members : List (Vec SerialOp)) (s : State) (list : List Kept)
+    (place : ℕ) : Type 0 where
+  pub start : Keeps (IsFor s members s []) list
+  pub reached : All (IsReachedAndSound s members) list
   pub closed : (i : ℕ) (kept : Kept) → i < place → slice_get list i ≡ Some kept
-      → (m : Move) (next : State) (event : Option Event) → Step (its s kept).state m next event
-      → Keeps s.component s.matrix list (next_node (its s kept) next event)
+      → (m : Move) (next : State) (event : Option Event) → Step (its s kept) m next event
+      → Keeps (IsNextBy members (its s kept) kept.alive.items next event) list
 
 -- so it is from each start
-abbrev pub AreVisitedFrom : Declarations → Matrix → List Kept → ℕ → Type 0
-AreVisitedFrom c matrix list place = FromEachStart c matrix (λ s. AreVisited s list place)
+abbrev pub AreVisitedFrom : List (Vec SerialOp) → Declarations → Matrix → List Kept → ℕ → Type 0
+AreVisitedFrom members c matrix list place =
+    FromEachStart c matrix (λ s. AreVisited members s list place)
 
 -- the level of the node at this place: the old one, or, where that has ended, the next, which ends
 -- behind all that are known

@@ -1,52 +1,53 @@
 //! How the nodes that are kept grow.
 
-ghost use Rattle.std.specs.Prelude.{◌≡◌, OnOk};
-ghost use Rattle.lu_machine.specs.States.{progress};
-ghost use Rattle.lu_history.specs.Histories.{IsWellFormed};
-ghost use Rattle.lu_history.specs.Standing.{Agree};
+ghost use Rattle.std.specs.Prelude.{◌≡◌, OnOk, length};
 ghost use Rattle.lu_graph.specs.Growing.{AddsHere, AddsNext};
-ghost use Rattle.lu_graph.specs.Nodes.{longer};
 
+use crate::alive::alive_after;
 use crate::kept::Kept;
 use indexmap::IndexSet;
+use lu_history::SerialOp;
 use lu_machine::{Event, Machine};
 use lu_test::Move;
 use std::alloc::{AllocError, Global};
 
-/// Adds the node at which the machine stands, behind these events and one more, if there is one.
+/// Adds the node at which the machine stands, where it came by this event, or by none, and these
+/// members were possible before.
 pub(crate) fn add(
     alloc: Global,
     machine: &Machine<'_>,
-    events: &[Event],
+    members: &[Vec<SerialOp>],
+    alive: &[bool],
     event: Option<Event>,
     nodes: &mut IndexSet<Kept>,
 ) -> Result<(), AllocError>
-    requires well_formed { IsWellFormed (longer events.now event) }
-    requires agree { Agree (progress machine.now) (longer events.now event) }
-    ensures { OnOk result (AddsHere machine.now events.now event nodes.old.keys nodes.new.keys) }
+    requires { length alive.now ≡ length members.now }
+    ensures { OnOk result
+        (AddsHere members.now machine.now alive.now event nodes.old.keys nodes.new.keys) }
 {
-    let kept = Kept::of(alloc, machine, events, event)?;
-    nodes.insert(kept)?;
+    let alive = alive_after(alloc, machine, members, alive, event)?;
+    let position = machine.position(alloc)?;
+    nodes.insert(Kept { position, alive })?;
     Ok(())
 }
 
-/// Adds all nodes to which the machine's moves lead, behind these events.
+/// Adds all nodes to which the machine's moves lead, where these members are possible.
 pub(crate) fn add_next(
     alloc: Global,
     machine: &mut Machine<'_>,
-    events: &[Event],
+    members: &[Vec<SerialOp>],
+    alive: &[bool],
     nodes: &mut IndexSet<Kept>,
 ) -> Result<(), AllocError>
-    requires well_formed { IsWellFormed events.now }
-    requires agree { Agree (progress machine.old) events.now }
+    requires { length alive.now ≡ length members.now }
     ensures home { OnOk result (machine.new ≡ machine.old) }
     ensures next { OnOk result
-        (AddsNext machine.old events.now nodes.old.keys nodes.new.keys) }
+        (AddsNext members.now machine.old alive.now nodes.old.keys nodes.new.keys) }
 {
     for thread in 0..machine.threads() {
         for pick in 0..machine.picks(thread) {
             let undo = machine.apply(Move { thread, pick });
-            add(alloc, machine, events, undo.event(), nodes)?;
+            add(alloc, machine, members, alive, undo.event(), nodes)?;
             machine.undo(undo);
         }
     }

@@ -1,53 +1,15 @@
-//! Whether a history has its witnesses.
+//! How an ended state is judged, by the members that are alive.
 
-ghost use Rattle.std.specs.Prelude.{◌≡◌, ◌↔◌, IsTrue, IfOk};
+ghost use Rattle.std.specs.Prelude.{◌≡◌, ◌↔◌, Some, IsTrue, length, slice_get};
+ghost use Rattle.lu_history.specs.declared.serial.SerialOutcome.TheVariants.{Stuck};
 ghost use Rattle.lu_machine.specs.Ends.{IsEnded};
-ghost use Rattle.lu_machine.specs.States.{progress};
-ghost use Rattle.lu_history.specs.Histories.{IsWellFormed};
-ghost use Rattle.lu_history.specs.Standing.{Agree};
-ghost use Rattle.lu_graph.specs.Nodes.{TellsGood};
-ghost use Rattle.lu_witness.specs.Witnesses.{IsMember, IsVerdict};
-ghost use Rattle.lu_witness.specs.declared.judgement.Verdict.TheVariants.{Good};
+ghost use Rattle.lu_witness.specs.Witnesses.{entries};
+ghost use Rattle.lu_graph.specs.Judging.{AllHaveWhole, HasWhole, IsWhole, JudgesGood, ended, room};
 
-use lu_history::History;
-use lu_machine::{Event, Machine, Status};
-use lu_trie::SerialTree;
-use lu_witness::{Verdict, verdict};
-use std::alloc::{AllocError, Global};
-
-/// The history of these events.
-fn history_of(alloc: Global, events: &[Event]) -> Result<History, AllocError>
-    requires { IsWellFormed events.now }
-    ensures { IfOk result (λ history. history ≡ events.now) }
-{
-    let mut history = History::new(alloc);
-    for event in events {
-        if history.push(*event).is_err() {
-            return Err(AllocError);
-        }
-    }
-    Ok(history)
-}
-
-/// The verdict of these events.
-fn judge<T: SerialTree>(alloc: Global, tree: &T, events: &[Event]) -> Result<Verdict, AllocError>
-    requires { IsWellFormed events.now }
-    ensures { IfOk result (IsVerdict (IsMember (T.members tree.now)) events.now) }
-{
-    let history = history_of(alloc, events)?;
-    Ok(verdict(tree, &history))
-}
-
-/// Whether the verdict is that all witnesses are there.
-fn tells_good(verdict: Verdict) -> bool
-    ensures { IsTrue result ↔ (verdict ≡ Good) }
-{
-    match verdict {
-        Verdict::Good => true,
-        Verdict::NoWitness => false,
-        Verdict::NoWitnessFor(_) => false,
-    }
-}
+use crate::members::{count, place_of};
+use crate::standing::{called, ended, is_waiting};
+use lu_history::{SerialOp, SerialOutcome};
+use lu_machine::{Machine, Status};
 
 /// Whether the machine has ended.
 pub(crate) fn has_ended(machine: &Machine<'_>) -> bool
@@ -60,22 +22,101 @@ pub(crate) fn has_ended(machine: &Machine<'_>) -> bool
     }
 }
 
-/// Whether a schedule that ends where the machine stands, with these events, is good; true where
-/// the machine has not ended.
-pub(crate) fn is_good<T: SerialTree>(
-    alloc: Global,
-    machine: &Machine<'_>,
-    tree: &T,
-    events: &[Event],
-) -> Result<bool, AllocError>
-    requires well_formed { IsWellFormed events.now }
-    requires agree { Agree (progress machine.now) events.now }
-    ensures { IfOk result
-        (TellsGood (IsMember (T.members tree.now)) machine.now events.now) }
+/// How many operations of the thread can stand in a witness: those that ended, or, of the thread
+/// that waits, those that are called.
+fn room(machine: &Machine<'_>, waiting: Option<u8>, thread: u8) -> usize
+    ensures { result ≡ room machine.now waiting thread }
 {
-    if has_ended(machine) {
-        let found = judge(alloc, tree, events)?;
-        return Ok(tells_good(found));
+    match waiting {
+        None => ended(machine, thread),
+        Some(waits) => {
+            if waits == thread {
+                called(machine, thread)
+            } else {
+                ended(machine, thread)
+            }
+        }
     }
-    Ok(true)
+}
+
+/// Whether an operation that ended so is stuck.
+fn is_stuck_so(outcome: SerialOutcome) -> bool
+    ensures { IsTrue result ↔ (outcome ≡ Stuck) }
+{
+    outcome == SerialOutcome::Stuck
+}
+
+/// Whether the thread's operation behind those that ended is stuck in the member.
+fn is_stuck(machine: &Machine<'_>, member: &[SerialOp], thread: u8) -> bool
+    ensures { IsTrue result
+        ↔ (slice_get (entries thread member.now) (ended machine.now thread) ≡ Some Stuck) }
+{
+    match place_of(member, thread, ended(machine, thread)) {
+        None => false,
+        Some(place) => is_stuck_so(member[place].outcome),
+    }
+}
+
+/// Whether the member has of each thread no more than there is room for, and its operation of the
+/// thread that waits, if any, is stuck.
+fn is_whole(machine: &Machine<'_>, member: &[SerialOp], waiting: Option<u8>) -> bool
+    ensures { IsTrue result ↔ IsWhole machine.now waiting member.now }
+{
+    for op in member {
+        if count(member, op.thread) > room(machine, waiting, op.thread) {
+            return false;
+        }
+    }
+    match waiting {
+        None => true,
+        Some(thread) => is_stuck(machine, member, thread),
+    }
+}
+
+/// Whether some member that is alive is whole.
+fn has_whole(
+    machine: &Machine<'_>,
+    members: &[Vec<SerialOp>],
+    alive: &[bool],
+    waiting: Option<u8>,
+) -> bool
+    requires { length alive.now ≡ length members.now }
+    ensures { IsTrue result ↔ HasWhole machine.now waiting members.now alive.now }
+{
+    for place in 0..members.len() {
+        if alive[place] {
+            if is_whole(machine, &members[place], waiting) {
+                return true;
+            }
+        }
+    }
+    false
+}
+
+/// Whether for each thread that waits some member that is alive is whole.
+fn all_have_whole(machine: &Machine<'_>, members: &[Vec<SerialOp>], alive: &[bool]) -> bool
+    requires { length alive.now ≡ length members.now }
+    ensures { IsTrue result ↔ AllHaveWhole machine.now members.now alive.now }
+{
+    for thread in 0..machine.threads() {
+        if is_waiting(machine, thread) {
+            if !has_whole(machine, members, alive, Some(thread)) {
+                return false;
+            }
+        }
+    }
+    true
+}
+
+/// Whether a schedule that ends where the machine stands is good, where these members are alive;
+/// true where the machine has not ended.
+pub(crate) fn is_good(machine: &Machine<'_>, members: &[Vec<SerialOp>], alive: &[bool]) -> bool
+    requires { length alive.now ≡ length members.now }
+    ensures { JudgesGood members.now machine.now alive.now result }
+{
+    match machine.status() {
+        Status::Running => true,
+        Status::Complete => has_whole(machine, members, alive, None),
+        Status::Stuck => all_have_whole(machine, members, alive),
+    }
 }

@@ -1,48 +1,22 @@
 //! Nodes, as they are kept.
 
 ghost use Rattle.std.specs.Prelude.{◌≡◌, IfOk};
-ghost use Rattle.lu_machine.specs.Positions.{at_position};
-ghost use Rattle.lu_graph.specs.Nodes.{longer};
 
-use lu_machine::{Event, Machine, Position};
+use lu_machine::Position;
 use std::alloc::{AllocError, Global};
 
-/// Where a machine stands, and the history that led there.
+/// Where a machine stands, and which of the members of a set are possible still.
 #[derive(PartialEq, Eq, Hash, Drop)]
 pub(crate) struct Kept {
     pub(crate) position: Position,
-    pub(crate) events: Vec<Event>,
+    pub(crate) alive: Vec<bool>,
 }
 
 impl Kept {
-    ghost use Rattle.lu_graph.specs.Growing.{IsPositionOf};
-
-    /// Where the machine stands, with these events and one more, if there is one.
-    pub(crate) fn of(
-        alloc: Global,
-        machine: &Machine<'_>,
-        events: &[Event],
-        event: Option<Event>,
-    ) -> Result<Kept, AllocError>
-        ensures state { IfOk result (λ kept. at_position machine.now kept.position ≡ machine.now) }
-        ensures stands { IfOk result (λ kept. IsPositionOf machine.now kept.position) }
-        ensures events { IfOk result (λ kept. kept.events.items ≡ longer events.now event) }
+    /// Which members are possible.
+    pub(crate) fn copy_alive(&self, alloc: Global) -> Result<Vec<bool>, AllocError>
+        ensures { IfOk result (λ copy. copy.items ≡ self.now.alive.items) }
     {
-        let mut longer = Vec::from_slice(alloc, events)?;
-        match event {
-            None => {}
-            Some(event) => longer.push(event)?,
-        }
-        Ok(Kept {
-            position: machine.position(alloc)?,
-            events: longer,
-        })
-    }
-
-    /// Its events.
-    pub(crate) fn copy_events(&self, alloc: Global) -> Result<Vec<Event>, AllocError>
-        ensures { IfOk result (λ copy. copy.items ≡ self.now.events.items) }
-    {
-        Vec::from_slice(alloc, &self.events)
+        Vec::from_slice(alloc, &self.alive)
     }
 }

@@ -1,11 +1,12 @@
 //! The graph of a component's states and histories, where it is finite and small.
 //!
-//! A node is a state with the history of a schedule that leads there. Threads that spin have
-//! schedules of every length, but mostly they come back to few nodes. Where a set of nodes has the
-//! start, and with each node all to which its moves lead, each schedule of any length leads to one
-//! of them. So where each ended node of such a set is good, each ended schedule is.
+//! A node is a state, with the history of a schedule that leads there. What counts of the history
+//! is only which serial histories can still become witnesses of it: nodes of one state where these
+//! are the same are alike, and count as one. Threads that spin have schedules of every length, but
+//! mostly they come back to few nodes. So a search goes through one of each kind, breadth first,
+//! and judges those that have ended: that tells of each schedule, of any length.
 //!
-//! The same set without histories tells of threads that go on for ever: where from a state none is
+//! The same without histories tells of threads that go on for ever: where from a state none is
 //! reached that has ended, no schedule ends.
 //!
 //! ```text
@@ -20,6 +21,7 @@
 //! ```
 #![tactic(auto)]
 
+mod alive;
 mod discovering;
 mod edge;
 mod ending;
@@ -30,10 +32,13 @@ mod judging;
 mod kept;
 mod laws;
 mod level;
+mod listing;
 mod losing;
 mod marking;
+mod members;
+mod standing;
 
 pub use ending::Ending;
 pub use exploring::ends_well;
-pub use laws::{alive_laws, closed_laws, hopeless_law};
+pub use laws::{alike_laws, alive_laws, hopeless_law};
 pub use losing::first_lost;

@@ -2,13 +2,13 @@ use Rattle.std.proofs.Common.{arith, ◌≡◌, ◌≤◌, true, false, length, 
 use Rattle.std.proofs.lemmas.Bool.{cases_lt}
 use Rattle.lu_machine.specs.Positions.{at_position}
 use Rattle.lu_machine.specs.States.{State}
-use Rattle.lu_graph.proofs.Visiting.{agrees, can_stand, few_nodes, many_or_few, too_many, visited_next, well_formed}
+use Rattle.lu_graph.proofs.Visiting.{as_many, can_stand, few_nodes, many_or_few, too_many, visited_next}
 use Rattle.lu_graph.proofs.exploring.are_few.Goals as goal
 
 pub returns-then-len-gt-MOST_NODES : goal.returns-then-len-gt-MOST_NODES
 returns-then-len-gt-MOST_NODES c = λ s is. (
   (λ x. absurd (cc)),
-  (λ few. absurd (too_many c.args.machine.now.component c.args.machine.now.matrix c.requires.settles c.loop-at.nodes.keys c.loop-at.at c.loop-at.invariant.visited c.len.ensures.unique (omega (arith, c.len.ensures.len)) s is few)),
+  (λ few. absurd (too_many c.args.members.now c.args.machine.now.component c.args.machine.now.matrix c.requires.settles c.loop-at.nodes.keys c.loop-at.at c.loop-at.invariant.visited c.len.ensures.unique (omega (arith, c.len.ensures.len)) s is few)),
 )
 
 apart : false ≡ true → ⊥
@@ -21,26 +21,20 @@ returns-in-None c = λ s is.
       | inr le ↦ le
     ] in
     let few : length c.loop-at.nodes.keys ≤ 262144 = omega (arith, c.len.ensures.len) in (
-      (λ x. few_nodes c.args.machine.now.component c.args.machine.now.matrix c.requires.settles c.loop-at.nodes.keys c.loop-at.at c.loop-at.invariant.visited past few s is),
+      (λ x. few_nodes c.args.members.now c.args.machine.now.component c.args.machine.now.matrix c.requires.settles c.loop-at.nodes.keys c.loop-at.at c.loop-at.invariant.visited past few s is),
       (λ x. refl),
     ))
 
 pub stand_at-requires : goal.stand_at-requires
 stand_at-requires c =
-    can_stand c.args.machine.now.component c.args.machine.now.matrix c.requires.settles c.loop-at.nodes.keys c.loop-at.at c.loop-at.invariant.visited
+    can_stand c.args.members.now c.args.machine.now.component c.args.machine.now.matrix c.requires.settles c.loop-at.nodes.keys c.loop-at.at c.loop-at.invariant.visited
     c.loop-at.machine c.loop-at.invariant.component c.loop-at.invariant.matrix_is c.in-Some.kept.now (sym c.in-Some.ensures.key)
 
-pub add_next-requires-clause-well_formed : goal.add_next-requires-clause-well_formed
-add_next-requires-clause-well_formed c =
-    well_formed c.args.machine.now.component c.args.machine.now.matrix c.requires.settles c.loop-at.nodes.keys c.loop-at.at c.loop-at.invariant.visited
+pub add_next-requires : goal.add_next-requires
+add_next-requires c =
+    as_many c.args.members.now c.args.machine.now.component c.args.machine.now.matrix c.requires.settles c.loop-at.nodes.keys c.loop-at.at c.loop-at.invariant.visited
     c.loop-at.machine c.loop-at.invariant.component c.loop-at.invariant.matrix_is c.in-Some.kept.now (sym c.in-Some.ensures.key)
-    c.stand_at.new.self c.deref.result.now c.stand_at.ensures (c.deref.ensures.value ∙ c.in_ok-copy.ensures)
-
-pub add_next-requires-clause-agree : goal.add_next-requires-clause-agree
-add_next-requires-clause-agree c =
-    agrees c.args.machine.now.component c.args.machine.now.matrix c.requires.settles c.loop-at.nodes.keys c.loop-at.at c.loop-at.invariant.visited
-    c.loop-at.machine c.loop-at.invariant.component c.loop-at.invariant.matrix_is c.in-Some.kept.now (sym c.in-Some.ensures.key)
-    c.stand_at.new.self c.deref.result.now c.stand_at.ensures (c.deref.ensures.value ∙ c.in_ok-copy.ensures)
+    c.deref.result.now (c.deref.ensures.value ∙ c.in_ok-alive.ensures)
 
 pub loop-at-preserved : goal.loop-at-preserved
 loop-at-preserved c =
@@ -48,12 +42,12 @@ loop-at-preserved c =
     record {
       component = ap (λ (s : State). s.component) home ∙ c.loop-at.invariant.component;
       matrix_is = ap (λ (s : State). s.matrix) home ∙ c.loop-at.invariant.matrix_is;
-      visited = visited_next c.args.machine.now.component c.args.machine.now.matrix c.requires.settles c.loop-at.nodes.keys c.loop-at.at c.loop-at.invariant.visited
+      visited = visited_next c.args.members.now c.args.machine.now.component c.args.machine.now.matrix c.requires.settles c.loop-at.nodes.keys c.loop-at.at c.loop-at.invariant.visited
           c.loop-at.machine c.loop-at.invariant.component c.loop-at.invariant.matrix_is c.in-Some.kept.now (sym c.in-Some.ensures.key)
-          c.stand_at.new.self c.deref.result.now c.stand_at.ensures (c.deref.ensures.value ∙ c.in_ok-copy.ensures) c.add_next.new.nodes.keys c.in_ok-add_next.ensures.next;
+          c.stand_at.new.self c.deref.result.now c.stand_at.ensures (c.deref.ensures.value ∙ c.in_ok-alive.ensures) c.add_next.new.nodes.keys c.in_ok-add_next.ensures.next;
     }
 
 pub returns : goal.returns
 returns c = λ s is.
-    many_or_few c.args.machine.now.component c.args.machine.now.matrix c.requires.settles c.loop-at.nodes.keys c.loop-at.at c.loop-at.invariant.visited
+    many_or_few c.args.members.now c.args.machine.now.component c.args.machine.now.matrix c.requires.settles c.loop-at.nodes.keys c.loop-at.at c.loop-at.invariant.visited
     c.len-2.ensures.unique c.len-2.result c.len-2.ensures.len (omega arith) s is

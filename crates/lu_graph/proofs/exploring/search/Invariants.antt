@@ -1,14 +1,13 @@
 use Rattle.std.proofs.Common.{◌≡◌, ◌<◌}
-use Rattle.lu_witness.specs.Witnesses.{IsMember}
 use Rattle.lu_graph.specs.Visiting.{AreVisitedFrom}
 use Rattle.lu_graph.proofs.Visiting.{AreSearchedFrom}
 use Rattle.lu_graph.proofs.exploring.search.Given as goal
 
 abbrev pub invariant-loop-at : goal.invariant-loop-at
-invariant-loop-at g l = record {
+invariant-loop-at l = record {
   component : l.machine.component ≡ l.fn.machine.component;
   matrix_is : l.machine.matrix ≡ l.fn.machine.matrix;
-  visited : AreVisitedFrom l.fn.machine.component l.fn.machine.matrix l.nodes.keys l.at;
-  searched : AreSearchedFrom (IsMember (g.T.SerialTree.members l.tree)) l.fn.machine.component l.fn.machine.matrix l.nodes.keys l.at l.level.moves l.level.end;
+  visited : AreVisitedFrom l.members l.fn.machine.component l.fn.machine.matrix l.nodes.keys l.at;
+  searched : AreSearchedFrom l.members l.fn.machine.component l.fn.machine.matrix l.nodes.keys l.at l.level.moves l.level.end;
   moves : l.level.moves < l.level.end;
 }
