@@ -13,7 +13,7 @@ use Rattle.lu_report.specs.Limits.{most_moves}
 use Rattle.lu_witness.specs.Witnesses.{IsMember}
 use Rattle.lu_graph.specs.declared.ending.Ending.{Ending}
 use Rattle.lu_graph.specs.declared.ending.Ending.TheVariants.{Badly, TooMany, Well}
-use Rattle.lu_graph.specs.Nodes.{EndsBadly, EndsWellOnFewNodes, IsEnding, IsShortestBad}
+use Rattle.lu_graph.specs.Nodes.{EndsBadly, EndsWellOnFewNodes, HasFewNodes, IsEnding, IsShortestBad}
 use Rattle.lu_certify.specs.declared.told.Told.{Told}
 use Rattle.lu_certify.specs.declared.told.Told.TheVariants.{AllGood, BadBehind, Nothing}
 use Rattle.lu_certify.specs.Certificates.{FailsBehind, IsProved}
@@ -25,8 +25,17 @@ use Rattle.lu_certify.proofs.Linear.{never_bad}
 -- ---- two sets with the same members
 
 module _ (Set Other : List SerialOp → Type 0) (more : (q : List SerialOp) → Set q → Other q) (fewer : (q : List SerialOp) → Other q → Set q) where
+  few_more : (s : State) (most : ℕ) → HasFewNodes Set s most → HasFewNodes Other s most
+  few_more s most few = (
+    few.0,
+    (λ u end h leads.
+        let there = few.1 u end h leads in
+        (there.0, there.1, (there.2.0, λ q is. there.2.1 q (fewer q is)))),
+    few.2,
+  )
+
   well_more : (s : State) → EndsWellOnFewNodes Set s → EndsWellOnFewNodes Other s
-  well_more s is = (is.0, λ u ended. reaches_more Set Other more s u (is.1 u ended))
+  well_more s is = (few_more s 262144 is.0, λ u ended. reaches_more Set Other more s u (is.1 u ended))
 
   bad_more : (s : State) (u : List Move) → EndsBadly Set s u → EndsBadly Other s u
   bad_more s u bad = record { end = bad.end; history = bad.history; leads = bad.leads; holds = (bad.holds.0, λ good. bad.holds.1 (good_more Other Set fewer bad.end bad.history good)) }
@@ -54,6 +63,16 @@ module _ (c : Declarations) (matrix : Matrix) (bound serial : ℕ) (settles : Se
 
   -- over the set of the serial histories
   module _ (members : List (List SerialOp)) (set : (s : State) → IsStart c matrix s → IsSetOf s serial members) where
+    few_at : (s : State) → IsStart c matrix s → HasFewNodes (IsMember members) s 262144 → HasFewNodes (IsSerialHistory s) s 262144
+    few_at s at few =
+        let here = set s at in
+        few_more (IsMember members) (IsSerialHistory s) (λ q y. (here.are q).0 y) (λ q y. (here.are q).1 y) s 262144 few
+
+    few_back : (s : State) → IsStart c matrix s → HasFewNodes (IsSerialHistory s) s 262144 → HasFewNodes (IsMember members) s 262144
+    few_back s at few =
+        let here = set s at in
+        few_more (IsSerialHistory s) (IsMember members) (λ q y. (here.are q).1 y) (λ q y. (here.are q).0 y) s 262144 few
+
     shortest_at : (s : State) → IsStart c matrix s → (moves : ℕ) → IsShortestBad (IsMember members) s moves → IsShortestBad (IsSerialHistory s) s moves
     shortest_at s at moves x =
         let here = set s at in
@@ -65,7 +84,7 @@ module _ (c : Declarations) (matrix : Matrix) (bound serial : ℕ) (settles : Se
         (here.none, well_more (IsMember members) (IsSerialHistory s) (λ q y. (here.are q).0 y) (λ q y. (here.are q).1 y) s (is s at))
 
     told_badly : (moves : ℕ) → FromEachStart c matrix (λ s. IsEnding (IsMember members) bound s (Badly moves)) → bound < moves → moves ≤ most_moves → FailsBehind c bound serial matrix moves
-    told_badly moves is more few = (more, few, λ s at. ((set s at).none, (is s at).1 more, shortest_at s at moves (is s at).0))
+    told_badly moves is more few = (more, few, λ s at. ((set s at).none, few_at s at ((is s at).1 more), shortest_at s at moves (is s at).0))
 
     told_far : (moves : ℕ) → FromEachStart c matrix (λ s. IsEnding (IsMember members) bound s (Badly moves)) → (bound < moves → most_moves < moves) → IsLeftOpen c bound serial matrix
     told_far moves is far =
@@ -87,8 +106,8 @@ module _ (c : Declarations) (matrix : Matrix) (bound serial : ℕ) (settles : Se
         let there = start_there c matrix settles in
         let many = is there.0 there.1 in
         record {
-          unproved = λ proved. many (proved there.0 there.1).1.0;
-          unfailing = λ n behind. many (behind.2 there.0 there.1).1;
+          unproved = λ proved. many (few_back there.0 there.1 (proved there.0 there.1).1.0);
+          unfailing = λ n behind. many (few_back there.0 there.1 (behind.2 there.0 there.1).1);
         }
 
     pub told_by : (ending : Ending) (told : Told) → FromEachStart c matrix (λ s. IsEnding (IsMember members) bound s ending) → IsToldBy bound ending told → IsTold c bound serial matrix told

@@ -60,7 +60,7 @@ IsClear c bound serial matrix =
 abbrev pub FailsBehind : Declarations → ℕ → ℕ → Matrix → ℕ → Type 0
 FailsBehind c bound serial matrix moves =
     (bound < moves) × (moves ≤ most_moves)
-    × FromEachStart c matrix (λ s. NoOffence s serial × HasFewNodes s 262144
+    × FromEachStart c matrix (λ s. NoOffence s serial × HasFewNodes (IsSerialHistory s) s 262144
     × IsShortestBad (IsSerialHistory s) s moves)
 
 -- r shows that the matrix fails: it is its report at the bounds, and a failure; or it is its report

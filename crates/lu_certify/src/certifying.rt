@@ -109,10 +109,10 @@ pub(crate) fn conclude(
 /// Whether the component is linearizable on the matrix by some deterministic set of serial
 /// histories, decided by its cuts, in the lexicographic order of their lengths, thread 0's first:
 /// each thread makes some of its first calls (Burckhardt, Dern, Musuvathi and Tan, 2010). A cut is
-/// checked, or all its states are gone through, with their histories, where these are few: first
-/// where threads may spin, and else where the check leaves it open. They tell too where the
-/// shortest schedule that ends badly has more moves than the bound; where it has at most 256, the
-/// cut fails by the report at that length. Where schedules are cut, a cut may have a livelock: a
+/// checked, or all its states are gone through, with the serial histories that can still become
+/// witnesses, where these are few: first where threads may spin, and else where the check leaves it
+/// open. They tell too where the shortest schedule that ends badly has more moves than the bound;
+/// where it has at most 256, the cut fails by the report at that length. Where schedules are cut, a cut may have a livelock: a
 /// state from which no schedule ends. It stops at the first cut that fails, since that decides more
 /// than a livelock. Schedules have up to `bound` moves, 0 to 256, and an operation that is run
 /// serially takes up to `serial` moves after its call, 1 to 256. Asks for a matrix of the

@@ -3,7 +3,8 @@
 use lu_graph::Ending;
 use lu_report::MOST_MOVES;
 
-/// What the nodes of a cut tell: states, with the histories of schedules that lead there.
+/// What the nodes of a cut tell: states, each with the serial histories that can still become
+/// witnesses of a history that leads there.
 #[derive(Clone, Copy)]
 pub(crate) enum Told {
     /// There are few, no serial run offends, and each ended schedule is good, of any length.
