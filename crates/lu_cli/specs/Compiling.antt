@@ -1,0 +1,47 @@
+-- What `compile` answers.
+use Rattle.std.specs.Prelude.{◌≡◌, ◌⊎◌, ℕ, List, [], ◌∷◌, ◌++◌, All, Option, Some, None, Vec, codes}
+use Rattle.std.specs.List.{flat_map}
+use Rattle.std.specs.Str.{IsUtf8}
+use denote.Ref.{Bor}
+use Rattle.lu_text.specs.declared.fault.Fault.{Fault}
+use Rattle.lu_text.specs.Faults.{IsUnlessMemory}
+use Rattle.lu_text.specs.Lines.{texts}
+use Rattle.lu_component.specs.Component.{Declarations}
+use Rattle.lu_lang.specs.ComponentText.{component_text}
+use Rattle.lu_source_text.specs.declared.fault.SourceFaultKind.{SourceFaultKind}
+use Rattle.lu_source_text.specs.Readers.{component_meant}
+use Rattle.lu_cli.specs.declared.refusal.Refusal.{Refusal}
+use Rattle.lu_cli.specs.declared.refusal.Refusal.TheVariants as refusal
+use Rattle.lu_cli.specs.Outcomes.{Answer, refused}
+
+-- the same texts as strings; none where one is no UTF-8
+abbrev pub AreStrings : {Z : Type 0} → List (List ℕ) → Option (Vec (Bor (List ℕ)) Z) → Type 0
+AreStrings words None = All IsUtf8 words → ⊥
+AreStrings words (Some strings) = texts strings.items ≡ words
+
+-- a part, with the line before it
+abbrev pub part_text : List ℕ → List ℕ
+part_text part = codes "---\n" ++ part
+
+-- these parts, each with the line before it
+abbrev pub behind : List (List ℕ) → List ℕ
+behind parts = flat_map part_text parts
+
+abbrev pub lent_behind : List (Bor (List ℕ)) → List ℕ
+lent_behind parts = flat_map (λ part. part_text part.now) parts
+
+-- the text of the component, and these parts behind it as they are
+abbrev pub compiled_bundle : Declarations → List (List ℕ) → Answer
+compiled_bundle c parts = record { text = component_text c ++ behind parts; status = 0 }
+
+-- that, or that a part is no UTF-8
+abbrev pub IsCompiledBundle : Declarations → List (List ℕ) → Answer → Type 0
+IsCompiledBundle c parts answer =
+    (answer ≡ compiled_bundle c parts)
+    ⊎ ((All IsUtf8 parts → ⊥) × (answer ≡ refused (codes "B3")))
+
+-- why a source is refused
+abbrev pub IsSourceRefusal : List ℕ → Refusal → Type 0
+IsSourceRefusal text refused =
+    (fault : Fault SourceFaultKind) × IsUnlessMemory fault (component_meant text)
+    × (refused ≡ refusal.Source fault)

@@ -1,0 +1,103 @@
+//! What is answered to a source.
+
+ghost use Rattle.std.specs.Prelude.{◌≡◌, ◌++◌, IfErr, IfOk, OnOk, string_bytes};
+ghost use Rattle.lu_text.specs.Lines.{texts};
+ghost use Rattle.lu_source_text.specs.Readers.{component_meant};
+ghost use Rattle.lu_cli.specs.Compiling as spec;
+ghost use Rattle.lu_cli.specs.Compiling.{AreStrings, IsCompiledBundle, IsSourceRefusal};
+ghost use Rattle.lu_cli.specs.Refusals.{Answered};
+ghost use Rattle.lu_cli.specs.Replies.{IsCompileOf};
+
+use crate::answer::{Answer, refused};
+use crate::refusal::Refusal;
+use lu_component::Component;
+use lu_lang::write_component;
+use lu_source_text::compile_text;
+use std::alloc::{AllocError, Global};
+use std::str;
+
+/// The parts as strings: none where one of them is no UTF-8.
+pub fn strings_of<'a>(alloc: Global, parts: &[&'a [u8]]) -> Result<Option<Vec<&'a str>>, AllocError>
+    ensures { IfOk result (λ read. AreStrings (texts parts.now) read) }
+{
+    let mut strings = Vec::new(alloc);
+    for part in parts {
+        match str::from_utf8(part) {
+            Ok(string) => strings.push(string)?,
+            Err(_) => return Ok(None),
+        }
+    }
+    Ok(Some(strings))
+}
+
+/// Puts a part behind the text, with the line before it.
+fn push_part(text: &mut String, part: &str) -> Result<(), AllocError>
+    ensures { OnOk result
+        (string_bytes text.new ≡ string_bytes text.old ++ spec.part_text part.now) }
+{
+    text.push_str("---\n")?;
+    text.push_str(part)
+}
+
+/// Puts these parts behind the text.
+fn push_parts(text: &mut String, parts: &[&str]) -> Result<(), AllocError>
+    ensures { OnOk result
+        (string_bytes text.new ≡ string_bytes text.old ++ spec.lent_behind parts.now) }
+{
+    for part in parts {
+        push_part(text, part)?;
+    }
+    Ok(())
+}
+
+/// The text of the component, and these parts behind it.
+fn write_bundle(
+    alloc: Global,
+    component: &Component,
+    parts: &[&str],
+) -> Result<Answer, AllocError>
+    ensures { IfOk result (λ answer.
+        answer ≡ spec.compiled_bundle component.now (texts parts.now)) }
+{
+    let mut text = write_component(alloc, component)?;
+    push_parts(&mut text, parts)?;
+    Ok(Answer { text, status: 0 })
+}
+
+/// The text of the component, and these parts behind it; or that one of them is no UTF-8.
+fn show_bundle(
+    alloc: Global,
+    component: &Component,
+    parts: &[&[u8]],
+) -> Result<Answer, AllocError>
+    ensures { IfOk result (IsCompiledBundle component.now (texts parts.now)) }
+{
+    match strings_of(alloc, parts)? {
+        None => refused(alloc, "B3"),
+        Some(strings) => write_bundle(alloc, component, &strings),
+    }
+}
+
+/// The component that a source's text is compiled to.
+fn read_source(alloc: Global, text: &[u8]) -> Result<Component, Refusal>
+    ensures read { IfOk result (λ c. component_meant text.now ≡ Ok c) }
+    ensures refused { IfErr result (IsSourceRefusal text.now) }
+{
+    match compile_text(alloc, text) {
+        Ok(component) => Ok(component),
+        Err(fault) => Err(Refusal::Source(fault)),
+    }
+}
+
+/// `lineup compile`: a source, and any parts.
+pub(crate) fn answer_compile(alloc: Global, parts: &[&[u8]]) -> Result<Answer, Refusal>
+    ensures { Answered (IsCompileOf (texts parts.now)) result }
+{
+    match parts {
+        [] => Err(Refusal::Parts),
+        [source, rest @ ..] => {
+            let component = read_source(alloc, source)?;
+            Ok(show_bundle(alloc, &component, rest)?)
+        }
+    }
+}

@@ -1,0 +1,98 @@
+// node --experimental-websocket compare.mjs PAGE PROGRAM REPOSITORY FOLDER: holds what the module in the page answers against what
+// the program answers, for each bundle of examples/ and its folders, with its report and without, and tries the page itself: an
+// example that its address names, what is typed, `stop`, a deep bound. Pictures of it, light, dark and as wide as a phone, go into
+// FOLDER. Says how many answers were compared; the status is 1 where one differs or the page fails.
+import { spawnSync } from 'node:child_process';
+import { existsSync, readdirSync, readFileSync } from 'node:fs';
+import { open, wait } from './browser.mjs';
+
+const [page, program, root, folder] = process.argv.slice(2);
+const LIMIT = 3000;    // milliseconds for the program; what takes longer is left out, and counted
+const COMMANDS = ['lint', 'serial', 'check', 'check --bound 60', 'check --bound 12 --serial 9', 'check --spec', 'certify --bound 30',
+    'explain', 'explain --spec', 'draw', 'draw --explain', 'trace', 'trace --setup', 'replay', 'shrink', 'spec', 'refute', 'judge',
+    'conform', 'campaign --count', '', 'nonsense'];
+const faults = [];
+const tell = fault => { faults.push(fault); console.log(fault); };
+
+function cases() {
+    const found = [];
+    for (const part of ['', 'idioms', 'passes', 'literature', 'course/counter', 'course/queue', 'course/readers-writer-lock']) {
+        const at = `${root}/examples/${part}`;
+        for (const file of readdirSync(at).filter(name => name.endsWith('.bundle'))) {
+            const text = readFileSync(`${at}/${file}`, 'utf8'), report = `${at}/${file.slice(0, -7)}.report`;
+            found.push([`${part}/${file}`, text]);
+            if (existsSync(report)) found.push([`${part}/${file} with its report`, `${text}---\n${readFileSync(report, 'utf8')}`]);
+        }
+    }
+    return found;
+}
+
+async function compare(shown) {
+    let compared = 0, left = 0;
+    for (const [name, text] of cases()) {
+        for (const words of COMMANDS) {
+            const ran = spawnSync(program, words.split(' ').filter(word => word),
+                { input: text, timeout: LIMIT, maxBuffer: 1 << 28 });
+            if (ran.status === null) {
+                left += 1;
+                continue;
+            }
+            const said = await shown.evaluate(`ask(${JSON.stringify(words)}, ${JSON.stringify(text)})`);
+            compared += 1;
+            if (said.status !== ran.status || said.text !== ran.stdout.toString()) tell(`${name}: ${words} differs`);
+        }
+    }
+    return `${compared} answers compared, ${faults.length} differ, ${left} left out (the program takes over ${LIMIT / 1000} s)`;
+}
+
+const IDLE = `document.getElementById('stop').disabled && document.getElementById('about').textContent !== ''`;
+
+async function try_page(shown) {
+    const said = () => shown.evaluate(`document.getElementById('said').textContent`);
+    const is = async (wanted, what) => {
+        const told = await said();
+        if (!told.startsWith(wanted)) tell(`${what}: ${told} in place of ${wanted}`);
+    };
+    const click = name => shown.evaluate(`document.getElementById('${name}').click()`);
+    const example = name => shown.evaluate(`document.getElementById('example').value = '${name}', choose()`);
+    await is('pass', 'the example of the address, locked-counter');
+    await example('examples/broken-counter');
+    await shown.until(IDLE);
+    await is('fail complete', 'broken-counter');
+    for (const name of ['explain', 'draw', 'trace']) {
+        if (await shown.evaluate(`document.getElementById('box-${name}').hidden`)) tell(`broken-counter shows no ${name}`);
+    }
+    await shown.shot(`${folder}/light.png`, { width: 1280, height: 1000 });
+    await shown.shot(`${folder}/dark.png`, { width: 1280, height: 1000, dark: true });
+    await shown.shot(`${folder}/phone.png`, { width: 390, height: 1600, mobile: true });
+    await shown.evaluate(`$('bundle').value = $('bundle').value.replace('add r0', 'ad r0'), $('bundle').dispatchEvent(new Event('input'))`);
+    await wait(600);
+    await shown.until(IDLE);
+    await is('refused L2 line 7', 'a word that is misspelt while one types');
+    if (await shown.evaluate(`document.getElementById('box-lint').hidden`)) tell('a misspelt word is not linted');
+    // a search that runs for long: the page answers meanwhile, and stops it
+    await example('examples/peterson');
+    await shown.until(IDLE);
+    await shown.evaluate(`$('bound').value = 256, $('serial').value = 256`);
+    await click('check');
+    await wait(500);
+    if (await shown.evaluate(`document.getElementById('stop').disabled`)) tell('a check of peterson at 256 moves ended at once');
+    await click('stop');
+    await shown.until(IDLE, 2000);
+    await is('stopped', 'a search that is stopped');
+    await shown.evaluate(`$('bound').value = '', $('serial').value = ''`);
+    await click('check');
+    await shown.until(IDLE);
+    await is('pass', 'peterson behind what was stopped');
+    for (const fault of shown.faults) tell(`the page: ${fault}`);
+}
+
+const shown = await open(`${page}#examples/locked-counter`);
+if (await shown.until(IDLE)) {
+    await try_page(shown);
+    console.log(await compare(shown));
+} else {
+    tell(`the page does not start: ${await shown.evaluate(`document.getElementById('text').textContent`)}`);
+}
+await shown.close();
+process.exit(faults.length > 0 ? 1 : 0);
