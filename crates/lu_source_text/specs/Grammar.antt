@@ -81,7 +81,8 @@ is_word a b = bytes_eq a b
 -- keywords: of declarations, of statements, and of expressions
 abbrev pub declaring : List Word
 declaring =
-    codes "object" ∷ codes "local" ∷ codes "const" ∷ codes "word" ∷ codes "lock" ∷ codes "op" ∷ []
+    codes "object" ∷ codes "local" ∷ codes "const" ∷ codes "word" ∷ codes "lock" ∷ codes "op"
+    ∷ []
 
 abbrev pub stating : List Word
 stating =

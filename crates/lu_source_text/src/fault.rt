@@ -27,8 +27,8 @@ pub enum SourceFaultKind {
     /// `O4`: a word in a number's place that is neither a number up to 4294967295 nor a constant.
     Number,
 
-    /// `O5`: a limit is passed: of a number, of a name's length, of a line's words, or by one array,
-    /// lock, operation, argument, line, block or instruction too many.
+    /// `O5`: a limit is passed: of a number, of a name's length, of a line's words, or by one
+    /// array, lock, operation, argument, line, block or instruction too many.
     Limit,
 
     /// `O8`: more than 8 registers.

@@ -1,7 +1,7 @@
 //! Reading of sources, line by line.
 
 ghost use Rattle.std.specs.Prelude.{◌≡◌, ◌<◌, ◌≤◌, ◌∷◌, length, map, Ok, IfOk};
-ghost use Rattle.lu_text.specs.Faults.{Gives, OnLine, TellsFirst, meaning_of, meaning_of_lines, on_line};
+ghost use Rattle.lu_text.specs.Faults.{Gives, TellsFirst, meaning_of, meaning_of_lines, on_line};
 ghost use Rattle.lu_text.specs.Lines.{texts};
 ghost use Rattle.lu_text.specs.Results.{HasItems};
 ghost use Rattle.lu_source_text.specs.Drafts.{begun_of, drafted_of};
@@ -149,8 +149,7 @@ fn arrays_of(alloc: Global, words: Vec<Shared>) -> Result<Vec<Array>, AllocError
 
 /// What is declared at the end of the text.
 fn finish(alloc: Global, line: usize, draft: Draft) -> Result<Source, SourceFault>
-    ensures { GivesSource result
-        (on_line line (spec.program_of (drafted_of draft) (drafted_of draft).name (drafted_of draft).begun)) }
+    ensures { GivesSource result (on_line line (source_grammar.finish (drafted_of draft))) }
 {
     let Draft {
         name,
