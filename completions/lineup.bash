@@ -3,7 +3,7 @@ _lineup() {
     local word="${COMP_WORDS[COMP_CWORD]}" before="${COMP_WORDS[COMP_CWORD-1]}" options
     COMPREPLY=()
     if [ "$COMP_CWORD" -eq 1 ]; then
-        COMPREPLY=($(compgen -W 'lint serial check certify judge conform explain draw trace replay shrink campaign spec refute
+        COMPREPLY=($(compgen -W 'compile lint serial check certify judge conform explain draw trace replay shrink campaign spec refute
             help --help --version --build --install' -- "$word"))
         return
     fi
@@ -27,7 +27,7 @@ _lineup() {
                 explain) options='--serial --spec' ;;
                 draw) options='--serial --explain' ;;
                 trace) options='--setup' ;;
-                campaign) options='--bound --serial --threads --calls --by-thread --from --upto --count' ;;
+                campaign) options='--bound --serial --threads --calls --by-thread --from --upto --count --certify --all --spec' ;;
                 *) return ;;
             esac
             ;;

@@ -3,11 +3,14 @@
  * Both functions take bytes with their number and put what they answer into room that the caller
  * lends; neither keeps anything, and no pointer goes back. A pointer may not be null, also where
  * the number behind it is 0, and the rooms overlap nothing else that is passed. Two calls may run
- * at the same time on two threads. All is done on the calling thread, which needs 1 MiB of stack:
- * a search is as deep as its bound, and nothing tests that the stack suffices (at 256 moves 384 KiB
- * served for all examples, and 256 KiB did not). Memory is taken by malloc, and is given back
- * before a call returns, so no call is made from a signal handler, nor in a forked child of a
- * process with threads.
+ * at the same time on two threads. All is done on the calling thread. Memory is taken by malloc,
+ * and is given back before a call returns, so no call is made from a signal handler, nor in a
+ * forked child of a process with threads.
+ *
+ * A search is as deep as its bounds, so `lineup_answer` is told how many bytes of stack the caller
+ * has left, and refuses a command whose bounds may take more: LINEUP_STACK of its `--bound` and its
+ * `--serial`. `lineup_state` takes LINEUP_STACK(0, 1) at most. That the numbers suffice is measured,
+ * on threads of that size, and not proved.
  */
 #ifndef LINEUP_H
 #define LINEUP_H
@@ -20,17 +23,30 @@ extern "C" {
 #endif
 
 /* The version of what stands here. */
-#define LINEUP_INTERFACE 1
+#define LINEUP_INTERFACE 2
+
+/* How many bytes of stack a command takes at most: 128 KiB, and 2 KiB for each move of a schedule up
+ * to the bound, or half a KiB for each move of 16 operations that run alone, each with its call and
+ * up to `serial` moves. certify and campaign take that of 256 and their own serial bound; explain,
+ * trace, draw and refute that of 256 and 256; replay, spec, conform, and explain and judge with --spec
+ * LINEUP_STACK(0, 0). */
+#define LINEUP_STACK(bound, serial) \
+    (131072 + (2048 * (size_t)(bound) > 8192 * ((size_t)(serial) + 1) ? 2048 * (size_t)(bound) : 8192 * ((size_t)(serial) + 1)))
+/* What suffices for every command. */
+#define LINEUP_MOST_STACK LINEUP_STACK(256, 256)
 
 /* What the program `lineup` answers to the words of a command line, with blanks between them and
  * without `lineup` itself ("check --bound 60"), and to a bundle on its standard input.
  *
  * The first `room` bytes of the answer are put into `text`, and `*length` is the number of all of
  * them: where that is more than `room`, call again with so much room; the answer is the same.
+ * `stack` is how many bytes of stack the caller has left; where that is too little for the command,
+ * the answer is "refused stack", with status 2.
+ *
  * Returns the exit status: 0 all is well, 1 a failure, 2 refused, 3 not decided, 4 no memory.
  * `--workers` is read and has no effect: one thread searches. */
 uint8_t lineup_answer(const uint8_t *words, size_t words_length,
-                      const uint8_t *bundle, size_t bundle_length,
+                      const uint8_t *bundle, size_t bundle_length, size_t stack,
                       uint8_t *text, size_t room, size_t *length);
 
 /* Where the first moves of a schedule lead, at most `moves` of them. `schedule` is the text of a

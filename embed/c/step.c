@@ -31,7 +31,8 @@ static void show(size_t count) {
 int main(void) {
     const size_t length = fread(bundle, 1, sizeof bundle - 1, stdin);
     size_t told, count;
-    const uint8_t status = lineup_answer((const uint8_t *)"check", 5, bundle, length, report, sizeof report, &told);
+    const uint8_t status = lineup_answer((const uint8_t *)"check", 5, bundle, length, LINEUP_MOST_STACK, report, sizeof report,
+                                         &told);
     fwrite(report, 1, told < sizeof report ? told : sizeof report, stdout);
     if (status != 1 || told > sizeof report) return status;
 

@@ -9,13 +9,15 @@
 import ctypes
 import os
 import pathlib
+import resource
+import threading
 from typing import Iterator, NamedTuple
 
 _path = os.environ.get("LINEUP_LIBRARY") or pathlib.Path(__file__).with_name("liblineup.so")
 _library = ctypes.CDLL(str(_path))
 _size = ctypes.c_size_t
 _text = [ctypes.c_char_p, _size]
-_library.lineup_answer.argtypes = [*_text, *_text, ctypes.c_void_p, _size, ctypes.POINTER(_size)]
+_library.lineup_answer.argtypes = [*_text, *_text, _size, ctypes.c_void_p, _size, ctypes.POINTER(_size)]
 _library.lineup_answer.restype = ctypes.c_uint8
 _library.lineup_state.argtypes = [*_text, *_text, *_text, _size, ctypes.c_void_p, _size, ctypes.POINTER(_size)]
 _library.lineup_state.restype = ctypes.c_uint8
@@ -65,12 +67,22 @@ class State(NamedTuple):
     events: list[Event]
 
 
-def answer(words: str, bundle: str) -> Answer:
-    """What `lineup WORDS` answers to a bundle."""
+def _stack_of_thread() -> int:
+    """How many bytes of stack a call may take: three quarters of what its thread has from its start."""
+    limit = resource.getrlimit(resource.RLIMIT_STACK)[0]
+    if threading.current_thread() is not threading.main_thread():
+        limit = threading.stack_size() or limit
+    return (2 << 20 if limit == resource.RLIM_INFINITY else limit) * 3 // 4
+
+
+def answer(words: str, bundle: str, stack: int | None = None) -> Answer:
+    """What `lineup WORDS` answers to a bundle; `refused stack`, with status 2, where the command may take more stack
+    than there is (`stack` bytes, else three quarters of the thread's)."""
     said, given, room = words.encode(), bundle.encode(), 4096
+    stack = _stack_of_thread() if stack is None else stack
     while True:
         text, length = ctypes.create_string_buffer(room), _size()
-        status = _library.lineup_answer(said, len(said), given, len(given), text, room, ctypes.byref(length))
+        status = _library.lineup_answer(said, len(said), given, len(given), stack, text, room, ctypes.byref(length))
         if length.value <= room:
             return Answer(text.raw[:length.value].decode(), status)
         room = length.value

@@ -1,11 +1,11 @@
 -- What the calls answer.
-use Rattle.std.specs.Prelude.{◌≡◌, ◌⊎◌, ℕ, List, length, take, All, Option, Some, None, Result, IfOk, Vec}
+use Rattle.std.specs.Prelude.{◌≡◌, ◌⊎◌, ℕ, List, length, take, All, Option, Some, None, Result, IfOk, MatchBool, Vec, codes, nat_lt}
 use Rattle.std.specs.Str.{IsUtf8}
 use denote.Ref.{Bor}
 use Rattle.lu_text.specs.Lines.{texts, words_of}
 use Rattle.lu_cli.specs.declared.order.Request.{Request}
 use Rattle.lu_cli.specs.Args.{request_of}
-use Rattle.lu_cli.specs.Replies.{Answer, IsAnswerFrom, no_memory}
+use Rattle.lu_cli.specs.Replies.{Answer, IsAnswerOf, no_memory, refused}
 use Rattle.lu_cli.specs.Replies.{IsTextOfSchedule}
 use Rattle.lu_cli.specs.Texts.{AreSettled}
 use Rattle.lu_component.specs.Component.{Declarations}
@@ -18,24 +18,41 @@ use Rattle.lu_machine.specs.Plays.{Plays}
 use Rattle.lu_machine.specs.States.{State}
 use Rattle.lineup_c.specs.Numbers.{number_of, run_numbers}
 use Rattle.lineup_c.specs.Rooms.{filled}
+use Rattle.lineup_c.specs.Stack.{stack_for}
 
 -- the same words as strings; none where one is no UTF-8
 abbrev pub AreStrings : {Z : Type 0} → List (List ℕ) → Option (Vec (Bor (List ℕ)) Z) → Type 0
 AreStrings words None = All IsUtf8 words → ⊥
 AreStrings words (Some strings) = texts strings.items ≡ words
 
--- where each word of the line is UTF-8 and they ask for something, the program's answer to that
--- and the bundle
-abbrev pub IsAnswerToLine : List ℕ → List ℕ → Answer → Type 0
-IsAnswerToLine line bundle answer =
-    All IsUtf8 (words_of line) → (request : Request) → request_of (words_of line) ≡ Some request
-    → IsAnswerFrom request (Some bundle) answer
+-- that the stack is too small
+abbrev pub no_stack : Answer
+no_stack = refused (codes "stack")
 
--- The answer to the line, or that memory was refused: its text fills the room, and its length and
--- its status are told.
-pub record TellsAnswer (line bundle old new : List ℕ) (len status : ℕ) : Type 0 where
+-- the program's answer to the request and the bundle; or, where the stack has fewer bytes than the
+-- request takes, that it is too small
+abbrev pub IsAnswerWithin : Request → List ℕ → ℕ → Answer → Type 0
+IsAnswerWithin request bundle stack answer =
+    MatchBool (nat_lt stack (stack_for request)) (answer ≡ no_stack)
+    (IsAnswerOf request bundle answer)
+
+-- so it is where the words ask for something
+abbrev pub IsAnswerToWords : List (List ℕ) → List ℕ → ℕ → Answer → Type 0
+IsAnswerToWords words bundle stack answer =
+    (request : Request) → request_of words ≡ Some request
+    → IsAnswerWithin request bundle stack answer
+
+-- and where each word of the line is UTF-8
+abbrev pub IsAnswerToLine : List ℕ → List ℕ → ℕ → Answer → Type 0
+IsAnswerToLine line bundle stack answer =
+    All IsUtf8 (words_of line) → IsAnswerToWords (words_of line) bundle stack answer
+
+-- The answer to the line, by a stack of so many bytes, or that memory was refused: its text fills
+-- the room, and its length and its status are told.
+pub record TellsAnswer (line bundle : List ℕ) (stack : ℕ) (old new : List ℕ)
+    (len status : ℕ) : Type 0 where
   pub answer : Answer
-  pub is : IsAnswerToLine line bundle answer ⊎ (answer ≡ no_memory)
+  pub is : IsAnswerToLine line bundle stack answer ⊎ (answer ≡ no_memory)
   pub text : new ≡ filled answer.text old
   pub whole : len ≡ length answer.text
   pub status_is : status ≡ answer.status

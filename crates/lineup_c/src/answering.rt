@@ -1,10 +1,11 @@
 //! Answers to command lines.
 
-ghost use Rattle.std.specs.Prelude.{IfOk};
+ghost use Rattle.std.specs.Prelude.{◌≡◌, IfOk};
 ghost use Rattle.lu_text.specs.Lines.{texts};
-ghost use Rattle.lineup_c.specs.Calls.{AreStrings, IsAnswerToLine};
+ghost use Rattle.lineup_c.specs.Calls.{AreStrings, IsAnswerToLine, IsAnswerToWords, IsAnswerWithin, no_stack};
 
-use lu_cli::{Answer, answer_alone};
+use crate::stack::stack_for;
+use lu_cli::{Answer, ArgsFault, Request, answer_request, read_request};
 use lu_text::words_of;
 use std::alloc::{AllocError, Global};
 use std::str;
@@ -31,13 +32,61 @@ fn refuse_line(alloc: Global) -> Result<Answer, AllocError> {
     })
 }
 
-/// What the program answers to the words of a line and to a bundle.
-pub(crate) fn answer_line(alloc: Global, line: &[u8], bundle: &[u8]) -> Result<Answer, AllocError>
-    ensures { IfOk result (IsAnswerToLine line.now bundle.now) }
+/// That the stack is too small.
+fn refuse_stack(alloc: Global) -> Result<Answer, AllocError>
+    ensures { IfOk result (λ answer. answer ≡ no_stack) }
+{
+    Ok(Answer {
+        text: String::from_str(alloc, "refused stack\n")?,
+        status: 2,
+    })
+}
+
+/// What the program answers to a request and a bundle, where a stack of so many bytes suffices.
+fn answer_within(
+    alloc: Global,
+    request: Request,
+    bundle: &[u8],
+    stack: usize,
+) -> Result<Answer, AllocError>
+    ensures { IfOk result (IsAnswerWithin request bundle.now stack) }
+{
+    if stack < stack_for(&request) {
+        refuse_stack(alloc)
+    } else {
+        answer_request(alloc, request, bundle)
+    }
+}
+
+/// The same of the words of a command line.
+fn answer_words(
+    alloc: Global,
+    words: &[&str],
+    bundle: &[u8],
+    stack: usize,
+) -> Result<Answer, AllocError>
+    ensures { IfOk result (IsAnswerToWords (texts words.now) bundle.now stack) }
+{
+    match read_request(alloc, words) {
+        Ok(request) => answer_within(alloc, request, bundle, stack),
+        Err(ArgsFault::Refused) => refuse_line(alloc),
+        Err(ArgsFault::Memory) => Err(AllocError),
+    }
+}
+
+/// What the program answers to the words of a line and to a bundle, where a stack of so many bytes
+/// suffices.
+pub(crate) fn answer_line(
+    alloc: Global,
+    line: &[u8],
+    bundle: &[u8],
+    stack: usize,
+) -> Result<Answer, AllocError>
+    ensures { IfOk result (IsAnswerToLine line.now bundle.now stack) }
 {
     let words = words_of(alloc, line)?;
     match strings_of(alloc, &words)? {
-        Some(strings) => answer_alone(alloc, &strings, bundle),
+        Some(strings) => answer_words(alloc, &strings, bundle, stack),
         None => refuse_line(alloc),
     }
 }

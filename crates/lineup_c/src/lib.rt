@@ -10,6 +10,7 @@ mod answering;
 mod numbers;
 mod playing;
 mod room;
+mod stack;
 
 ghost use Rattle.lineup_c.specs.Calls.{TellsAnswer, TellsStateIf};
 
@@ -23,18 +24,22 @@ use std::alloc::{AllocError, Global};
 /// the words, and `bundle` what it reads. Puts the answer's text into the room `text`, as much of
 /// it as fits, and the whole length of it into `length`. Returns the exit status: 0 to 4.
 ///
+/// `stack` says how many bytes of stack the caller has left. Where a command takes more by its
+/// bounds, it is refused: `refused stack`, with status 2.
+///
 /// A caller whose room was too short calls again with more: the answer is the same.
 #[unsafe(no_mangle)]
 pub extern "C" fn lineup_answer(
     alloc: Global,
     words: &[u8],
     bundle: &[u8],
+    stack: usize,
     text: &mut [u8],
     length: &mut usize,
 ) -> u8
-    ensures { TellsAnswer words.now bundle.now text.old text.new length.new result }
+    ensures { TellsAnswer words.now bundle.now stack text.old text.new length.new result }
 {
-    match answer_line(alloc, words, bundle) {
+    match answer_line(alloc, words, bundle, stack) {
         Ok(answer) => {
             *length = fill(text, answer.text.as_bytes());
             answer.status

@@ -8,3 +8,4 @@ pub mod Against
 pub mod Certified
 mod Explained
 pub mod Judged
+mod Strings

@@ -1,7 +1,7 @@
 -- Answers that go out.
 use Rattle.std.specs.Prelude.{if◌then◌else◌}
-use Rattle.std.proofs.Common.{◌≡◌, ◌≢◌, ℕ, suc, ◌<◌, Bool, true, false, List, [], ◌∷◌, ◌++◌, Option, Some, None, length, replicate, Result, Ok, Err, refl, inl, inr, ap, sym, ◌∙◌, arith, subst, get_or}
-use Rattle.std.specs.Prelude.{IfSome, MatchBool, MatchOption, codes, nat_lt}
+use Rattle.std.proofs.Common.{◌≡◌, ◌≢◌, ℕ, suc, ◌<◌, Bool, true, false, List, [], ◌∷◌, ◌++◌, Option, Some, None, length, replicate, Result, Ok, Err, refl, ◌⊎◌, inl, inr, ap, sym, ◌∙◌, arith, subst, get_or}
+use Rattle.std.specs.Prelude.{IfSome, MatchBool, MatchOption, codes, nat_lt, ◌||◌}
 use Rattle.std.specs.Fmt.{decimal}
 use Rattle.std.specs.Io.KnownBytes.{Appends}
 use Rattle.std.proofs.lemmas.Bool.{lt-ltb}
@@ -34,6 +34,11 @@ use Rattle.lu_parallel.specs.Ranges.{Choice}
 use Rattle.lu_spec.specs.Codes.{spec_code_of}
 use Rattle.lu_refine.specs.declared.campaigns.Campaign.{Campaign}
 use Rattle.lu_refine.specs.ByThread.{Asked}
+use Rattle.lu_survey.specs.declared.comparison.Comparison.{Comparison}
+use Rattle.lu_survey.specs.declared.comparison.Comparison.TheVariants.{AllAgree, First as Differs}
+use Rattle.lu_survey.specs.declared.comparison.Difference.TheVariants.{Concurrently, Serially, TrustedConflict, TrustedCut}
+use Rattle.lu_survey.specs.declared.survey.Survey.{Survey}
+use Rattle.lu_survey.specs.Comparing.{HasSameOperations}
 use Rattle.lu_survey.specs.declared.certified_campaign.CertifiedCampaign.{CertifiedCampaign}
 use Rattle.lu_survey.specs.declared.certified_campaign.CertifiedCampaign.TheVariants.{AllLinearizable, First as NotAll}
 use Rattle.lu_refine.specs.declared.campaigns.Campaign.TheVariants.{AllPass, First}
@@ -41,7 +46,7 @@ use Rattle.lu_certify.specs.declared.certificate.Certificate.{Certificate}
 use Rattle.lu_certify.specs.declared.certificate.Certificate.TheVariants.{Linearizable, NotLinearizable, Livelock, Undecided}
 use Rattle.lu_cli.specs.declared.order.CampaignOptions.{CampaignOptions}
 use Rattle.lu_cli.specs.declared.order.CampaignTrial.{CampaignTrial}
-use Rattle.lu_cli.specs.declared.order.CampaignTrial.TheVariants.{Checked, Certified}
+use Rattle.lu_cli.specs.declared.order.CampaignTrial.TheVariants.{Checked, Certified, Surveyed}
 use Rattle.lu_cli.specs.declared.failing.View.{View}
 use Rattle.lu_cli.specs.declared.failing.View.TheVariants as view
 use Rattle.lu_cli.specs.Args.{most_long}
@@ -53,7 +58,7 @@ use Rattle.lu_cli.specs.declared.order.CampaignThreads.TheVariants.{Alike, Own}
 use Rattle.lu_cli.specs.declared.order.Request.{Request}
 use Rattle.lu_cli.specs.declared.order.Request.TheVariants.{Lint, Ordered}
 use Rattle.lu_cli.specs.declared.order.BundleCommand.{BundleCommand}
-use Rattle.lu_cli.specs.declared.order.BundleCommand.TheVariants.{Replay, Trace, TraceFromSetup, Draw, DrawExplained, Explain, ExplainAgainst, Serial, Judge, JudgeAgainst, Conform, Spec, Check, CheckAgainst, Certify, Refute, Shrink, Campaign as Campaigning}
+use Rattle.lu_cli.specs.declared.order.BundleCommand.TheVariants.{Replay, Trace, TraceFromSetup, Draw, DrawExplained, Explain, ExplainAgainst, Serial, Judge, JudgeAgainst, Conform, Spec, Check, CheckAgainst, Certify, Refute, Shrink, Campaign as Campaigning, CampaignAgainst, Compile}
 use Rattle.lu_cli.specs.declared.explaining.Presentation.{Presentation}
 use Rattle.lu_cli.specs.declared.explaining.Presentation.TheVariants.{Words, Picture}
 use Rattle.lu_explain.specs.Explanations.{Explained}
@@ -66,6 +71,9 @@ use Rattle.lu_cli.specs.Explaining.{IsExplained, IsExplainedBy, IsExplainedSched
 use Rattle.lu_recorded.specs.declared.recorded.Recorded.{Recorded}
 use Rattle.lu_recorded.specs.Codes.{recorded_code_of}
 use Rattle.lu_cli.specs.Judging.{IsJudgedBy, ToRecorded, four_parts, three_parts}
+use Rattle.lu_source_text.specs.Kinds.{code_of as source_code_of}
+use Rattle.lu_source_text.specs.Readers.{component_meant}
+use Rattle.lu_cli.specs.Compiling.{IsCompiledBundle}
 use Rattle.lu_cli.specs.Conforming.{IsConformed, IsConformedTexts}
 use Rattle.lu_conform.specs.declared.shown.Conformance.TheVariants.{Conforms, NoneShows, Undecided as Undetermined}
 use Rattle.lu_cli.specs.declared.order.CertifyOptions.{CertifyOptions}
@@ -73,7 +81,7 @@ use Rattle.lu_cli.specs.declared.order.Showing.{Showing}
 use Rattle.lu_cli.specs.declared.order.Showing.TheVariants.{Count as CountAlone, Schedules}
 use Rattle.lu_cli.specs.Bundle.{bundle_parts}
 use Rattle.lu_report.specs.Limits.{Limits}
-use Rattle.lu_cli.specs.Replies.{AloneOr, Answer, Answers, IsAnswerFrom, IsAnswerIn, IsAnswerOf, IsAnswerToAlike, IsAnswerToOrder, IsAnswerToPart, IsAnswerToTrial, IsByThreadAnswer, IsCampaignAlike, IsCampaignBy, IsCampaignFrom, IsCertified, IsCertifiedPart, IsCertifiedReply, IsCheckAgainstFrom, IsCheckAgainstOf, IsChecked, IsCheckedAgainst, IsCollected, IsConformOf, IsCountAnswer, IsDrawBehind, IsDrawn, IsExplainAgainstOf, IsExplainBehind, IsExplainOf, IsExplainedAgainst, IsExplainedText, IsJudgeAgainstOf, IsJudgeOf, IsJudgedAgainstTexts, IsJudgedSerially, IsJudgedTexts, IsLinted, IsRefuteOf, IsRefuted, IsRefutedBy, IsReplayed, IsRunSerially, IsShrinkAnswer, IsSliceReply, IsSpecOf, IsTraceBehind, IsTraceFromSetupBehind, IsTraced, IsTracedFromSetup, IsTriedAll, IsTriedPart, ShowsCertificate, ShowsCertified, Tells, ToMatrix, ToParts, ToReport, ToSchedule, ToSettled, ToShown, ToSpec, ToTarget, ToTexts, ToValue, found_answer, lists_of, no_command, no_device, no_memory, or_schedule, refused, reported, status_of, two_texts, view_of, with_matrix, with_schedule}
+use Rattle.lu_cli.specs.Replies.{AloneOr, Answer, Answers, IsAnswerFrom, IsAnswerIn, IsAnswerOf, IsAnswerToAlike, IsAnswerToOrder, IsAnswerToPart, IsAnswerToTrial, IsByThreadAnswer, IsCampaignAgainstOf, IsCampaignAlike, IsCampaignBy, IsCampaignFrom, IsCertified, IsCertifiedPart, IsCertifiedReply, IsCheckAgainstFrom, IsCheckAgainstOf, IsChecked, IsCheckedAgainst, IsCollected, IsComparedAlike, IsComparedBy, IsComparedFrom, IsComparedPart, IsComparisonReply, IsCompileOf, IsConformOf, IsCountAnswer, IsDrawBehind, IsDrawn, IsExplainAgainstOf, IsExplainBehind, IsExplainOf, IsExplainedAgainst, IsExplainedText, IsJudgeAgainstOf, IsJudgeOf, IsJudgedAgainstTexts, IsJudgedSerially, IsJudgedTexts, IsLinted, IsRefuteOf, IsRefuted, IsRefutedBy, IsReplayed, IsRunSerially, IsShrinkAnswer, IsSliceReply, IsSpecOf, IsSurveyReply, IsSurveyedPart, IsTraceBehind, IsTraceFromSetupBehind, IsTraced, IsTracedFromSetup, IsTriedAll, IsTriedPart, ShowsCertificate, ShowsCertified, Tells, ToMatrix, ToParts, ToReport, ToSchedule, ToSettled, ToShown, ToSpec, ToTarget, ToTexts, ToTrusted, ToValue, comparison_answer, found_answer, lists_of, no_command, no_device, no_memory, or_schedule, refused, reported, status_of, survey_status, two_texts, view_of, with_matrix, with_schedule}
 
 -- an answer that was made and said
 pub said : (IsAnswer : Answer → Type 0) (answer : Answer) (text : List ℕ) (old new : Option (List ℕ)) (status : ℕ) → IsAnswer answer → text ≡ answer.text → Appends old new text × (status ≡ answer.status) → Answers IsAnswer old new status
@@ -377,6 +385,51 @@ certified_reply_else : (asked : Asked) (from upto : ℕ) (answer : Answer) → I
 certified_reply_else asked from upto answer (inl is) = certified_shown_else asked.component is.0 answer is.2
 certified_reply_else asked from upto answer (inr is) = refused_else _ answer is.3
 
+abbrev status_by_two : Bool → Bool → ℕ
+status_by_two fails undecided = if fails then 1 else (if undecided then 3 else 0)
+
+no_fourth : (fails undecided : Bool) → status_by_two fails undecided ≡ 4 → ⊥
+no_fourth true undecided e = omega arith
+no_fourth false true e = omega arith
+no_fourth false false e = omega arith
+
+survey_status_else : (s : Survey) → survey_status s ≡ 4 → ⊥
+survey_status_else s = no_fourth (nat_lt 0 s.not_linearizable.count || nat_lt 0 s.livelock.count) (nat_lt 0 s.undecided.count)
+
+survey_reply_else : (asked : Asked) (from upto : ℕ) (answer : Answer) → IsSurveyReply asked from upto answer → IsElse answer
+survey_reply_else asked from upto answer (inl (s, surveyed, shows)) = status_else answer (survey_status s) (ap (λ (a : Answer). a.status) shows.6) (survey_status_else s)
+survey_reply_else asked from upto answer (inr is) = refused_else _ answer is.3
+
+surveyed_part_else : (part : CampaignPart) (asked : Asked) (answer : Answer) → IsSurveyedPart part asked answer → IsElse answer
+surveyed_part_else Whole asked answer is = survey_reply_else asked 0 most_long answer is
+surveyed_part_else (Slice from upto) asked answer is = survey_reply_else asked from upto answer is
+surveyed_part_else Count asked answer is = count_else asked.candidates asked.calls answer is
+
+comparison_status : (c : Declarations) (found : Comparison) → (comparison_answer c found).status ≡ 4 → ⊥
+comparison_status c (AllAgree count) e = omega arith
+comparison_status c (Differs m (TrustedCut u)) e = omega arith
+comparison_status c (Differs m (TrustedConflict u before earlier)) e = omega arith
+comparison_status c (Differs m (Serially u)) e = omega arith
+comparison_status c (Differs m (Concurrently r)) e = omega arith
+
+comparison_else : (trusted : Declarations) (asked : Asked) (from upto : ℕ) (answer : Answer) → IsComparisonReply trusted asked from upto answer → IsElse answer
+comparison_else trusted asked from upto answer (inl (found, compared, is)) = status_else answer (comparison_answer asked.component found).status (ap (λ (a : Answer). a.status) is) (comparison_status asked.component found)
+comparison_else trusted asked from upto answer (inr is) = refused_else _ answer is.3
+
+compared_part_else : (trusted : Declarations) (part : CampaignPart) (asked : Asked) (answer : Answer) → IsComparedPart trusted part asked answer → IsElse answer
+compared_part_else trusted Whole asked answer is = comparison_else trusted asked 0 most_long answer is
+compared_part_else trusted (Slice from upto) asked answer is = comparison_else trusted asked from upto answer is
+compared_part_else trusted Count asked answer is = count_else asked.candidates asked.calls answer is
+
+compared_alike_else : (trusted c : Declarations) (threads : ℕ) (options : CampaignOptions) (setup : List Call) (lists : List (List Call)) (answer : Answer) → IsComparedAlike trusted c threads options (record { setup = setup; threads = lists }) answer → IsElse answer
+compared_alike_else trusted c threads options setup [] answer is = refused_else (codes "G2") answer is
+compared_alike_else trusted c threads options setup (candidates ∷ []) answer is = compared_part_else trusted options.part (lists_of c setup (replicate threads candidates) options) answer is
+compared_alike_else trusted c threads options setup (a ∷ b ∷ m) answer is = refused_else (codes "G2") answer is
+
+compared_by_else : (threads : CampaignThreads) (trusted c : Declarations) (options : CampaignOptions) (m : Matrix) (answer : Answer) → IsComparedBy threads trusted c options m answer → IsElse answer
+compared_by_else (Alike threads) trusted c options m answer is = compared_alike_else trusted c threads options m.setup m.threads answer is
+compared_by_else Own trusted c options m answer is = compared_part_else trusted options.part (lists_of c m.setup m.threads options) answer is
+
 certified_part_else : (part : CampaignPart) (asked : Asked) (answer : Answer) → IsCertifiedPart part asked answer → IsElse answer
 certified_part_else Whole asked answer is = certified_reply_else asked 0 most_long answer is
 certified_part_else (Slice from upto) asked answer is = certified_reply_else asked from upto answer is
@@ -390,6 +443,7 @@ part_else Count asked answer is = count_else asked.candidates asked.calls answer
 lists_else : (trial : CampaignTrial) (part : CampaignPart) (asked : Asked) (answer : Answer) → IsAnswerToTrial trial part asked answer → IsElse answer
 lists_else Checked part asked answer is = part_else part asked answer is
 lists_else Certified part asked answer is = certified_part_else part asked answer is
+lists_else Surveyed part asked answer is = surveyed_part_else part asked answer is
 
 same_lists_else : (c : Declarations) (options : CampaignOptions) (setup candidates : List Call) (threads : ℕ) (answer : Answer) → IsTriedPart c setup candidates threads options answer → IsElse answer
 same_lists_else c options setup candidates threads answer is = lists_else options.trial options.part (lists_of c setup (replicate threads candidates) options) answer is
@@ -399,6 +453,7 @@ alike_else Checked Whole c options setup candidates threads answer is = campaign
 alike_else Checked (Slice from upto) c options setup candidates threads answer is = same_lists_else c options setup candidates threads answer is
 alike_else Checked Count c options setup candidates threads answer is = same_lists_else c options setup candidates threads answer is
 alike_else Certified part c options setup candidates threads answer is = same_lists_else c options setup candidates threads answer is
+alike_else Surveyed part c options setup candidates threads answer is = same_lists_else c options setup candidates threads answer is
 
 candidates_else : (c : Declarations) (threads : ℕ) (options : CampaignOptions) (setup : List Call) (lists : List (List Call)) (answer : Answer) → IsCampaignAlike c threads options (record { setup = setup; threads = lists }) answer → IsElse answer
 candidates_else c threads options setup [] answer is = refused_else (codes "G2") answer is
@@ -455,6 +510,31 @@ conform_else showing parts answer is =
     (λ p more. texts_else p.0 p.1 (λ c m. IsConformedTexts c m showing p.2) answer
     (λ c m from. recorded_else m p.2 (IsConformed c m showing) answer (λ all last. conformed_else c m showing all answer last) from) more) is
 
+trusted_else : (text : List ℕ) (c : Declarations) (m : Matrix) (IsAnswer : Declarations → Answer → Type 0) (answer : Answer) → ((trusted : Declarations) → IsAnswer trusted answer → IsElse answer) → ToTrusted text c m IsAnswer answer → IsElse answer
+trusted_else text c m IsAnswer answer h is =
+    value_else code_of (meaning_of component_grammar text) (λ trusted a. (HasSameOperations c trusted × ToSettled trusted m (IsAnswer trusted) a) ⊎ ((HasSameOperations c trusted → ⊥) × (a ≡ refused (codes "G4")))) answer
+    (λ trusted either. elim either [
+      | inl same ↦ settled_else trusted m (IsAnswer trusted) answer (h trusted) same.1
+      | inr other ↦ refused_else (codes "G4") answer other.1
+    ])
+    is
+
+campaign_against_else : (options : CampaignOptions) (parts : List (List ℕ)) (answer : Answer) → IsCampaignAgainstOf options parts answer → IsElse answer
+campaign_against_else options parts answer is =
+    parts_else (exactly_three parts) (λ p. ToTexts p.0 p.1 (λ c m. ToTrusted p.2 c m (λ trusted. IsComparedFrom trusted c options m))) answer
+    (λ p more. texts_else p.0 p.1 (λ c m. ToTrusted p.2 c m (λ trusted. IsComparedFrom trusted c options m)) answer
+    (λ c m from. trusted_else p.2 c m (λ trusted. IsComparedFrom trusted c options m) answer (λ trusted last. compared_by_else options.threads trusted c options m answer last) from) more) is
+
+compile_else : (parts : List (List ℕ)) (answer : Answer) → IsCompileOf parts answer → IsElse answer
+compile_else [] answer is = refused_else (codes "B1") answer is
+compile_else (source ∷ parts) answer is =
+    value_else source_code_of (component_meant source) (λ c. IsCompiledBundle c parts) answer
+    (λ c either. elim either [
+      | inl made ↦ status_else answer 0 (ap (λ (a : Answer). a.status) made) (λ e. omega arith)
+      | inr other ↦ refused_else (codes "B3") answer other.1
+    ])
+    is
+
 pub order_else : (order : BundleCommand) (parts : List (List ℕ)) (answer : Answer) → IsAnswerToOrder order parts answer → IsElse answer
 order_else Replay parts answer is = three_else parts IsReplayed answer (λ c m u more. replayed_else c m u answer more) is
 order_else Trace parts answer is = alone_or_else view.Trace IsTraceBehind parts answer (λ behind. behind_else parts IsTraced answer (λ c m u more. traced_else c m u answer more) behind) is
@@ -473,6 +553,8 @@ order_else (CheckAgainst choice) parts answer is = spec_parts_else choice parts 
 order_else (Certify asked) parts answer is = two_else parts (λ c m. IsCertified c m asked) answer (λ c m more. certified_else c m asked answer more) is
 order_else Refute parts answer is = four_else parts answer is
 order_else (Shrink limits) parts answer is = two_else parts (λ c m. IsShrinkAnswer c m limits) answer (λ c m more. shrink_else c m limits answer more) is
+order_else Compile parts answer is = compile_else parts answer is
+order_else (CampaignAgainst options) parts answer is = campaign_against_else options parts answer is
 order_else (Campaigning options) parts answer is = two_else parts (λ c m. IsCampaignFrom c options m) answer (λ c m more. matrices_else options.threads c options m answer more) is
 
 pub linted_else : (limits : Limits) (bundle : List ℕ) (answer : Answer) → IsLinted limits bundle answer → IsElse answer

@@ -19,13 +19,13 @@ use Rattle.lu_cli.specs.declared.order.CampaignPart.TheVariants.{Whole, Slice, C
 use Rattle.lu_cli.specs.declared.order.CampaignThreads.{CampaignThreads}
 use Rattle.lu_cli.specs.declared.order.CampaignThreads.TheVariants.{Alike, Own}
 use Rattle.lu_cli.specs.declared.order.CampaignTrial.{CampaignTrial}
-use Rattle.lu_cli.specs.declared.order.CampaignTrial.TheVariants.{Checked, Certified}
+use Rattle.lu_cli.specs.declared.order.CampaignTrial.TheVariants.{Checked, Certified, Surveyed}
 use Rattle.lu_cli.specs.declared.order.CertifyOptions.{CertifyOptions}
 use Rattle.lu_cli.specs.declared.order.Request.{Request}
 use Rattle.lu_cli.specs.declared.order.Showing.TheVariants as showing
 use Rattle.lu_cli.specs.declared.order.Request.TheVariants.{Lint, Ordered}
 use Rattle.lu_cli.specs.declared.order.BundleCommand.{BundleCommand}
-use Rattle.lu_cli.specs.declared.order.BundleCommand.TheVariants.{Replay, Trace, TraceFromSetup, Draw, DrawExplained, Explain, ExplainAgainst, Serial, Judge, JudgeAgainst, Conform, Spec, Check, CheckAgainst, Certify, Refute, Shrink, Campaign}
+use Rattle.lu_cli.specs.declared.order.BundleCommand.TheVariants.{Replay, Trace, TraceFromSetup, Draw, DrawExplained, Explain, ExplainAgainst, Serial, Judge, JudgeAgainst, Conform, Spec, Check, CheckAgainst, Certify, Refute, Shrink, Campaign, CampaignAgainst, Compile}
 use Rattle.lu_cli.specs.Orders.{choice_of}
 use Rattle.lu_report.specs.Limits.{Limits, limits_of, most_moves}
 use Rattle.lu_parallel.specs.Ranges.{Choice, choice, with_head_start}
@@ -94,6 +94,9 @@ shared_out name default =
     (with_rule (bounded name default) (number_option (codes "workers") 1 16 (codes "1")))
     (optional_number (codes "depth") 0 8)
 
+abbrev pub compile_command : App
+compile_command = new_app (codes "compile")
+
 abbrev pub replay_command : App
 replay_command = new_app (codes "replay")
 
@@ -159,11 +162,15 @@ campaign_command =
     with_rule
     (with_rule
     (with_rule
+    (with_rule
+    (with_rule
     (with_rule (with_rule sized_command (flag (codes "by-thread")))
     (long_option (codes "from") (codes "0")))
     (long_option (codes "upto") (codes "18446744073709551615")))
     (flag (codes "count")))
-    (flag (codes "certify"))
+    (flag (codes "certify")))
+    (flag (codes "all")))
+    (flag (codes "spec"))
 
 -- the program, which takes the words behind its name, and wants a command
 abbrev pub program : App
@@ -199,9 +206,11 @@ abbrev pub lineup : App
 lineup =
     with_subcommand
     (with_subcommand
+    (with_subcommand
     (with_subcommand (with_subcommand single_commands refute_command.top) shrink_command.top)
     campaign_command.top)
-    lint_command.top
+    lint_command.top)
+    compile_command.top
 
 -- ---- what words ask for
 
@@ -348,14 +357,22 @@ part_in rows =
     part_with (flag_in (codes "count") rows) (long_number_in (codes "from") rows)
     (long_number_in (codes "upto") rows)
 
--- whether the matrices are certified or checked
-abbrev pub trial_of : Bool → CampaignTrial
-trial_of certified = if certified then Certified else Checked
+-- what `--certify`, `--all` and `--spec` ask of each matrix: `--all` goes with `--certify`, and
+-- `--spec` stands alone
+abbrev pub trial_of : Bool → Bool → Bool → Option CampaignTrial
+trial_of false false against = Some Checked
+trial_of true false false = Some Certified
+trial_of true true false = Some Surveyed
+trial_of false true false = None
+trial_of false true true = None
+trial_of true false true = None
+trial_of true true true = None
 
 -- the bounds that are left out: those of `certify` or of `check`
 abbrev pub default_bound : CampaignTrial → ℕ
 default_bound Checked = 40
 default_bound Certified = most_moves
+default_bound Surveyed = most_moves
 
 abbrev pub campaign_limits : CampaignTrial → Option ℕ → Option ℕ → Option Limits
 campaign_limits trial bound serial =
@@ -369,17 +386,31 @@ campaign_with trial (Some limits) (Some threads) (Some calls) (Some part) =
     else None
 campaign_with _ _ _ _ _ = None
 
-abbrev pub trial_in : List Row → CampaignTrial
-trial_in rows = trial_of (flag_in (codes "certify") rows)
+abbrev pub trial_in : List Row → Option CampaignTrial
+trial_in rows =
+    trial_of (flag_in (codes "certify") rows) (flag_in (codes "all") rows)
+    (flag_in (codes "spec") rows)
 
-abbrev pub campaign_in : List Row → Option CampaignOptions
-campaign_in rows =
-    campaign_with (trial_in rows)
-    (campaign_limits (trial_in rows) (number_named (codes "bound") rows)
+-- the campaign with this trial
+abbrev pub campaign_by : List Row → CampaignTrial → Option CampaignOptions
+campaign_by rows trial =
+    campaign_with trial
+    (campaign_limits trial (number_named (codes "bound") rows)
     (number_named (codes "serial") rows))
     (threads_in rows)
     (number_named (codes "calls") rows)
     (part_in rows)
+
+abbrev pub campaign_options_in : List Row → Option CampaignOptions
+campaign_options_in rows = option_and_then (campaign_by rows) (trial_in rows)
+
+-- a campaign, or one that holds the component against a trusted one
+abbrev pub campaign_order : Bool → CampaignOptions → BundleCommand
+campaign_order against options = if against then CampaignAgainst options else Campaign options
+
+abbrev pub campaign_in : List Row → Option BundleCommand
+campaign_in rows =
+    option_map (campaign_order (flag_in (codes "spec") rows)) (campaign_options_in rows)
 
 abbrev pub order_by : Text → List Row → Option BundleCommand
 order_by name rows =
@@ -395,8 +426,9 @@ order_by name rows =
     else (if bytes_eq name (codes "certify") then option_map Certify (certify_in rows)
     else (if bytes_eq name (codes "refute") then Some Refute
     else (if bytes_eq name (codes "shrink") then option_map Shrink (limits_in rows)
-    else (if bytes_eq name (codes "campaign") then option_map Campaign (campaign_in rows)
-    else None))))))))))))
+    else (if bytes_eq name (codes "campaign") then campaign_in rows
+    else (if bytes_eq name (codes "compile") then Some Compile
+    else None)))))))))))))
 
 -- no schedule is bounded
 abbrev pub lint_in : List Row → Option Request

@@ -22,11 +22,15 @@ use Rattle.lu_cli.specs.Shows.{IsDrawn, IsTraced, IsTracedFromSetup, ShowsCertif
 
 -- ---- the parts of a bundle
 
--- the line with which a certificate begins that shows a cut
+-- the line before a matrix and what shows something on it: that of a certificate, or of a campaign
+-- that compares
 abbrev pub is_verdict : List ℕ → Bool
 is_verdict text =
     bytes_eq text (codes "not linearizable\n")
-    || (bytes_eq text (codes "livelock\n") || bytes_eq text (codes "undecided\n"))
+    || (bytes_eq text (codes "livelock\n")
+    || (bytes_eq text (codes "undecided\n")
+    || (bytes_eq text (codes "differs serially\n")
+    || bytes_eq text (codes "differs concurrently\n"))))
 
 -- these three, where the part before them is such a line
 abbrev pub behind_verdict : List ℕ → List ℕ × List ℕ × List ℕ → Option (List ℕ × List ℕ × List ℕ)

@@ -1,5 +1,6 @@
 pub mod Args
 pub mod Bundle
+pub mod Compiling
 pub mod Conforming
 pub mod Counted
 pub mod Drawing

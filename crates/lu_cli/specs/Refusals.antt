@@ -4,6 +4,7 @@ use Rattle.std.specs.Fmt.{decimal}
 use Rattle.lu_text.specs.declared.fault.Fault.{Fault}
 use Rattle.lu_text.specs.declared.fault.Fault.TheVariants.{At, Memory}
 use Rattle.lu_lang.specs.Kinds.{code_of}
+use Rattle.lu_source_text.specs.Kinds.{code_of as source_code_of}
 use Rattle.lu_test.specs.declared.schedule_fault.ScheduleFault.{ScheduleFault}
 use Rattle.lu_test.specs.declared.schedule_fault.ScheduleFault.TheVariants as schedule
 use Rattle.lu_test.specs.Codes.{matrix_code_of, schedule_code_of}
@@ -70,6 +71,8 @@ refusal_answer (refusal.Schedule fault) = schedule_answer fault
 refusal_answer (refusal.Report fault) = line_answer report_code_of fault
 refusal_answer (refusal.Refute fault) = refute_refusal fault
 refusal_answer (refusal.Campaign fault) = campaign_refusal fault
+refusal_answer (refusal.Source fault) = line_answer source_code_of fault
+refusal_answer refusal.Operations = Some (refused (codes "G4"))
 refusal_answer (refusal.Recorded fault) = history_answer fault.number fault.fault
 refusal_answer refusal.Memory = None
 

@@ -1,20 +1,21 @@
 -- What the program writes, and its status.
-use Rattle.std.specs.Prelude.{◌≡◌, ◌≢◌, ◌⊎◌, ◌↔◌, ℕ, List, [], ◌∷◌, ◌++◌, length, max, min, replicate, Option, Some, None, Result, Ok, Err, IfOk, MatchBool, IfSome, MatchOption, codes, nat_lt, if◌then◌else◌}
+use Rattle.std.specs.Prelude.{◌≡◌, ◌≢◌, ◌⊎◌, ◌↔◌, ◌||◌, ℕ, List, [], ◌∷◌, ◌++◌, length, replicate, Option, Some, None, Result, Ok, Err, IfOk, MatchBool, IfSome, MatchOption, codes, nat_lt, if◌then◌else◌}
 use Rattle.std.specs.Fmt.{decimal}
 use Rattle.std.specs.Io.KnownBytes.{Appends}
 use Rattle.lu_text.specs.declared.fault.Fault.{Fault}
 use Rattle.lu_text.specs.declared.fault.Fault.TheVariants.{At, Memory}
-use Rattle.lu_text.specs.Faults.{meaning_of}
+use Rattle.lu_text.specs.Faults.{IsUnlessMemory, meaning_of}
 use Rattle.lu_text.specs.Words.{exactly_two, exactly_three, exactly_four}
 use Rattle.lu_component.specs.Component.{Declarations}
 use Rattle.lu_lang.specs.Kinds.{code_of}
+use Rattle.lu_lang.specs.declared.fault.LangFaultKind.{LangFaultKind}
 use Rattle.lu_lang.specs.Grammar.{component_grammar}
 use Rattle.lu_test.specs.declared.matrix.Call.{Call}
 use Rattle.lu_test.specs.declared.schedule.Move.{Move}
 use Rattle.lu_test.specs.declared.schedule_fault.ScheduleFault.{ScheduleFault}
 use Rattle.lu_test.specs.Codes.{matrix_code_of, schedule_code_of}
 use Rattle.lu_test.specs.MatrixText.{matrix_grammar, matrix_text}
-use Rattle.lu_test.specs.ScheduleText.{IsScheduleUnlessMemory, schedule_of, schedule_text}
+use Rattle.lu_test.specs.ScheduleText.{IsScheduleUnlessMemory, schedule_of}
 use Rattle.lu_test.specs.Matrix.{Matrix}
 use Rattle.lu_machine.specs.declared.event.Event.{Event}
 use Rattle.lu_machine.specs.declared.event.Status.{Status}
@@ -24,27 +25,22 @@ use Rattle.lu_history.specs.declared.serial.SerialOp.{SerialOp}
 use Rattle.lu_serial.specs.Serial.{IsSerialHistory}
 use Rattle.lu_serial.specs.Offences.{NoOffence}
 use Rattle.lu_report.specs.declared.report.Finding.{Finding}
-use Rattle.lu_report.specs.declared.report.Finding.TheVariants.{SerialCut, Nondeterministic, Fail, Pass}
 use Rattle.lu_report.specs.Parts.{Parts}
 use Rattle.lu_report.specs.Parts.{IsOfOffence, shown_schedule}
 use Rattle.lu_witness.specs.Witnesses.{IsMember}
 use Rattle.lu_replay.specs.Reports.{IsFinding, IsReport, IsReportAgainst}
-use Rattle.lu_report.specs.Text.{report_text}
 use Rattle.lu_report.specs.declared.fault.ReportFaultKind.{ReportFaultKind}
 use Rattle.lu_report.specs.Codes.{report_code_of}
 use Rattle.lu_report.specs.Forms.{IsFault, Spells}
 use Rattle.lu_replay.specs.Confirmed.{IsFailure}
 use Rattle.lu_replay.specs.Replays.{PlaysToStatus, IsInfeasibleAt}
 use Rattle.lu_replay.specs.Text.{replay_text}
-use Rattle.lu_trace.specs.Traces.{IsTrace}
-use Rattle.lu_trace.specs.Setups.{IsTraceFromSetup}
 use Rattle.lu_lint.specs.declared.remark.Remark.{Remark}
 use Rattle.lu_lint.specs.Bundle.{IsSaidOf}
 use Rattle.lu_lint.specs.Messages.{remarks_text}
 use Rattle.lu_lint.specs.Said.{is_fault, said_of}
 use Rattle.std.specs.List.{list_any}
 use Rattle.std.specs.List.Sorted.{IsNonDecreasingBy}
-use Rattle.lu_cli.specs.Drawing.{IsDrawnWith}
 use Rattle.lu_cli.specs.declared.explaining.Presentation.{Presentation}
 use Rattle.lu_cli.specs.declared.explaining.Presentation.TheVariants.{Words, Picture}
 use Rattle.lu_parallel.specs.Ranges.{Choice}
@@ -61,6 +57,14 @@ use Rattle.lu_refine.specs.Removals.{IsShrunk}
 use Rattle.lu_survey.specs.declared.certified_campaign.CertifiedCampaign.{CertifiedCampaign}
 use Rattle.lu_survey.specs.declared.certified_campaign.CertifiedCampaign.TheVariants.{AllLinearizable, First as NotAll}
 use Rattle.lu_survey.specs.Certified.{IsCertifiedAnswer}
+use Rattle.lu_survey.specs.declared.comparison.Comparison.{Comparison}
+use Rattle.lu_survey.specs.declared.comparison.Comparison.TheVariants.{AllAgree, First as Differs}
+use Rattle.lu_survey.specs.declared.comparison.Difference.{Difference}
+use Rattle.lu_survey.specs.declared.comparison.Difference.TheVariants.{Concurrently, Serially, TrustedConflict, TrustedCut}
+use Rattle.lu_survey.specs.declared.survey.CertifiedMatrix.{CertifiedMatrix}
+use Rattle.lu_survey.specs.declared.survey.Survey.{Survey}
+use Rattle.lu_survey.specs.Comparing.{HasSameOperations, IsCompared}
+use Rattle.lu_survey.specs.Surveys.{IsSurveyAnswer}
 use Rattle.lu_spec.specs.declared.fault.SpecFaultKind.{SpecFaultKind}
 use Rattle.lu_spec.specs.Beginnings.{Has, IsClosureOf}
 use Rattle.lu_spec.specs.Codes.{spec_code_of}
@@ -69,21 +73,19 @@ use Rattle.lu_spec.specs.Listed.{IsListing}
 use Rattle.lu_spec.specs.SpecText.{IsReadAs, IsSpecFault, spec_text}
 use Rattle.lu_refute.specs.Answers.{IsAnswer as IsRefutation, IsConfirmedFailure}
 use Rattle.lu_certify.specs.declared.certificate.Certificate.{Certificate}
-use Rattle.lu_certify.specs.declared.certificate.Certificate.TheVariants.{Linearizable, NotLinearizable, Livelock, Undecided}
-use Rattle.lu_grain.specs.Longer.{IsMadeWithin}
 use Rattle.lu_cli.specs.declared.order.CertifyOptions.{CertifyOptions}
 use Rattle.lu_cli.specs.declared.counted.Counted.{Counted}
 use Rattle.lu_cli.specs.declared.order.CampaignOptions.{CampaignOptions}
 use Rattle.lu_cli.specs.declared.order.CampaignPart.{CampaignPart}
 use Rattle.lu_cli.specs.declared.order.CampaignPart.TheVariants.{Whole, Slice, Count}
 use Rattle.lu_cli.specs.declared.order.CampaignTrial.{CampaignTrial}
-use Rattle.lu_cli.specs.declared.order.CampaignTrial.TheVariants.{Checked, Certified}
+use Rattle.lu_cli.specs.declared.order.CampaignTrial.TheVariants.{Checked, Certified, Surveyed}
 use Rattle.lu_cli.specs.declared.order.CampaignThreads.{CampaignThreads}
 use Rattle.lu_cli.specs.declared.order.CampaignThreads.TheVariants.{Alike, Own}
 use Rattle.lu_cli.specs.declared.order.Request.{Request}
 use Rattle.lu_cli.specs.declared.order.Request.TheVariants.{Lint, Ordered}
 use Rattle.lu_cli.specs.declared.order.BundleCommand.{BundleCommand}
-use Rattle.lu_cli.specs.declared.order.BundleCommand.TheVariants.{Replay, Trace, TraceFromSetup, Draw, DrawExplained, Explain, ExplainAgainst, Serial, Judge, JudgeAgainst, Conform, Spec, Check, CheckAgainst, Certify, Refute, Shrink, Campaign as Campaigning}
+use Rattle.lu_cli.specs.declared.order.BundleCommand.TheVariants.{Replay, Trace, TraceFromSetup, Draw, DrawExplained, Explain, ExplainAgainst, Serial, Judge, JudgeAgainst, Conform, Spec, Check, CheckAgainst, Certify, Refute, Shrink, Campaign as Campaigning, CampaignAgainst, Compile}
 use Rattle.lu_cli.specs.declared.refusal.Refusal.{Refusal}
 use Rattle.lu_cli.specs.declared.refusal.Refusal.TheVariants as refusal
 use Rattle.lu_cli.specs.declared.explaining.Target.{Target}
@@ -94,8 +96,12 @@ use Rattle.lu_cli.specs.declared.failing.View.TheVariants as view
 use Rattle.lu_cli.specs.Failing.{IsShownAlone, shown_parts}
 pub use Rattle.lu_cli.specs.Shows.{IsCertified, IsDrawn, IsTraced, IsTracedFromSetup, ShowsCertificate, certified_local, reported, status_of, two_texts, verdict, with_matrix, with_schedule}
 use Rattle.lu_cli.specs.Judging.{IsJudgedBy, ToRecorded, four_parts, three_parts}
+use Rattle.lu_cli.specs.Compiling.{IsCompiledBundle}
 use Rattle.lu_cli.specs.Conforming.{IsConformedTexts}
+use Rattle.lu_source_text.specs.Kinds.{code_of as source_code_of}
+use Rattle.lu_source_text.specs.Readers.{component_meant}
 use Rattle.lu_cli.specs.Refusals.{Answered}
+use Rattle.lu_cli.specs.declared.texts.Fault.TheVariants.{Component as TextsComponent}
 use Rattle.lu_cli.specs.declared.order.Showing.{Showing}
 use Rattle.lu_recorded.specs.declared.recorded.Recorded.{Recorded}
 use Rattle.lu_cli.specs.Bundle.{bundle_parts}
@@ -431,6 +437,83 @@ ShowsCertified c (NotAll matrix certificate) answer =
     (shown : Answer) × ShowsCertificate c certificate shown
     × (answer ≡ below_matrix c matrix shown)
 
+-- how many matrices have a certificate of a kind, on a line of its own
+abbrev pub tally_line : List ℕ → ℕ → List ℕ
+tally_line kind count = kind ++ codes " " ++ decimal count ++ codes "\n"
+
+-- how many have one of each kind
+abbrev pub survey_head : Survey → List ℕ
+survey_head s =
+    codes "campaign certified\n" ++ tally_line (codes "linearizable") s.linearizable.count
+    ++ tally_line (codes "not linearizable") s.not_linearizable.count
+    ++ tally_line (codes "livelock") s.livelock.count
+    ++ tally_line (codes "undecided") s.undecided.count
+
+-- the first matrix of a kind with its certificate, if there is one
+abbrev pub ShowsFirst : Declarations → Option CertifiedMatrix → List ℕ → Type 0
+ShowsFirst c None text = text ≡ []
+ShowsFirst c (Some one) text =
+    (shown : Answer) × ShowsCertificate c one.certificate shown
+    × (text ≡ codes "---\n" ++ (below_matrix c one.matrix shown).text)
+
+-- it stands behind the old text
+abbrev pub PushesFirst : Declarations → Option CertifiedMatrix → List ℕ → List ℕ → Type 0
+PushesFirst c first old new = (text : List ℕ) × ShowsFirst c first text × (new ≡ old ++ text)
+
+-- 1 where a certificate says that something fails, else 3 where one is undecided
+abbrev pub survey_status : Survey → ℕ
+survey_status s =
+    if nat_lt 0 s.not_linearizable.count || nat_lt 0 s.livelock.count then 1
+    else (if nat_lt 0 s.undecided.count then 3 else 0)
+
+-- how many matrices have a certificate of each kind, and the first of each kind but linearizable
+abbrev pub ShowsSurvey : Declarations → Survey → Answer → Type 0
+ShowsSurvey c s answer =
+    (failing : List ℕ) × (lost : List ℕ) × (undecided : List ℕ)
+    × ShowsFirst c s.not_linearizable.first failing × ShowsFirst c s.livelock.first lost
+    × ShowsFirst c s.undecided.first undecided
+    × (answer ≡ record {
+      text = survey_head s ++ failing ++ lost ++ undecided;
+      status = survey_status s;
+    })
+
+-- what the survey of the matrices with these numbers says, or why there is no campaign
+abbrev pub IsSurveyReply : Asked → ℕ → ℕ → Answer → Type 0
+IsSurveyReply asked from upto answer =
+    ((s : Survey) × IsSurveyAnswer asked from upto s × ShowsSurvey asked.component s answer)
+    ⊎ IsListsRefusal asked.candidates asked.calls answer
+
+-- on all matrices the component agrees with the trusted one, and there are so many
+abbrev pub all_agree : ℕ → Answer
+all_agree count =
+    record { text = codes "campaign agrees " ++ decimal count ++ codes "\n"; status = 0 }
+
+-- a verdict with the matrix and a schedule of it
+abbrev pub run_verdict : List ℕ → Declarations → Matrix → List Move → ℕ → Answer
+run_verdict words c m u status = verdict words (with_schedule c (m, u)).text status
+
+-- the first matrix on which it does not, and what shows that
+abbrev pub difference_answer : Declarations → Matrix → Difference → Answer
+difference_answer c m (TrustedCut u) =
+    verdict (codes "trusted serial-cut") (with_schedule c (m, u)).text 3
+difference_answer c m (TrustedConflict u before earlier) =
+    verdict (codes "trusted nondeterministic") (with_schedule c (m, u)).text 3
+difference_answer c m (Serially u) =
+    verdict (codes "differs serially") (with_schedule c (m, u)).text 1
+difference_answer c m (Concurrently r) =
+    verdict (codes "differs concurrently") (two_texts c m r) 1
+
+abbrev pub comparison_answer : Declarations → Comparison → Answer
+comparison_answer c (AllAgree count) = all_agree count
+comparison_answer c (Differs m difference) = difference_answer c m difference
+
+-- what the comparison on the matrices with these numbers says, or why there is no campaign
+abbrev pub IsComparisonReply : Declarations → Asked → ℕ → ℕ → Answer → Type 0
+IsComparisonReply trusted asked from upto answer =
+    ((found : Comparison) × IsCompared trusted asked from upto found
+    × (answer ≡ comparison_answer asked.component found))
+    ⊎ IsListsRefusal asked.candidates asked.calls answer
+
 -- what the certificates of the matrices with these numbers say, or why there is no campaign
 abbrev pub IsCertifiedReply : Asked → ℕ → ℕ → Answer → Type 0
 IsCertifiedReply asked from upto answer =
@@ -449,9 +532,22 @@ IsCertifiedPart Whole asked = IsCertifiedReply asked 0 most_long
 IsCertifiedPart (Slice from upto) asked = IsCertifiedReply asked from upto
 IsCertifiedPart Count asked = IsCountAnswer asked.candidates asked.calls
 
+-- the same where all are certified, whatever their certificates
+abbrev pub IsSurveyedPart : CampaignPart → Asked → Answer → Type 0
+IsSurveyedPart Whole asked = IsSurveyReply asked 0 most_long
+IsSurveyedPart (Slice from upto) asked = IsSurveyReply asked from upto
+IsSurveyedPart Count asked = IsCountAnswer asked.candidates asked.calls
+
+-- the same against a trusted component
+abbrev pub IsComparedPart : Declarations → CampaignPart → Asked → Answer → Type 0
+IsComparedPart trusted Whole asked = IsComparisonReply trusted asked 0 most_long
+IsComparedPart trusted (Slice from upto) asked = IsComparisonReply trusted asked from upto
+IsComparedPart trusted Count asked = IsCountAnswer asked.candidates asked.calls
+
 abbrev pub IsAnswerToTrial : CampaignTrial → CampaignPart → Asked → Answer → Type 0
 IsAnswerToTrial Checked = IsAnswerToPart
 IsAnswerToTrial Certified = IsCertifiedPart
+IsAnswerToTrial Surveyed = IsSurveyedPart
 
 -- what is answered where each thread has its own candidates
 abbrev pub IsListsAnswer : Declarations → List Call → List (List Call) → CampaignOptions → Answer
@@ -473,6 +569,8 @@ IsAnswerToAlike Checked (Slice from upto) c setup candidates threads o =
 IsAnswerToAlike Checked Count c setup candidates threads o =
     IsTriedPart c setup candidates threads o
 IsAnswerToAlike Certified part c setup candidates threads o =
+    IsTriedPart c setup candidates threads o
+IsAnswerToAlike Surveyed part c setup candidates threads o =
     IsTriedPart c setup candidates threads o
 
 -- what is answered where so many threads have the same
@@ -500,6 +598,25 @@ IsCampaignBy Own c o matrix = IsListsAnswer c matrix.setup matrix.threads o
 -- what is answered to the matrix: to its one thread, or to each of its lines
 abbrev pub IsCampaignFrom : Declarations → CampaignOptions → Matrix → Answer → Type 0
 IsCampaignFrom c o matrix = IsCampaignBy o.threads c o matrix
+
+-- what is answered against a trusted component: to the calls of the matrix's one thread
+abbrev pub IsComparedAlike : Declarations → Declarations → ℕ → CampaignOptions → Matrix → Answer
+    → Type 0
+IsComparedAlike trusted c threads o matrix =
+    ToCandidates matrix.threads
+    (λ candidates. IsComparedPart trusted o.part
+    (lists_of c matrix.setup (replicate threads candidates) o))
+
+-- or to each of its lines
+abbrev pub IsComparedBy : CampaignThreads → Declarations → Declarations → CampaignOptions → Matrix
+    → Answer → Type 0
+IsComparedBy (Alike threads) trusted c o matrix = IsComparedAlike trusted c threads o matrix
+IsComparedBy Own trusted c o matrix =
+    IsComparedPart trusted o.part (lists_of c matrix.setup matrix.threads o)
+
+abbrev pub IsComparedFrom : Declarations → Declarations → CampaignOptions → Matrix → Answer
+    → Type 0
+IsComparedFrom trusted c o matrix = IsComparedBy o.threads trusted c o matrix
 
 -- ---- texts of components and matrices
 
@@ -613,6 +730,36 @@ abbrev pub IsRefuteOf : List (List ℕ) → Answer → Type 0
 IsRefuteOf parts =
     ToParts (exactly_four parts) (λ p. ToTexts p.0 p.1 (λ c m. IsRefutedBy c m p.2 p.3))
 
+-- why the text of a trusted component is refused
+abbrev pub IsTrustedRefusal : List ℕ → Refusal → Type 0
+IsTrustedRefusal text refused =
+    (fault : Fault LangFaultKind) × IsUnlessMemory fault (meaning_of component_grammar text)
+    × (refused ≡ refusal.Texts (TextsComponent fault))
+
+-- the trusted component is read, and has the operations of the other one; and its setup settles too
+abbrev pub ToTrusted : List ℕ → Declarations → Matrix → (Declarations → Answer → Type 0) → Answer
+    → Type 0
+ToTrusted text c m IsAnswer =
+    ToValue code_of (meaning_of component_grammar text)
+    (λ trusted answer.
+    (HasSameOperations c trusted × ToSettled trusted m (IsAnswer trusted) answer)
+    ⊎ ((HasSameOperations c trusted → ⊥) × (answer ≡ refused (codes "G4"))))
+
+abbrev pub IsCampaignAgainstOf : CampaignOptions → List (List ℕ) → Answer → Type 0
+IsCampaignAgainstOf options parts =
+    ToParts (exactly_three parts)
+    (λ p. ToTexts p.0 p.1
+    (λ c m. ToTrusted p.2 c m (λ trusted. IsComparedFrom trusted c options m)))
+
+-- the source is compiled, and the other parts stay as they are
+abbrev pub IsCompiledWith : List ℕ → List (List ℕ) → Answer → Type 0
+IsCompiledWith source parts =
+    ToValue source_code_of (component_meant source) (λ c. IsCompiledBundle c parts)
+
+abbrev pub IsCompileOf : List (List ℕ) → Answer → Type 0
+IsCompileOf [] answer = answer ≡ refused (codes "B1")
+IsCompileOf (source ∷ parts) answer = IsCompiledWith source parts answer
+
 abbrev pub IsCampaignOf : CampaignOptions → List (List ℕ) → Answer → Type 0
 IsCampaignOf options parts =
     ToParts (exactly_two parts) (λ p. ToTexts p.0 p.1 (λ c m. IsCampaignFrom c options m))
@@ -637,6 +784,8 @@ IsAnswerToOrder (Certify asked) parts = IsCertifyOf asked parts
 IsAnswerToOrder Refute parts = IsRefuteOf parts
 IsAnswerToOrder (Shrink limits) parts = IsShrinkOf limits parts
 IsAnswerToOrder (Campaigning options) parts = IsCampaignOf options parts
+IsAnswerToOrder (CampaignAgainst options) parts = IsCampaignAgainstOf options parts
+IsAnswerToOrder Compile parts = IsCompileOf parts
 
 -- what is said of the lines of a bundle, and whether one of it is a fault
 abbrev pub remarked : List Remark → Answer

@@ -1,11 +1,13 @@
 //! Answers: texts with their exit statuses.
 
-ghost use Rattle.std.specs.Prelude.{◌≡◌, IfOk, IfErr, Some, string_bytes};
+ghost use Rattle.std.specs.Prelude.{◌≡◌, ◌++◌, IfOk, IfErr, IfSome, OnOk, Some, string_bytes};
+ghost use Rattle.lu_survey.specs.Comparing.{IsComparedOf};
+ghost use Rattle.lu_survey.specs.Surveys.{AreShownOf, IsShownOf};
 ghost use Rattle.lu_test.specs.Matrix.{IsOf};
 ghost use Rattle.lu_certify.specs.Certificates.{NamesCutOf};
 ghost use Rattle.lu_cli.specs.Refusals.{refusal_answer, refused_in_history};
 ghost use Rattle.lu_cli.specs.Replies as spec;
-ghost use Rattle.lu_cli.specs.Replies.{IsListed, ShowsBelow, two_texts};
+ghost use Rattle.lu_cli.specs.Replies.{IsListed, PushesFirst, ShowsBelow, run_verdict, tally_line, two_texts};
 
 use crate::refusal::Refusal;
 use crate::texts::Fault as TextsFault;
@@ -17,6 +19,7 @@ use lu_refine::CampaignFault;
 use lu_refute::RefuteFault;
 use lu_report::{Finding, Report, write_report};
 use lu_spec::{Spec, write_spec};
+use lu_survey::{CertifiedMatrix, Comparison, Difference, Survey};
 use lu_test::{Matrix, Schedule, ScheduleFault, write_matrix, write_schedule};
 use lu_text::Fault;
 use std::alloc::{AllocError, Global};
@@ -217,6 +220,161 @@ pub fn show_certified(
     })
 }
 
+/// The first matrix of a kind, with its certificate, behind the text.
+fn push_first(
+    alloc: Global,
+    component: &Component,
+    first: &Option<CertifiedMatrix>,
+    text: &mut String,
+) -> Result<(), AllocError>
+    requires { IfSome first.now (IsShownOf component.now) }
+    ensures { OnOk result (PushesFirst component.now first.now (string_bytes text.old)
+        (string_bytes text.new)) }
+{
+    match first {
+        None => Ok(()),
+        Some(one) => {
+            let shown = show_certified(alloc, component, &one.matrix, &one.certificate)?;
+            text.push_str("---\n")?;
+            text.push_str(shown.text.as_str())?;
+            Ok(())
+        }
+    }
+}
+
+/// 1 where a certificate of a survey says that something fails, else 3 where one is undecided.
+fn survey_status(survey: &Survey) -> u8
+    ensures { result ≡ spec.survey_status survey.now }
+{
+    if survey.not_linearizable.count > 0 || survey.livelock.count > 0 {
+        1
+    } else if survey.undecided.count > 0 {
+        3
+    } else {
+        0
+    }
+}
+
+/// How many matrices have a certificate of a kind, on a line behind the text.
+fn push_tally(text: &mut String, kind: &str, count: u64) -> Result<(), AllocError>
+    ensures { OnOk result
+        (string_bytes text.new ≡ string_bytes text.old ++ tally_line kind.now count) }
+{
+    writeln!(text, "{kind} {count}")?;
+    Ok(())
+}
+
+/// How many matrices have a certificate of each kind.
+fn survey_head(alloc: Global, survey: &Survey) -> Result<String, AllocError>
+    ensures { IfOk result (λ text. string_bytes text ≡ spec.survey_head survey.now) }
+{
+    let mut text = String::from_str(alloc, "campaign certified\n")?;
+    push_tally(&mut text, "linearizable", survey.linearizable.count)?;
+    push_tally(&mut text, "not linearizable", survey.not_linearizable.count)?;
+    push_tally(&mut text, "livelock", survey.livelock.count)?;
+    push_tally(&mut text, "undecided", survey.undecided.count)?;
+    Ok(text)
+}
+
+/// How many matrices have a certificate of each kind, and the first of each kind but linearizable.
+pub fn show_survey(
+    alloc: Global,
+    component: &Component,
+    survey: &Survey,
+) -> Result<Answer, AllocError>
+    requires { AreShownOf component.now survey.now }
+    ensures { IfOk result (spec.ShowsSurvey component.now survey.now) }
+{
+    let mut text = survey_head(alloc, survey)?;
+    push_first(alloc, component, &survey.not_linearizable.first, &mut text)?;
+    push_first(alloc, component, &survey.livelock.first, &mut text)?;
+    push_first(alloc, component, &survey.undecided.first, &mut text)?;
+    Ok(Answer {
+        text,
+        status: survey_status(survey),
+    })
+}
+
+/// That on all matrices of a campaign the component agrees with the trusted one.
+fn show_agreement(alloc: Global, count: u64) -> Result<Answer, AllocError>
+    ensures { IfOk result (λ answer. answer ≡ spec.all_agree count) }
+{
+    Ok(Answer {
+        text: format!(in alloc; "campaign agrees {count}\n")?,
+        status: 0,
+    })
+}
+
+/// A verdict, with the matrix and a schedule of it.
+fn show_run(
+    alloc: Global,
+    component: &Component,
+    matrix: &Matrix,
+    schedule: &Schedule,
+    words: &str,
+    status: u8,
+) -> Result<Answer, AllocError>
+    requires { IsOf matrix.now component.now }
+    ensures { IfOk result (λ answer. answer
+        ≡ run_verdict words.now component.now matrix.now schedule.now status) }
+{
+    let shown = show_schedule(alloc, component, matrix, schedule)?;
+    verdict(alloc, words, shown.text.as_str(), status)
+}
+
+/// How a component differs on a matrix from a trusted one.
+fn show_difference(
+    alloc: Global,
+    component: &Component,
+    matrix: &Matrix,
+    difference: &Difference,
+) -> Result<Answer, AllocError>
+    requires { IsOf matrix.now component.now }
+    ensures { IfOk result (λ answer. answer
+        ≡ spec.difference_answer component.now matrix.now difference.now) }
+{
+    match difference {
+        Difference::TrustedCut(schedule) => {
+            show_run(alloc, component, matrix, schedule, "trusted serial-cut", 3)
+        }
+        Difference::TrustedConflict { schedule, .. } => {
+            show_run(
+                alloc,
+                component,
+                matrix,
+                schedule,
+                "trusted nondeterministic",
+                3,
+            )
+        }
+        Difference::Serially(schedule) => {
+            show_run(alloc, component, matrix, schedule, "differs serially", 1)
+        }
+        Difference::Concurrently(report) => {
+            let text = write_both(alloc, component, matrix, report)?;
+            verdict(alloc, "differs concurrently", text.as_str(), 1)
+        }
+    }
+}
+
+/// What a comparison with a trusted component finds.
+pub fn show_comparison(
+    alloc: Global,
+    component: &Component,
+    found: &Comparison,
+) -> Result<Answer, AllocError>
+    requires { IsComparedOf component.now found.now }
+    ensures { IfOk result (λ answer.
+        answer ≡ spec.comparison_answer component.now found.now) }
+{
+    match found {
+        Comparison::AllAgree(count) => show_agreement(alloc, *count),
+        Comparison::First { matrix, difference } => {
+            show_difference(alloc, component, matrix, difference)
+        }
+    }
+}
+
 /// A number, on a line of its own.
 pub fn show_number(alloc: Global, number: u64) -> Result<Answer, AllocError>
     ensures { IfOk result (λ answer. answer ≡ spec.numbered number) }
@@ -302,6 +460,8 @@ pub fn show_refusal(alloc: Global, refusal: Refusal) -> Result<Answer, AllocErro
         Refusal::Refute(RefuteFault::NotShown) => refused(alloc, "F2"),
         Refusal::Campaign(CampaignFault::Candidates) => refused(alloc, "G2"),
         Refusal::Campaign(CampaignFault::Limit) => refused(alloc, "G3"),
+        Refusal::Source(Fault::At(kind, line)) => refused_on_line(alloc, kind.code(), line),
+        Refusal::Operations => refused(alloc, "G4"),
         Refusal::Recorded(
             PartFault {
                 number,
@@ -313,6 +473,7 @@ pub fn show_refusal(alloc: Global, refusal: Refusal) -> Result<Answer, AllocErro
         | Refusal::Texts(TextsFault::Spec(Fault::Memory))
         | Refusal::Texts(TextsFault::Check(CheckFault::Memory))
         | Refusal::Schedule(ScheduleFault::Memory)
+        | Refusal::Source(Fault::Memory)
         | Refusal::Report(Fault::Memory)
         | Refusal::Refute(RefuteFault::Memory)
         | Refusal::Campaign(CampaignFault::Memory)

@@ -207,7 +207,9 @@ fn campaign_command<'a>(alloc: Global) -> Result<Command<'a>, AllocError>
     let command = with_option(command, long_option(alloc, "from", "0"));
     let command = with_option(command, long_option(alloc, "upto", "18446744073709551615"));
     let command = with_option(command, flag(alloc, "count"));
-    with_option(command, flag(alloc, "certify"))
+    let command = with_option(command, flag(alloc, "certify"));
+    let command = with_option(command, flag(alloc, "all"));
+    with_option(command, flag(alloc, "spec"))
 }
 
 /// The program without its commands. It takes the words behind its name.
@@ -256,7 +258,8 @@ fn lineup_command<'a>(alloc: Global) -> Result<Command<'a>, AllocError>
     let program = with_command(single_commands(alloc), bare_command(alloc, "refute"));
     let program = with_command(program, with_bounds(alloc, "shrink", "40"));
     let program = with_command(program, campaign_command(alloc));
-    with_command(program, lint_command(alloc))
+    let program = with_command(program, lint_command(alloc));
+    with_command(program, bare_command(alloc, "compile"))
 }
 
 fn number_named(given: &ArgMatches<'_>, name: &str) -> Option<u16>
@@ -369,15 +372,27 @@ fn part_in(given: &ArgMatches<'_>) -> Option<CampaignPart>
     part_of(flag_in(given, "count"), from, upto)
 }
 
-/// Whether the matrices are certified or checked.
-fn trial_of(certified: bool) -> CampaignTrial
-    ensures { result ≡ spec.trial_of certified }
+/// What `--certify`, `--all` and `--spec` ask of each matrix: `--all` goes with `--certify`, and
+/// `--spec` stands alone.
+fn trial_of(certified: bool, all: bool, against: bool) -> Option<CampaignTrial>
+    ensures { result ≡ spec.trial_of certified all against }
 {
-    if certified {
-        CampaignTrial::Certified
-    } else {
-        CampaignTrial::Checked
+    match (certified, all, against) {
+        (false, false, _) => Some(CampaignTrial::Checked),
+        (true, false, false) => Some(CampaignTrial::Certified),
+        (true, true, false) => Some(CampaignTrial::Surveyed),
+        _ => None,
     }
+}
+
+fn trial_in(given: &ArgMatches<'_>) -> Option<CampaignTrial>
+    ensures { result ≡ spec.trial_in (rows_of (found_of given.now)) }
+{
+    trial_of(
+        flag_in(given, "certify"),
+        flag_in(given, "all"),
+        flag_in(given, "spec"),
+    )
 }
 
 /// The bounds of a campaign: where they are left out those of `certify` or of `check`.
@@ -386,15 +401,15 @@ fn campaign_bounds(trial: CampaignTrial, bound: Option<u16>, serial: Option<u16>
 {
     let default = match trial {
         CampaignTrial::Checked => 40,
-        CampaignTrial::Certified => MOST_MOVES,
+        CampaignTrial::Certified | CampaignTrial::Surveyed => MOST_MOVES,
     };
     Bounds::new(bound.unwrap_or(default), serial.unwrap_or(default))
 }
 
-fn campaign_in(given: &ArgMatches<'_>) -> Option<CampaignOptions>
-    ensures { result ≡ spec.campaign_in (rows_of (found_of given.now)) }
+fn campaign_options_in(given: &ArgMatches<'_>) -> Option<CampaignOptions>
+    ensures { result ≡ spec.campaign_options_in (rows_of (found_of given.now)) }
 {
-    let trial = trial_of(flag_in(given, "certify"));
+    let trial = trial_in(given)?;
     let (bound, serial) = (number_named(given, "bound"), number_named(given, "serial"));
     let bounds = campaign_bounds(trial, bound, serial)?;
     let threads = threads_in(given)?;
@@ -408,6 +423,24 @@ fn campaign_in(given: &ArgMatches<'_>) -> Option<CampaignOptions>
         part,
         trial,
     })
+}
+
+/// A campaign, or one that holds the component against a trusted one.
+fn campaign_order(options: CampaignOptions, against: bool) -> BundleCommand
+    ensures { result ≡ spec.campaign_order against options }
+{
+    if against {
+        BundleCommand::CampaignAgainst(options)
+    } else {
+        BundleCommand::Campaign(options)
+    }
+}
+
+fn campaign_in(given: &ArgMatches<'_>) -> Option<BundleCommand>
+    ensures { result ≡ spec.campaign_in (rows_of (found_of given.now)) }
+{
+    let options = campaign_options_in(given)?;
+    Some(campaign_order(options, flag_in(given, "spec")))
 }
 
 /// A check against the serial runs, or one against a specification.
@@ -543,7 +576,8 @@ fn order_by(name: &str, given: &ArgMatches<'_>) -> Option<BundleCommand>
         "certify" => certify_in(given).map(BundleCommand::Certify),
         "refute" => Some(BundleCommand::Refute),
         "shrink" => bounds_in(given).map(BundleCommand::Shrink),
-        "campaign" => campaign_in(given).map(BundleCommand::Campaign),
+        "campaign" => campaign_in(given),
+        "compile" => Some(BundleCommand::Compile),
         _ => None,
     }
 }

@@ -1,6 +1,8 @@
 //! What is answered to campaigns.
 
-ghost use Rattle.std.specs.Prelude.{◌≡◌, IfOk};
+ghost use Rattle.std.specs.Prelude.{◌≡◌, Ok, IfErr, IfOk};
+ghost use Rattle.lu_text.specs.Faults.{meaning_of};
+ghost use Rattle.lu_lang.specs.Grammar.{component_grammar};
 ghost use Rattle.lu_text.specs.Lines.{texts};
 ghost use Rattle.lu_test.specs.Matrix.{IsSetup};
 ghost use Rattle.lu_machine.specs.Starts.{AllEnd, CanRun};
@@ -9,24 +11,30 @@ ghost use Rattle.lu_refine.specs.Roles.{AllCallsOf, AllHaveArguments};
 ghost use Rattle.lu_refine.specs.ByThread.{CanAsk, asked_of};
 ghost use Rattle.lu_cli.specs.declared.order.CampaignThreads.TheVariants.{Own};
 ghost use Rattle.lu_survey.specs.Certified.{IsCertifiedOf};
+ghost use Rattle.lu_survey.specs.Comparing.{CanCompare, HasSameOperations};
 ghost use Rattle.lu_cli.specs.Refusals.{Answered};
 ghost use Rattle.lu_cli.specs.Replies as spec;
-ghost use Rattle.lu_cli.specs.Replies.{IsTriedAll, IsTriedPart, IsTriedSame};
+ghost use Rattle.lu_cli.specs.Replies.{IsTriedAll, IsTriedPart, IsTriedSame, IsTrustedRefusal, ToSettled, ToTrusted};
 
 use crate::answer::{
-    Answer, show_certified, show_count, show_linearizable, show_matrix, show_number,
+    Answer, show_certified, show_comparison, show_count, show_linearizable, show_matrix,
+    show_number, show_survey,
 };
 use crate::order::{CampaignOptions, CampaignPart, CampaignThreads, CampaignTrial};
 use crate::refusal::Refusal;
-use crate::texts::read_texts;
+use crate::texts::{Fault, read_texts};
 use lu_component::Component;
+use lu_lang::read_component;
+use lu_machine::settles;
 use lu_refine::{
     Campaign, CampaignFault, Roles, campaign, campaign_by_thread, campaign_slice, count_matrices,
     same_lists,
 };
-use lu_survey::{CertifiedCampaign, certify_slice};
+use lu_survey::{
+    CertifiedCampaign, certify_slice, compare_slice, have_same_operations, survey_slice,
+};
 use lu_test::{Call, Calls, Matrix};
-use lu_text::exactly_two;
+use lu_text::{exactly_three, exactly_two};
 use std::alloc::{AllocError, Global};
 
 /// How many matrices there are, where all pass; or the first that does not, with its report.
@@ -148,6 +156,62 @@ fn certify_part(alloc: Global, roles: Roles<'_>, part: CampaignPart) -> Result<A
     }
 }
 
+/// How many of the matrices with the numbers `from` to `upto - 1` have a certificate of each kind.
+fn survey_numbers(alloc: Global, roles: Roles<'_>, from: u64, upto: u64) -> Result<Answer, Refusal>
+    requires { CanAsk (asked_of roles) }
+    ensures { Answered (spec.IsSurveyReply (asked_of roles.entry) from upto) result }
+{
+    let survey = survey_slice(alloc, roles, from, upto)?;
+    Ok(show_survey(alloc, roles.component, &survey)?)
+}
+
+/// What is answered where all matrices are certified, whatever their certificates.
+fn survey_part(alloc: Global, roles: Roles<'_>, part: CampaignPart) -> Result<Answer, Refusal>
+    requires { CanAsk (asked_of roles) }
+    ensures { Answered (spec.IsSurveyedPart part (asked_of roles.entry)) result }
+{
+    match part {
+        CampaignPart::Whole => survey_numbers(alloc, roles, 0, u64::MAX),
+        CampaignPart::Slice { from, upto } => survey_numbers(alloc, roles, from, upto),
+        CampaignPart::Count => count_all(alloc, roles.candidates, roles.calls),
+    }
+}
+
+/// How the component differs from a trusted one on the matrices with the numbers `from` to
+/// `upto - 1`.
+fn compare_numbers(
+    alloc: Global,
+    roles: Roles<'_>,
+    trusted: &Component,
+    from: u64,
+    upto: u64,
+) -> Result<Answer, Refusal>
+    requires { CanCompare (asked_of roles) trusted.now }
+    ensures { Answered
+        (spec.IsComparisonReply trusted.entry.now (asked_of roles.entry) from upto) result }
+{
+    let found = compare_slice(alloc, roles, trusted, from, upto)?;
+    Ok(show_comparison(alloc, roles.component, &found)?)
+}
+
+/// What is answered where the component is held against a trusted one.
+fn compare_part(
+    alloc: Global,
+    roles: Roles<'_>,
+    trusted: &Component,
+    part: CampaignPart,
+) -> Result<Answer, Refusal>
+    requires { CanCompare (asked_of roles) trusted.now }
+    ensures { Answered
+        (spec.IsComparedPart trusted.entry.now part (asked_of roles.entry)) result }
+{
+    match part {
+        CampaignPart::Whole => compare_numbers(alloc, roles, trusted, 0, u64::MAX),
+        CampaignPart::Slice { from, upto } => compare_numbers(alloc, roles, trusted, from, upto),
+        CampaignPart::Count => count_all(alloc, roles.candidates, roles.calls),
+    }
+}
+
 /// What is answered where each thread has its own candidates.
 fn try_lists(
     alloc: Global,
@@ -175,6 +239,7 @@ fn try_lists(
     match options.trial {
         CampaignTrial::Checked => check_part(alloc, roles, options.part),
         CampaignTrial::Certified => certify_part(alloc, roles, options.part),
+        CampaignTrial::Surveyed => survey_part(alloc, roles, options.part),
     }
 }
 
@@ -292,4 +357,146 @@ pub(crate) fn answer_campaign(
     let (component, matrix) = exactly_two(parts).ok_or(Refusal::Parts)?;
     let case = read_texts(alloc, component, matrix)?;
     try_matrix(alloc, &case.component, &case.matrix, options)
+}
+
+/// What is answered against a trusted component, where each thread has its own candidates.
+fn compare_lists(
+    alloc: Global,
+    component: &Component,
+    trusted: &Component,
+    setup: &Calls,
+    candidates: &[Calls],
+    options: CampaignOptions,
+) -> Result<Answer, Refusal>
+    requires setup { IsSetup setup.now }
+    requires setup_of { AreCallsOf component.now setup.now }
+    requires settles { AllEnd component.now setup.now }
+    requires trusted_settles { AllEnd trusted.now setup.now }
+    requires operations { HasSameOperations component.now trusted.now }
+    requires of { AllCallsOf component.now candidates.now }
+    requires arguments { AllHaveArguments candidates.now }
+    ensures { Answered (spec.IsComparedPart trusted.now options.part
+        (spec.lists_of component.now setup.now candidates.now options)) result }
+{
+    let roles = Roles {
+        component,
+        setup,
+        candidates,
+        calls: options.calls,
+        bound: options.bounds.bound(),
+        serial: options.bounds.serial(),
+    };
+    compare_part(alloc, roles, trusted, options.part)
+}
+
+/// What is answered against a trusted component, where so many threads have the same candidates.
+fn compare_alike(
+    alloc: Global,
+    component: &Component,
+    trusted: &Component,
+    matrix: &Matrix,
+    threads: u8,
+    options: CampaignOptions,
+) -> Result<Answer, Refusal>
+    requires runs { CanRun component.now matrix.now }
+    requires trusted_runs { CanRun trusted.now matrix.now }
+    requires operations { HasSameOperations component.now trusted.now }
+    ensures { Answered
+        (spec.IsComparedAlike trusted.now component.now threads options matrix.now) result }
+{
+    match matrix.as_slice() {
+        [candidates] => {
+            let lists = same_lists(alloc, candidates.as_slice(), threads)?;
+            compare_lists(alloc, component, trusted, matrix.setup(), &lists, options)
+        }
+        _ => Err(Refusal::Campaign(CampaignFault::Candidates)),
+    }
+}
+
+/// What is answered to a matrix of the component and of the trusted one.
+fn compare_matrix(
+    alloc: Global,
+    component: &Component,
+    trusted: &Component,
+    matrix: &Matrix,
+    options: CampaignOptions,
+) -> Result<Answer, Refusal>
+    requires runs { CanRun component.now matrix.now }
+    requires trusted_runs { CanRun trusted.now matrix.now }
+    requires operations { HasSameOperations component.now trusted.now }
+    ensures { Answered
+        (spec.IsComparedFrom trusted.now component.now options matrix.now) result }
+{
+    match options.threads {
+        CampaignThreads::Alike(threads) => {
+            compare_alike(alloc, component, trusted, matrix, threads, options)
+        }
+        CampaignThreads::Own => {
+            let (setup, lists) = (matrix.setup(), matrix.as_slice());
+            compare_lists(alloc, component, trusted, setup, lists, options)
+        }
+    }
+}
+
+/// What is answered where the trusted component has the operations of the other one: the setup has
+/// to settle with it too.
+fn compare_settled(
+    alloc: Global,
+    component: &Component,
+    trusted: &Component,
+    matrix: &Matrix,
+    options: CampaignOptions,
+) -> Result<Answer, Refusal>
+    requires runs { CanRun component.now matrix.now }
+    requires operations { HasSameOperations component.now trusted.now }
+    ensures { Answered (ToSettled trusted.now matrix.now
+        (spec.IsComparedFrom trusted.now component.now options matrix.now)) result }
+{
+    match settles(alloc, trusted, matrix)? {
+        Some(call) => Err(Refusal::Texts(Fault::Setup(call))),
+        None => compare_matrix(alloc, component, trusted, matrix, options),
+    }
+}
+
+/// The trusted component.
+fn read_trusted(alloc: Global, text: &[u8]) -> Result<Component, Refusal>
+    ensures read { IfOk result (λ t. meaning_of component_grammar text.now ≡ Ok t) }
+    ensures refused { IfErr result (IsTrustedRefusal text.now) }
+{
+    match read_component(alloc, text) {
+        Ok(trusted) => Ok(trusted),
+        Err(fault) => Err(Refusal::Texts(Fault::Component(fault))),
+    }
+}
+
+/// What is answered to the text of a trusted component.
+fn compare_with(
+    alloc: Global,
+    component: &Component,
+    matrix: &Matrix,
+    options: CampaignOptions,
+    trusted: &[u8],
+) -> Result<Answer, Refusal>
+    requires { CanRun component.now matrix.now }
+    ensures { Answered (ToTrusted trusted.now component.now matrix.now
+        (λ t. spec.IsComparedFrom t component.now options matrix.now)) result }
+{
+    let trusted = read_trusted(alloc, trusted)?;
+    if !have_same_operations(component, &trusted) {
+        return Err(Refusal::Operations);
+    }
+    compare_settled(alloc, component, &trusted, matrix, options)
+}
+
+/// `lineup campaign --spec`: component, matrix, and a component that is trusted.
+pub(crate) fn answer_campaign_against(
+    alloc: Global,
+    options: CampaignOptions,
+    parts: &[&[u8]],
+) -> Result<Answer, Refusal>
+    ensures { Answered (spec.IsCampaignAgainstOf options (texts parts.now)) result }
+{
+    let (component, matrix, trusted) = exactly_three(parts).ok_or(Refusal::Parts)?;
+    let case = read_texts(alloc, component, matrix)?;
+    compare_with(alloc, &case.component, &case.matrix, options, trusted)
 }

@@ -15,7 +15,8 @@ use crate::answer::{
     Answer, infeasible, show_certificate, show_matrix, show_refusal, show_report, show_schedule,
     show_spec,
 };
-use crate::campaigning::answer_campaign;
+use crate::campaigning::{answer_campaign, answer_campaign_against};
+use crate::compiling::answer_compile;
 use crate::conforming::answer_conform;
 use crate::drawing::draw;
 use crate::explaining::{Presentation, answer_explain, answer_explain_against};
@@ -517,6 +518,8 @@ pub(crate) fn carry_out_alone(
         BundleCommand::Refute => answer_refute(alloc, parts),
         BundleCommand::Shrink(bounds) => answer_shrink(alloc, bounds, parts),
         BundleCommand::Campaign(options) => answer_campaign(alloc, options, parts),
+        BundleCommand::CampaignAgainst(options) => answer_campaign_against(alloc, options, parts),
+        BundleCommand::Compile => answer_compile(alloc, parts),
     }
 }
 

@@ -6,7 +6,7 @@ ghost use Rattle.lu_source_text.specs.Readers.{component_meant};
 ghost use Rattle.lu_cli.specs.Compiling as spec;
 ghost use Rattle.lu_cli.specs.Compiling.{AreStrings, IsCompiledBundle, IsSourceRefusal};
 ghost use Rattle.lu_cli.specs.Refusals.{Answered};
-ghost use Rattle.lu_cli.specs.Replies.{IsCompileOf};
+ghost use Rattle.lu_cli.specs.Replies.{IsCompileOf, IsCompiledWith};
 
 use crate::answer::{Answer, refused};
 use crate::refusal::Refusal;
@@ -51,11 +51,7 @@ fn push_parts(text: &mut String, parts: &[&str]) -> Result<(), AllocError>
 }
 
 /// The text of the component, and these parts behind it.
-fn write_bundle(
-    alloc: Global,
-    component: &Component,
-    parts: &[&str],
-) -> Result<Answer, AllocError>
+fn write_bundle(alloc: Global, component: &Component, parts: &[&str]) -> Result<Answer, AllocError>
     ensures { IfOk result (λ answer.
         answer ≡ spec.compiled_bundle component.now (texts parts.now)) }
 {
@@ -65,11 +61,7 @@ fn write_bundle(
 }
 
 /// The text of the component, and these parts behind it; or that one of them is no UTF-8.
-fn show_bundle(
-    alloc: Global,
-    component: &Component,
-    parts: &[&[u8]],
-) -> Result<Answer, AllocError>
+fn show_bundle(alloc: Global, component: &Component, parts: &[&[u8]]) -> Result<Answer, AllocError>
     ensures { IfOk result (IsCompiledBundle component.now (texts parts.now)) }
 {
     match strings_of(alloc, parts)? {
@@ -89,15 +81,20 @@ fn read_source(alloc: Global, text: &[u8]) -> Result<Component, Refusal>
     }
 }
 
+/// What is answered to a source, and the parts behind it.
+fn compile_parts(alloc: Global, source: &[u8], parts: &[&[u8]]) -> Result<Answer, Refusal>
+    ensures { Answered (IsCompiledWith source.now (texts parts.now)) result }
+{
+    let component = read_source(alloc, source)?;
+    Ok(show_bundle(alloc, &component, parts)?)
+}
+
 /// `lineup compile`: a source, and any parts.
 pub(crate) fn answer_compile(alloc: Global, parts: &[&[u8]]) -> Result<Answer, Refusal>
     ensures { Answered (IsCompileOf (texts parts.now)) result }
 {
-    match parts {
-        [] => Err(Refusal::Parts),
-        [source, rest @ ..] => {
-            let component = read_source(alloc, source)?;
-            Ok(show_bundle(alloc, &component, rest)?)
-        }
-    }
+    let Some((source, rest)) = parts.split_first() else {
+        return Err(Refusal::Parts);
+    };
+    compile_parts(alloc, source, rest)
 }

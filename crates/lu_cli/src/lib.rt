@@ -7,6 +7,7 @@ mod args;
 mod bundle;
 mod campaigning;
 mod commands;
+mod compiling;
 mod conforming;
 mod counted;
 mod drawing;
@@ -23,6 +24,7 @@ mod texts;
 
 pub use answer::Answer;
 pub use args::read_request;
+pub use compiling::strings_of;
 pub use counted::Counted;
 pub use order::{
     ArgsFault, BundleCommand, CampaignOptions, CampaignPart, CampaignThreads, CertifyOptions,

@@ -34,6 +34,9 @@ pub enum CampaignTrial {
 
     /// That the component is certified to be linearizable on it.
     Certified,
+
+    /// Which kind of certificate the component has on it.
+    Surveyed,
 }
 
 /// The options of a campaign.
@@ -139,8 +142,15 @@ pub enum BundleCommand {
     /// `lineup shrink`: take calls away from a matrix that fails.
     Shrink(Bounds),
 
-    /// `lineup campaign`: check all small matrices over some calls.
+    /// `lineup campaign`: check or certify all small matrices over some calls.
     Campaign(CampaignOptions),
+
+    /// `lineup campaign --spec`: hold a component against a trusted one on all small matrices over
+    /// some calls. The matrices are not certified.
+    CampaignAgainst(CampaignOptions),
+
+    /// `lineup compile`: write the component of a source in the place of the source.
+    Compile,
 }
 
 /// Why a command line asks for nothing.

@@ -9,6 +9,7 @@ use lu_recorded::PartFault;
 use lu_refine::CampaignFault;
 use lu_refute::RefuteFault;
 use lu_report::ReportFault;
+use lu_source_text::SourceFault;
 use lu_spec::SpecFault;
 use lu_test::ScheduleFault;
 use std::alloc::AllocError;
@@ -34,6 +35,12 @@ pub(crate) enum Refusal {
 
     /// What is wrong with the calls or the size of a campaign.
     Campaign(CampaignFault),
+
+    /// What is wrong with the text of a source.
+    Source(SourceFault),
+
+    /// `G4`: the trusted component has other operations.
+    Operations,
 
     /// What is wrong with the text of a recorded history.
     Recorded(PartFault),

@@ -34,13 +34,16 @@ pub(crate) fn read_shown(alloc: Global, text: &[u8]) -> Result<Schedule, Refusal
     }
 }
 
-/// Whether this is the line with which a certificate begins that shows a cut.
+/// Whether this is the line before a matrix and what shows something on it: that of a certificate,
+/// or of a campaign that compares.
 fn is_verdict(text: &[u8]) -> bool
     ensures { result ≡ spec.is_verdict text.now }
 {
     text == b"not linearizable\n".as_slice()
         || text == b"livelock\n".as_slice()
         || text == b"undecided\n".as_slice()
+        || text == b"differs serially\n".as_slice()
+        || text == b"differs concurrently\n".as_slice()
 }
 
 /// The component, the matrix, and the schedule or the report. Matrix and report may stand as a

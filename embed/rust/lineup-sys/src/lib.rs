@@ -4,7 +4,7 @@
 unsafe extern "C" {
     pub fn lineup_answer(
         words: *const u8, words_length: usize,
-        bundle: *const u8, bundle_length: usize,
+        bundle: *const u8, bundle_length: usize, stack: usize,
         text: *mut u8, room: usize, length: *mut usize,
     ) -> u8;
 
@@ -17,3 +17,12 @@ unsafe extern "C" {
 }
 
 pub const MOST_NUMBERS: usize = 6 + 8 * 12 + 16 * 64 + 8 + 32 * 4;
+
+/// How many bytes of stack a command takes at most by its bounds.
+pub const fn stack(bound: usize, serial: usize) -> usize {
+    let (searched, alone) = (2_048 * bound, 8_192 * (serial + 1));
+    131_072 + if searched > alone { searched } else { alone }
+}
+
+/// What suffices for every command.
+pub const MOST_STACK: usize = stack(256, 256);

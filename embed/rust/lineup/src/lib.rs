@@ -8,6 +8,8 @@
 //! }
 //! ```
 
+pub use lineup_sys::{MOST_STACK, stack};
+
 /// What the program answers: its text, and its exit status.
 #[derive(Clone, Debug, PartialEq, Eq)]
 pub struct Answer {
@@ -15,15 +17,25 @@ pub struct Answer {
     pub status: u8,
 }
 
-/// What `lineup WORDS` answers to a bundle.
+/// What `lineup WORDS` answers to a bundle: on a thread of its own, whose stack suffices for every command.
 pub fn answer(words: &str, bundle: &[u8]) -> Answer {
+    std::thread::scope(|scope| {
+        let searching = std::thread::Builder::new().stack_size(MOST_STACK + 65_536);
+        let searched = searching.spawn_scoped(scope, || answer_on_stack(words, bundle, MOST_STACK));
+        searched.expect("a thread").join().expect("no panic")
+    })
+}
+
+/// The same on the calling thread, which has so many bytes of stack left: `refused stack`, with status 2, where the
+/// command may take more ([`stack`]).
+pub fn answer_on_stack(words: &str, bundle: &[u8], stack: usize) -> Answer {
     let mut text = vec![0; 4096];
     loop {
         let mut length = 0;
         // SAFETY: each pointer is that of the slice whose length follows; the room is borrowed for the call alone.
         let status = unsafe {
             lineup_sys::lineup_answer(
-                words.as_ptr(), words.len(), bundle.as_ptr(), bundle.len(),
+                words.as_ptr(), words.len(), bundle.as_ptr(), bundle.len(), stack,
                 text.as_mut_ptr(), text.len(), &mut length,
             )
         };

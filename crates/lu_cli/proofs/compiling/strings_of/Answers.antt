@@ -1,4 +1,4 @@
-use Rattle.std.proofs.Common.{[], arith}
+use Rattle.std.proofs.Common.{[]}
 use Rattle.lu_cli.proofs.Strings.{goes_on, not_all}
 use Rattle.lu_cli.proofs.compiling.strings_of.Goals as goal
 
