@@ -45,7 +45,7 @@ async function compare(shown) {
     return `${compared} answers compared, ${faults.length} differ, ${left} left out (the program takes over ${LIMIT / 1000} s)`;
 }
 
-const IDLE = `document.getElementById('stop').disabled && document.getElementById('about').textContent !== ''`;
+const IDLE = `document.readyState === 'complete' && document.getElementById('stop').disabled && document.getElementById('about').textContent !== ''`;
 
 async function try_page(shown) {
     const said = () => shown.evaluate(`document.getElementById('said').textContent`);
