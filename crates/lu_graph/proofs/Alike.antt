@@ -14,7 +14,7 @@ use Rattle.lu_graph.specs.Nodes.{AreAlike, Node, node_of}
 use Rattle.lu_graph.specs.Visiting.{IsFor, its}
 use Rattle.lu_graph.proofs.Many.{some_at}
 use Rattle.lu_graph.proofs.Possible.{same_list}
-use Rattle.lu_graph.proofs.Same.{kept_eq, positions_same, same_kept}
+use Rattle.lu_graph.proofs.Same.{AreSame, positions_same}
 
 module _ (members : List (Vec SerialOp)) where
   -- the same is told of two histories, so the same members are possible
@@ -56,14 +56,14 @@ module _ (members : List (Vec SerialOp)) where
     pub is : IsFor s members (its s kept) history kept
     pub alike : AreAlike (IsOneOf members) node (node_of (its s kept) history)
 
-  pub one_kept : (s : State) (a b : Kept) (node : Node) → IsLike s a node → IsLike s b node → kept_eq a b ≡ true
+  pub one_kept : (s : State) (a b : Kept) (node : Node) → IsLike s a node → IsLike s b node → AreSame a b
   one_kept s a b node x y =
       let states : its s a ≡ its s b = sym x.alike.0 ∙ y.alike.0 in
       let both : (q : List SerialOp) → IsOneOf members q → IsPossible q x.history ↔ IsPossible q y.history = λ q of.
       (let first = x.alike.1 q of in
       let second = y.alike.1 q of in
       ((λ z. second.0 (first.1 z)), (λ z. first.0 (second.1 z)))) in
-      (same_kept a b).1 (positions_same s.component s.matrix a b states, same_told x.history y.history a.alive.items b.alive.items x.is.told y.is.told both)
+      (positions_same s.component s.matrix a b states, same_told x.history y.history a.alive.items b.alive.items x.is.told y.is.told both)
 
 -- for each of the list there is one of another
 pub list_of : {A B : Type 0} (P : A → B → Type 0) (xs : List A) → ((i : ℕ) (x : A) → slice_get xs i ≡ Some x → (y : B) × P x y) → (ys : List B) × (length ys ≡ length xs) × ((i : ℕ) (x : A) → slice_get xs i ≡ Some x → (y : B) × (slice_get ys i ≡ Some y) × P x y)

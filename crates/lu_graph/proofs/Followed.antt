@@ -1,7 +1,5 @@
 -- What is told of the members behind one event more.
 use Rattle.std.proofs.Common.{arith, ◌≡◌, ℕ, Bool, List, [], ◌∷◌, ◌++◌, length, Option, Some, None, slice_get, sym, refl, ◌∙◌, ap, subst, inl, inr}
-use Rattle.std.specs.Prelude.{IfOk, Result}
-use Rattle.std.proofs.lemmas.Result.{IfOk-weaker}
 use Rattle.std.specs.Global.{Vec}
 use Rattle.std.proofs.lemmas.List.{append-nil}
 use Rattle.std.proofs.lemmas.Option.{same_Some, slice_get_within}
@@ -75,18 +73,13 @@ module _ (members : List (Vec SerialOp)) (s : State) (old new : List Bool) where
           let make : ℕ → ℕ → OpId = λ t k. record { t = t; k = k } in
           subst (λ o. Admits q h b o) so (subst (λ x. Admits q h x outcome) (ap (λ t. make t a.k) thread ∙ ap (λ k. make b.t k) number) is)
 
-module _ {E : Type 0} (members : List (Vec SerialOp)) (s : State) (old : List Bool) (event : Option Event) (result : Result (Vec Bool) E) where
-  pub copy_none : event ≡ None → IfOk result (λ now. now.items ≡ old) → IfOk result (λ now. Follows members s old event now.items)
-  copy_none none is =
-      IfOk-weaker result (λ now. now.items ≡ old) (λ now. Follows members s old event now.items)
-      (λ now same. subst (λ e. Follows members s old e now.items) (sym none) (follows_none members s old now.items same)) is
+module _ (members : List (Vec SerialOp)) (s : State) (old : List Bool) (event : Option Event) where
+  pub same_none : event ≡ None → Follows members s old event old
+  same_none none = subst (λ e. Follows members s old e old) (sym none) (follows_none members s old old refl)
 
-  pub copy_call : (e : Event) (t k : ℕ) → event ≡ Some e → e ≡ Call t k → IfOk result (λ now. now.items ≡ old) → IfOk result (λ now. Follows members s old event now.items)
-  copy_call e t k some call is =
-      IfOk-weaker result (λ now. now.items ≡ old) (λ now. Follows members s old event now.items)
-      (λ now same. subst (λ e. Follows members s old e now.items) (sym (some ∙ ap Some call)) (follows_call members s old now.items t k same)) is
+  pub same_call : (e : Event) (t k : ℕ) → event ≡ Some e → e ≡ Call t k → Follows members s old event old
+  same_call e t k some call = subst (λ e. Follows members s old e old) (sym (some ∙ ap Some call)) (follows_call members s old old t k refl)
 
-  pub stay_return : (e : Event) (a : OpId) (outcome : Outcome) → event ≡ Some e → e ≡ Return a.t a.k outcome → IfOk result (λ now. StayTold s members a outcome old now.items) → IfOk result (λ now. Follows members s old event now.items)
-  stay_return e a outcome some ret is =
-      IfOk-weaker result (λ now. StayTold s members a outcome old now.items) (λ now. Follows members s old event now.items)
-      (λ now stay. subst (λ e. Follows members s old e now.items) (sym (some ∙ ap Some ret)) (follows_return members s old now.items a outcome stay)) is
+  pub told_return : (e : Event) (a : OpId) (outcome : Outcome) (now : List Bool) → event ≡ Some e → e ≡ Return a.t a.k outcome → StayTold s members a outcome old now → Follows members s old event now
+  told_return e a outcome now some ret stay =
+      subst (λ e. Follows members s old e now) (sym (some ∙ ap Some ret)) (follows_return members s old now a outcome stay)

@@ -10,6 +10,8 @@ mod Listed
 mod AlikeLaws
 pub mod OtherSet
 mod Among
+mod Held
+mod Numbers
 mod Grown
 mod Added
 mod Explored
@@ -19,6 +21,7 @@ mod Same
 mod Many
 mod Alike
 mod Visiting
+mod Waiting
 mod Earlier
 mod OneState
 mod Searched

@@ -4,7 +4,9 @@ use Rattle.std.specs.Prelude.{IfOk, Result}
 use Rattle.std.proofs.lemmas.Result.{IfOk-weaker}
 use Rattle.std.specs.Global.{Vec}
 use Rattle.std.proofs.lemmas.List.{append-nil, map-append, take_all}
+use Rattle.std.proofs.lemmas.List.Elements.{All-cons, All-nil}
 use Rattle.std.proofs.lemmas.Option.{same_Some}
+use Rattle.lu_machine.specs.Positions.{CanStandAt}
 use Rattle.lu_component.specs.Component.{Declarations}
 use Rattle.lu_test.specs.Matrix.{Matrix}
 use Rattle.lu_machine.specs.Starts.{FromEachStart}
@@ -17,11 +19,14 @@ use Rattle.lu_trie.proofs.Ops.{histories_equiv, same_histories_are}
 use Rattle.lu_witness.specs.Witnesses.{IsMember}
 use Rattle.lu_graph.specs.declared.ending.Ending.{Ending}
 use Rattle.lu_graph.specs.declared.kept.Kept.{Kept}
-use Rattle.lu_graph.specs.Growing.{AddsHere, HasStart}
+use Rattle.lu_graph.specs.declared.holding.Nodes.{Nodes}
+use Rattle.lu_graph.specs.Growing.{ComesBy}
+use Rattle.lu_graph.specs.Holding.{HoldsOne, HoldsStart}
 use Rattle.lu_graph.specs.Nodes.{IsEnding, TellsEnding}
 use Rattle.lu_graph.specs.Alive.{AreTold, IsPossible}
-use Rattle.lu_graph.specs.Judging.{IsOneOf}
+use Rattle.lu_graph.specs.Judging.{Follows, IsOneOf}
 use Rattle.lu_graph.specs.Listing.{histories}
+use Rattle.lu_graph.proofs.Followed.{follows_none}
 use Rattle.lu_graph.proofs.OtherSet.{ending_too}
 
 -- behind a path
@@ -120,16 +125,19 @@ true_more alive new grown all i b at = elim (at_push alive true b i (subst (λ x
   | inr last ↦ last.1
 ]
 
--- where the start was put in
-pub has_start : (s : State) (members first then last : List (Vec SerialOp)) (alive bits : List Bool) (old new : List Kept) → first ≡ members → then ≡ members → last ≡ members → bits ≡ alive → old ≡ [] → AreTold first [] alive → AddsHere then s bits None old new → HasStart last s new
-has_start s members first then last alive bits old new p q r b none told adds = (
-  bits,
-  subst (AreTold last []) (sym b) (subst (λ m. AreTold m [] alive) (p ∙ sym r) told),
-  subst (λ o. AddsHere last s bits None o new) none (subst (λ m. AddsHere m s bits None old new) (q ∙ sym r) adds),
-)
-
-pub many_alive : (members first then : List (Vec SerialOp)) (alive bits : List Bool) → first ≡ members → then ≡ members → bits ≡ alive → AreTold first [] alive → length bits ≡ length then
-many_alive members first then alive bits p q b told = ap length b ∙ (told.many ∙ ap length (p ∙ sym q))
+-- the start alone
+pub holds_start : (s : State) (members : List (Vec SerialOp)) (alive bits : List Bool) (nodes : Nodes) → bits ≡ alive → AreTold members [] alive → HoldsOne s bits nodes → HoldsStart members s nodes
+holds_start s members alive bits nodes same told (kept, hold, can, is) =
+    let comes : ComesBy s.component s.matrix members s bits None kept = record { state = is.0; follows = subst (Follows members s bits None) (sym is.1) (follows_none members s bits bits refl) } in
+    let Such : Kept → Type 0 = λ k. CanStandAt s.component s.matrix k.position × ComesBy s.component s.matrix members s bits None k in (
+      kept ∷ [],
+      hold,
+      (
+        bits,
+        subst (AreTold members []) (sym same) told,
+        record { there = (zero, kept, refl, comes); grows = (kept ∷ [], refl, All-cons Such kept [] (can, comes) (All-nil Such)) },
+      ),
+    )
 
 -- what is searched with the members of a tree is told of its set
 pub for_tree : {E : Type 0} (c : Declarations) (matrix : Matrix) (members : List (Vec SerialOp)) (set : List (List SerialOp)) (bound : ℕ) (result : Result Ending E) → histories members ≡ set → FromEachStart c matrix (λ s. IfOk result (IsEnding (IsOneOf members) bound s)) → FromEachStart c matrix (TellsEnding set bound result)

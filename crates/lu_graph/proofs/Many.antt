@@ -12,8 +12,8 @@ some_at [] i lt = absurd (omega arith)
 some_at (x ∷ xs) zero lt = (x, refl)
 some_at (x ∷ xs) (suc i) lt = some_at xs i (omega arith)
 
--- what is kept, and for which of all each is
-module _ {K N : Type 0} (eq : K → K → Bool) (IsLike : K → N → Type 0) (alike : (a b : K) (n : N) → IsLike a n → IsLike b n → eq a b ≡ true) (list : List K) (distinct : IsDistinct eq list) (all : List N) (there : (i : ℕ) (kept : K) → slice_get list i ≡ Some kept → (n : N) × IsAmong all n × IsLike kept n) where
+-- for each there is one of all, and no two have one
+module _ {K N : Type 0} (IsLike : K → N → Type 0) (list : List K) (apart : (i j : ℕ) (x y : K) (n : N) → i < j → slice_get list i ≡ Some x → slice_get list j ≡ Some y → IsLike x n → IsLike y n → ⊥) (all : List N) (there : (i : ℕ) (kept : K) → slice_get list i ≡ Some kept → (n : N) × IsAmong all n × IsLike kept n) where
   abbrev slot : (i : ℕ) (o : Option K) → slice_get list i ≡ o → ℕ
   slot i None is = 0
   slot i (Some kept) is = (there i kept is).1.0
@@ -42,12 +42,7 @@ module _ {K N : Type 0} (eq : K → K → Bool) (IsLike : K → N → Type 0) (a
       let first = place_is i x.0 x.1 in
       let second = place_is j y.0 y.1 in
       let one : second.0 ≡ first.0 = same_Some second.0 first.0 (sym second.1 ∙ (ap (slice_get all) (sym same) ∙ first.1)) in
-      let equal : eq x.0 y.0 ≡ true = alike x.0 y.0 first.0 first.2 (subst (IsLike y.0) one second.2) in
-      let apart = apart_from_distinct eq list i j x.0 distinct lt within in
-      let here : get_or list i x.0 ≡ x.0 = get_or_from_slice_get list i x.0 x.0 x.1 in
-      let other : get_or list j x.0 ≡ y.0 = get_or_from_slice_get list j y.0 x.0 y.1 in
-      let differ : eq x.0 y.0 ≡ false = sym (ap (λ z. eq z (get_or list j x.0)) here ∙ ap (λ z. eq x.0 z) other) ∙ apart in
-      absurd (cc)
+      apart i j x.0 y.0 first.0 lt x.1 y.1 first.2 (subst (IsLike y.0) one second.2)
 
   one_to_one : OneToOne place (length list)
   one_to_one i j p q same =
@@ -59,5 +54,18 @@ module _ {K N : Type 0} (eq : K → K → Bool) (IsLike : K → N → Type 0) (a
         ]
       ]
 
-  pub no_more : length list ≤ length all
-  no_more = pigeonhole (length list) (length all) place into one_to_one
+  pub no_more_apart : length list ≤ length all
+  no_more_apart = pigeonhole (length list) (length all) place into one_to_one
+
+-- where two that have one are equal, and no two of the list are
+pub equal_apart : {K : Type 0} (eq : K → K → Bool) (list : List K) → IsDistinct eq list → (i j : ℕ) (x y : K) → i < j → slice_get list i ≡ Some x → slice_get list j ≡ Some y → eq x y ≡ true → ⊥
+equal_apart eq list distinct i j x y lt at there equal =
+    let apart = apart_from_distinct eq list i j x distinct lt (slice_get_within list j y there) in
+    let here : get_or list i x ≡ x = get_or_from_slice_get list i x x at in
+    let other : get_or list j x ≡ y = get_or_from_slice_get list j y x there in
+    let differ : eq x y ≡ false = sym (ap (λ z. eq z (get_or list j x)) here ∙ ap (λ z. eq x z) other) ∙ apart in
+    absurd (cc)
+
+pub no_more : {K N : Type 0} (eq : K → K → Bool) (IsLike : K → N → Type 0) → ((a b : K) (n : N) → IsLike a n → IsLike b n → eq a b ≡ true) → (list : List K) → IsDistinct eq list → (all : List N) → ((i : ℕ) (kept : K) → slice_get list i ≡ Some kept → (n : N) × IsAmong all n × IsLike kept n) → length list ≤ length all
+no_more eq IsLike alike list distinct all there =
+    no_more_apart IsLike list (λ i j x y n lt at other p q. equal_apart eq list distinct i j x y lt at other (alike x y n p q)) all there

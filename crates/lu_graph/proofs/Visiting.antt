@@ -2,7 +2,6 @@
 use Rattle.std.proofs.Common.{arith, ◌≡◌, ℕ, ◌+◌, ◌<◌, ◌≤◌, leb, Bool, true, false, List, length, Some, slice_get, sym, ◌∙◌, ap, subst, inl, inr}
 use Rattle.std.specs.Prelude.{◌↔◌, IsTrue}
 use Rattle.std.specs.Global.{Vec}
-use Rattle.std.specs.List.{IsDistinct}
 use Rattle.std.proofs.lemmas.Bool.{le-leb, leb-true}
 use Rattle.std.proofs.lemmas.Option.{slice_get_within}
 use Rattle.lu_component.specs.Component.{Declarations}
@@ -23,8 +22,8 @@ use Rattle.lu_graph.proofs.Alike.{IsLike, one_kept}
 use Rattle.lu_graph.proofs.Among.{all_at}
 use Rattle.lu_graph.proofs.Explored.{has_all, known, visited_more, visited_none, well}
 use Rattle.lu_graph.proofs.Levels.{AreSearched, searched_level, searched_more, searched_none, shortest_bad}
-use Rattle.lu_graph.proofs.Many.{no_more}
-use Rattle.lu_graph.proofs.Same.{kept_eq}
+use Rattle.lu_graph.proofs.Many.{no_more_apart}
+use Rattle.lu_graph.proofs.Same.{AreDifferent}
 
 -- so it is from each start
 abbrev pub AreSearchedFrom : List (Vec SerialOp) → Declarations → Matrix → List Kept → ℕ → ℕ → ℕ → Type 0
@@ -62,10 +61,10 @@ module _ (members : List (Vec SerialOp)) (c : Declarations) (matrix : Matrix) (s
       ends_well_there moves end known s is = (few_nodes s is, well s members list place past (all s is) (known s is).good)
 
     -- they are too many
-    pub no_more_than : IsDistinct kept_eq list → (s : State) → IsStart c matrix s → HasFewNodes (IsOneOf members) s 262144 → length list ≤ 262144
-    no_more_than distinct s is holds =
+    pub no_more_than : AreDifferent list → (s : State) → IsStart c matrix s → HasFewNodes (IsOneOf members) s 262144 → length list ≤ 262144
+    no_more_than differ s is holds =
         let x = all s is in
-        let within = no_more kept_eq (IsLike members s) (one_kept members s) list distinct holds.0
+        let within = no_more_apart (IsLike members s) list (λ i j x y n lt at there p q. differ i j x y lt at there (one_kept members s x y n p q)) holds.0
         (λ i kept at.
         (let one = all_at (IsReachedAndSound s members) list x.reached i kept at in
         let like = holds.1 one.1.schedule (its s kept) one.1.history one.1.leads in
@@ -73,13 +72,13 @@ module _ (members : List (Vec SerialOp)) (c : Declarations) (matrix : Matrix) (s
         let few = holds.2 in
         omega (arith, within, few)
 
-    pub too_many : IsDistinct kept_eq list → 262144 < length list → FromEachStart c matrix (λ s. HasFewNodes (IsOneOf members) s 262144 → ⊥)
-    too_many distinct many s is holds = let few = no_more_than distinct s is holds in omega (arith, few, many)
+    pub too_many : AreDifferent list → 262144 < length list → FromEachStart c matrix (λ s. HasFewNodes (IsOneOf members) s 262144 → ⊥)
+    too_many differ many s is holds = let few = no_more_than differ s is holds in omega (arith, few, many)
 
-    pub many_or_few : IsDistinct kept_eq list → (n : ℕ) → n ≡ length list → 262144 ≤ place → FromEachStart c matrix (λ s. IsTrue (leb n 262144) ↔ HasFewNodes (IsOneOf members) s 262144)
-    many_or_few distinct n many past s at = (
+    pub many_or_few : AreDifferent list → (n : ℕ) → n ≡ length list → 262144 ≤ place → FromEachStart c matrix (λ s. IsTrue (leb n 262144) ↔ HasFewNodes (IsOneOf members) s 262144)
+    many_or_few differ n many past s at = (
       (λ t. let few = leb-true n 262144 t in few_nodes (omega (arith, few, many, past)) (omega (arith, few, many)) s at),
-      (λ few. let most = no_more_than distinct s at few in le-leb n 262144 (omega (arith, most, many))),
+      (λ few. let most = no_more_than differ s at few in le-leb n 262144 (omega (arith, most, many))),
     )
 
     module _ (m : State) (component : m.component ≡ c) (matrix_is : m.matrix ≡ matrix) (kept : Kept) (at : slice_get list place ≡ Some kept) where

@@ -72,6 +72,10 @@ TellsStays s q a outcome was answer =
     (h : List Event) → ((u : ℕ) → calls u h ≡ called s u)
     → IsTrue answer ↔ (IsTrue was × Admits q h a outcome)
 
+-- the thread's operation behind those that ended in s is stuck in q
+abbrev pub IsStuckIn : State → List SerialOp → ℕ → Type 0
+IsStuckIn s q thread = slice_get (entries thread q) (ended s thread) ≡ Some Stuck
+
 -- which members stay possible where a returns next with this outcome, in each history with the
 -- calls of s
 abbrev pub Stay : State → List (Vec SerialOp) → OpId → Outcome → List Bool → List Bool → Type 0
@@ -85,11 +89,21 @@ pub record StayTold (s : State) (members : List (Vec SerialOp)) (a : OpId) (outc
   pub many : length new ≡ length members
   pub stay : Stay s members a outcome old new
 
+-- so it is of what stands in the vector
+abbrev pub StayToldIn : State → List (Vec SerialOp) → OpId → Outcome → List Bool → Vec Bool → Type 0
+StayToldIn s members a outcome old new = StayTold s members a outcome old new.items
+
 -- what is told behind one event more, or none, of each history that leads to s with it
 abbrev pub Follows : List (Vec SerialOp) → State → List Bool → Option Event → List Bool → Type 0
 Follows members s old event new =
     (h : List Event) → Agree (progress s) (longer h event) → AreTold members h old
     → AreTold members (longer h event) new
+
+-- the same where something is told, and else the old list stays
+abbrev pub FollowsOrStays : List (Vec SerialOp) → State → List Bool → Option Event
+    → Option (Vec Bool) → Type 0
+FollowsOrStays members s old event None = Follows members s old event old
+FollowsOrStays members s old event (Some new) = Follows members s old event new.items
 
 -- whether an ended state is good, of each history that may have led there, of which this is told
 abbrev pub JudgesGood : List (Vec SerialOp) → State → List Bool → Bool → Type 0

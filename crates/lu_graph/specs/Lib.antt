@@ -9,3 +9,5 @@ pub mod Hopeless
 pub mod Discovering
 pub mod Marking
 pub mod Exploring
+pub mod Rows
+pub mod Holding

@@ -2,7 +2,7 @@
 
 ghost use Rattle.std.specs.Prelude.{◌≡◌, ◌↔◌, IfOk, IsTrue, length};
 ghost use Rattle.lu_history.specs.Parts.{as_serial};
-ghost use Rattle.lu_graph.specs.Judging.{AreCalled, Follows, StayTold, TellsAdmits, TellsStays};
+ghost use Rattle.lu_graph.specs.Judging.{AreCalled, FollowsOrStays, StayToldIn, TellsAdmits, TellsStays};
 
 use crate::members::{count, place_of};
 use crate::standing::called;
@@ -69,8 +69,7 @@ fn still_alive(
     outcome: Outcome,
 ) -> Result<Vec<bool>, AllocError>
     requires { length alive.now ≡ length members.now }
-    ensures { IfOk result (λ now.
-        StayTold machine.now members.now operation outcome alive.now now.items) }
+    ensures { IfOk result (StayToldIn machine.now members.now operation outcome alive.now) }
 {
     let mut now = Vec::new(alloc);
     for place in 0..members.len() {
@@ -81,25 +80,25 @@ fn still_alive(
 }
 
 /// Which members are possible behind the event, if there is one, by which the machine came where
-/// it stands; those that were before it are given.
+/// it stands; those that were before it are given, and none are told where they stay the same.
 pub(crate) fn alive_after(
     alloc: Global,
     machine: &Machine<'_>,
     members: &[Vec<SerialOp>],
     alive: &[bool],
     event: Option<Event>,
-) -> Result<Vec<bool>, AllocError>
+) -> Result<Option<Vec<bool>>, AllocError>
     requires { length alive.now ≡ length members.now }
-    ensures many { IfOk result (λ now. length now.items ≡ length members.now) }
-    ensures follows { IfOk result
-        (λ now. Follows members.now machine.now alive.now event now.items) }
+    ensures { IfOk result (FollowsOrStays members.now machine.now alive.now event) }
 {
     match event {
-        None => Vec::from_slice(alloc, alive),
+        None => Ok(None),
         Some(event) => match event {
-            Event::Call { .. } => Vec::from_slice(alloc, alive),
+            Event::Call { .. } => Ok(None),
             Event::Return { t, k, outcome } => {
-                still_alive(alloc, machine, members, alive, OpId { t, k }, outcome)
+                let operation = OpId { t, k };
+                let now = still_alive(alloc, machine, members, alive, operation, outcome)?;
+                Ok(Some(now))
             }
         },
     }

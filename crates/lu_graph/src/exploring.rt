@@ -1,19 +1,17 @@
 //! How all schedules end, of any length.
 
-ghost use Rattle.std.specs.Prelude.{IfOk};
+ghost use Rattle.std.specs.Prelude.{[]};
 ghost use Rattle.lu_machine.specs.Starts.{CanRun, FromEachStart, IsStart, Settles};
-ghost use Rattle.lu_graph.specs.Growing.{HasStart};
-ghost use Rattle.lu_graph.specs.Judging.{IsOneOf};
-ghost use Rattle.lu_graph.specs.Nodes.{IsEnding, TellsEnding, TellsFewNodes};
-ghost use Rattle.lu_graph.specs.Visiting.{AreVisitedFrom};
+ghost use Rattle.lu_graph.specs.Alive.{AreTold};
+ghost use Rattle.lu_graph.specs.Holding.{AreFewAsTold, AreVisitedBy, EndsSo, HoldsNone, HoldsStart};
+ghost use Rattle.lu_graph.specs.Nodes.{TellsEnding};
 
 use crate::ending::Ending;
-use crate::growing::{add, add_next};
+use crate::growing::add_next;
+use crate::holding::{Nodes, add_first};
 use crate::judging::is_good;
-use crate::kept::Kept;
 use crate::level::Level;
 use crate::listing::{all_possible, list_members};
-use indexmap::IndexSet;
 use lu_component::Component;
 use lu_history::SerialOp;
 use lu_machine::Machine;
@@ -30,28 +28,25 @@ fn are_few(
     alloc: Global,
     machine: &mut Machine<'_>,
     members: &[Vec<SerialOp>],
-    nodes: &mut IndexSet<Kept>,
+    nodes: &mut Nodes,
     place: usize,
 ) -> Result<bool, AllocError>
     requires settles { Settles machine.old.component machine.old.matrix }
-    requires visited { AreVisitedFrom members.now machine.old.component machine.old.matrix
-        nodes.old.keys place }
-    ensures { FromEachStart machine.old.component machine.old.matrix
-        (TellsFewNodes (IsOneOf members.now) result) }
+    requires visited { AreVisitedBy members.now machine.old nodes.old place }
+    ensures { AreFewAsTold members.now machine.old result }
 {
     for at in place..MOST_NODES {
-        if nodes.len() > MOST_NODES {
+        if nodes.rows.len() > MOST_NODES {
             return Ok(false);
         }
-        let kept = match nodes.get_index(at) {
+        let kept = match nodes.waiting.pop_front() {
             None => return Ok(true),
             Some(kept) => kept,
         };
         machine.stand_at(&kept.position);
-        let alive = kept.copy_alive(alloc)?;
-        add_next(alloc, machine, members, &alive, nodes)?;
+        add_next(alloc, machine, members, &kept, nodes)?;
     }
-    Ok(nodes.len() <= MOST_NODES)
+    Ok(nodes.rows.len() <= MOST_NODES)
 }
 
 /// How all schedules of the machine's component on its matrix end. It stands at the start, which
@@ -60,43 +55,76 @@ fn search(
     alloc: Global,
     machine: &mut Machine<'_>,
     members: &[Vec<SerialOp>],
-    nodes: &mut IndexSet<Kept>,
+    nodes: &mut Nodes,
     bound: u16,
 ) -> Result<Ending, AllocError>
     requires starts { IsStart machine.old.component machine.old.matrix machine.old }
-    requires first { HasStart members.now machine.old nodes.old.keys }
-    ensures { FromEachStart machine.old.component machine.old.matrix
-        (λ s. IfOk result (IsEnding (IsOneOf members.now) bound s)) }
+    requires first { HoldsStart members.now machine.old nodes.old }
+    ensures { EndsSo members.now bound machine.old result }
 {
     let mut level = Level {
         moves: 0,
-        end: nodes.len(),
+        end: nodes.rows.len(),
     };
     for at in 0..MOST_NODES {
-        let known = nodes.len();
+        let known = nodes.rows.len();
         if known > MOST_NODES {
             return Ok(Ending::TooMany);
         }
-        let kept = match nodes.get_index(at) {
+        let kept = match nodes.waiting.pop_front() {
             None => return Ok(Ending::Well),
             Some(kept) => kept,
         };
         level = level.at(at, known);
         machine.stand_at(&kept.position);
-        let alive = kept.copy_alive(alloc)?;
-        if !is_good(machine, members, &alive) {
+        let is_good = is_good(machine, members, &kept.alive);
+        add_next(alloc, machine, members, &kept, nodes)?;
+        if !is_good {
             let is_far = level.moves > usize::from(bound);
-            if is_far && !are_few(alloc, machine, members, nodes, at)? {
+            if is_far && !are_few(alloc, machine, members, nodes, at + 1)? {
                 return Ok(Ending::TooMany);
             }
             return Ok(Ending::Badly(level.moves));
         }
-        add_next(alloc, machine, members, &alive, nodes)?;
     }
-    if nodes.len() > MOST_NODES {
+    if nodes.rows.len() > MOST_NODES {
         return Ok(Ending::TooMany);
     }
     Ok(Ending::Well)
+}
+
+/// How all schedules of the machine's component on its matrix end. It stands at the start, where
+/// these members are possible.
+fn search_from(
+    alloc: Global,
+    machine: &mut Machine<'_>,
+    members: &[Vec<SerialOp>],
+    alive: &[bool],
+    nodes: &mut Nodes,
+    bound: u16,
+) -> Result<Ending, AllocError>
+    requires starts { IsStart machine.old.component machine.old.matrix machine.old }
+    requires told { AreTold members.now [] alive.now }
+    requires none { HoldsNone nodes.old }
+    ensures { EndsSo members.now bound machine.old result }
+{
+    add_first(alloc, machine, alive, nodes)?;
+    search(alloc, machine, members, nodes, bound)
+}
+
+/// How all schedules of the machine's component on its matrix end. It stands at the start.
+fn search_all(
+    alloc: Global,
+    machine: &mut Machine<'_>,
+    members: &[Vec<SerialOp>],
+    bound: u16,
+) -> Result<Ending, AllocError>
+    requires { IsStart machine.old.component machine.old.matrix machine.old }
+    ensures { EndsSo members.now bound machine.old result }
+{
+    let alive = all_possible(alloc, members)?;
+    let mut nodes = Nodes::new(alloc);
+    search_from(alloc, machine, members, &alive, &mut nodes, bound)
 }
 
 /// How all schedules of the component on the matrix end, of any length, for the set of the tree. A
@@ -120,9 +148,6 @@ pub fn ends_well<T: SerialTree>(
         (TellsEnding (T.members tree.now) bound result) }
 {
     let members = list_members(alloc, tree)?;
-    let alive = all_possible(alloc, &members)?;
     let mut machine = Machine::start(alloc, component, matrix)?;
-    let mut nodes = IndexSet::new(alloc);
-    add(alloc, &machine, &members, &alive, None, &mut nodes)?;
-    search(alloc, &mut machine, &members, &mut nodes, bound)
+    search_all(alloc, &mut machine, &members, bound)
 }

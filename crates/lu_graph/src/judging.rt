@@ -4,7 +4,7 @@ ghost use Rattle.std.specs.Prelude.{◌≡◌, ◌↔◌, Some, IsTrue, length, 
 ghost use Rattle.lu_history.specs.declared.serial.SerialOutcome.TheVariants.{Stuck};
 ghost use Rattle.lu_machine.specs.Ends.{IsEnded};
 ghost use Rattle.lu_witness.specs.Witnesses.{entries};
-ghost use Rattle.lu_graph.specs.Judging.{AllHaveWhole, HasWhole, IsWhole, JudgesGood, ended, room};
+ghost use Rattle.lu_graph.specs.Judging.{AllHaveWhole, HasWhole, IsStuckIn, IsWhole, JudgesGood, ended, room};
 
 use crate::members::{count, place_of};
 use crate::standing::{called, ended, is_waiting};
@@ -48,8 +48,7 @@ fn is_stuck_so(outcome: SerialOutcome) -> bool
 
 /// Whether the thread's operation behind those that ended is stuck in the member.
 fn is_stuck(machine: &Machine<'_>, member: &[SerialOp], thread: u8) -> bool
-    ensures { IsTrue result
-        ↔ (slice_get (entries thread member.now) (ended machine.now thread) ≡ Some Stuck) }
+    ensures { IsTrue result ↔ IsStuckIn machine.now member.now thread }
 {
     match place_of(member, thread, ended(machine, thread)) {
         None => false,

@@ -28,6 +28,7 @@ mod ending;
 mod exploring;
 mod exploring_states;
 mod growing;
+mod holding;
 mod judging;
 mod kept;
 mod laws;
@@ -36,7 +37,9 @@ mod listing;
 mod losing;
 mod marking;
 mod members;
+mod row;
 mod standing;
+mod tables;
 
 pub use ending::Ending;
 pub use exploring::ends_well;

@@ -2,7 +2,7 @@
 
 ghost use Rattle.std.specs.Prelude.{◌≡◌, ◌++◌, [], IfOk, OnOk, map};
 ghost use Rattle.lu_graph.specs.Alive.{AreTold};
-ghost use Rattle.lu_graph.specs.Listing.{histories};
+ghost use Rattle.lu_graph.specs.Listing.{ListsMore, histories};
 
 use lu_history::SerialOp;
 use lu_trie::SerialTree;
@@ -18,8 +18,7 @@ fn list_below<T: SerialTree>(
 ) -> Result<(), AllocError>
     requires { T.is_place tree.now place }
     ensures home { OnOk result (path.new.items ≡ path.old.items) }
-    ensures found { OnOk result (histories found.new.items ≡ histories found.old.items
-        ++ map (λ q. path.old.items ++ q) (T.below tree.now place)) }
+    ensures found { OnOk result (ListsMore found.old path.old (T.below tree.now place) found.new) }
 {
     if tree.ends(place) {
         found.push(Vec::from_slice(alloc, path)?)?;

@@ -1,4 +1,6 @@
-use Rattle.std.proofs.Common.{◌≡◌, ◌<◌}
+use Rattle.std.proofs.Common.{◌≡◌, ◌<◌, List}
+use Rattle.lu_graph.specs.declared.kept.Kept.{Kept}
+use Rattle.lu_graph.specs.Holding.{Hold}
 use Rattle.lu_graph.specs.Visiting.{AreVisitedFrom}
 use Rattle.lu_graph.proofs.Visiting.{AreSearchedFrom}
 use Rattle.lu_graph.proofs.exploring.search.Given as goal
@@ -7,7 +9,8 @@ abbrev pub invariant-loop-at : goal.invariant-loop-at
 invariant-loop-at l = record {
   component : l.machine.component ≡ l.fn.machine.component;
   matrix_is : l.machine.matrix ≡ l.fn.machine.matrix;
-  visited : AreVisitedFrom l.members l.fn.machine.component l.fn.machine.matrix l.nodes.keys l.at;
-  searched : AreSearchedFrom l.members l.fn.machine.component l.fn.machine.matrix l.nodes.keys l.at l.level.moves l.level.end;
+  known : (list : List Kept) × Hold l.nodes list l.at
+      × AreVisitedFrom l.members l.fn.machine.component l.fn.machine.matrix list l.at
+      × AreSearchedFrom l.members l.fn.machine.component l.fn.machine.matrix list l.at l.level.moves l.level.end;
   moves : l.level.moves < l.level.end;
 }

@@ -1,0 +1,162 @@
+-- The nodes that were found, as one more is put in.
+use Rattle.std.proofs.Common.{arith, ◌≡◌, ℕ, zero, suc, ◌+◌, ◌≤◌, Bool, true, false, ◌||◌, if◌then◌else◌, List, [], ◌∷◌, ◌++◌, length, drop, Option, Some, slice_get, refl, sym, ◌∙◌, ap, subst, inl, inr}
+use Rattle.std.specs.Prelude.{not}
+use Rattle.std.specs.Bool.{beq}
+use Rattle.std.specs.List.{list_any}
+use Rattle.std.proofs.lemmas.List.{append-nil}
+use Rattle.std.proofs.lemmas.List.Elements.{All-cons, All-nil}
+use Rattle.std.proofs.lemmas.Option.{slice_get_within}
+use Rattle.indexmap.specs.IndexSet.{insert_key}
+use Rattle.lu_machine.specs.declared.thread.Thread.{Thread}
+use Rattle.lu_machine.specs.Positions.{CanStandAt}
+use Rattle.lu_machine.specs.States.{State}
+use Rattle.lu_graph.specs.declared.holding.Nodes.{Nodes}
+use Rattle.lu_graph.specs.declared.kept.Kept.{Kept}
+use Rattle.lu_graph.specs.declared.row.Parts.{Parts}
+use Rattle.lu_graph.specs.declared.row.Row.{Row}
+use Rattle.lu_graph.specs.Growing.{AddsOne}
+use Rattle.lu_graph.specs.Holding.{Hold, HoldMore, Knows, StandsFor}
+use Rattle.lu_graph.specs.Rows.{Grow, IsNumber, IsRow, IsRowAt, IsRowOf, is_list}
+use Rattle.lu_graph.proofs.Among.{at_either, at_last, only_one}
+use Rattle.lu_graph.proofs.Many.{some_at}
+use Rattle.lu_graph.proofs.Numbers.{number_stays}
+use Rattle.lu_graph.proofs.Same.{one_alive, one_row, row_eq, row_of_stays, same_row}
+
+-- where one passes a test, it stands somewhere
+found_at : {A : Type 0} (test : A → Bool) (xs : List A) → list_any test xs ≡ true → (i : ℕ) × (x : A) × (slice_get xs i ≡ Some x) × (test x ≡ true)
+found_at test [] h = absurd (cc)
+found_at test (x ∷ xs) h = by (test x) refl (found_at test xs) h
+  where
+    by : (b : Bool) → test x ≡ b → (list_any test xs ≡ true → (i : ℕ) × (y : _) × (slice_get xs i ≡ Some y) × (test y ≡ true)) → (b || list_any test xs) ≡ true → (i : ℕ) × (y : _) × (slice_get (x ∷ xs) i ≡ Some y) × (test y ≡ true)
+    by true e rest g = (zero, x, refl, e)
+    by false e rest g = let r = rest g in (suc r.0, r.1, r.2, r.3)
+
+drop_push : {A : Type 0} (n : ℕ) (xs : List A) (x : A) → n ≤ length xs → drop n (xs ++ x ∷ []) ≡ drop n xs ++ x ∷ []
+drop_push zero xs x le = refl
+drop_push (suc n) [] x le = absurd (omega arith)
+drop_push (suc n) (y ∷ xs) x le = drop_push n xs x (omega arith)
+
+length_push : {A : Type 0} (xs : List A) (x : A) → length (xs ++ x ∷ []) ≡ length xs + 1
+length_push [] x = refl
+length_push (y ∷ xs) x = ap suc (length_push xs x) ∙ omega arith
+
+-- it is new, so it goes last
+put_last : (row : Row) (rows new : List Row) (added : Bool) → added ≡ true → added ≡ not (list_any (row_eq row) rows) → new ≡ insert_key row_eq rows row → new ≡ rows ++ row ∷ []
+put_last row rows new added so is keys = keys ∙ ap (λ b. if b then rows else rows ++ row ∷ []) (is_not (list_any (row_eq row) rows) (sym is ∙ so))
+  where
+    is_not : (b : Bool) → not b ≡ true → b ≡ false
+    is_not true h = absurd (cc)
+    is_not false h = refl
+
+-- it is there, so nothing changes
+put_nowhere : (row : Row) (rows new : List Row) (added : Bool) → added ≡ false → added ≡ not (list_any (row_eq row) rows) → new ≡ insert_key row_eq rows row → (list_any (row_eq row) rows ≡ true) × (new ≡ rows)
+put_nowhere row rows new added not_so is keys =
+    let found = is_so (list_any (row_eq row) rows) (sym is ∙ not_so) in
+    (found, keys ∙ ap (λ b. if b then rows else rows ++ row ∷ []) found)
+  where
+    is_so : (b : Bool) → not b ≡ false → b ≡ true
+    is_so true h = refl
+    is_so false h = absurd (cc)
+
+module _ (s : State) (alive : List Bool) (number : ℕ) (before parts : Parts) (row : Row) (at : IsRowAt s number before parts row) (knows : IsNumber (is_list beq alive) before.alive.keys number) where
+  -- what stands for the state has its row
+  row_of_it : (kept : Kept) → StandsFor s alive kept → kept.row.alive ≡ number → IsRowOf parts kept row
+  row_of_it kept stands is = record {
+    is = subst (λ (x : State). IsRow parts x.cells x.locks x.threads row) (sym stands.0) at.is;
+    alive = subst (λ xs. IsNumber (is_list beq xs) parts.alive.keys row.alive) (sym stands.1)
+        (subst (IsNumber (is_list beq alive) parts.alive.keys) (sym at.alive) (number_stays (is_list beq alive) before.alive.keys parts.alive.keys number at.grows.alive knows));
+    number = is ∙ sym at.alive;
+  }
+
+  -- and what has its row stands for it
+  stands_for : (kept : Kept) → IsRowOf parts kept row → StandsFor s alive kept
+  stands_for kept is =
+      let same = one_row parts kept.position.cells.items s.cells kept.position.locks.items s.locks kept.position.threads.items s.threads row is.is at.is in
+      let make : List ℕ → List (Option ℕ) → List Thread → State = λ cells locks threads. record { component = s.component; matrix = s.matrix; cells = cells; locks = locks; threads = threads } in (
+        ap (λ x. make x kept.position.locks.items kept.position.threads.items) same.0 ∙ (ap (λ x. make s.cells x kept.position.threads.items) same.1 ∙ ap (λ x. make s.cells s.locks x) same.2),
+        one_alive parts number kept.alive.items alive (subst (IsNumber (is_list beq kept.alive.items) parts.alive.keys) at.alive is.alive) (number_stays (is_list beq alive) before.alive.keys parts.alive.keys number at.grows.alive knows),
+      )
+
+  -- the first
+  pub held_first : (kept : Kept) (rows : List Row) (new : Nodes) → rows ≡ [] → new.parts ≡ parts → new.rows.keys ≡ insert_key row_eq rows row → new.waiting.items ≡ kept ∷ [] → StandsFor s alive kept → kept.row.alive ≡ number → Hold new (kept ∷ []) 0
+  held_first kept rows new none same_parts keys waiting stands is =
+      let its = row_of_it kept stands is in
+      let one : new.rows.keys ≡ row ∷ [] = keys ∙ ap (λ xs. insert_key row_eq xs row) none in
+      record {
+        many = ap length one;
+        rows = λ i r k p q.
+            (let first = only_one row i r (subst (λ x. slice_get x i ≡ Some r) one p) in
+            let second = only_one kept i k q in
+            subst (λ x. IsRowOf x k r) (sym same_parts) (subst (λ x. IsRowOf parts x r) second.1 (subst (IsRowOf parts kept) first.1 its)));
+        within = omega arith;
+        waiting = waiting;
+      }
+
+module _ (s : State) (alive : List Bool) (number : ℕ) (old : Nodes) (parts : Parts) (row : Row) (at : IsRowAt s number old.parts parts row) where
+  module _ (list : List Kept) (place : ℕ) (hold : Hold old list place) (knows : Knows old alive number) (new : Nodes) (same_parts : new.parts ≡ parts) where
+    more_rows : (i : ℕ) (r : Row) (kept : Kept) → slice_get old.rows.keys i ≡ Some r → slice_get list i ≡ Some kept → IsRowOf parts kept r
+    more_rows i r kept p q = row_of_stays old.parts parts kept r at.grows (hold.rows i r kept p q)
+
+    grown_parts : (x : Parts) → x ≡ parts → Grow old.parts x
+    grown_parts x is = subst (Grow old.parts) (sym is) at.grows
+
+    -- it is there
+    pub held_there : (added : Bool) → added ≡ false → added ≡ not (list_any (row_eq row) old.rows.keys) → new.rows.keys ≡ insert_key row_eq old.rows.keys row → new.waiting.items ≡ old.waiting.items → HoldMore (AddsOne s.component s.matrix (StandsFor s alive) list) place old new
+    held_there added not_so is keys waiting =
+        let put = put_nowhere row old.rows.keys new.rows.keys added not_so is keys in
+        let rows = put.1 in
+        let one = found_at (row_eq row) old.rows.keys put.0 in
+        let within = slice_get_within old.rows.keys one.0 one.1 one.2 in
+        let kept = some_at list one.0 (let many = hold.many in omega (arith, within, many)) in
+        let same : row ≡ one.1 = (same_row row one.1).0 one.3 in
+        let its = subst (IsRowOf parts kept.0) (sym same) (more_rows one.0 one.1 kept.0 one.2 kept.1) in
+        record {
+          list = list;
+          hold = record {
+            many = ap length rows ∙ hold.many;
+            rows = λ i r k p q. subst (λ x. IsRowOf x k r) (sym same_parts) (more_rows i r k (subst (λ x. slice_get x i ≡ Some r) rows p) q);
+            within = hold.within;
+            waiting = waiting ∙ hold.waiting;
+          };
+          grown = record {
+            there = (one.0, kept.0, kept.1, stands_for s alive number old.parts parts row at knows kept.0 its);
+            grows = ([], sym (append-nil list), All-nil (λ (k : Kept). CanStandAt s.component s.matrix k.position × StandsFor s alive k));
+          };
+          known = (grown_parts new.parts same_parts).alive;
+        }
+
+    -- it is new
+    pub held_more : (kept : Kept) (added : Bool) → added ≡ true → added ≡ not (list_any (row_eq row) old.rows.keys) → new.rows.keys ≡ insert_key row_eq old.rows.keys row → new.waiting.items ≡ old.waiting.items ++ kept ∷ [] → CanStandAt s.component s.matrix kept.position → StandsFor s alive kept → kept.row.alive ≡ number → HoldMore (AddsOne s.component s.matrix (StandsFor s alive) list) place old new
+    held_more kept added so fresh keys waiting can stands is =
+        let rows = put_last row old.rows.keys new.rows.keys added so fresh keys in
+        let many = hold.many in
+        let its = row_of_it s alive number old.parts parts row at knows kept stands is in
+        record {
+          list = list ++ kept ∷ [];
+          hold = record {
+            many = ap length rows ∙ (length_push old.rows.keys row ∙ (ap (λ n. n + 1) many ∙ sym (length_push list kept)));
+            rows = λ i r k p q.
+                elim (at_either old.rows.keys (row ∷ []) i r (subst (λ x. slice_get x i ≡ Some r) rows p)) as (λ _. IsRowOf new.parts k r) [
+                  | inl (lt, there) ↦
+                      elim (at_either list (kept ∷ []) i k q) as (λ _. IsRowOf new.parts k r) [
+                        | inl (less, here) ↦ subst (λ x. IsRowOf x k r) (sym same_parts) (more_rows i r k there here)
+                        | inr (j, e, here) ↦ absurd (omega (arith, lt, e, many))
+                      ]
+                  | inr (m, e, there) ↦
+                      elim (at_either list (kept ∷ []) i k q) as (λ _. IsRowOf new.parts k r) [
+                        | inl (less, here) ↦ absurd (omega (arith, less, e, many))
+                        | inr (j, f, here) ↦
+                            (let one = only_one row m r there in
+                            let two = only_one kept j k here in
+                            subst (λ x. IsRowOf x k r) (sym same_parts) (subst (λ x. IsRowOf parts x r) two.1 (subst (IsRowOf parts kept) one.1 its)))
+                      ]
+                ];
+            within = (let within = hold.within in let long = length_push list kept in omega (arith, within, long));
+            waiting = waiting ∙ (ap (λ xs. xs ++ kept ∷ []) hold.waiting ∙ sym (drop_push place list kept hold.within));
+          };
+          grown = record {
+            there = (length list, kept, at_last list kept, stands);
+            grows = (kept ∷ [], refl, All-cons (λ (k : Kept). CanStandAt s.component s.matrix k.position × StandsFor s alive k) kept [] (can, stands) (All-nil (λ (k : Kept). CanStandAt s.component s.matrix k.position × StandsFor s alive k)));
+          };
+          known = (grown_parts new.parts same_parts).alive;
+        }

@@ -1,0 +1,5 @@
+use Rattle.lu_graph.proofs.Numbers.{AreNumbersSoFar}
+use Rattle.lu_graph.proofs.row.number_threads.Given as goal
+
+abbrev pub invariant-loop-thread : goal.invariant-loop-thread
+invariant-loop-thread l = AreNumbersSoFar l.machine.threads l.fn.table.keys l.table.keys l.thread l.numbers

@@ -1,0 +1,85 @@
+//! The nodes that were found.
+
+ghost use Rattle.std.specs.Prelude.{OnOk};
+ghost use Rattle.lu_graph.specs.Holding.{HoldsNone, HoldsOne, HoldsOneMore};
+ghost use Rattle.lu_graph.specs.Rows.{IsSized};
+
+use crate::kept::Kept;
+use crate::row::{Parts, Row, row_at};
+use crate::tables::number_of_list;
+use indexmap::IndexSet;
+use lu_machine::Machine;
+use std::alloc::{AllocError, Global};
+use std::collections::VecDeque;
+
+/// The nodes that were found, each once, in order. A node that was gone through is its row alone.
+#[derive(Drop)]
+pub(crate) struct Nodes {
+    pub(crate) rows: IndexSet<Row>,
+
+    /// Those that were not gone through.
+    pub(crate) waiting: VecDeque<Kept>,
+
+    pub(crate) parts: Parts,
+}
+
+impl Nodes {
+    /// No nodes.
+    pub(crate) fn new(alloc: Global) -> Nodes
+        ensures { HoldsNone result }
+    {
+        Nodes {
+            rows: IndexSet::new(alloc),
+            waiting: VecDeque::new(alloc),
+            parts: Parts::new(alloc),
+        }
+    }
+}
+
+/// Adds the node at which the machine stands, where these members are possible, as the first.
+pub(crate) fn add_first(
+    alloc: Global,
+    machine: &Machine<'_>,
+    alive: &[bool],
+    nodes: &mut Nodes,
+) -> Result<(), AllocError>
+    requires { HoldsNone nodes.old }
+    ensures { OnOk result (HoldsOne machine.now alive.now nodes.new) }
+{
+    let position = machine.position(alloc)?;
+    let number = number_of_list(alloc, &mut nodes.parts.alive, alive, 0)?;
+    let row = row_at(alloc, machine, &Row::of_alive(number), &mut nodes.parts)?;
+    nodes.rows.insert(row)?;
+    let alive = Vec::from_slice(alloc, alive)?;
+    nodes.waiting.push_back(Kept {
+        position,
+        alive,
+        row,
+    })?;
+    Ok(())
+}
+
+/// Adds the node at which the machine stands, where these members are possible, if it is not there.
+/// They have the number that is in `likely`, and so have the other parts, if they are the same.
+pub(crate) fn add_at(
+    alloc: Global,
+    machine: &Machine<'_>,
+    alive: &[bool],
+    likely: &Row,
+    nodes: &mut Nodes,
+) -> Result<(), AllocError>
+    requires { IsSized machine.now }
+    ensures { OnOk result (HoldsOneMore machine.now alive.now likely.now nodes.old nodes.new) }
+{
+    let row = row_at(alloc, machine, likely, &mut nodes.parts)?;
+    if nodes.rows.insert(row)? {
+        let position = machine.position(alloc)?;
+        let alive = Vec::from_slice(alloc, alive)?;
+        nodes.waiting.push_back(Kept {
+            position,
+            alive,
+            row,
+        })?;
+    }
+    Ok(())
+}
