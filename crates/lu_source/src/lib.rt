@@ -5,6 +5,7 @@ mod compiling;
 mod emit;
 mod expr;
 mod laws;
+mod origin;
 mod shape;
 mod tree;
 
@@ -12,5 +13,6 @@ pub use compiling::{compile, compile_operation};
 pub use emit::{comes_out, flatten};
 pub use expr::{Evaluation, Expr, Operator, REGISTERS, coded, past, put, then};
 pub use laws::compiler_laws;
+pub use origin::{Origin, Origins};
 pub use shape::{breaks, continues, falls, instr_of, size};
 pub use tree::{Action, Operation, Stmt};

@@ -1,14 +1,15 @@
 -- What is declared so far makes a component.
-use Rattle.std.proofs.Common.{◌≡◌, ℕ, ◌+◌, ◌<◌, ◌≤◌, ◌^◌, nat_lt, Bool, true, false, not, ◌||◌, if◌then◌else◌, List, [], ◌∷◌, ◌++◌, length, map, Option, Some, None, is_some, MatchOption, refl, sym, ap, ◌∙◌, subst, lit<, arith, length-append}
+use Rattle.std.proofs.Common.{All, IfSome, ◌≡◌, ℕ, ◌+◌, ◌<◌, ◌≤◌, ◌^◌, nat_lt, Bool, true, false, not, ◌||◌, if◌then◌else◌, List, [], ◌∷◌, ◌++◌, length, map, Option, Some, None, is_some, MatchOption, refl, sym, ap, ◌∙◌, subst, lit<, arith, length-append}
 use Rattle.std.specs.Prelude.{Result, Ok, Err, codes, nat_le}
 use Rattle.std.specs.List.{AllByRecursion, IsDistinct, list_all}
-use Rattle.std.specs.Option.{unwrap_or}
+use Rattle.std.specs.Option.{option_map, unwrap_or}
 use Rattle.std.specs.Str.{bytes_eq}
-use Rattle.std.proofs.lemmas.Bool.{leb-false, ltb-false, or_parts, not-false, not_from_true, and_parts}
+use Rattle.std.proofs.lemmas.Bool.{leb-false, ltb-false, or_parts}
 use Rattle.std.proofs.lemmas.List.{length-map}
 use Rattle.std.proofs.lemmas.List.Elements.{All-from_recursion}
 use Rattle.lu_text.specs.Faults.{lines_after, on_line, then_lines}
 use Rattle.lu_text.specs.declared.fault.Fault.{Fault}
+use Rattle.lu_text.proofs.Reading.{line_ok}
 use Rattle.lu_text.specs.Lines.{is_allowed, lines_of}
 use Rattle.lu_text.specs.Names.{IsName, has_name_form, is_long}
 use Rattle.lu_text.specs.Words.{Word}
@@ -19,8 +20,12 @@ use Rattle.lu_component.specs.Component.{AreDistinct, IsArray, IsComponent, IsIn
 use Rattle.lu_source.specs.declared.tree.Action.{Action}
 use Rattle.lu_source.specs.declared.tree.Action.TheVariants.{Set, Compute, Load, Store, Cas, Lock, Unlock, Await, AwaitNot, Pick, Return}
 use Rattle.lu_source.specs.Code.{instr_of, op_of, operation_code}
-use Rattle.lu_source_text.specs.Grammar.{Begun, Block, Drafted, Kind, all_read, aside, begun_as, last_number, op_fault, where_some, behind_word, by_state, by_words, close_line, closes, end_block, whole_of, constant_in, const_line, declaration, else_line, end_line, first_number, init_in, inside, is_free_name, is_operation, is_taken, is_whole, is_word, keeps_going, is_keyword, len_in, line_of, local_in, local_line, lock_in, lock_line, names_in, new_name, nothing, object_line, on_first, on_ok, op_line, place_from, program_of, shared_from, shared_in, source_grammar, source_words, statement, whole_line, word_line}
+use Rattle.lu_source_text.specs.Grammar.{Begun, Block, Drafted, Kind, all_read, aside, begun_as, last_number, op_fault, where_some, behind_word, by_state, by_words, close_line, closes, end_block, whole_of, constant_in, const_line, declaration, else_line, end_line, first_number, init_in, inside, is_free_name, is_operation, is_taken, is_whole, is_word, keeps_going, len_in, line_of, local_in, local_line, lock_in, lock_line, names_from, names_in, new_name, nothing, object_line, on_first, on_ok, op_line, place_from, program_of, shared_from, shared_in, source_grammar, source_words, statement, whole_line, word_line}
+use Rattle.lu_source.specs.Programs.{operation_of}
+use Rattle.lu_source_text.specs.Drafts.{begun_of, drafted_of}
+use Rattle.lu_source_text.specs.declared.draft.Begun.{Begun as HeldBegun}
 use Rattle.lu_source_text.specs.declared.draft.Constant.{Constant}
+use Rattle.lu_source_text.specs.declared.draft.Draft.{Draft as HeldDraft}
 use Rattle.lu_source_text.specs.declared.draft.Shared.{Shared}
 use Rattle.lu_source_text.specs.declared.fault.SourceFaultKind.TheVariants.{Form, Limit, Name}
 use Rattle.lu_source.specs.Runs.{compiled}
@@ -30,17 +35,13 @@ use Rattle.lu_source.specs.Trees.{Operation, Program, Tree}
 use Rattle.lu_source.specs.Trees.Tree.{Nothing, Plain, Then, If, IfElse, Loop, Break, BreakUnless, Continue}
 use Rattle.lu_source.proofs.Bounded.{code_sound}
 use Rattle.lu_source_text.proofs.Kept.{AreValues, Holds, any_holds, first_fine, if_holds, then_holds, unless_holds}
-use Rattle.lu_source_text.proofs.Lines.{Goes, GoesOn, IsBlock, IsGoing, else_fine, end_fine, statement_fine}
+use Rattle.lu_source_text.proofs.Lines.{Goes, GoesOn, IsBlock, IsGoing, each_last, else_fine, end_fine, free_name, new_named, statement_fine}
 
 -- ---- lists
 
 pub map_last : {X Y : Type 0} (f : X → Y) (xs : List X) (x : X) → map f (xs ++ x ∷ []) ≡ map f xs ++ f x ∷ []
 map_last f [] x = refl
 map_last f (y ∷ ys) x = ap (λ zs. f y ∷ zs) (map_last f ys x)
-
-each_last : {X : Type 0} (P : X → Type 0) (xs : List X) (x : X) → AllByRecursion P xs → P x → AllByRecursion P (xs ++ x ∷ [])
-each_last P [] x all last = (last, tt)
-each_last P (y ∷ ys) x all last = (all.0, each_last P ys x all.1 last)
 
 each_map : {X Y : Type 0} (P : Y → Type 0) (f : X → Y) (xs : List X) → AllByRecursion (λ x. P (f x)) xs → AllByRecursion P (map f xs)
 each_map P f [] all = tt
@@ -86,9 +87,6 @@ operation_absent (o ∷ os) w h = let parts = or_parts (bytes_eq o.name w) (is_o
 
 -- what a new name is
 
-free_name : (w : Word) → not (is_free_name w) ≡ false → not (has_name_form w) ≡ false
-free_name w h = let parts = and_parts (has_name_form w) (not (is_keyword w)) (not-false (is_free_name w) h) in not_from_true (has_name_form w) parts.0
-
 new_fine : (d : Drafted) (locals : List Word) (w : Word) → Holds (λ name. IsName name × (is_some (shared_in d name) ≡ false) × (is_some (lock_in d name) ≡ false)) (new_name d locals w)
 new_fine d locals w =
     let P : Word → Type 0 = λ name. IsName name × (is_some (shared_in d name) ≡ false) × (is_some (lock_in d name) ≡ false) in
@@ -99,6 +97,23 @@ new_fine d locals w =
     let more = or_parts (is_some (shared_in d w)) (is_some (lock_in d w) || is_some (local_in locals w)) parts.1 in
     let last = or_parts (is_some (lock_in d w)) (is_some (local_in locals w)) more.1 in
     (name_from w (free_name w free) short, more.0, last.0))))
+
+-- names that are read are names
+abbrev AreNamed : List Word × List Word → Type 0
+AreNamed r = AllByRecursion IsName r.0
+
+from_named : (d : Drafted) (names ws : List Word) → AllByRecursion IsName names → Holds AreNamed (names_from d names ws)
+from_named d names [] are = tt
+from_named d names (w ∷ []) are = tt
+from_named d names (w ∷ c ∷ ws) are =
+    then_holds IsName AreNamed (new_name d names w) _ (new_named d names w) (λ name is.
+    let more = each_last IsName names name are is in
+    if_holds AreNamed (is_word c (codes ",")) (names_from d (names ++ name ∷ []) ws) _ (from_named d (names ++ name ∷ []) ws more)
+    (if_holds AreNamed (is_word c (codes ")")) (Ok (names ++ name ∷ [], ws)) _ more tt))
+
+names_named : (d : Drafted) (ws : List Word) → Holds AreNamed (names_in d ws)
+names_named d [] = tt
+names_named d (w ∷ ws) = if_holds AreNamed (is_word w (codes ")")) (Ok ([], ws)) _ tt (from_named d [] (w ∷ ws) tt)
 
 -- ---- more arrays and locks
 
@@ -158,7 +173,7 @@ pub record IsDraft (d : Drafted) : Type 0 where
   pub operations_apart : AreDistinct (map (λ (o : Op). o.name) (map op_of d.operations))
   pub begun : MatchOption d.begun (Unit {0}) (IsOpenIn (length d.words) (length d.locks) d.operations)
 
-nothing_is : IsDraft nothing
+pub nothing_is : IsDraft nothing
 nothing_is = record {
   name = tt;
   local = tt;
@@ -280,12 +295,12 @@ module _ (d : Drafted) (h : IsDraft d) where
   op_kept : (ws : List Word) → Holds IsDraft (op_line d ws)
   op_kept ws =
       on_word IsDraft ws _ (λ name rest. unless_holds IsDraft (not (is_free_name name)) Form _ (λ free.
-      any_hold IsDraft (behind_word (codes "(") rest) _ (λ inner. any_hold IsDraft (names_in d inner) _ (λ named.
-      any_hold IsDraft (behind_word (codes "{") named.1) _ (λ end. any_hold IsDraft (all_read (named.0, end)) _ (λ args.
-      op_holds name args (free_name name free)))))))
+      any_hold IsDraft (behind_word (codes "(") rest) _ (λ inner. then_holds AreNamed IsDraft (names_in d inner) _ (names_named d inner) (λ read are.
+      any_hold IsDraft (behind_word (codes "{") read.1) _ (λ end. then_holds (AllByRecursion IsName) IsDraft (all_read (read.0, end)) _ (read_all (AllByRecursion IsName) read.0 end are) (λ args named.
+      op_holds name args (free_name name free) named))))))
     where
-      op_holds : (name : Word) (args : List Word) → not (has_name_form name) ≡ false → Holds IsDraft (where_some (op_fault d name args) (Ok (record d { begun = Some (begun_as name args) })) Err)
-      op_holds name args form = by_limits (is_long name || (nat_le 16 (length d.operations) || nat_lt 4 (length args))) refl
+      op_holds : (name : Word) (args : List Word) → not (has_name_form name) ≡ false → AllByRecursion IsName args → Holds IsDraft (where_some (op_fault d name args) (Ok (record d { begun = Some (begun_as name args) })) Err)
+      op_holds name args form named = by_limits (is_long name || (nat_le 16 (length d.operations) || nat_lt 4 (length args))) refl
         where
           by_name : (t : Bool) → is_operation d.operations name ≡ t → (is_long name || (nat_le 16 (length d.operations) || nat_lt 4 (length args))) ≡ false → Holds IsDraft (where_some (if t then Some Name else None) (Ok (record d { begun = Some (begun_as name args) })) Err)
           by_name true fresh few = tt
@@ -295,7 +310,7 @@ module _ (d : Drafted) (h : IsDraft d) where
               let room : length d.operations < 16 = omega (arith, leb-false 16 (length d.operations) more.0) in
               let four : length args ≤ 4 = ltb-false 4 (length args) more.1 in
               let eight : length args ≤ 8 = omega arith in
-              record { name = h.name; local = h.local; values = h.values; words_few = h.words_few; words = h.words; words_apart = h.words_apart; locks_few = h.locks_few; locks = h.locks; locks_apart = h.locks_apart; operations_few = h.operations_few; operations = h.operations; operations_apart = h.operations_apart; begun = (record { name = name_from name form parts.0; args = four; locals = eight; blocks = ((tt, tt), tt) }, room, fresh) }
+              record { name = h.name; local = h.local; values = h.values; words_few = h.words_few; words = h.words; words_apart = h.words_apart; locks_few = h.locks_few; locks = h.locks; locks_apart = h.locks_apart; operations_few = h.operations_few; operations = h.operations; operations_apart = h.operations_apart; begun = (record { name = name_from name form parts.0; args = four; locals = eight; named = named; blocks = ((tt, tt), tt) }, room, fresh) }
 
           by_limits : (t : Bool) → (is_long name || (nat_le 16 (length d.operations) || nat_lt 4 (length args))) ≡ t → Holds IsDraft (where_some (if t then Some Limit else (if is_operation d.operations name then Some Name else None)) (Ok (record d { begun = Some (begun_as name args) })) Err)
           by_limits true few = tt
@@ -370,14 +385,14 @@ module _ (d : Drafted) (h : IsDraft d) where
   close_kept b ws [] open_now all = tt
   close_kept b ws (block ∷ blocks) open_now all =
       let now : Begun = record b { blocks = blocks } in
-      let going_now : IsGoing (length d.words) (length d.locks) now = record { name = open_now.0.name; args = open_now.0.args; locals = open_now.0.locals; blocks = all.1 } in
+      let going_now : IsGoing (length d.words) (length d.locks) now = record { name = open_now.0.name; args = open_now.0.args; locals = open_now.0.locals; named = open_now.0.named; blocks = all.1 } in
       closes_kept now block ws (going_now, open_now.1, open_now.2) all.0
 
   inside_kept : (b : Begun) (w : Word) (ws : List Word) → IsOpenIn (length d.words) (length d.locks) d.operations b → Holds IsDraft (inside d b w ws)
   inside_kept b w ws open_now =
       unless_holds IsDraft (nat_le 256 b.lines) Limit _ (λ few.
       let now : Begun = record b { lines = b.lines + 1 } in
-      let going_now : IsGoing (length d.words) (length d.locks) now = record { name = open_now.0.name; args = open_now.0.args; locals = open_now.0.locals; blocks = open_now.0.blocks } in
+      let going_now : IsGoing (length d.words) (length d.locks) now = record { name = open_now.0.name; args = open_now.0.args; locals = open_now.0.locals; named = open_now.0.named; blocks = open_now.0.blocks } in
       if_holds IsDraft (is_word w (codes "}")) _ _ (close_kept now ws b.blocks (going_now, open_now.1, open_now.2) open_now.0.blocks)
       (going_kept now (statement d now w ws) (going_now, open_now.1, open_now.2) (statement_fine d h.values now w ws going_now)))
 
@@ -396,7 +411,7 @@ module _ (d : Drafted) (h : IsDraft d) where
   words_kept [] = h
   words_kept (w ∷ ws) = state_kept d.name d.begun refl h.begun w ws
 
-  line_kept : (line : List ℕ) → Holds IsDraft (line_of d line)
+  pub line_kept : (line : List ℕ) → Holds IsDraft (line_of d line)
   unfolding line_of
   line_kept line =
       if_holds IsDraft (list_all is_allowed line) _ _
@@ -458,3 +473,15 @@ pub source_sound : SourceSound
 source_sound text p is =
     let read = lines_sound (lines_of text) 1 nothing nothing_is in
     subst HoldsOf is read
+
+-- a line without a fault leaves what makes a component
+pub draft_kept : (n : ℕ) (d next : Drafted) (line : List ℕ) → IsDraft d → on_line n (line_of d line) ≡ Ok next → IsDraft next
+draft_kept n d next line h e = subst (Holds IsDraft) (line_ok n (line_of d line) next e) (line_kept d h line)
+
+-- the locals of the open operation, in memory, are names
+pub locals_named : (d : HeldDraft) → IsDraft (drafted_of d) → IfSome d.begun (λ b. All IsName b.locals.items)
+locals_named d h = by_begun d.begun h.begun
+  where
+    by_begun : (o : Option HeldBegun) → MatchOption (option_map begun_of o) (Unit {0}) (IsOpenIn (length d.words.items) (length d.locks.items) (map operation_of d.operations.items)) → IfSome o (λ b. All IsName b.locals.items)
+    by_begun None k = tt
+    by_begun (Some b) k = All-from_recursion IsName b.locals.items k.0.named

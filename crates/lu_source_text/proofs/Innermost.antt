@@ -28,7 +28,7 @@ in_both : (xs ys : List Block) → in_loop (xs ++ ys) ≡ (in_loop xs || in_loop
 in_both [] ys = refl
 in_both (x ∷ xs) ys = ap (λ t. is_loop x.opening || t) (in_both xs ys) ∙ sym (or_assoc (is_loop x.opening) (in_loop xs) (in_loop ys))
 
-map_both : (xs ys : List HeldBlock) → map block_of (xs ++ ys) ≡ map block_of xs ++ map block_of ys
+pub map_both : (xs ys : List HeldBlock) → map block_of (xs ++ ys) ≡ map block_of xs ++ map block_of ys
 map_both [] ys = refl
 map_both (x ∷ xs) ys = ap (λ zs. block_of x ∷ zs) (map_both xs ys)
 

@@ -1,3 +1,4 @@
+mod Beginning
 mod Examples
 pub mod Kept
 pub mod Lines
@@ -7,3 +8,5 @@ pub mod First
 pub mod Sizes
 pub mod Steps
 pub mod Worded
+pub mod Entries
+pub mod Complete

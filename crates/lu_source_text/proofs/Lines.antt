@@ -1,11 +1,12 @@
 -- Lines of a source: what they leave makes a component.
-use Rattle.std.proofs.Common.{◌≡◌, ℕ, ◌+◌, ◌<◌, ◌≤◌, nat_lt, Bool, true, false, not, ◌&&◌, if◌then◌else◌, List, [], ◌∷◌, ◌++◌, length, Option, Some, None, MatchOption, refl, ap, ◌∙◌, lit<, arith, length-append}
+use Rattle.std.proofs.Common.{◌≡◌, ℕ, zero, suc, ◌+◌, ◌<◌, ◌≤◌, nat_lt, Bool, true, false, not, ◌&&◌, if◌then◌else◌, List, [], ◌∷◌, ◌++◌, length, Option, Some, None, MatchOption, refl, ap, ◌∙◌, lit<, arith, length-append}
 use Rattle.std.specs.Prelude.{Result, Ok, Err, codes, nat_le, take}
 use Rattle.std.specs.List.{AllByRecursion}
 use Rattle.std.specs.Str.{bytes_eq}
-use Rattle.std.proofs.lemmas.Bool.{leb-false, ltb-false}
+use Rattle.std.proofs.lemmas.Bool.{leb-false, ltb-false, not-false, not_from_true, and_parts}
 use Rattle.std.proofs.lemmas.List.{length-take}
-use Rattle.lu_text.specs.Names.{IsName}
+use Rattle.lu_text.specs.Names.{IsName, has_name_form, is_long}
+use Rattle.lu_text.proofs.NameText.{name_from}
 use Rattle.lu_text.specs.Words.{Word}
 use Rattle.lu_component.specs.declared.instr.Operand.{Operand}
 use Rattle.lu_component.specs.Component.{IsInstr, IsOperand}
@@ -15,7 +16,7 @@ use Rattle.lu_source.specs.declared.tree.Action.TheVariants as action
 use Rattle.lu_source.specs.Code.{falls, instr_of}
 use Rattle.lu_source.specs.Expressions.{Coded, Expr, as_test, coded, needed, past, put}
 use Rattle.lu_source.specs.Expressions.Expr.{Number, Local, Read, Swap, Pick, Binary, Not, And, Or}
-use Rattle.lu_source_text.specs.Grammar.{Begun, Block, Drafted, Kind, Opening, added, added_to, all_read, assign_tree, await_tree, awaiting, awaits_equal, behind_word, both_of, cas_of, cas_tree, cas_with, cell_in, closed_by, closing, code_for, deeper, does_too, else_line, end_block, let_in, expr_before_brace, expr_from, expr_of, if_line, in_loop, inner_of, is_free_name, is_still, is_word, leave_tree, let_line, local_in, lock_in, lock_number, loop_line, new_name, on_first, on_ok, or_fault, other_side, owner_tree, place_from, return_tree, scope_of, set_tree, simple, statement, steps_for, store_tree, tested, while_line, with_blocks}
+use Rattle.lu_source_text.specs.Grammar.{Begun, Block, Drafted, Kind, Opening, added, added_to, all_read, assign_tree, await_tree, awaited, awaiting, awaits_equal, behind_word, both_of, cas_of, cas_tree, cas_with, cell_in, closed_by, closing, code_for, compared, deeper, does_too, else_line, end_block, let_in, expr_before_brace, expr_from, expr_of, if_line, in_loop, inner_of, is_free_name, is_still, is_word, leave_tree, let_line, local_in, lock_in, lock_number, loop_line, new_name, on_first, on_ok, or_fault, other_side, owner_tree, place_from, return_tree, scope_of, set_tree, simple, statement, steps_for, store_tree, tested, while_line, with_blocks, is_keyword, is_taken}
 use Rattle.lu_source_text.specs.declared.fault.SourceFaultKind.TheVariants.{Form, Limit, Registers, Flow, Name}
 use Rattle.lu_source_text.specs.Grammar.Opening.{Whole, Test, Other, Turns}
 use Rattle.lu_source.specs.Sound.{IsExpr, IsTree}
@@ -40,7 +41,27 @@ pub record IsGoing (arrays locks : ℕ) (b : Begun) : Type 0 where
   pub name : IsName b.name
   pub args : b.args ≤ 4
   pub locals : length b.locals ≤ 8
+  pub named : AllByRecursion IsName b.locals
   pub blocks : AllByRecursion (IsBlock arrays locks) b.blocks
+
+pub each_last : {X : Type 0} (P : X → Type 0) (xs : List X) (x : X) → AllByRecursion P xs → P x → AllByRecursion P (xs ++ x ∷ [])
+each_last P [] x all last = (last, tt)
+each_last P (y ∷ ys) x all last = (all.0, each_last P ys x all.1 last)
+
+each_taken : {X : Type 0} (P : X → Type 0) (n : ℕ) (xs : List X) → AllByRecursion P xs → AllByRecursion P (take n xs)
+each_taken P zero xs all = tt
+each_taken P (suc n) [] all = tt
+each_taken P (suc n) (x ∷ xs) all = (all.0, each_taken P n xs all.1)
+
+pub free_name : (w : Word) → not (is_free_name w) ≡ false → not (has_name_form w) ≡ false
+free_name w h = let parts = and_parts (has_name_form w) (not (is_keyword w)) (not-false (is_free_name w) h) in not_from_true (has_name_form w) parts.0
+
+-- a new name is one
+pub new_named : (d : Drafted) (locals : List Word) (w : Word) → Holds IsName (new_name d locals w)
+new_named d locals w =
+    unless_holds IsName (not (is_free_name w)) Form _ (λ free.
+    unless_holds IsName (is_long w) Limit _ (λ short.
+    unless_holds IsName (is_taken d locals w) Name (Ok w) (λ fresh. name_from w (free_name w free) short)))
 
 -- an open operation that goes on, with the same name and locals
 abbrev pub GoesOn : ℕ → ℕ → Begun → Begun → Type 0
@@ -77,7 +98,7 @@ module _ (d : Drafted) (values : AreValues d.constants) where
   AreBlocks blocks = AllByRecursion (IsBlock (length d.words) (length d.locks)) blocks
 
   pub blocks_fine : (b : Begun) (r : Result (List Block) Kind) → IsGoing (length d.words) (length d.locks) b → Holds AreBlocks r → Holds (Fits b) (with_blocks b r)
-  blocks_fine b r is all = then_holds AreBlocks (Fits b) r _ all (λ now h. (record { name = is.name; args = is.args; locals = is.locals; blocks = h }, refl, refl))
+  blocks_fine b r is all = then_holds AreBlocks (Fits b) r _ all (λ now h. (record { name = is.name; args = is.args; locals = is.locals; named = is.named; blocks = h }, refl, refl))
 
   added_fine : (b : Begun) (t : Tree) → IsGoing (length d.words) (length d.locks) b → Sound t → Holds (Fits b) (added b t)
   added_fine b t is fine = blocks_fine b (added_to t b.blocks) is (into b.blocks is.blocks)
@@ -92,7 +113,7 @@ module _ (d : Drafted) (values : AreValues d.constants) where
   deeper_fine : (b : Begun) (opening : Opening) (chained : Bool) → IsGoing (length d.words) (length d.locks) b → IsOpening (length d.words) (length d.locks) opening → Holds (Fits b) (deeper b opening chained)
   deeper_fine b opening chained is fine =
       unless_holds (Fits b) (nat_le 16 (length b.blocks)) Limit _ (λ so.
-      (record { name = is.name; args = is.args; locals = is.locals; blocks = ((tt, fine), is.blocks) }, refl, refl))
+      (record { name = is.name; args = is.args; locals = is.locals; named = is.named; blocks = ((tt, fine), is.blocks) }, refl, refl))
 
   -- with an expression's code
   code_fine : {A : Type 0} (P : A → Type 0) (e : Expr) (to free : ℕ) (go : Coded → Result A Kind) → IsExpr (length d.words) e → to ≤ free → ((x : Coded) → x ≡ coded e to free → Sound x.code → IsOperand x.at → Holds P (go x)) → Holds P (on_ok (code_for e to free) go)
@@ -119,21 +140,21 @@ module _ (d : Drafted) (values : AreValues d.constants) where
 
   let_fine : (b : Begun) (ws : List Word) → IsGoing (length d.words) (length d.locks) b → Holds (Goes (length d.words) (length d.locks) b) (let_line d b ws)
   let_fine b ws is =
-      then_holds (λ (r : Word × Tree). (length b.locals < 8) × Sound r.1) (Goes (length d.words) (length d.locks) b) (let_in d b ws) _ (in_fine ws) (λ r h.
+      then_holds (λ (r : Word × Tree). (length b.locals < 8) × Sound r.1 × IsName r.0) (Goes (length d.words) (length d.locks) b) (let_in d b ws) _ (in_fine ws) (λ r h.
       then_holds (Fits b) (Goes (length d.words) (length d.locks) b) (added b r.1) _ (added_fine b r.1 is h.1) (λ now g.
       let more_locals : length (now.locals ++ r.0 ∷ []) ≤ 8 = (let l = ap length g.1 in let few = h.0 in omega (arith, length-append now.locals (r.0 ∷ []), l)) in
       let after : Begun = record now { locals = now.locals ++ r.0 ∷ [] } in
-      let out : Goes (length d.words) (length d.locks) b after = (record { name = g.0.name; args = g.0.args; locals = more_locals; blocks = g.0.blocks }, g.2) in out))
+      let out : Goes (length d.words) (length d.locks) b after = (record { name = g.0.name; args = g.0.args; locals = more_locals; named = each_last IsName now.locals r.0 g.0.named h.2; blocks = g.0.blocks }, g.2) in out))
     where
-      in_fine : (ws : List Word) → Holds (λ (r : Word × Tree). (length b.locals < 8) × Sound r.1) (let_in d b ws)
+      in_fine : (ws : List Word) → Holds (λ (r : Word × Tree). (length b.locals < 8) × Sound r.1 × IsName r.0) (let_in d b ws)
       in_fine ws =
-          let P : Word × Tree → Type 0 = λ r. (length b.locals < 8) × Sound r.1 in
-          first_holds P ws _ (λ w rest. whatever P (new_name d b.locals w) _ (λ name.
+          let P : Word × Tree → Type 0 = λ r. (length b.locals < 8) × Sound r.1 × IsName r.0 in
+          first_holds P ws _ (λ w rest. then_holds IsName P (new_name d b.locals w) _ (new_named d b.locals w) (λ name named.
           words_hold P (codes "=") rest _ (λ more. expr_holds P b more _ (λ e fine.
           unless_holds P (nat_le 8 (length b.locals)) Registers _ (λ so.
           let small : length b.locals < 8 = omega (arith, leb-false 8 (length b.locals) so) in
           code_fine P e (length b.locals) (length b.locals) (λ x. Ok (name, Then x.code (put (length b.locals) x.at))) fine (omega arith) (λ x is_x code at.
-          (small, (code, put_sound _ _ (length b.locals) x.at small at))))))))
+          (small, (code, put_sound _ _ (length b.locals) x.at small at), named)))))))
 
   set_fine : (b : Begun) (r : ℕ) (ws : List Word) → length b.locals ≤ 8 → r < length b.locals → Holds Sound (set_tree d b r ws)
   set_fine b r ws few within =
@@ -159,14 +180,28 @@ module _ (d : Drafted) (values : AreValues d.constants) where
       expr_holds Sound b more _ (λ e fe. both_fine Sound b r.0.1 e _ fi fe (λ x y cx ax cy ay.
       (cx, (cy, (within, ax, ay)))))))
 
+  -- what is awaited names what is there
+  abbrev Named : (ℕ × Expr) × Bool × Expr → Type 0
+  Named r = (r.0.0 < length d.words) × IsExpr (length d.words) r.0.1 × IsExpr (length d.words) r.2
+
+  compared_fine : (b : Begun) (ws : List Word) → Holds (λ (r : Bool × Expr). IsExpr (length d.words) r.1) (compared d b ws)
+  compared_fine b ws =
+      first_holds (λ (r : Bool × Expr). IsExpr (length d.words) r.1) ws _ (λ by rest.
+      whatever (λ (r : Bool × Expr). IsExpr (length d.words) r.1) (or_fault Form (awaits_equal by)) _ (λ equal.
+      expr_holds (λ (r : Bool × Expr). IsExpr (length d.words) r.1) b rest _ (λ e fe. fe)))
+
+  awaited_fine : (b : Begun) (ws : List Word) → Holds Named (awaited d b ws)
+  awaited_fine b ws =
+      first_holds Named ws _ (λ w rest. unless_holds Named (not (is_free_name w)) Form _ (λ so.
+      cell_holds Named b w rest _ (λ r within fi.
+      then_holds (λ (x : Bool × Expr). IsExpr (length d.words) x.1) Named (compared d b r.1) _ (compared_fine b r.1) (λ x fe.
+      unless_holds Named (not (is_still r.0.1 && is_still x.1)) Flow _ (λ still. (within, fi, fe))))))
+
   await_fine : (b : Begun) (ws : List Word) → Holds Sound (await_tree d b ws)
   await_fine b ws =
-      first_holds Sound ws _ (λ w rest. unless_holds Sound (not (is_free_name w)) Form _ (λ so.
-      cell_holds Sound b w rest _ (λ r within fi. first_holds Sound r.1 _ (λ by behind.
-      whatever Sound (or_fault Form (awaits_equal by)) _ (λ equal.
-      expr_holds Sound b behind _ (λ e fe. unless_holds Sound (not (is_still r.0.1 && is_still e)) Flow _ (λ still.
-      both_fine Sound b r.0.1 e _ fi fe (λ x y cx ax cy ay.
-      (cx, (cy, awaiting_fine (length d.words) (length d.locks) equal r.0.0 x.at y.at within ax ay))))))))))
+      then_holds Named Sound (awaited d b ws) _ (awaited_fine b ws) (λ r h.
+      both_fine Sound b r.0.1 r.2 _ h.1 h.2 (λ x y cx ax cy ay.
+      (cx, (cy, awaiting_fine (length d.words) (length d.locks) r.1 r.0.0 x.at y.at h.0 ax ay))))
 
   test_fine : (e : Expr) → IsExpr (length d.words) e → IsExpr (length d.words) (as_test e)
   test_fine (Number n) h = h
@@ -287,7 +322,7 @@ module _ (d : Drafted) (values : AreValues d.constants) where
   other_fine b block (Other v t) is fine h = tt
   other_fine b block Turns is fine h = tt
   other_fine b block (Test v) is fine h =
-      (record { name = is.name; args = is.args; locals = fewer block.locals b.locals is.locals; blocks = ((tt, (h, fine)), is.blocks) }, refl)
+      (record { name = is.name; args = is.args; locals = fewer block.locals b.locals is.locals; named = each_taken IsName block.locals b.locals is.named; blocks = ((tt, (h, fine)), is.blocks) }, refl)
 
   pub else_fine : (b : Begun) (block : Block) (ws : List Word) → IsGoing (length d.words) (length d.locks) b → IsBlock (length d.words) (length d.locks) block → Holds (Goes (length d.words) (length d.locks) b) (else_line d b block ws)
   else_fine b block ws is one =
@@ -303,7 +338,7 @@ module _ (d : Drafted) (values : AreValues d.constants) where
   pub end_fine : (b : Begun) (block : Block) → IsGoing (length d.words) (length d.locks) b → IsBlock (length d.words) (length d.locks) block → Holds (Goes (length d.words) (length d.locks) b) (end_block b block)
   end_fine b block is one =
       let outer : Begun = record b { locals = take block.locals b.locals } in
-      let going_outer : IsGoing (length d.words) (length d.locks) outer = record { name = is.name; args = is.args; locals = fewer block.locals b.locals is.locals; blocks = is.blocks } in
+      let going_outer : IsGoing (length d.words) (length d.locks) outer = record { name = is.name; args = is.args; locals = fewer block.locals b.locals is.locals; named = each_taken IsName block.locals b.locals is.named; blocks = is.blocks } in
       goes_weaker b outer (end_block b block) refl
       (fits_goes outer (end_block b block) (blocks_fine outer (closing (closed_by block.opening block.does) block.chained b.blocks) going_outer
       (closing_fine (closed_by block.opening block.does) block.chained b.blocks (closed_sound block.opening block.does one.1 one.0) is.blocks)))

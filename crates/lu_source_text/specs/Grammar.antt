@@ -295,15 +295,25 @@ name_with inner s w ws =
     (on_ok (cell_with inner s w ws) (λ (cell, rest). Ok (Read cell.0 cell.1, rest)))
     (λ e. Ok (e, ws))
 
+-- `(CELL,` behind `cas`
+abbrev pub swapped_with : Inner → Scope → List Word → Read' (ℕ × Expr)
+swapped_with inner s ws =
+    on_ok (behind_word (codes "(") ws) (λ inside. on_first inside (λ w rest.
+    on_ok (cell_with inner s w rest) (λ (cell, second).
+    on_ok (behind_word (codes ",") second) (λ third. Ok (cell, third)))))
+
+-- `OLD, NEW)` behind it
+abbrev pub exchange_with : Inner → List Word → Read' (Expr × Expr)
+exchange_with inner ws =
+    on_ok (closed_with inner (codes ",") ws) (λ (old, rest).
+    on_ok (closed_with inner (codes ")") rest) (λ (new, more). Ok ((old, new), more)))
+
 -- `(CELL, OLD, NEW)` behind `cas`
 abbrev pub cas_with : Inner → Scope → List Word → Read' Expr
 cas_with inner s ws =
-    on_ok (behind_word (codes "(") ws) (λ inside. on_first inside (λ w rest.
-    on_ok (cell_with inner s w rest) (λ (cell, second).
-    on_ok (behind_word (codes ",") second) (λ third.
-    on_ok (closed_with inner (codes ",") third) (λ (old, fourth).
-    on_ok (closed_with inner (codes ")") fourth) (λ (new, more).
-    Ok (Swap cell.0 cell.1 old new, more)))))))
+    on_ok (swapped_with inner s ws) (λ (cell, rest).
+    on_ok (exchange_with inner rest) (λ ((old, new), more).
+    Ok (Swap cell.0 cell.1 old new, more)))
 
 -- `(K)` behind `pick`
 abbrev pub pick_from : List Constant → List Word → Read' Expr
@@ -366,11 +376,13 @@ expr_of s ws = on_ok (expr_from (steps_for ws) s 1 ws) all_read
 abbrev pub cas_of : Scope → List Word → Result Expr Kind
 cas_of s ws = on_ok (cas_with (inner_of s ws) s ws) all_read
 
+-- what was read, and then this word, which is the last
+abbrev pub last_word : {A : Type 0} → List ℕ → A × List Word → Result A Kind
+last_word text (x, ws) = on_ok (behind_word text ws) (λ more. all_read (x, more))
+
 -- an expression in front of `{`, which is the last word
 abbrev pub expr_before_brace : Scope → List Word → Result Expr Kind
-expr_before_brace s ws =
-    on_ok (expr_from (steps_for ws) s 1 ws) (λ (e, rest).
-    on_ok (behind_word (codes "{") rest) (λ more. all_read (e, more)))
+expr_before_brace s ws = on_ok (expr_from (steps_for ws) s 1 ws) (last_word (codes "{"))
 
 -- a number, behind which no word is left
 abbrev pub last_number : List Constant → List Word → Result ℕ Kind
@@ -590,16 +602,25 @@ awaits_equal w =
 abbrev pub awaiting : Bool → ℕ → Operand → Operand → Action
 awaiting equal w i v = if equal then action.Await w i v else action.AwaitNot w i v
 
+-- `== EXPR` or `!= EXPR` behind the cell: whether it is to be equal, and what to
+abbrev pub compared : Drafted → Begun → List Word → Result (Bool × Expr) Kind
+compared d b ws =
+    on_first ws (λ by rest. on_ok (or_fault Form (awaits_equal by)) (λ equal.
+    on_ok (expr_of (scope_of d b) rest) (λ e. Ok (equal, e))))
+
+-- what is awaited of a cell
+abbrev pub awaited : Drafted → Begun → List Word → Result ((ℕ × Expr) × Bool × Expr) Kind
+awaited d b ws =
+    on_first ws (λ w rest. unless (not (is_free_name w)) Form
+    (on_ok (cell_in (scope_of d b) w rest) (λ (cell, more).
+    on_ok (compared d b more) (λ (equal, e).
+    unless (not (is_still cell.1 && is_still e)) Flow (Ok (cell, equal, e))))))
+
 -- `await CELL == EXPR` and `await CELL != EXPR`
 abbrev pub await_tree : Drafted → Begun → List Word → Result Tree Kind
 await_tree d b ws =
-    on_first ws (λ w rest. unless (not (is_free_name w)) Form
-    (on_ok (cell_in (scope_of d b) w rest) (λ (cell, more).
-    on_first more (λ by behind. on_ok (or_fault Form (awaits_equal by)) (λ equal.
-    on_ok (expr_of (scope_of d b) behind) (λ e.
-    unless (not (is_still cell.1 && is_still e)) Flow
-    (on_ok (both_of b cell.1 e) (λ (x, y).
-    Ok (Then x.code (Then y.code (Plain (awaiting equal cell.0 x.at y.at))))))))))))
+    on_ok (awaited d b ws) (λ (cell, equal, e). on_ok (both_of b cell.1 e) (λ (x, y).
+    Ok (Then x.code (Then y.code (Plain (awaiting equal cell.0 x.at y.at))))))
 
 abbrev pub is_loop : Opening → Bool
 is_loop Turns = true

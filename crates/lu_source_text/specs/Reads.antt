@@ -14,6 +14,7 @@ use Rattle.lu_source.specs.Programs.{operation_of}
 use Rattle.lu_source.specs.Trees.{Operation, Tree}
 use Rattle.lu_source_text.specs.declared.fault.Refusal.{Refusal}
 use Rattle.lu_source_text.specs.declared.fault.Refusal.TheVariants.{Kind as OfKind, Memory}
+use Rattle.lu_source_text.specs.declared.scope.Awaited.{Awaited}
 use Rattle.lu_source_text.specs.declared.scope.Cell.{Cell}
 use Rattle.lu_source_text.specs.declared.scope.Scope.{Scope as Lent}
 use Rattle.lu_source_text.specs.Drafts.{begun_of, block_of, drafted_of}
@@ -22,7 +23,7 @@ use Rattle.lu_source_text.specs.declared.draft.Begun.{Begun as HeldBegun}
 use Rattle.lu_source_text.specs.declared.draft.Draft.{Draft}
 use Rattle.lu_source_text.specs.declared.draft.Constant.{Constant}
 use Rattle.lu_source_text.specs.declared.draft.Shared.{Shared}
-use Rattle.lu_source_text.specs.Grammar.{Begun, Block, Drafted, Kind, Scope, const_line, local_line, lock_line, object_line, op_line, word_line}
+use Rattle.lu_source_text.specs.Grammar.{Begun, Block, Drafted, Kind, Scope, all_read, const_line, last_word, local_line, lock_line, object_line, op_line, word_line}
 
 -- a refusal is the fault, unless memory ran out
 abbrev pub IsRefused : {B : Type 0} → Refusal → Result B Kind → Type 0
@@ -104,7 +105,31 @@ cell_of cell = (cell.array, expr_of cell.index)
 abbrev pub ReadsCell : Result (Cell × Left) Refusal → Result ((ℕ × Expr) × List Word) Kind → Type 0
 ReadsCell returned meant = Reads (with_rest cell_of) returned meant
 
+abbrev pub ReadsExchange : Result ((Boxed × Boxed) × Left) Refusal
+    → Result ((Expr × Expr) × List Word) Kind → Type 0
+ReadsExchange returned meant =
+    Reads (with_rest (λ (old, new). (expr_of old, expr_of new))) returned meant
+
+-- no word stands behind an expression that was read
+abbrev pub ReadsNoMore : Result (Unit {0}) Refusal → List Word → Type 0
+ReadsNoMore returned ws = (e : Expr) → Reads (λ _. e) returned (all_read (e, ws))
+
+-- this word stands behind it, as the last one
+abbrev pub ReadsLast : Result (Unit {0}) Refusal → List ℕ → List Word → Type 0
+ReadsLast returned text ws = (e : Expr) → Reads (λ _. e) returned (last_word text (e, ws))
+
 -- ---- in an open operation
+
+-- whether to be equal, and what to
+abbrev pub ReadsCompared : Result (Bool × Boxed) Refusal → Result (Bool × Expr) Kind → Type 0
+ReadsCompared returned meant = Reads (λ (equal, e). (equal, expr_of e)) returned meant
+
+-- what is awaited of a cell
+abbrev pub awaited_of : Awaited → (ℕ × Expr) × Bool × Expr
+awaited_of a = (cell_of a.cell, a.equal, expr_of a.value)
+
+abbrev pub ReadsAwaited : Result Awaited Refusal → Result ((ℕ × Expr) × Bool × Expr) Kind → Type 0
+ReadsAwaited returned meant = Reads awaited_of returned meant
 
 -- an expression that all the words are
 abbrev pub ReadsWhole : Result Boxed Refusal → Result Expr Kind → Type 0

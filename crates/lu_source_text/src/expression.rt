@@ -6,7 +6,7 @@ ghost use Rattle.lu_text.specs.Lines.{texts};
 ghost use Rattle.lu_source.specs.Evaluations.{expr_of};
 ghost use Rattle.lu_source.specs.Expressions.Expr.{Not, Swap};
 ghost use Rattle.lu_source_text.specs.Grammar as spec;
-ghost use Rattle.lu_source_text.specs.Reads.{ReadsCell, ReadsExpr, ReadsNumber, ReadsWords, meanings};
+ghost use Rattle.lu_source_text.specs.Reads.{ReadsCell, ReadsExchange, ReadsExpr, ReadsLast, ReadsNoMore, ReadsNumber, ReadsWords, meanings};
 
 use crate::draft::Constant;
 use crate::fault::{Refusal, SourceFaultKind};
@@ -32,6 +32,23 @@ pub(crate) fn behind_word<'a>(text: &[u8], words: &'a [&'a [u8]]) -> Result<&'a 
     } else {
         Err(Refusal::Kind(SourceFaultKind::Form))
     }
+}
+
+/// Whether nothing stands behind what was read.
+pub(crate) fn nothing_left(words: &[&[u8]]) -> Result<(), Refusal>
+    ensures { ReadsNoMore result (texts words.now) }
+{
+    match words.split_first() {
+        None => Ok(()),
+        Some(_) => Err(Refusal::Kind(SourceFaultKind::Form)),
+    }
+}
+
+/// Whether this word stands behind what was read, as the last one.
+pub(crate) fn last_word(text: &[u8], words: &[&[u8]]) -> Result<(), Refusal>
+    ensures { ReadsLast result text.now (texts words.now) }
+{
+    nothing_left(behind_word(text, words)?)
 }
 
 /// A number, and the words behind it.
@@ -163,6 +180,42 @@ fn name_with<'a>(
     Ok((Expr::Read(cell.array, index), rest))
 }
 
+/// `(CELL,` behind `cas`.
+#[cycle(expression)]
+fn swapped_with<'a>(
+    alloc: Global,
+    steps: usize,
+    scope: Scope<'_>,
+    words: &'a [&'a [u8]],
+) -> Result<(Cell, &'a [&'a [u8]]), Refusal>
+    ensures { ReadsCell result (spec.swapped_with
+        (spec.expr_from steps (meanings scope.entry)) (meanings scope.entry) (texts words.now)) }
+{
+    let inside = behind_word(b"(".as_slice(), words)?;
+    let Some((word, rest)) = inside.split_first() else {
+        return Err(Refusal::Kind(SourceFaultKind::Form));
+    };
+    let (cell, second) = cell_with(alloc, steps, scope, word, rest)?;
+    let third = behind_word(b",".as_slice(), second)?;
+    Ok((cell, third))
+}
+
+/// `OLD, NEW)` behind it.
+#[cycle(expression)]
+fn exchange_with<'a>(
+    alloc: Global,
+    steps: usize,
+    scope: Scope<'_>,
+    words: &'a [&'a [u8]],
+) -> Result<((Expr, Expr), &'a [&'a [u8]]), Refusal>
+    ensures { ReadsExchange result (spec.exchange_with
+        (spec.expr_from steps (meanings scope.entry)) (texts words.now)) }
+{
+    let (old, rest) = closed_with(alloc, steps, scope, b",".as_slice(), words)?;
+    let (new, more) = closed_with(alloc, steps, scope, b")".as_slice(), rest)?;
+    Ok(((old, new), more))
+}
+
 /// `(CELL, OLD, NEW)` behind `cas`.
 #[cycle(expression)]
 pub(crate) fn cas_with<'a>(
@@ -174,14 +227,8 @@ pub(crate) fn cas_with<'a>(
     ensures { ReadsExpr result (spec.cas_with
         (spec.expr_from steps (meanings scope.entry)) (meanings scope.entry) (texts words.now)) }
 {
-    let inside = behind_word(b"(".as_slice(), words)?;
-    let Some((word, rest)) = inside.split_first() else {
-        return Err(Refusal::Kind(SourceFaultKind::Form));
-    };
-    let (cell, second) = cell_with(alloc, steps, scope, word, rest)?;
-    let third = behind_word(b",".as_slice(), second)?;
-    let (old, fourth) = closed_with(alloc, steps, scope, b",".as_slice(), third)?;
-    let (new, more) = closed_with(alloc, steps, scope, b")".as_slice(), fourth)?;
+    let (cell, rest) = swapped_with(alloc, steps, scope, words)?;
+    let ((old, new), more) = exchange_with(alloc, steps, scope, rest)?;
     Ok((swap(alloc, cell, old, new)?, more))
 }
 

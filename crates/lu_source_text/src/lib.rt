@@ -1,6 +1,7 @@
 //! Texts of sources: what they say, line by line, and the components that they stand for.
 #![tactic(auto)]
 
+mod begins;
 mod blocks;
 mod closing;
 mod declaration;
@@ -10,6 +11,7 @@ mod fault;
 mod infix;
 mod laws;
 mod names;
+mod origins;
 mod reading;
 mod scope;
 mod simple;
@@ -17,7 +19,11 @@ mod source;
 mod statement;
 mod words;
 
+pub use begins::is_source;
 pub use fault::{SourceFault, SourceFaultKind};
 pub use laws::reader_laws;
-pub use reading::{compile_text, read_source};
+pub use names::is_free_name;
+pub use origins::source_origins;
+pub use reading::{compile_text, read_source, read_source_lines};
 pub use source::Source;
+pub use words::source_words;

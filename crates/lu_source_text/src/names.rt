@@ -72,8 +72,8 @@ pub(crate) fn number_of(constants: &[Constant], word: &[u8]) -> Option<u32>
     }
 }
 
-/// Whether the word may be a name: it has the form of one, and is no keyword.
-pub(crate) fn is_free_name(word: &[u8]) -> bool
+/// Whether the word may be a name: it has the form of one, of any length, and is no keyword.
+pub fn is_free_name(word: &[u8]) -> bool
     ensures { result ≡ spec.is_free_name word.now }
 {
     has_name_form(word) && !is_keyword(word)

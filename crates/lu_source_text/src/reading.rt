@@ -29,7 +29,7 @@ const MOST_LINES: u16 = 256;
 const MOST_WORDS: usize = 256;
 
 /// Nothing is declared yet.
-fn new_draft(alloc: Global) -> Draft
+pub(crate) fn new_draft(alloc: Global) -> Draft
     ensures { drafted_of result ≡ spec.nothing }
 {
     Draft {
@@ -130,7 +130,12 @@ fn read_line(alloc: Global, draft: Draft, text: &[u8]) -> Result<Draft, Refusal>
 }
 
 /// The draft behind a line, or the fault with the line's number.
-fn line_read(alloc: Global, line: usize, draft: Draft, text: &[u8]) -> Result<Draft, SourceFault>
+pub(crate) fn line_read(
+    alloc: Global,
+    line: usize,
+    draft: Draft,
+    text: &[u8],
+) -> Result<Draft, SourceFault>
     ensures { GivesDraft line result (spec.line_of (drafted_of draft) text.now) }
 {
     match read_line(alloc, draft, text) {
@@ -148,7 +153,7 @@ fn arrays_of(alloc: Global, words: Vec<Shared>) -> Result<Vec<Array>, AllocError
 }
 
 /// What is declared at the end of the text.
-fn finish(alloc: Global, line: usize, draft: Draft) -> Result<Source, SourceFault>
+pub(crate) fn finish(alloc: Global, line: usize, draft: Draft) -> Result<Source, SourceFault>
     ensures { GivesSource result (on_line line (source_grammar.finish (drafted_of draft))) }
 {
     let Draft {
@@ -175,7 +180,15 @@ fn finish(alloc: Global, line: usize, draft: Draft) -> Result<Source, SourceFaul
     }
 }
 
-fn read_lines(alloc: Global, lines: &[&[u8]]) -> Result<Source, SourceFault>
+/// Reads a source from its lines, without their LFs.
+///
+/// A fault is the first one by line, and on a line the first from left to right. One at the end
+/// carries the number of lines plus one.
+///
+/// # Errors
+///
+/// The first fault of the lines, or that there is no memory for the source.
+pub fn read_source_lines(alloc: Global, lines: &[&[u8]]) -> Result<Source, SourceFault>
     ensures { GivesSource result (meaning_of_lines source_grammar (texts lines.now)) }
 {
     let mut draft = new_draft(alloc);
@@ -198,7 +211,7 @@ pub fn read_source(alloc: Global, text: &[u8]) -> Result<Source, SourceFault>
     ensures { GivesSource result (meaning_of source_grammar text.now) }
 {
     let lines = lines_of(alloc, text)?;
-    read_lines(alloc, &lines)
+    read_source_lines(alloc, &lines)
 }
 
 fn component_of(alloc: Global, text: &[u8]) -> Result<Component, SourceFault>

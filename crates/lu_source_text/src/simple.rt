@@ -9,13 +9,15 @@ ghost use Rattle.lu_source.specs.Expressions as expressions;
 ghost use Rattle.lu_source.specs.Shapes.{tree_of};
 ghost use Rattle.lu_source_text.specs.Drafts.{begun_of, blocks_of, drafted_of, opening_of};
 ghost use Rattle.lu_source_text.specs.Grammar as spec;
-ghost use Rattle.lu_source_text.specs.Reads.{Reads, ReadsBoth, ReadsCell, ReadsCode, ReadsTree, ReadsWhole};
+ghost use Rattle.lu_source_text.specs.Reads.{Reads, ReadsAwaited, ReadsBoth, ReadsCell, ReadsCode, ReadsCompared, ReadsTree, ReadsWhole};
 
 use crate::draft::{Begun, Block, Draft, Opening};
-use crate::expression::{behind_word, cas_with, cell_with, expr_from, local_in};
+use crate::expression::{
+    behind_word, cas_with, cell_with, expr_from, last_word, local_in, nothing_left,
+};
 use crate::fault::{Refusal, SourceFaultKind};
 use crate::names::{is_free_name, place_from};
-use crate::scope::{Cell, Scope};
+use crate::scope::{Awaited, Cell, Scope};
 use lu_component::Operand;
 use lu_source::{Action, Evaluation, Expr, Stmt, coded, past, put, then};
 use std::alloc::{AllocError, Global};
@@ -36,9 +38,7 @@ pub(crate) fn expr_in(
         locals: &begun.locals,
     };
     let (expr, rest) = expr_from(alloc, words.len() + 2, scope, 1, words)?;
-    if let Some(_) = rest.split_first() {
-        return Err(Refusal::Kind(SourceFaultKind::Form));
-    }
+    nothing_left(rest)?;
     Ok(expr)
 }
 
@@ -58,10 +58,7 @@ pub(crate) fn expr_before_brace(
         locals: &begun.locals,
     };
     let (expr, rest) = expr_from(alloc, words.len() + 2, scope, 1, words)?;
-    let more = behind_word(b"{".as_slice(), rest)?;
-    if let Some(_) = more.split_first() {
-        return Err(Refusal::Kind(SourceFaultKind::Form));
-    }
+    last_word(b"{".as_slice(), rest)?;
     Ok(expr)
 }
 
@@ -76,9 +73,7 @@ fn cas_in(alloc: Global, draft: &Draft, begun: &Begun, words: &[&[u8]]) -> Resul
         locals: &begun.locals,
     };
     let (expr, rest) = cas_with(alloc, words.len() + 2, scope, words)?;
-    if let Some(_) = rest.split_first() {
-        return Err(Refusal::Kind(SourceFaultKind::Form));
-    }
+    nothing_left(rest)?;
     Ok(expr)
 }
 
@@ -238,9 +233,28 @@ fn awaiting(equal: bool, array: u8, index: Operand, value: Operand) -> Action
     }
 }
 
-/// `await CELL == EXPR` and `await CELL != EXPR`.
-fn await_tree(alloc: Global, draft: &Draft, begun: &Begun, words: &[&[u8]]) -> Result<Stmt, Refusal>
-    ensures { ReadsTree result (spec.await_tree
+/// `== EXPR` or `!= EXPR` behind the cell: whether it is to be equal, and what to.
+fn compared(
+    alloc: Global,
+    draft: &Draft,
+    begun: &Begun,
+    words: &[&[u8]],
+) -> Result<(bool, Expr), Refusal>
+    ensures { ReadsCompared result (spec.compared
+        (drafted_of draft.now) (begun_of begun.now) (texts words.now)) }
+{
+    let Some((by, rest)) = words.split_first() else {
+        return Err(Refusal::Kind(SourceFaultKind::Form));
+    };
+    let Some(equal) = awaits_equal(by) else {
+        return Err(Refusal::Kind(SourceFaultKind::Form));
+    };
+    Ok((equal, expr_in(alloc, draft, begun, rest)?))
+}
+
+/// What is awaited of a cell.
+fn awaited(alloc: Global, draft: &Draft, begun: &Begun, words: &[&[u8]]) -> Result<Awaited, Refusal>
+    ensures { ReadsAwaited result (spec.awaited
         (drafted_of draft.now) (begun_of begun.now) (texts words.now)) }
 {
     let Some((word, rest)) = words.split_first() else {
@@ -250,19 +264,23 @@ fn await_tree(alloc: Global, draft: &Draft, begun: &Begun, words: &[&[u8]]) -> R
         return Err(Refusal::Kind(SourceFaultKind::Form));
     }
     let (cell, more) = cell_in(alloc, draft, begun, word, rest)?;
-    let Some((by, behind)) = more.split_first() else {
-        return Err(Refusal::Kind(SourceFaultKind::Form));
-    };
-    let Some(equal) = awaits_equal(by) else {
-        return Err(Refusal::Kind(SourceFaultKind::Form));
-    };
-    let expr = expr_in(alloc, draft, begun, behind)?;
-    if !(is_still(&cell.index) && is_still(&expr)) {
-        return Err(Refusal::Kind(SourceFaultKind::Flow));
+    let (equal, value) = compared(alloc, draft, begun, more)?;
+    if is_still(&cell.index) && is_still(&value) {
+        Ok(Awaited { cell, equal, value })
+    } else {
+        Err(Refusal::Kind(SourceFaultKind::Flow))
     }
-    let (index, value) = both_of(alloc, begun, &cell.index, &expr)?;
-    let action = awaiting(equal, cell.array, index.at, value.at);
-    Ok(both_then(alloc, index.code, value.code, action)?)
+}
+
+/// `await CELL == EXPR` and `await CELL != EXPR`.
+fn await_tree(alloc: Global, draft: &Draft, begun: &Begun, words: &[&[u8]]) -> Result<Stmt, Refusal>
+    ensures { ReadsTree result (spec.await_tree
+        (drafted_of draft.now) (begun_of begun.now) (texts words.now)) }
+{
+    let Awaited { cell, equal, value } = awaited(alloc, draft, begun, words)?;
+    let (index, other) = both_of(alloc, begun, &cell.index, &value)?;
+    let action = awaiting(equal, cell.array, index.at, other.at);
+    Ok(both_then(alloc, index.code, other.code, action)?)
 }
 
 fn is_loop(block: &Block) -> bool

@@ -85,8 +85,13 @@ fn words_in(alloc: Global, bytes: &[u8]) -> Result<Vec<&[u8]>, AllocError>
     Ok(words)
 }
 
-/// The words of a line, up to a comment.
-pub(crate) fn source_words(alloc: Global, line: &[u8]) -> Result<Vec<&[u8]>, AllocError>
+/// The words of a line, up to a comment: all letters, digits and `_` that stand together, an
+/// operator of two bytes, or one byte.
+///
+/// # Errors
+///
+/// There is no memory for the list.
+pub fn source_words(alloc: Global, line: &[u8]) -> Result<Vec<&[u8]>, AllocError>
     ensures { IfOk result (λ words. texts words.items ≡ spec.source_words line.now) }
 {
     words_in(alloc, before_comment(line))

@@ -2,22 +2,28 @@ use Rattle.std.proofs.Common.{◌+◌, ◌*◌}
 use Rattle.lu_source_text.proofs.expression.+expression.Given as goal
 
 abbrev pub decreases-expr_from : goal.decreases-expr_from
-decreases-expr_from l = 5 * l.steps
+decreases-expr_from l = 6 * l.steps
 
 abbrev pub decreases-infix_from : goal.decreases-infix_from
-decreases-infix_from l = 5 * l.steps
+decreases-infix_from l = 6 * l.steps
 
 abbrev pub decreases-closed_with : goal.decreases-closed_with
-decreases-closed_with l = 5 * l.steps + 1
+decreases-closed_with l = 6 * l.steps + 1
 
 abbrev pub decreases-cell_with : goal.decreases-cell_with
-decreases-cell_with l = 5 * l.steps + 2
+decreases-cell_with l = 6 * l.steps + 2
 
 abbrev pub decreases-name_with : goal.decreases-name_with
-decreases-name_with l = 5 * l.steps + 3
+decreases-name_with l = 6 * l.steps + 3
+
+abbrev pub decreases-swapped_with : goal.decreases-swapped_with
+decreases-swapped_with l = 6 * l.steps + 3
+
+abbrev pub decreases-exchange_with : goal.decreases-exchange_with
+decreases-exchange_with l = 6 * l.steps + 2
 
 abbrev pub decreases-cas_with : goal.decreases-cas_with
-decreases-cas_with l = 5 * l.steps + 3
+decreases-cas_with l = 6 * l.steps + 4
 
 abbrev pub decreases-unary_with : goal.decreases-unary_with
-decreases-unary_with l = 5 * l.steps + 4
+decreases-unary_with l = 6 * l.steps + 5

@@ -3,7 +3,7 @@ use Rattle.std.proofs.lemmas.Result.{err_from_is_err_and}
 use Rattle.lu_text.proofs.Reading.{goes_on, ends, is_done, text_more, texts_end}
 use Rattle.lu_source_text.specs.Drafts.{drafted_of}
 use Rattle.lu_source_text.specs.Grammar.{source_grammar}
-use Rattle.lu_source_text.proofs.reading.read_lines.Goals as goal
+use Rattle.lu_source_text.proofs.reading.read_source_lines.Goals as goal
 
 pub loop-before-init : goal.loop-before-init
 loop-before-init c = rw c.new_draft-draft.ensures refl

@@ -3,7 +3,7 @@ use Rattle.lu_text.specs.Lines.{texts}
 use Rattle.lu_text.specs.Faults.{lines_after}
 use Rattle.lu_source_text.specs.Drafts.{drafted_of}
 use Rattle.lu_source_text.specs.Grammar.{nothing, source_grammar}
-use Rattle.lu_source_text.proofs.reading.read_lines.Given as goal
+use Rattle.lu_source_text.proofs.reading.read_source_lines.Given as goal
 
 abbrev pub invariant-loop-before : goal.invariant-loop-before
 invariant-loop-before l =
