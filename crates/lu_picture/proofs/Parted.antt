@@ -13,6 +13,7 @@ use Rattle.lu_machine.specs.States.{State}
 use Rattle.lu_machine.proofs.Keeping.{step_moved}
 use Rattle.lu_history.proofs.Events.{at_push}
 use Rattle.lu_picture.specs.declared.mark.Mark.{Mark}
+use Rattle.lu_trace.specs.declared.wording.Wording.{Wording}
 use Rattle.lu_picture.specs.Shapes.{pitch}
 use Rattle.lu_picture.specs.Pictures.{Drawn, Draws, IsRun, nothing_drawn, with_move}
 use Rattle.lu_picture.specs.Laws.{IsMarkOfCall, RowTextsPart, texts_width}
@@ -69,12 +70,12 @@ mark_on s d e event is more wide part = record {
     ]
 
 -- one move more
-move_part : (n : ℕ) (d : Drawn) (s : State) (m : Move) (event : Option Event) (below : List ℕ) (e : Drawn) → e ≡ with_move n d s m event below → RowTextsPart s d → RowTextsPart s e
-move_part n d s m None below e is part =
+move_part : (how : Wording) (n : ℕ) (d : Drawn) (s : State) (m : Move) (event : Option Event) (below : List ℕ) (e : Drawn) → e ≡ with_move how n d s m event below → RowTextsPart s d → RowTextsPart s e
+move_part how n d s m None below e is part =
     let marks : e.marks ≡ d.marks = ap (λ (x : Drawn). x.marks) is ∙ append-nil d.marks in
     let edge = ap (λ (x : Drawn). x.edge) is in
     edge_on s d e marks (omega (arith, edge)) part
-move_part n d s m (Some (Call t k)) below e is part =
+move_part how n d s m (Some (Call t k)) below e is part =
     let edge = ap (λ (x : Drawn). x.edge) is in
     let some = le-max_right (pitch n) (texts_width s t k + 8) in
     mark_on s d e (Call t k) (ap (λ (x : Drawn). x.marks) is) (omega (arith, edge)) (λ u j same. rw (sym (ap thread_called same), sym (ap number_called same)) (omega (arith, edge, some))) part
@@ -86,18 +87,18 @@ move_part n d s m (Some (Call t k)) below e is part =
     number_called : Event → ℕ
     number_called (Call t k) = k
     number_called (Return t k outcome) = k
-move_part n d s m (Some (Return t k outcome)) below e is part =
+move_part how n d s m (Some (Return t k outcome)) below e is part =
     let edge = ap (λ (x : Drawn). x.edge) is in
     mark_on s d e (Return t k outcome) (ap (λ (x : Drawn). x.marks) is) (omega (arith, edge)) (λ u j same. absurd (cc same)) part
 
-draws_part : (n : ℕ) (d : Drawn) (s : State) (u : List Move) (end : State) (e : Drawn) → Draws n d s u end e → RowTextsPart s d → RowTextsPart end e
-draws_part n d s [] end e h part =
+draws_part : (how : Wording) (n : ℕ) (d : Drawn) (s : State) (u : List Move) (end : State) (e : Drawn) → Draws how n d s u end e → RowTextsPart s d → RowTextsPart end e
+draws_part how n d s [] end e h part =
     subst (λ (x : State). RowTextsPart x e) (sym h.0) (subst (λ (x : Drawn). RowTextsPart s x) (sym h.1) part)
-draws_part n d s (m ∷ u) end e h part =
-    let moved = step_moved s m h.0 h.2.1 (move_steps n d s m h.0 h.1 h.2) in
-    let here = move_part n d s m h.2.1 h.2.2 h.1 h.2.5 part in
-    draws_part n h.1 h.0 u end e h.3 (texts_kept s h.0 h.1 moved.component moved.matrix here)
+draws_part how n d s (m ∷ u) end e h part =
+    let moved = step_moved s m h.0 h.2.1 (move_steps how n d s m h.0 h.1 h.2) in
+    let here = move_part how n d s m h.2.1 h.2.2 h.1 h.2.5 part in
+    draws_part how n h.1 h.0 u end e h.3 (texts_kept s h.0 h.1 moved.component moved.matrix here)
 
-pub texts_part : (c : Declarations) (matrix : Matrix) (u : List Move) (end : State) (status : Status) (d : Drawn) → IsRun c matrix u end status d → RowTextsPart end d
-texts_part c matrix u end status d run =
-    draws_part (length u) nothing_drawn run.start u end d run.draws (none_part run.start nothing_drawn refl)
+pub texts_part : (how : Wording) (c : Declarations) (matrix : Matrix) (u : List Move) (end : State) (status : Status) (d : Drawn) → IsRun how c matrix u end status d → RowTextsPart end d
+texts_part how c matrix u end status d run =
+    draws_part how (length u) nothing_drawn run.start u end d run.draws (none_part run.start nothing_drawn refl)

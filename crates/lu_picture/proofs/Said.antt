@@ -1,5 +1,5 @@
 -- The words of a state need no escape.
-use Rattle.std.proofs.Common.{◌≡◌, ℕ, ◌==◌, List, [], ◌++◌, Option, Some, None, slice_get, length, unwrap_or, codes, refl}
+use Rattle.std.proofs.Common.{◌≡◌, ℕ, ◌==◌, Bool, List, [], ◌++◌, Option, Some, None, slice_get, length, unwrap_or, codes, refl}
 use Rattle.std.specs.Fmt.{decimal}
 use Rattle.std.specs.List.{join_with_byte, list_any}
 use Rattle.std.specs.Option.{option_map, option_map_or}
@@ -42,13 +42,16 @@ use Rattle.lu_explain.specs.declared.explanation.Reason.TheVariants.{After, Outc
 use Rattle.lu_explain.specs.Explanations.{Explained, reason_of}
 use Rattle.lu_explain.specs.Lines.{call_words as call_behind, operation_words, outcome_words as ended_words, reason_words}
 use Rattle.lu_replay.specs.Text.{replay_text, status_text}
-use Rattle.lu_trace.specs.Deeds.{awaited, cell_becomes, cell_is, cell_is_not, cell_word, deed, goes_on_at, jump_deed, look_deed, or_trap, owned_by, present, register_becomes, seen, swap_deed, swap_of}
-use Rattle.lu_trace.specs.Lines.{call_words as call_said, code_of_operation, instr_text, next_call, next_instr, next_move_words}
+use Rattle.lu_trace.specs.declared.wording.Wording.{Wording}
+use Rattle.lu_trace.specs.declared.wording.Wording.TheVariants.{Component}
+use Rattle.lu_trace.specs.Wordings.{goes_on_at, is_indexed, register_becomes}
+use Rattle.lu_trace.specs.Deeds.{awaited, cell_becomes, cell_is, cell_is_not, cell_word, deed, index_word, jump_deed, looked, named_cell, or_trap, owned_by, present, register_behind, loaded, seen, swap_of, swapped}
+use Rattle.lu_trace.specs.Lines.{call_words as call_said, code_of_operation, told_by, next_call, next_instr, next_move_words}
 use Rattle.lu_picture.specs.declared.mark.End.{End}
 use Rattle.lu_picture.specs.Reasons.{outcome_of, why_words}
-use Rattle.lu_picture.specs.Shapes.{activity_waits, call_words, heading, instr_waits, status_words, step_words, wait_words}
+use Rattle.lu_picture.specs.Shapes.{activity_waits, call_words, heading, instr_wait, status_words, step_words, wait_words}
 use Rattle.lu_picture.specs.Escapes.{IsPlain, SaysPlain}
-use Rattle.lu_picture.proofs.Plain.{ArePlain, plain_append, plain_decimal, plain_each, plain_five, plain_four, plain_if, plain_joined, plain_name, plain_three}
+use Rattle.lu_picture.proofs.Plain.{ArePlain, plain_append, plain_decimal, plain_each, plain_five, plain_if, plain_joined, plain_name, plain_three}
 
 -- ---- names
 
@@ -138,70 +141,75 @@ label_text_plain : (code : List Instr) (place : ℕ) → IsPlain (label_text cod
 label_text_plain code place =
     plain_if (list_any (leads_to place) code) (label_word place ++ codes ": ") [] (plain_append (label_word place) (codes ": ") (label_plain place) refl) refl
 
-instr_plain : (c : Declarations) (f : Frame) (instr : Instr) → IsComponent c → IsPlain (instr_text c f instr)
+instr_plain : (c : Declarations) (f : Frame) (instr : Instr) → IsComponent c → IsPlain (told_by Component c f instr)
 instr_plain c f instr limits =
     plain_three (label_text (code_of_operation c f.op) f.place) (join_with_byte 32 (instr_words c instr)) (codes "  # ") (label_text_plain (code_of_operation c f.op) f.place) (plain_joined (instr_words c instr) (words_plain c instr limits)) refl
 
 -- ---- what instructions do
 
-becomes_plain : (r n : ℕ) → IsPlain (register_becomes r n)
-becomes_plain r n =
+becomes_plain : (f : Frame) (r n : ℕ) → IsPlain (register_becomes Component f r n)
+becomes_plain f r n =
     plain_three (register_word r) (codes " = ") (decimal n) (register_plain r) refl (plain_decimal n)
 
-cell_plain : (c : Declarations) (w i : ℕ) → IsComponent c → IsPlain (cell_word c w i)
-cell_plain c w i limits =
-    plain_four (array_word c w) (codes "[") (decimal i) (codes "]") (array_plain c w limits) refl (plain_decimal i) refl
+index_plain : (indexed : Bool) (i : ℕ) → IsPlain (index_word indexed i)
+index_plain indexed i =
+    plain_if indexed (codes "[" ++ decimal i ++ codes "]") [] (plain_three (codes "[") (decimal i) (codes "]") refl (plain_decimal i) refl) refl
+
+cell_plain : (how : Wording) (c : Declarations) (w i : ℕ) → IsComponent c → IsPlain (cell_word how c (record { array = w; index = i }))
+cell_plain how c w i limits =
+    plain_append (array_word c w) (index_word (is_indexed how w) i) (array_plain c w limits) (index_plain (is_indexed how w) i)
 
 -- a cell, what is said of it, and a number
-cell_said : (c : Declarations) (w i n : ℕ) (said : List ℕ) → IsComponent c → IsPlain said → IsPlain (cell_word c w i ++ said ++ decimal n)
-cell_said c w i n said limits p =
-    plain_three (cell_word c w i) said (decimal n) (cell_plain c w i limits) p (plain_decimal n)
+cell_said : (how : Wording) (c : Declarations) (w i n : ℕ) (said : List ℕ) → IsComponent c → IsPlain said → IsPlain (cell_word how c (record { array = w; index = i }) ++ said ++ decimal n)
+cell_said how c w i n said limits p =
+    plain_three (cell_word how c (record { array = w; index = i })) said (decimal n) (cell_plain how c w i limits) p (plain_decimal n)
 
 or_trap_plain : (said : ℕ → List ℕ) → ((n : ℕ) → IsPlain (said n)) → (o : Option ℕ) → IsPlain (or_trap said o)
 or_trap_plain said p None = refl
 or_trap_plain said p (Some n) = p n
 
-look_plain : (s : State) (f : Frame) (w : ℕ) (i : Operand) → IsComponent s.component → IsPlain (look_deed s f w i)
+look_plain : (s : State) (f : Frame) (w : ℕ) (i : Operand) → IsComponent s.component → IsPlain (looked Component s f w i)
 look_plain s f w i limits =
-    or_trap_plain (λ n. cell_is s.component w (value_of f i) n) (λ n. cell_said s.component w (value_of f i) n (codes " is ") limits refl) (seen s f w i)
+    or_trap_plain (cell_is Component s.component (named_cell f w i)) (λ n. cell_said Component s.component w (value_of f i) n (codes " is ") limits refl) (seen s f w i)
 
-swap_plain : (c : Declarations) (f : Frame) (to w : ℕ) (i expected desired : Operand) (n : ℕ) → IsComponent c → IsPlain (swap_deed c (swap_of f to w i expected desired) n)
+swap_plain : (c : Declarations) (f : Frame) (to w : ℕ) (i expected desired : Operand) (n : ℕ) → IsComponent c → IsPlain (swapped Component c f (swap_of f to w i expected desired) n)
 swap_plain c f to w i expected desired n limits =
     let swap = swap_of f to w i expected desired in
-    let becomes = cell_becomes c swap.array swap.index swap.desired in
-    let is = cell_is c swap.array swap.index n in
-    plain_if (n == swap.expected) (becomes ++ codes ", " ++ register_becomes swap.to 1) (is ++ codes ", " ++ register_becomes swap.to 0) (two becomes (register_becomes swap.to 1) (cell_said c swap.array swap.index swap.desired (codes " = ") limits refl) (becomes_plain swap.to 1)) (two is (register_becomes swap.to 0) (cell_said c swap.array swap.index n (codes " is ") limits refl) (becomes_plain swap.to 0))
+    let becomes = cell_becomes Component c swap.cell swap.desired in
+    let is = cell_is Component c swap.cell n in
+    plain_if (n == swap.expected) (becomes ++ register_behind Component f to 1) (is ++ register_behind Component f to 0) (two becomes 1 (cell_said Component c w (value_of f i) swap.desired (codes " = ") limits refl)) (two is 0 (cell_said Component c w (value_of f i) n (codes " is ") limits refl))
   where
-    two : (a b : List ℕ) → IsPlain a → IsPlain b → IsPlain (a ++ codes ", " ++ b)
-    two a b p q = plain_three a (codes ", ") b p refl q
+    two : (a : List ℕ) (n : ℕ) → IsPlain a → IsPlain (a ++ register_behind Component f to n)
+    two a n p =
+        plain_append a (register_behind Component f to n) p (plain_append (codes ", ") (register_becomes Component f to n) refl (becomes_plain f to n))
 
-goes_on_plain : (place : ℕ) → IsPlain (goes_on_at place)
-goes_on_plain place =
+goes_on_plain : (f : Frame) (place : ℕ) → IsPlain (goes_on_at Component f place)
+goes_on_plain f place =
     plain_append (codes "goes on at ") (label_word place) refl (label_plain place)
 
-jump_plain : (target n : ℕ) → IsPlain (jump_deed target n)
-jump_plain target n =
-    plain_if (n == 0) (goes_on_at target) (codes "goes on") (goes_on_plain target) refl
+jump_plain : (f : Frame) (target n : ℕ) → IsPlain (jump_deed Component f target n)
+jump_plain f target n =
+    plain_if (n == 0) (goes_on_at Component f target) (codes "goes on") (goes_on_plain f target) refl
 
-deed_plain : (s : State) (m : Move) (f : Frame) (instr : Instr) → IsComponent s.component → IsPlain (deed s m f instr)
-deed_plain s m f (Set to v) limits = becomes_plain to (value_of f v)
+deed_plain : (s : State) (m : Move) (f : Frame) (instr : Instr) → IsComponent s.component → IsPlain (deed Component s m f instr)
+deed_plain s m f (Set to v) limits = becomes_plain f to (value_of f v)
 deed_plain s m f (Compute by to a b) limits =
-    becomes_plain to (computed by (value_of f a) (value_of f b))
+    becomes_plain f to (computed by (value_of f a) (value_of f b))
 deed_plain s m f (Load to w i) limits =
-    or_trap_plain (λ n. register_becomes to n) (λ n. becomes_plain to n) (seen s f w i)
+    or_trap_plain (loaded Component s.component f (record { to = to; cell = named_cell f w i })) (λ n. becomes_plain f to n) (seen s f w i)
 deed_plain s m f (Store w i v) limits =
-    or_trap_plain (λ n. cell_becomes s.component w (value_of f i) (value_of f v)) (λ n. cell_said s.component w (value_of f i) (value_of f v) (codes " = ") limits refl) (seen s f w i)
+    or_trap_plain (λ n. cell_becomes Component s.component (named_cell f w i) (value_of f v)) (λ n. cell_said Component s.component w (value_of f i) (value_of f v) (codes " = ") limits refl) (seen s f w i)
 deed_plain s m f (Cas to w i expected desired) limits =
-    or_trap_plain (swap_deed s.component (swap_of f to w i expected desired)) (λ n. swap_plain s.component f to w i expected desired n limits) (seen s f w i)
+    or_trap_plain (swapped Component s.component f (swap_of f to w i expected desired)) (λ n. swap_plain s.component f to w i expected desired n limits) (seen s f w i)
 deed_plain s m f (Lock l) limits =
     plain_append (lock_word s.component l) (codes " is taken") (lock_plain s.component l limits) refl
 deed_plain s m f (Unlock l) limits =
     plain_if (owns s m.thread l) (lock_word s.component l ++ codes " is free") (codes "trap") (plain_append (lock_word s.component l) (codes " is free") (lock_plain s.component l limits) refl) refl
 deed_plain s m f (Await w i v) limits = look_plain s f w i limits
 deed_plain s m f (AwaitNot w i v) limits = look_plain s f w i limits
-deed_plain s m f (Pick to count) limits = becomes_plain to m.pick
-deed_plain s m f (Jump target) limits = goes_on_plain target
-deed_plain s m f (JumpIfZero v target) limits = jump_plain target (value_of f v)
+deed_plain s m f (Pick to count) limits = becomes_plain f to m.pick
+deed_plain s m f (Jump target) limits = goes_on_plain f target
+deed_plain s m f (JumpIfZero v target) limits = jump_plain f target (value_of f v)
 deed_plain s m f (Return v) limits =
     plain_append (codes "ret ") (decimal (value_of f v)) refl (plain_decimal (value_of f v))
 
@@ -215,22 +223,22 @@ next_call_plain s t done limits = by_call (slice_get (calls_of s.matrix t) done)
     by_call (Some call) =
         plain_append (codes "call ") (call_text s.component.operations call) refl (call_plain s.component call limits)
 
-next_instr_plain : (s : State) (m : Move) (f : Frame) → IsComponent s.component → IsPlain (next_instr s m f)
+next_instr_plain : (s : State) (m : Move) (f : Frame) → IsComponent s.component → IsPlain (next_instr Component s m f)
 next_instr_plain s m f limits = by_instr (instr_at s.component f.op f.place)
   where
-    by_instr : (o : Option Instr) → IsPlain (option_map_or (λ instr. instr_text s.component f instr ++ deed s m f instr) o [])
+    by_instr : (o : Option Instr) → IsPlain (option_map_or (λ instr. told_by Component s.component f instr ++ deed Component s m f instr) o [])
     by_instr None = refl
     by_instr (Some instr) =
-        plain_append (instr_text s.component f instr) (deed s m f instr) (instr_plain s.component f instr limits) (deed_plain s m f instr limits)
+        plain_append (told_by Component s.component f instr) (deed Component s m f instr) (instr_plain s.component f instr limits) (deed_plain s m f instr limits)
 
-next_plain : (s : State) (m : Move) (done : ℕ) (activity : Activity) → IsComponent s.component → IsPlain (next_move_words s m done activity)
+next_plain : (s : State) (m : Move) (done : ℕ) (activity : Activity) → IsComponent s.component → IsPlain (next_move_words Component s m done activity)
 next_plain s m done Idle limits = next_call_plain s m.thread done limits
 next_plain s m done (Open f) limits = next_instr_plain s m f limits
 
-steps_plain : (s : State) (m : Move) → IsComponent s.component → IsPlain (step_words s m)
+steps_plain : (s : State) (m : Move) → IsComponent s.component → IsPlain (step_words Component s m)
 steps_plain s m limits = by_thread (slice_get s.threads m.thread)
   where
-    by_thread : (o : Option Thread) → IsPlain (option_map_or (λ thread. next_move_words s m thread.done thread.activity) o [])
+    by_thread : (o : Option Thread) → IsPlain (option_map_or (λ thread. next_move_words Component s m thread.done thread.activity) o [])
     by_thread None = refl
     by_thread (Some thread) = next_plain s m thread.done thread.activity limits
 
@@ -245,29 +253,29 @@ present_plain : (o : Option ℕ) → IsPlain (present o)
 present_plain None = refl
 present_plain (Some n) = plain_append (codes ", and it is ") (decimal n) refl (plain_decimal n)
 
-awaited_plain : (s : State) (f : Frame) (instr : Instr) → IsComponent s.component → IsPlain (awaited s f instr)
-awaited_plain s f (Lock l) limits =
+awaited_plain : (how : Wording) (s : State) (f : Frame) (instr : Instr) → IsComponent s.component → IsPlain (awaited how s f instr)
+awaited_plain how s f (Lock l) limits =
     plain_three (codes "waits for lock ") (lock_word s.component l) (owned_by (owner_of s l)) refl (lock_plain s.component l limits) (owned_plain (owner_of s l))
-awaited_plain s f (Await w i v) limits =
-    let cell = cell_is s.component w (value_of f i) (value_of f v) in
-    plain_three (codes "waits until ") cell (present (seen s f w i)) refl (cell_said s.component w (value_of f i) (value_of f v) (codes " is ") limits refl) (present_plain (seen s f w i))
-awaited_plain s f (AwaitNot w i v) limits =
-    plain_append (codes "waits until ") (cell_is_not s.component w (value_of f i) (value_of f v)) refl (cell_said s.component w (value_of f i) (value_of f v) (codes " is not ") limits refl)
-awaited_plain s f _ limits = refl
+awaited_plain how s f (Await w i v) limits =
+    let cell = cell_is how s.component (named_cell f w i) (value_of f v) in
+    plain_three (codes "waits until ") cell (present (seen s f w i)) refl (cell_said how s.component w (value_of f i) (value_of f v) (codes " is ") limits refl) (present_plain (seen s f w i))
+awaited_plain how s f (AwaitNot w i v) limits =
+    plain_append (codes "waits until ") (cell_is_not how s.component (named_cell f w i) (value_of f v)) refl (cell_said how s.component w (value_of f i) (value_of f v) (codes " is not ") limits refl)
+awaited_plain how s f _ limits = refl
 
-waits_plain : (s : State) (t : ℕ) → IsComponent s.component → IsPlain (wait_words s t)
-waits_plain s t limits = by_thread (slice_get s.threads t)
+waits_plain : (how : Wording) (s : State) (t : ℕ) → IsComponent s.component → IsPlain (wait_words how s t)
+waits_plain how s t limits = by_thread (slice_get s.threads t)
   where
-    by_instr : (f : Frame) (o : Option Instr) → IsPlain (option_map_or (instr_waits s f) o [])
+    by_instr : (f : Frame) (o : Option Instr) → IsPlain (option_map_or (instr_wait how s f) o [])
     by_instr f None = refl
     by_instr f (Some instr) =
-        plain_if (is_blocked s f instr) (awaited s f instr) [] (awaited_plain s f instr limits) refl
+        plain_if (is_blocked s f instr) (awaited how s f instr) [] (awaited_plain how s f instr limits) refl
 
-    by_activity : (activity : Activity) → IsPlain (activity_waits s activity)
+    by_activity : (activity : Activity) → IsPlain (activity_waits how s activity)
     by_activity Idle = refl
     by_activity (Open f) = by_instr f (instr_at s.component f.op f.place)
 
-    by_thread : (o : Option Thread) → IsPlain (option_map_or (λ thread. activity_waits s thread.activity) o [])
+    by_thread : (o : Option Thread) → IsPlain (option_map_or (λ thread. activity_waits how s thread.activity) o [])
     by_thread None = refl
     by_thread (Some thread) = by_activity thread.activity
 
@@ -344,6 +352,6 @@ says_plain s limits = record {
   calls = λ t k. calls_plain s.component s.matrix t k limits;
   outcomes = outcome_plain;
   steps = λ m. steps_plain s m limits;
-  waits = λ t. waits_plain s t limits;
+  waits = λ how t. waits_plain how s t limits;
   why = λ why t k end. why_plain s.component s.matrix why t k end limits;
 }

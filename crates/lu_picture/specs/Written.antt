@@ -1,6 +1,6 @@
 -- What is written of a picture, with what an explanation in memory says, or none. All of it is told
 -- where memory did not run out.
-use Rattle.std.specs.Prelude.{ℕ, List, length, Option, Result, String}
+use Rattle.std.specs.Prelude.{ℕ, List, length, Option, Result, IfOk, String, string_bytes}
 use Rattle.std.specs.Option.{option_copied}
 use denote.Ref.{Bor}
 use Rattle.lu_text.specs.Writing.{Writes}
@@ -12,10 +12,11 @@ use Rattle.lu_machine.specs.States.{State}
 use Rattle.lu_history.specs.declared.serial.SerialOutcome.{SerialOutcome}
 use Rattle.lu_explain.specs.Explanations.{Explained}
 use Rattle.lu_explain.specs.Results.{HasText}
+use Rattle.lu_trace.specs.declared.wording.Wording.{Wording}
 use Rattle.lu_picture.specs.declared.bars.Bar.{Bar}
 use Rattle.lu_picture.specs.declared.mark.End.{End}
 use Rattle.lu_picture.specs.declared.mark.Mark.{Mark}
-use Rattle.lu_picture.specs.Pictures.{Depicts, Drawn, body, picture}
+use Rattle.lu_picture.specs.Pictures.{Drawn, IsWordedPicture, body, picture}
 use Rattle.lu_picture.specs.Reasons.{reason_said, why_words}
 use Rattle.lu_picture.specs.Shapes.{bar, bar_by, bars}
 
@@ -50,18 +51,19 @@ WritesBars result old new s d why =
     Writes result old new (bars s d.edge d.marks (option_copied why) (length d.marks))
 
 -- all that stands below the head, of a run of n moves
-abbrev pub WritesBody : {T E Z : Type 0} → Result T E → String Z → String Z → ℕ → State → Drawn
-    → Option (Bor Explained) → Type 0
-WritesBody result old new n end d why =
-    Writes result old new (body n end d (option_copied why))
+abbrev pub WritesBody : {T E Z : Type 0} → Result T E → String Z → String Z → Wording → ℕ → State
+    → Drawn → Option (Bor Explained) → Type 0
+WritesBody result old new how n end d why =
+    Writes result old new (body how n end d (option_copied why))
 
 -- the picture of a run of n moves, from what is drawn of them
-abbrev pub WritesWhole : {E Z : Type 0} → Result (String Z) E → ℕ → State → Status → Drawn
-    → Option (Bor Explained) → Type 0
-WritesWhole result n end status d why =
-    HasText result (picture n end status d (option_copied why))
+abbrev pub WritesWhole : {E Z : Type 0} → Result (String Z) E → Wording → ℕ → State → Status
+    → Drawn → Option (Bor Explained) → Type 0
+WritesWhole result how n end status d why =
+    HasText result (picture how n end status d (option_copied why))
 
--- the picture of a schedule
-abbrev pub DepictsWith : {E Z : Type 0} → Result (String Z) E → Declarations → Matrix → List Move
-    → Option (Bor Explained) → Type 0
-DepictsWith result c matrix u why = Depicts result c matrix u (option_copied why)
+-- the picture of a schedule in these words
+abbrev pub Shows : {E Z : Type 0} → Result (String Z) E → Wording → Declarations → Matrix
+    → List Move → Option (Bor Explained) → Type 0
+Shows result how c matrix u why =
+    IfOk result (λ text. IsWordedPicture how c matrix u (option_copied why) (string_bytes text))

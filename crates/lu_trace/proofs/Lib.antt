@@ -1,3 +1,4 @@
 pub mod Followed
 pub mod Joined
 pub mod SetupRuns
+pub mod Spelled

@@ -1,3 +1,4 @@
+pub mod Wordings
 pub mod Deeds
 pub mod Lines
 pub mod Traces

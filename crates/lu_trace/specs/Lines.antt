@@ -1,5 +1,5 @@
 -- The lines of a trace.
-use Rattle.std.specs.Prelude.{ℕ, zero, suc, ◌++◌, nat_lt, if◌then◌else◌, List, [], codes, Option, Some, None, slice_get}
+use Rattle.std.specs.Prelude.{ℕ, zero, suc, ◌++◌, nat_lt, if◌then◌else◌, List, [], length, codes, Option, Some, None, slice_get}
 use Rattle.std.specs.Option.{option_map_or}
 use Rattle.std.specs.List.{repeat, join_with_byte}
 use Rattle.std.specs.Fmt.{decimal}
@@ -17,6 +17,9 @@ use Rattle.lu_machine.specs.declared.thread.Activity.TheVariants.{Idle, Open}
 use Rattle.lu_machine.specs.declared.thread.Frame.{Frame}
 use Rattle.lu_machine.specs.States.{State, instr_at}
 use Rattle.lu_machine.specs.Steps.{is_blocked}
+use Rattle.lu_trace.specs.declared.wording.Wording.{Wording}
+use Rattle.lu_trace.specs.declared.wording.Wording.TheVariants.{Component, Source}
+use Rattle.lu_trace.specs.Wordings.{source_line}
 use Rattle.lu_trace.specs.Deeds.{deed, awaited}
 
 -- the first line
@@ -60,10 +63,16 @@ abbrev pub code_of_operation : Declarations → ℕ → List Instr
 code_of_operation c op = option_map_or (λ o. o.code) (slice_get c.operations op) []
 
 -- the instruction at the operation's place as the component's text has it, and what begins a remark
-abbrev pub instr_text : Declarations → Frame → Instr → List ℕ
-instr_text c f instr =
+abbrev pub component_line : Declarations → Frame → Instr → List ℕ
+component_line c f instr =
     label_text (code_of_operation c f.op) f.place ++ join_with_byte 32 (instr_words c instr)
     ++ codes "  # "
+
+-- what the instruction at the operation's place is told by, and what begins a remark
+abbrev pub told_by : Wording → Declarations → Frame → Instr → List ℕ
+told_by Component c f instr = component_line c f instr
+told_by (Source lines origins) c f instr =
+    source_line lines.now origins.now f
 
 -- a call as a matrix has it
 abbrev pub call_words : Declarations → Call → List ℕ
@@ -75,44 +84,49 @@ next_call s t done =
     option_map_or (λ call. call_words s.component call) (slice_get (calls_of s.matrix t) done) []
 
 -- the next instruction of the operation f, and what it does by the move m
-abbrev pub next_instr : State → Move → Frame → List ℕ
-next_instr s m f =
-    option_map_or (λ instr. instr_text s.component f instr ++ deed s m f instr)
+abbrev pub next_instr : Wording → State → Move → Frame → List ℕ
+next_instr how s m f =
+    option_map_or (λ instr. told_by how s.component f instr ++ deed how s m f instr)
     (instr_at s.component f.op f.place) []
 
 -- what a thread that stands so does next
-abbrev pub next_move_words : State → Move → ℕ → Activity → List ℕ
-next_move_words s m done Idle = next_call s m.thread done
-next_move_words s m done (Open f) = next_instr s m f
+abbrev pub next_move_words : Wording → State → Move → ℕ → Activity → List ℕ
+next_move_words how s m done Idle = next_call s m.thread done
+next_move_words how s m done (Open f) = next_instr how s m f
 
 -- what the thread of the move m does next, in the state s
-abbrev pub step_words : State → Move → List ℕ
-step_words s m =
-    option_map_or (λ thread. next_move_words s m thread.done thread.activity)
+abbrev pub step_words : Wording → State → Move → List ℕ
+step_words how s m =
+    option_map_or (λ thread. next_move_words how s m thread.done thread.activity)
     (slice_get s.threads m.thread) []
 
 -- the line of that, with the number or none
-abbrev pub step_line : Option ℕ → State → Move → List ℕ
-step_line number s m = line number m.thread (step_words s m)
+abbrev pub step_line : Wording → Option ℕ → State → Move → List ℕ
+step_line how number s m = line number m.thread (step_words how s m)
 
 -- ---- waits
 
 -- a blocked instruction's line, with what it waits for; nothing where it is not blocked
-abbrev pub instr_wait : State → ℕ → Frame → Instr → List ℕ
-instr_wait s t f instr =
-    if is_blocked s f instr then line None t (instr_text s.component f instr ++ awaited s f instr)
-    else []
+abbrev pub waiting : Wording → State → ℕ → Frame → Instr → List ℕ
+waiting how s t f instr =
+    if is_blocked s f instr
+    then line None t (told_by how s.component f instr ++ awaited how s f instr) else []
 
-abbrev pub activity_wait : State → ℕ → Activity → List ℕ
-activity_wait s t Idle = []
-activity_wait s t (Open f) = option_map_or (instr_wait s t f) (instr_at s.component f.op f.place) []
+abbrev pub activity_wait : Wording → State → ℕ → Activity → List ℕ
+activity_wait how s t Idle = []
+activity_wait how s t (Open f) =
+    option_map_or (waiting how s t f) (instr_at s.component f.op f.place) []
 
 -- the line of what thread t waits for, where it is blocked
-abbrev pub thread_wait : State → ℕ → List ℕ
-thread_wait s t =
-    option_map_or (λ thread. activity_wait s t thread.activity) (slice_get s.threads t) []
+abbrev pub thread_wait : Wording → State → ℕ → List ℕ
+thread_wait how s t =
+    option_map_or (λ thread. activity_wait how s t thread.activity) (slice_get s.threads t) []
 
 -- what each of the first n threads waits for
-abbrev pub waits : State → ℕ → List ℕ
-waits s zero = []
-waits s (suc n) = waits s n ++ thread_wait s n
+abbrev pub waits : Wording → State → ℕ → List ℕ
+waits how s zero = []
+waits how s (suc n) = waits how s n ++ thread_wait how s n
+
+-- what each thread waits for
+abbrev pub all_waits : Wording → State → List ℕ
+all_waits how s = waits how s (length s.threads)

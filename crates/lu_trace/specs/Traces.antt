@@ -1,5 +1,5 @@
 -- Traces: what a schedule does, line by line.
-use Rattle.std.specs.Prelude.{◌≡◌, ℕ, zero, suc, ◌+◌, ◌++◌, List, [], ◌∷◌, length, Option, Some, None, MatchBool, Result, OnOk, String, string_bytes}
+use Rattle.std.specs.Prelude.{◌≡◌, ℕ, zero, suc, ◌+◌, ◌++◌, List, [], ◌∷◌, Option, Some, None, MatchBool, Result, OnOk, String, string_bytes}
 use Rattle.lu_component.specs.Component.{Declarations}
 use Rattle.lu_test.specs.declared.schedule.Move.{Move}
 use Rattle.lu_test.specs.Matrix.{Matrix}
@@ -12,43 +12,53 @@ pub use Rattle.lu_machine.specs.Plays.{Plays, IsInfeasibleAt}
 use Rattle.lu_machine.specs.Ends.{HasStatus}
 use Rattle.lu_trace.specs.declared.fault.TraceFault.{TraceFault}
 use Rattle.lu_trace.specs.declared.fault.TraceFault.TheVariants.{Infeasible, Memory}
-use Rattle.lu_trace.specs.Lines.{status_line, step_line, waits}
+use Rattle.lu_trace.specs.declared.wording.Wording.{Wording}
+use Rattle.lu_trace.specs.declared.wording.Wording.TheVariants.{Component}
+use Rattle.lu_trace.specs.Lines.{all_waits, status_line, step_line}
 
 -- Thread t runs on from the state s to the state `end` by at most n local instructions, and each
 -- has its line, without a number.
-abbrev pub LocalLines : ℕ → State → ℕ → State → List ℕ → Type 0
-LocalLines zero s t end lines = (end ≡ s) × (lines ≡ [])
-LocalLines (suc n) s t end lines =
+abbrev pub LocalLines : Wording → ℕ → State → ℕ → State → List ℕ → Type 0
+LocalLines how zero s t end lines = (end ≡ s) × (lines ≡ [])
+LocalLines how (suc n) s t end lines =
     MatchBool (is_at_local s t)
     ((next : State) × (rest : List ℕ)
-    × OneStep s (record { thread = t; pick = 0 }) next None × LocalLines n next t end rest
-    × (lines ≡ step_line None s (record { thread = t; pick = 0 }) ++ rest))
+    × OneStep s (record { thread = t; pick = 0 }) next None × LocalLines how n next t end rest
+    × (lines ≡ step_line how None s (record { thread = t; pick = 0 }) ++ rest))
     ((end ≡ s) × (lines ≡ []))
 
 -- The move m leads from the state s to the state `new`: its first step has the line of its number,
 -- and the local instructions behind it have theirs.
-abbrev pub MoveLines : ℕ → State → Move → State → List ℕ → Type 0
-MoveLines number s m new lines =
+abbrev pub MoveLines : Wording → ℕ → State → Move → State → List ℕ → Type 0
+MoveLines how number s m new lines =
     (mid : State) × (event : Option Event) × (rest : List ℕ)
-    × OneStep s m mid event × LocalLines (more_local s m.thread) mid m.thread new rest
-    × (lines ≡ step_line (Some number) s m ++ rest)
+    × OneStep s m mid event × LocalLines how (more_local s m.thread) mid m.thread new rest
+    × (lines ≡ step_line how (Some number) s m ++ rest)
 
 -- The schedule leads from the state s to the state `end`, and these are the lines of its moves,
 -- which are numbered from `number` on.
-abbrev pub TraceLines : ℕ → State → List Move → State → List ℕ → Type 0
-TraceLines number s [] end lines = (end ≡ s) × (lines ≡ [])
-TraceLines number s (m ∷ u) end lines =
+abbrev pub TraceLines : Wording → ℕ → State → List Move → State → List ℕ → Type 0
+TraceLines how number s [] end lines = (end ≡ s) × (lines ≡ [])
+TraceLines how number s (m ∷ u) end lines =
     (next : State) × (first : List ℕ) × (rest : List ℕ)
-    × MoveLines number s m next first × TraceLines (number + 1) next u end rest
+    × MoveLines how number s m next first × TraceLines how (number + 1) next u end rest
     × (lines ≡ first ++ rest)
 
--- The trace of the schedule: how the state stands that it leads to, the lines of its moves from 0
--- on, and what each blocked thread waits for in the end.
-abbrev pub IsTrace : Declarations → Matrix → List Move → List ℕ → Type 0
-IsTrace c matrix u text =
+-- The trace of the schedule in these words: how the state stands that it leads to, the lines of its
+-- moves from 0 on, and what each blocked thread waits for in the end.
+abbrev pub IsWordedTrace : Wording → Declarations → Matrix → List Move → List ℕ → Type 0
+IsWordedTrace how c matrix u text =
     (start : State) × (end : State) × (status : Status) × (lines : List ℕ)
-    × IsStart c matrix start × TraceLines 0 start u end lines × HasStatus end status
-    × (text ≡ status_line status ++ lines ++ waits end (length end.threads))
+    × IsStart c matrix start × TraceLines how 0 start u end lines × HasStatus end status
+    × (text ≡ status_line status ++ lines ++ all_waits how end)
+
+-- the trace in the words of the component's text
+abbrev pub IsTrace : Declarations → Matrix → List Move → List ℕ → Type 0
+IsTrace c matrix u text = IsWordedTrace Component c matrix u text
+
+abbrev pub IsWordedText : {Z : Type 0} → Wording → Declarations → Matrix → List Move → String Z
+    → Type 0
+IsWordedText how c matrix u text = IsWordedTrace how c matrix u (string_bytes text)
 
 abbrev pub IsTraceText : {Z : Type 0} → Declarations → Matrix → List Move → String Z → Type 0
 IsTraceText c matrix u text = IsTrace c matrix u (string_bytes text)
@@ -71,3 +81,15 @@ AddsText Are old new = AddsLines Are (string_bytes old) (string_bytes new)
 abbrev pub WritesLines : {T E Z : Type 0} → Result T E → String Z → String Z → (List ℕ → Type 0)
     → Type 0
 WritesLines result old new Are = OnOk result (AddsText Are old new)
+
+-- where it succeeds the text grows by the lines of a move
+abbrev pub WritesMove : {T E Z : Type 0} → Result T E → String Z → String Z → Wording → ℕ → State
+    → Move → State → Type 0
+WritesMove result old new how number s m end =
+    WritesLines result old new (MoveLines how number s m end)
+
+-- and by those of the local instructions of thread t
+abbrev pub WritesLocals : {T E Z : Type 0} → Result T E → String Z → String Z → Wording → ℕ
+    → State → ℕ → State → Type 0
+WritesLocals result old new how most s t end =
+    WritesLines result old new (LocalLines how most s t end)

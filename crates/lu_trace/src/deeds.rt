@@ -4,82 +4,152 @@ ghost use Rattle.std.specs.Prelude.{◌≡◌, ◌<◌, length};
 ghost use Rattle.lu_text.specs.Writing.{Writes};
 ghost use Rattle.lu_component.specs.Component.{IsOperand};
 ghost use Rattle.lu_machine.specs.Layout.{IsSound};
-ghost use Rattle.lu_trace.specs.Deeds.{load_deed, store_deed};
+ghost use Rattle.lu_trace.specs.Deeds.{deed, loaded, looked, register_behind, swapped};
 ghost use Rattle.lu_trace.specs.Deeds as spec;
 
+use crate::wording::{Wording, has_name, is_indexed, write_jump, write_register};
 use lu_component::{Component, Instr, Operand};
 use lu_lang::{array_name, lock_name};
 use lu_machine::{Frame, Machine, compute};
 use lu_test::Move;
 use std::alloc::AllocError;
 
+/// A cell of an array.
+#[derive(Clone, Copy)]
+pub(crate) struct Cell {
+    array: u8,
+    index: u32,
+}
+
+/// A read of a cell into a register.
+#[derive(Clone, Copy)]
+pub(crate) struct Read {
+    to: u8,
+    cell: Cell,
+}
+
 /// A compare-and-swap of a cell, with the values of its operands.
 #[derive(Clone, Copy)]
 pub(crate) struct Swap {
     to: u8,
-    array: u8,
-    index: u32,
+    cell: Cell,
     expected: u32,
     desired: u32,
 }
 
-/// Adds what a register becomes.
-fn write_register(text: &mut String, register: u8, value: u32) -> Result<(), AllocError>
-    ensures { Writes result text.old text.new (spec.register_becomes register value) }
+/// Adds the name of a cell, with its index where the cells of its array are told with it.
+fn write_cell_name(
+    text: &mut String,
+    how: &Wording<'_>,
+    component: &Component,
+    cell: Cell,
+) -> Result<(), AllocError>
+    ensures { Writes result text.old text.new (spec.cell_word how.now component.now cell) }
 {
-    write!(text, "r{register} = {value}")
+    let Cell { array, index } = cell;
+    text.push_str(array_name(component, array))?;
+    if is_indexed(how, array) {
+        write!(text, "[{index}]")
+    } else {
+        Ok(())
+    }
 }
 
 /// Adds what a cell becomes.
 fn write_becoming(
     text: &mut String,
+    how: &Wording<'_>,
     component: &Component,
-    array: u8,
-    index: u32,
+    cell: Cell,
     value: u32,
 ) -> Result<(), AllocError>
-    ensures { Writes result text.old text.new (spec.cell_becomes component.now array index value) }
+    ensures { Writes result text.old text.new (spec.cell_becomes how.now component.now cell value) }
 {
-    write!(text, "{}[{index}] = {value}", array_name(component, array))
+    write_cell_name(text, how, component, cell)?;
+    write!(text, " = {value}")
 }
 
 /// Adds what a cell is.
 pub(crate) fn write_cell(
     text: &mut String,
+    how: &Wording<'_>,
     component: &Component,
-    array: u8,
-    index: u32,
+    cell: Cell,
     value: u32,
 ) -> Result<(), AllocError>
-    ensures { Writes result text.old text.new (spec.cell_is component.now array index value) }
+    ensures { Writes result text.old text.new (spec.cell_is how.now component.now cell value) }
 {
-    write!(text, "{}[{index}] is {value}", array_name(component, array))
+    write_cell_name(text, how, component, cell)?;
+    write!(text, " is {value}")
 }
 
-/// Adds where a jump leads.
-fn write_jump(text: &mut String, target: u8) -> Result<(), AllocError>
-    ensures { Writes result text.old text.new (spec.goes_on_at target) }
+/// Adds the value that a cell is not to have.
+pub(crate) fn write_other(
+    text: &mut String,
+    how: &Wording<'_>,
+    component: &Component,
+    cell: Cell,
+    value: u32,
+) -> Result<(), AllocError>
+    ensures { Writes result text.old text.new (spec.cell_is_not how.now component.now cell value) }
 {
-    write!(text, "goes on at L{target}")
+    write_cell_name(text, how, component, cell)?;
+    write!(text, " is not {value}")
+}
+
+/// Adds what a register becomes behind what else is said, where it has a name.
+fn write_register_behind(
+    text: &mut String,
+    how: &Wording<'_>,
+    frame: &Frame,
+    register: u8,
+    value: u32,
+) -> Result<(), AllocError>
+    ensures { Writes result text.old text.new (register_behind how.now frame.now register value) }
+{
+    if has_name(how, frame, register) {
+        text.push_str(", ")?;
+        write_register(text, how, frame, register, value)
+    } else {
+        Ok(())
+    }
 }
 
 /// Adds what a compare-and-swap does of a cell with this value.
 fn write_swap(
     text: &mut String,
+    how: &Wording<'_>,
     component: &Component,
+    frame: &Frame,
     swap: Swap,
     value: u32,
 ) -> Result<(), AllocError>
-    ensures { Writes result text.old text.new (spec.swap_deed component.now swap value) }
+    ensures { Writes result text.old text.new
+        (swapped how.now component.now frame.now swap value) }
 {
-    if value == swap.expected {
-        write_becoming(text, component, swap.array, swap.index, swap.desired)?;
-        text.push_str(", ")?;
-        write_register(text, swap.to, 1)
+    let Swap {
+        to,
+        cell,
+        expected,
+        desired,
+    } = swap;
+    if value == expected {
+        write_becoming(text, how, component, cell, desired)?;
+        write_register_behind(text, how, frame, to, 1)
     } else {
-        write_cell(text, component, swap.array, swap.index, value)?;
-        text.push_str(", ")?;
-        write_register(text, swap.to, 0)
+        write_cell(text, how, component, cell, value)?;
+        write_register_behind(text, how, frame, to, 0)
+    }
+}
+
+/// The cell of an array that the operation names.
+pub(crate) fn named_cell(frame: &Frame, array: u8, index: Operand) -> Cell
+    requires { IsOperand index }
+    ensures { result ≡ spec.named_cell frame.now array index }
+{
+    Cell {
+        array,
+        index: frame.value(index),
     }
 }
 
@@ -98,49 +168,29 @@ pub(crate) fn value_in(
     Some(machine.value_at(place))
 }
 
-/// Adds what a load does.
-fn write_load(
+/// Adds what a read of this value does.
+fn write_loaded(
     text: &mut String,
-    machine: &Machine<'_>,
+    how: &Wording<'_>,
+    component: &Component,
     frame: &Frame,
-    to: u8,
-    array: u8,
-    index: Operand,
-) -> Result<(), AllocError>
-    requires array { array < length machine.now.component.arrays }
-    requires index { IsOperand index }
-    ensures { Writes result text.old text.new (load_deed machine.now frame.now to array index) }
-{
-    match value_in(machine, frame, array, index) {
-        None => text.push_str("trap"),
-        Some(value) => write_register(text, to, value),
-    }
-}
-
-/// Adds what a store of the value does.
-fn write_store(
-    text: &mut String,
-    machine: &Machine<'_>,
-    frame: &Frame,
-    array: u8,
-    index: Operand,
+    read: Read,
     value: u32,
 ) -> Result<(), AllocError>
-    requires array { array < length machine.now.component.arrays }
-    requires index { IsOperand index }
-    ensures { Writes result text.old text.new (store_deed machine.now frame.now array index value) }
+    ensures { Writes result text.old text.new
+        (loaded how.now component.now frame.now read value) }
 {
-    let component = machine.component();
-    let index_value = frame.value(index);
-    match value_in(machine, frame, array, index) {
-        None => text.push_str("trap"),
-        Some(_) => write_becoming(text, component, array, index_value, value),
+    if has_name(how, frame, read.to) {
+        write_register(text, how, frame, read.to, value)
+    } else {
+        write_cell(text, how, component, read.cell, value)
     }
 }
 
 /// Adds what the cell that the operation names is.
 fn write_seen(
     text: &mut String,
+    how: &Wording<'_>,
     machine: &Machine<'_>,
     frame: &Frame,
     array: u8,
@@ -148,11 +198,12 @@ fn write_seen(
 ) -> Result<(), AllocError>
     requires array { array < length machine.now.component.arrays }
     requires index { IsOperand index }
-    ensures { Writes result text.old text.new (spec.look_deed machine.now frame.now array index) }
+    ensures { Writes result text.old text.new (looked how.now machine.now frame.now array index) }
 {
+    let cell = named_cell(frame, array, index);
     match value_in(machine, frame, array, index) {
         None => text.push_str("trap"),
-        Some(value) => write_cell(text, machine.component(), array, frame.value(index), value),
+        Some(value) => write_cell(text, how, machine.component(), cell, value),
     }
 }
 
@@ -174,11 +225,17 @@ fn write_unlock(
 }
 
 /// Adds what a jump does that is taken where the value is 0.
-fn write_jump_if_zero(text: &mut String, value: u32, target: u8) -> Result<(), AllocError>
-    ensures { Writes result text.old text.new (spec.jump_deed target value) }
+fn write_jump_if_zero(
+    text: &mut String,
+    how: &Wording<'_>,
+    frame: &Frame,
+    value: u32,
+    target: u8,
+) -> Result<(), AllocError>
+    ensures { Writes result text.old text.new (spec.jump_deed how.now frame.now target value) }
 {
     if value == 0 {
-        write_jump(text, target)
+        write_jump(text, how, frame, target)
     } else {
         text.push_str("goes on")
     }
@@ -187,17 +244,18 @@ fn write_jump_if_zero(text: &mut String, value: u32, target: u8) -> Result<(), A
 /// Adds what the instruction does by the move.
 pub(crate) fn write_deed(
     text: &mut String,
+    how: &Wording<'_>,
     machine: &Machine<'_>,
     next: Move,
     frame: &Frame,
     instr: &Instr,
 ) -> Result<(), AllocError>
     requires { IsSound machine.now frame.now instr.now }
-    ensures { Writes result text.old text.new (spec.deed machine.now next frame.now instr.now) }
+    ensures { Writes result text.old text.new (deed how.now machine.now next frame.now instr.now) }
 {
     let component = machine.component();
     match *instr {
-        Instr::Set { to, value } => write_register(text, to, frame.value(value)),
+        Instr::Set { to, value } => write_register(text, how, frame, to, frame.value(value)),
         Instr::Compute {
             arithmetic,
             to,
@@ -205,14 +263,26 @@ pub(crate) fn write_deed(
             right,
         } => {
             let value = compute(arithmetic, frame.value(left), frame.value(right));
-            write_register(text, to, value)
+            write_register(text, how, frame, to, value)
         }
-        Instr::Load { to, array, index } => write_load(text, machine, frame, to, array, index),
+        Instr::Load { to, array, index } => match value_in(machine, frame, array, index) {
+            None => text.push_str("trap"),
+            Some(value) => {
+                let cell = named_cell(frame, array, index);
+                write_loaded(text, how, component, frame, Read { to, cell }, value)
+            }
+        },
         Instr::Store {
             array,
             index,
             value,
-        } => write_store(text, machine, frame, array, index, frame.value(value)),
+        } => match value_in(machine, frame, array, index) {
+            None => text.push_str("trap"),
+            Some(_) => {
+                let cell = named_cell(frame, array, index);
+                write_becoming(text, how, component, cell, frame.value(value))
+            }
+        },
         Instr::Cas {
             to,
             array,
@@ -224,23 +294,22 @@ pub(crate) fn write_deed(
             Some(value) => {
                 let swap = Swap {
                     to,
-                    array,
-                    index: frame.value(index),
+                    cell: named_cell(frame, array, index),
                     expected: frame.value(expected),
                     desired: frame.value(desired),
                 };
-                write_swap(text, component, swap, value)
+                write_swap(text, how, component, frame, swap, value)
             }
         },
         Instr::Lock(lock) => write!(text, "{} is taken", lock_name(component, lock)),
         Instr::Unlock(lock) => write_unlock(text, machine, next, lock),
         Instr::Await { array, index, .. } | Instr::AwaitNot { array, index, .. } => {
-            write_seen(text, machine, frame, array, index)
+            write_seen(text, how, machine, frame, array, index)
         }
-        Instr::Pick { to, .. } => write_register(text, to, u32::from(next.pick)),
-        Instr::Jump(target) => write_jump(text, target),
+        Instr::Pick { to, .. } => write_register(text, how, frame, to, u32::from(next.pick)),
+        Instr::Jump(target) => write_jump(text, how, frame, target),
         Instr::JumpIfZero { value, target } => {
-            write_jump_if_zero(text, frame.value(value), target)
+            write_jump_if_zero(text, how, frame, frame.value(value), target)
         }
         Instr::Return(value) => write!(text, "ret {}", frame.value(value)),
     }

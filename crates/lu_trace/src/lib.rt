@@ -3,7 +3,8 @@
 //! [`write_trace`] plays a schedule of a component and a matrix, and writes a line for each step.
 //! Each thread has a column of its own, so that it is seen how their steps interleave.
 //! [`write_trace_from_setup`] begins before, with what the calls of the matrix's setup do and
-//! leave.
+//! leave. A component that was compiled from a source is told by the source's lines and names with
+//! [`write_worded_trace`] and a [`Wording`].
 //!
 //! ```text
 //! trace complete
@@ -21,10 +22,12 @@ mod lines;
 mod setup;
 mod tracing;
 mod waiting;
+mod wording;
 
 pub use fault::TraceFault;
 pub use laws::trace_laws;
 pub use lines::{write_call_text, write_step};
-pub use setup::write_trace_from_setup;
-pub use tracing::write_trace;
+pub use setup::{write_trace_from_setup, write_worded_trace_from_setup};
+pub use tracing::{write_trace, write_worded_trace};
 pub use waiting::write_awaited;
+pub use wording::Wording;

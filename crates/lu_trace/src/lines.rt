@@ -4,8 +4,10 @@ ghost use Rattle.std.specs.Prelude.{◌≡◌};
 ghost use Rattle.lu_text.specs.Writing.{Writes};
 ghost use Rattle.lu_test.specs.MatrixText.{argument_text, arguments_text, call_text, operation_name};
 ghost use Rattle.lu_trace.specs.Lines as spec;
+ghost use Rattle.lu_trace.specs.Lines.{component_line, told_by};
 
 use crate::deeds::write_deed;
+use crate::wording::{Wording, write_source_line};
 use lu_component::{Component, Instr};
 use lu_lang::{write_instr, write_label};
 use lu_machine::{Activity, Frame, Machine, Status};
@@ -78,13 +80,14 @@ fn code_of_operation(component: &Component, op: u8) -> &[Instr]
 
 /// Adds the instruction at the operation's place as the component's text has it, and what begins a
 /// remark.
-pub(crate) fn write_instr_text(
+fn write_component_line(
     text: &mut String,
     component: &Component,
     frame: &Frame,
     instr: &Instr,
 ) -> Result<(), AllocError>
-    ensures { Writes result text.old text.new (spec.instr_text component.now frame.now instr.now) }
+    ensures { Writes result text.old text.new
+        (component_line component.now frame.now instr.now) }
 {
     write_label(
         text,
@@ -93,6 +96,23 @@ pub(crate) fn write_instr_text(
     )?;
     write_instr(text, component, *instr)?;
     text.push_str("  # ")
+}
+
+/// Adds what the instruction at the operation's place is told by, and what begins a remark.
+pub(crate) fn write_instr_text(
+    text: &mut String,
+    how: &Wording<'_>,
+    component: &Component,
+    frame: &Frame,
+    instr: &Instr,
+) -> Result<(), AllocError>
+    ensures { Writes result text.old text.new
+        (told_by how.now component.now frame.now instr.now) }
+{
+    match *how {
+        Wording::Component => write_component_line(text, component, frame, instr),
+        Wording::Source { lines, origins } => write_source_line(text, lines, origins, frame),
+    }
 }
 
 /// Adds the name of an operation, by its number. No call of a component names one that is not
@@ -161,31 +181,38 @@ fn write_next_call(
 /// Adds the next instruction of an open operation, and what it does by the move.
 fn write_next_instr(
     text: &mut String,
+    how: &Wording<'_>,
     machine: &Machine<'_>,
     next: Move,
     frame: &Frame,
 ) -> Result<(), AllocError>
-    ensures { Writes result text.old text.new (spec.next_instr machine.now next frame.now) }
+    ensures { Writes result text.old text.new
+        (spec.next_instr how.now machine.now next frame.now) }
 {
     match machine.instr(frame) {
         None => Ok(()),
         Some(instr) => {
-            write_instr_text(text, machine.component(), frame, instr)?;
-            write_deed(text, machine, next, frame, instr)
+            write_instr_text(text, how, machine.component(), frame, instr)?;
+            write_deed(text, how, machine, next, frame, instr)
         }
     }
 }
 
 /// Adds what the thread of the move does next.
-pub fn write_step(text: &mut String, machine: &Machine<'_>, next: Move) -> Result<(), AllocError>
-    ensures { Writes result text.old text.new (spec.step_words machine.now next) }
+pub fn write_step(
+    text: &mut String,
+    how: &Wording<'_>,
+    machine: &Machine<'_>,
+    next: Move,
+) -> Result<(), AllocError>
+    ensures { Writes result text.old text.new (spec.step_words how.now machine.now next) }
 {
     let Some(standing) = machine.standing(next.thread) else {
         return Ok(());
     };
     match &standing.activity {
         Activity::Idle => write_next_call(text, machine, next.thread, standing.done),
-        Activity::Open(frame) => write_next_instr(text, machine, next, frame),
+        Activity::Open(frame) => write_next_instr(text, how, machine, next, frame),
     }
 }
 
@@ -193,13 +220,15 @@ pub fn write_step(text: &mut String, machine: &Machine<'_>, next: Move) -> Resul
 pub(crate) fn write_line(
     alloc: Global,
     text: &mut String,
+    how: &Wording<'_>,
     machine: &Machine<'_>,
     number: Option<usize>,
     next: Move,
 ) -> Result<(), AllocError>
-    ensures { Writes result text.old text.new (spec.step_line number machine.now next) }
+    ensures { Writes result text.old text.new
+        (spec.step_line how.now number machine.now next) }
 {
     write_head(alloc, text, number, next.thread)?;
-    write_step(text, machine, next)?;
+    write_step(text, how, machine, next)?;
     text.push('\n')
 }

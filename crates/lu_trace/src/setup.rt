@@ -3,13 +3,14 @@
 ghost use Rattle.std.specs.Prelude.{◌≡◌, ◌<◌, length, IfErr, IfOk};
 ghost use Rattle.lu_text.specs.Writing.{Writes};
 ghost use Rattle.lu_machine.specs.Starts.{CanRun};
-ghost use Rattle.lu_trace.specs.Traces.{IsTraceFault, WritesLines};
-ghost use Rattle.lu_trace.specs.Setups.{AreSetupLines, IsTextFromSetup, LinesUpTo};
+ghost use Rattle.lu_trace.specs.Traces.{IsTraceFault};
+ghost use Rattle.lu_trace.specs.Setups.{IsTextFromSetup, IsWordedFromSetup, WritesSetup, WritesUpTo};
 ghost use Rattle.lu_trace.specs.Setups as spec;
 
 use crate::fault::TraceFault;
 use crate::lines::write_step;
-use crate::tracing::write_trace;
+use crate::tracing::write_worded_trace;
+use crate::wording::Wording;
 use lu_component::Component;
 use lu_lang::{array_name, lock_name};
 use lu_machine::Machine;
@@ -36,24 +37,32 @@ fn setup_heading(matrix: &Matrix) -> &'static str
 }
 
 /// Adds the line of what thread 0 does next.
-fn write_setup_line(text: &mut String, machine: &Machine<'_>) -> Result<(), AllocError>
-    ensures { Writes result text.old text.new (spec.setup_line machine.now) }
+fn write_setup_line(
+    text: &mut String,
+    how: &Wording<'_>,
+    machine: &Machine<'_>,
+) -> Result<(), AllocError>
+    ensures { Writes result text.old text.new (spec.setup_line how.now machine.now) }
 {
     text.push_str(INDENT)?;
-    write_step(text, machine, FIRST_MOVE)?;
+    write_step(text, how, machine, FIRST_MOVE)?;
     text.push('\n')
 }
 
 /// Thread 0 makes calls and carries out instructions, each pick 0, as long as it can, up to
 /// [`MOST_LINES`] of them. Adds their lines.
-fn write_setup_lines(text: &mut String, machine: &mut Machine<'_>) -> Result<(), AllocError>
-    ensures { WritesLines result text.old text.new (LinesUpTo 34952 machine.old machine.new) }
+fn write_setup_lines(
+    text: &mut String,
+    how: &Wording<'_>,
+    machine: &mut Machine<'_>,
+) -> Result<(), AllocError>
+    ensures { WritesUpTo result text.old text.new how.now 34952 machine.old machine.new }
 {
     for _line in 0..MOST_LINES {
         if !machine.feasible(FIRST_MOVE) {
             return Ok(());
         }
-        write_setup_line(text, machine)?;
+        write_setup_line(text, how, machine)?;
         machine.step_once(FIRST_MOVE);
     }
     Ok(())
@@ -63,15 +72,16 @@ fn write_setup_lines(text: &mut String, machine: &mut Machine<'_>) -> Result<(),
 fn write_setup(
     alloc: Global,
     text: &mut String,
+    how: &Wording<'_>,
     component: &Component,
     matrix: &Matrix,
 ) -> Result<(), AllocError>
     requires { CanRun component.now matrix.now }
-    ensures { WritesLines result text.old text.new (AreSetupLines component.now matrix.now.setup) }
+    ensures { WritesSetup result text.old text.new how.now component.now matrix.now }
 {
     let alone = setup_alone(alloc, matrix)?;
     let mut machine = Machine::start(alloc, component, &alone)?;
-    write_setup_lines(text, &mut machine)
+    write_setup_lines(text, how, &mut machine)
 }
 
 /// The number of the cells of an array.
@@ -177,8 +187,8 @@ fn write_found(text: &mut String, machine: &Machine<'_>) -> Result<(), AllocErro
     write_locks(text, machine)
 }
 
-/// The trace of a schedule as [`write_trace`] has it, and before it what the setup does and leaves.
-/// The matrix is asked to be one of the component, and its setup to settle.
+/// The trace of a schedule as [`write_worded_trace`] has it, and before it what the setup does and
+/// leaves. The matrix is asked to be one of the component, and its setup to settle.
 ///
 /// Where the matrix has a setup, a line `setup` comes first, and a line for each call and each
 /// instruction of it, as those of a trace without number and thread. Then comes a line `start`, and
@@ -191,6 +201,34 @@ fn write_found(text: &mut String, machine: &Machine<'_>) -> Result<(), AllocErro
 ///
 /// `Infeasible` with the index, from 0, of the first move of the schedule that is not feasible
 /// where it stands; `Memory` where memory was refused.
+pub fn write_worded_trace_from_setup(
+    alloc: Global,
+    how: &Wording<'_>,
+    component: &Component,
+    matrix: &Matrix,
+    schedule: &Schedule,
+) -> Result<String, TraceFault>
+    requires { CanRun component.now matrix.now }
+    ensures trace { IfOk result
+        (IsWordedFromSetup how.now component.now matrix.now schedule.now) }
+    ensures fault { IfErr result (IsTraceFault component.now matrix.now schedule.now) }
+{
+    let trace = write_worded_trace(alloc, how, component, matrix, schedule)?;
+    let mut text = String::from_str(alloc, setup_heading(matrix))?;
+    write_setup(alloc, &mut text, how, component, matrix)?;
+    let machine = Machine::start(alloc, component, matrix)?;
+    text.push_str("start\n")?;
+    write_found(&mut text, &machine)?;
+    text.push_str(trace.as_str())?;
+    Ok(text)
+}
+
+/// The trace of a schedule from the setup on, as the component's text has its instructions
+/// ([`write_worded_trace_from_setup`]).
+///
+/// # Errors
+///
+/// Those of [`write_worded_trace_from_setup`].
 pub fn write_trace_from_setup(
     alloc: Global,
     component: &Component,
@@ -201,12 +239,5 @@ pub fn write_trace_from_setup(
     ensures trace { IfOk result (IsTextFromSetup component.now matrix.now schedule.now) }
     ensures fault { IfErr result (IsTraceFault component.now matrix.now schedule.now) }
 {
-    let trace = write_trace(alloc, component, matrix, schedule)?;
-    let mut text = String::from_str(alloc, setup_heading(matrix))?;
-    write_setup(alloc, &mut text, component, matrix)?;
-    let machine = Machine::start(alloc, component, matrix)?;
-    text.push_str("start\n")?;
-    write_found(&mut text, &machine)?;
-    text.push_str(trace.as_str())?;
-    Ok(text)
+    write_worded_trace_from_setup(alloc, &Wording::Component, component, matrix, schedule)
 }

@@ -2,17 +2,17 @@
 
 ghost use Rattle.std.specs.Prelude.{◌<◌, length};
 ghost use Rattle.lu_text.specs.Writing.{Writes};
-ghost use Rattle.lu_component.specs.Component.{IsOperand};
 ghost use Rattle.lu_machine.specs.Layout.{IsSound};
-ghost use Rattle.lu_trace.specs.Deeds.{awaited_is, awaited_is_not};
 ghost use Rattle.lu_trace.specs.Deeds as words;
+ghost use Rattle.lu_trace.specs.Deeds.{awaited, awaited_is, awaited_is_not};
 ghost use Rattle.lu_trace.specs.Lines as spec;
-ghost use Rattle.lu_trace.specs.Lines.{waits};
+ghost use Rattle.lu_trace.specs.Lines.{waiting};
 
-use crate::deeds::{value_in, write_cell};
+use crate::deeds::{Cell, named_cell, value_in, write_cell, write_other};
 use crate::lines::{write_head, write_instr_text};
-use lu_component::{Component, Instr, Operand};
-use lu_lang::{array_name, lock_name};
+use crate::wording::Wording;
+use lu_component::{Component, Instr};
+use lu_lang::lock_name;
 use lu_machine::{Activity, Frame, Machine};
 use std::alloc::{AllocError, Global};
 
@@ -36,20 +36,6 @@ fn write_present(text: &mut String, present: Option<u32>) -> Result<(), AllocErr
     }
 }
 
-/// Adds the value that a cell is not to have.
-fn write_other(
-    text: &mut String,
-    component: &Component,
-    array: u8,
-    index: u32,
-    value: u32,
-) -> Result<(), AllocError>
-    ensures { Writes result text.old text.new (words.cell_is_not component.now array index value) }
-{
-    let name = array_name(component, array);
-    write!(text, "{name}[{index}] is not {value}")
-}
-
 /// Adds what a blocked `lock` waits for.
 fn write_lock_wait(text: &mut String, machine: &Machine<'_>, lock: u8) -> Result<(), AllocError>
     requires { lock < length machine.now.component.locks }
@@ -60,74 +46,68 @@ fn write_lock_wait(text: &mut String, machine: &Machine<'_>, lock: u8) -> Result
     write_owner(text, machine.owner(lock))
 }
 
-/// Adds what a blocked `await` waits for.
+/// Adds what a blocked `await` of a cell waits for. This value is seen there, if there is a cell.
 fn write_await(
     text: &mut String,
-    machine: &Machine<'_>,
-    frame: &Frame,
-    array: u8,
-    index: Operand,
-    value: Operand,
+    how: &Wording<'_>,
+    component: &Component,
+    cell: Cell,
+    value: u32,
+    seen: Option<u32>,
 ) -> Result<(), AllocError>
-    requires array { array < length machine.now.component.arrays }
-    requires index { IsOperand index }
-    requires value { IsOperand value }
-    ensures { Writes result text.old text.new (awaited_is machine.now frame.now array index value) }
+    ensures { Writes result text.old text.new
+        (awaited_is how.now component.now cell value seen) }
 {
-    let component = machine.component();
     text.push_str("waits until ")?;
-    write_cell(
-        text,
-        component,
-        array,
-        frame.value(index),
-        frame.value(value),
-    )?;
-    write_present(text, value_in(machine, frame, array, index))
+    write_cell(text, how, component, cell, value)?;
+    write_present(text, seen)
 }
 
-/// Adds what a blocked `awaitne` waits for.
+/// Adds what a blocked `awaitne` of a cell waits for.
 fn write_await_not(
     text: &mut String,
+    how: &Wording<'_>,
     component: &Component,
-    array: u8,
-    index: u32,
+    cell: Cell,
     value: u32,
 ) -> Result<(), AllocError>
-    ensures { Writes result text.old text.new (awaited_is_not component.now array index value) }
+    ensures { Writes result text.old text.new (awaited_is_not how.now component.now cell value) }
 {
     text.push_str("waits until ")?;
-    write_other(text, component, array, index, value)
+    write_other(text, how, component, cell, value)
 }
 
 /// Adds what a blocked instruction waits for.
 pub fn write_awaited(
     text: &mut String,
+    how: &Wording<'_>,
     machine: &Machine<'_>,
     frame: &Frame,
     instr: &Instr,
 ) -> Result<(), AllocError>
     requires { IsSound machine.now frame.now instr.now }
-    ensures { Writes result text.old text.new (words.awaited machine.now frame.now instr.now) }
+    ensures { Writes result text.old text.new (awaited how.now machine.now frame.now instr.now) }
 {
+    let component = machine.component();
     match *instr {
         Instr::Lock(lock) => write_lock_wait(text, machine, lock),
         Instr::Await {
             array,
             index,
             value,
-        } => write_await(text, machine, frame, array, index, value),
+        } => {
+            let cell = named_cell(frame, array, index);
+            let seen = value_in(machine, frame, array, index);
+            write_await(text, how, component, cell, frame.value(value), seen)
+        }
         Instr::AwaitNot {
             array,
             index,
             value,
-        } => write_await_not(
-            text,
-            machine.component(),
-            array,
-            frame.value(index),
-            frame.value(value),
-        ),
+        } => {
+            let cell = named_cell(frame, array, index);
+            write_await_not(text, how, component, cell, frame.value(value))
+        }
         _ => Ok(()),
     }
 }
@@ -136,20 +116,22 @@ pub fn write_awaited(
 fn write_instr_wait(
     alloc: Global,
     text: &mut String,
+    how: &Wording<'_>,
     machine: &Machine<'_>,
     t: u8,
     frame: &Frame,
     instr: &Instr,
 ) -> Result<(), AllocError>
     requires { IsSound machine.now frame.now instr.now }
-    ensures { Writes result text.old text.new (spec.instr_wait machine.now t frame.now instr.now) }
+    ensures { Writes result text.old text.new
+        (waiting how.now machine.now t frame.now instr.now) }
 {
     if !machine.is_blocked(frame, instr) {
         return Ok(());
     }
     write_head(alloc, text, None, t)?;
-    write_instr_text(text, machine.component(), frame, instr)?;
-    write_awaited(text, machine, frame, instr)?;
+    write_instr_text(text, how, machine.component(), frame, instr)?;
+    write_awaited(text, how, machine, frame, instr)?;
     text.push('\n')
 }
 
@@ -157,10 +139,11 @@ fn write_instr_wait(
 fn write_wait(
     alloc: Global,
     text: &mut String,
+    how: &Wording<'_>,
     machine: &Machine<'_>,
     t: u8,
 ) -> Result<(), AllocError>
-    ensures { Writes result text.old text.new (spec.thread_wait machine.now t) }
+    ensures { Writes result text.old text.new (spec.thread_wait how.now machine.now t) }
 {
     let Some(standing) = machine.standing(t) else {
         return Ok(());
@@ -169,7 +152,7 @@ fn write_wait(
         Activity::Idle => Ok(()),
         Activity::Open(frame) => match machine.instr(frame) {
             None => Ok(()),
-            Some(instr) => write_instr_wait(alloc, text, machine, t, frame, instr),
+            Some(instr) => write_instr_wait(alloc, text, how, machine, t, frame, instr),
         },
     }
 }
@@ -178,12 +161,14 @@ fn write_wait(
 pub(crate) fn write_waits(
     alloc: Global,
     text: &mut String,
+    how: &Wording<'_>,
     machine: &Machine<'_>,
 ) -> Result<(), AllocError>
-    ensures { Writes result text.old text.new (waits machine.now (length machine.now.threads)) }
+    ensures { Writes result text.old text.new
+        (spec.all_waits how.now machine.now) }
 {
     for t in 0..machine.threads() {
-        write_wait(alloc, text, machine, t)?;
+        write_wait(alloc, text, how, machine, t)?;
     }
     Ok(())
 }

@@ -1,7 +1,7 @@
 use Rattle.std.proofs.Common.{◌≡◌, ◌++◌, codes, rules, string_bytes}
 use Rattle.lu_trace.specs.Setups.{found_lines, setup_heading}
 use Rattle.lu_trace.proofs.Joined.{five_texts}
-use Rattle.lu_trace.proofs.setup.write_trace_from_setup.Goals as goal
+use Rattle.lu_trace.proofs.setup.write_worded_trace_from_setup.Goals as goal
 
 pub returns-clause-trace : goal.returns-clause-trace
 returns-clause-trace c =

@@ -1,0 +1,23 @@
+-- What words are between tags.
+use Rattle.std.specs.Prelude.{ℕ, ◌==◌, if◌then◌else◌, List, codes}
+use Rattle.std.specs.List.{flat_map}
+use Rattle.std.specs.Char.{encode_utf8}
+use Rattle.std.specs.Str.{chars}
+use Rattle.lu_trace.specs.declared.wording.Wording.{Wording}
+use Rattle.lu_trace.specs.declared.wording.Wording.TheVariants.{Component, Source}
+
+-- a letter between tags: three of them begin something else there, and have names
+abbrev pub letter_shown : ℕ → List ℕ
+letter_shown c =
+    if c == 60 then codes "&lt;"
+    else if c == 62 then codes "&gt;"
+    else if c == 38 then codes "&amp;"
+    else encode_utf8 c
+
+abbrev pub escaped : List ℕ → List ℕ
+escaped words = flat_map letter_shown (chars words)
+
+-- the words of a step between tags: a component's have none of those letters, and a source's may
+abbrev pub shown : Wording → List ℕ → List ℕ
+shown Component words = words
+shown (Source lines origins) words = escaped words

@@ -1,0 +1,9 @@
+use Rattle.lu_trace.proofs.Spelled.{spells, spells_none}
+use Rattle.lu_trace.proofs.wording.text_of.Goals as goal
+
+pub returns-in-Ok : goal.returns-in-Ok
+returns-in-Ok c =
+    spells c.args.bytes.now c.in-Ok.text.now c.in-Ok.ensures.cases.0 c.in-Ok.ensures.cases.1
+
+pub returns-in-Err : goal.returns-in-Err
+returns-in-Err c = spells_none c.args.bytes.now c.in-Err.ensures.cases.0
