@@ -9,3 +9,5 @@ pub mod Certified
 mod Explained
 pub mod Judged
 mod Strings
+mod ToldTexts
+mod Messages

@@ -1,6 +1,6 @@
 -- Answers that go out.
 use Rattle.std.specs.Prelude.{if◌then◌else◌}
-use Rattle.std.proofs.Common.{◌≡◌, ◌≢◌, ℕ, suc, ◌<◌, Bool, true, false, List, [], ◌∷◌, ◌++◌, Option, Some, None, length, replicate, Result, Ok, Err, refl, ◌⊎◌, inl, inr, ap, sym, ◌∙◌, arith, subst, get_or}
+use Rattle.std.proofs.Common.{◌≡◌, ◌≢◌, ℕ, suc, ◌<◌, Bool, true, false, List, [], ◌∷◌, ◌++◌, Option, Some, None, length, replicate, Result, Ok, Err, refl, ◌⊎◌, inl, inr, ap, sym, ◌∙◌, arith, subst, get_or, MatchResult}
 use Rattle.std.specs.Prelude.{IfSome, MatchBool, MatchOption, codes, nat_lt, ◌||◌}
 use Rattle.std.specs.Fmt.{decimal}
 use Rattle.std.specs.Io.KnownBytes.{Appends}
@@ -50,7 +50,7 @@ use Rattle.lu_cli.specs.declared.order.CampaignTrial.TheVariants.{Checked, Certi
 use Rattle.lu_cli.specs.declared.failing.View.{View}
 use Rattle.lu_cli.specs.declared.failing.View.TheVariants as view
 use Rattle.lu_cli.specs.Args.{most_long}
-use Rattle.lu_cli.specs.Failing.{IsShownAlone, ShowsByView, ShowsFailing, ShowsRun, below, failure, shown_parts}
+use Rattle.lu_cli.specs.Failing.{IsShownAlone, ShowsByView, ShowsFailing, ShowsRun, below, failure, in_words, shown_parts}
 use Rattle.lu_cli.specs.declared.order.CampaignPart.{CampaignPart}
 use Rattle.lu_cli.specs.declared.order.CampaignPart.TheVariants.{Whole, Slice, Count}
 use Rattle.lu_cli.specs.declared.order.CampaignThreads.{CampaignThreads}
@@ -59,7 +59,13 @@ use Rattle.lu_cli.specs.declared.order.Request.{Request}
 use Rattle.lu_cli.specs.declared.order.Request.TheVariants.{Lint, Ordered}
 use Rattle.lu_cli.specs.declared.order.BundleCommand.{BundleCommand}
 use Rattle.lu_cli.specs.declared.order.BundleCommand.TheVariants.{Replay, Trace, TraceFromSetup, Draw, DrawExplained, Explain, ExplainAgainst, Serial, Judge, JudgeAgainst, Conform, Spec, Check, CheckAgainst, Certify, Refute, Shrink, Campaign as Campaigning, CampaignAgainst, Compile}
+use Rattle.lu_trace.specs.declared.wording.Wording.{Wording}
+use Rattle.lu_source_text.specs.Begins.{is_source}
+use Rattle.lu_source_text.specs.declared.fault.SourceFaultKind.{SourceFaultKind}
+use Rattle.lu_cli.specs.Linting.{IsFaulted, IsLint, IsLinted, IsLintedBehind, IsLintedBy, IsSourceLinted, below_source}
+use Rattle.lu_cli.specs.Telling.{IsWordingOf}
 use Rattle.lu_cli.specs.declared.explaining.Presentation.{Presentation}
+use Rattle.lu_cli.specs.declared.explaining.Presenting.{Presenting}
 use Rattle.lu_cli.specs.declared.explaining.Presentation.TheVariants.{Words, Picture}
 use Rattle.lu_explain.specs.Explanations.{Explained}
 use Rattle.lu_lint.specs.Said.{is_fault}
@@ -67,7 +73,7 @@ use Rattle.std.specs.List.{list_any}
 use Rattle.lu_cli.specs.Drawing.{IsDrawnWith}
 use Rattle.lu_cli.specs.declared.explaining.Target.{Target}
 use Rattle.lu_cli.specs.declared.explaining.Target.TheVariants as target
-use Rattle.lu_cli.specs.Explaining.{IsExplained, IsExplainedBy, IsExplainedSchedule, IsExplainedSerially, IsPicturedBy, IsPresentedBy, ToEnded, ToFinding, is_report, limits_for, status_by, unexplained}
+use Rattle.lu_cli.specs.Explaining.{IsExplained, IsExplainedBy, IsExplainedSchedule, IsExplainedSerially, IsPicturedBy, IsPresentedAs, IsPresentedBy, ToEnded, ToFinding, is_report, limits_for, status_by, unexplained}
 use Rattle.lu_recorded.specs.declared.recorded.Recorded.{Recorded}
 use Rattle.lu_recorded.specs.Codes.{recorded_code_of}
 use Rattle.lu_cli.specs.Judging.{IsJudgedBy, ToRecorded, four_parts, three_parts}
@@ -81,7 +87,7 @@ use Rattle.lu_cli.specs.declared.order.Showing.{Showing}
 use Rattle.lu_cli.specs.declared.order.Showing.TheVariants.{Count as CountAlone, Schedules}
 use Rattle.lu_cli.specs.Bundle.{bundle_parts}
 use Rattle.lu_report.specs.Limits.{Limits}
-use Rattle.lu_cli.specs.Replies.{AloneOr, Answer, Answers, IsAnswerFrom, IsAnswerIn, IsAnswerOf, IsAnswerToAlike, IsAnswerToOrder, IsAnswerToPart, IsAnswerToTrial, IsByThreadAnswer, IsCampaignAgainstOf, IsCampaignAlike, IsCampaignBy, IsCampaignFrom, IsCertified, IsCertifiedPart, IsCertifiedReply, IsCheckAgainstFrom, IsCheckAgainstOf, IsChecked, IsCheckedAgainst, IsCollected, IsComparedAlike, IsComparedBy, IsComparedFrom, IsComparedPart, IsComparisonReply, IsCompileOf, IsConformOf, IsCountAnswer, IsDrawBehind, IsDrawn, IsExplainAgainstOf, IsExplainBehind, IsExplainOf, IsExplainedAgainst, IsExplainedText, IsJudgeAgainstOf, IsJudgeOf, IsJudgedAgainstTexts, IsJudgedSerially, IsJudgedTexts, IsLinted, IsRefuteOf, IsRefuted, IsRefutedBy, IsReplayed, IsRunSerially, IsShrinkAnswer, IsSliceReply, IsSpecOf, IsSurveyReply, IsSurveyedPart, IsTraceBehind, IsTraceFromSetupBehind, IsTraced, IsTracedFromSetup, IsTriedAll, IsTriedPart, ShowsCertificate, ShowsCertified, Tells, ToMatrix, ToParts, ToReport, ToSchedule, ToSettled, ToShown, ToSpec, ToTarget, ToTexts, ToTrusted, ToValue, comparison_answer, found_answer, lists_of, no_command, no_device, no_memory, or_schedule, refused, reported, status_of, survey_status, two_texts, view_of, with_matrix, with_schedule}
+use Rattle.lu_cli.specs.Replies.{AloneOr, Answer, Answers, IsAnswerFrom, IsAnswerIn, IsAnswerOf, IsAnswerToAlike, IsAnswerToOrder, IsAnswerToPart, IsAnswerToTrial, IsByThreadAnswer, IsCampaignAgainstOf, IsCampaignAlike, IsCampaignBy, IsCampaignFrom, IsCertified, IsCertifiedPart, IsCertifiedReply, IsCheckAgainstFrom, IsCheckAgainstOf, IsChecked, IsCheckedAgainst, IsCollected, IsComparedAlike, IsComparedBy, IsComparedFrom, IsComparedPart, IsComparisonReply, IsCompileOf, IsConformOf, IsCountAnswer, IsDrawBehind, IsDrawn, IsExplainAgainstOf, IsExplainBehind, IsExplainOf, IsExplainedAgainst, IsExplainedText, IsJudgeAgainstOf, IsJudgeOf, IsJudgedAgainstTexts, IsJudgedSerially, IsJudgedTexts, IsRefuteOf, IsRefuted, IsRefutedBy, IsReplayed, IsRunSerially, IsShrinkAnswer, IsSliceReply, IsSpecOf, IsSurveyReply, IsSurveyedPart, IsTraceBehind, IsTraceFromSetupBehind, IsTraced, IsTracedFromSetup, IsTriedAll, IsTriedPart, ShowsCertificate, ShowsCertified, Tells, ToComponent, ToMatrix, ToParts, ToReport, ToSchedule, ToSettled, ToShown, ToSpec, ToTarget, ToTexts, ToTold, ToTrusted, ToValue, comparison_answer, found_answer, lists_of, no_command, no_device, no_memory, or_schedule, refused, reported, status_of, survey_status, two_texts, view_of, with_matrix, with_schedule}
 
 -- an answer that was made and said
 pub said : (IsAnswer : Answer → Type 0) (answer : Answer) (text : List ℕ) (old new : Option (List ℕ)) (status : ℕ) → IsAnswer answer → text ≡ answer.text → Appends old new text × (status ≡ answer.status) → Answers IsAnswer old new status
@@ -143,17 +149,17 @@ replayed_else : (c : Declarations) (m : Matrix) (u : List Move) (answer : Answer
 replayed_else c m u answer (inl is) = status_else answer 0 (ap (λ (a : Answer). a.status) is.3) (λ e. omega arith)
 replayed_else c m u answer (inr is) = status_else answer 1 (ap (λ (a : Answer). a.status) is.2) (λ e. omega arith)
 
-traced_else : (c : Declarations) (m : Matrix) (u : List Move) (answer : Answer) → IsTraced c m u answer → IsElse answer
-traced_else c m u answer (inl is) = status_else answer 0 (ap (λ (a : Answer). a.status) is.2) (λ e. omega arith)
-traced_else c m u answer (inr is) = status_else answer 1 (ap (λ (a : Answer). a.status) is.2) (λ e. omega arith)
+traced_else : (how : Wording) (c : Declarations) (m : Matrix) (u : List Move) (answer : Answer) → IsTraced how c m u answer → IsElse answer
+traced_else how c m u answer (inl is) = status_else answer 0 (ap (λ (a : Answer). a.status) is.2) (λ e. omega arith)
+traced_else how c m u answer (inr is) = status_else answer 1 (ap (λ (a : Answer). a.status) is.2) (λ e. omega arith)
 
-from_setup_else : (c : Declarations) (m : Matrix) (u : List Move) (answer : Answer) → IsTracedFromSetup c m u answer → IsElse answer
-from_setup_else c m u answer (inl is) = status_else answer 0 (ap (λ (a : Answer). a.status) is.2) (λ e. omega arith)
-from_setup_else c m u answer (inr is) = status_else answer 1 (ap (λ (a : Answer). a.status) is.2) (λ e. omega arith)
+from_setup_else : (how : Wording) (c : Declarations) (m : Matrix) (u : List Move) (answer : Answer) → IsTracedFromSetup how c m u answer → IsElse answer
+from_setup_else how c m u answer (inl is) = status_else answer 0 (ap (λ (a : Answer). a.status) is.2) (λ e. omega arith)
+from_setup_else how c m u answer (inr is) = status_else answer 1 (ap (λ (a : Answer). a.status) is.2) (λ e. omega arith)
 
-drawn_else : (why : Option Explained) (c : Declarations) (m : Matrix) (u : List Move) (answer : Answer) → IsDrawnWith why c m u answer → IsElse answer
-drawn_else why c m u answer (inl is) = status_else answer 0 (ap (λ (a : Answer). a.status) is.2) (λ e. omega arith)
-drawn_else why c m u answer (inr is) = status_else answer 1 (ap (λ (a : Answer). a.status) is.2) (λ e. omega arith)
+drawn_else : (how : Wording) (why : Option Explained) (c : Declarations) (m : Matrix) (u : List Move) (answer : Answer) → IsDrawnWith how why c m u answer → IsElse answer
+drawn_else how why c m u answer (inl is) = status_else answer 0 (ap (λ (a : Answer). a.status) is.2) (λ e. omega arith)
+drawn_else how why c m u answer (inr is) = status_else answer 1 (ap (λ (a : Answer). a.status) is.2) (λ e. omega arith)
 
 scheduled_else : (r : Result (List Move) ScheduleFault) (IsAnswer : List Move → Answer → Type 0) (answer : Answer) → ((u : List Move) → IsAnswer u answer → IsElse answer) → ToSchedule r IsAnswer answer → IsElse answer
 scheduled_else (Ok u) IsAnswer answer h is = h u is
@@ -187,29 +193,29 @@ shown_else c certificate answer is = status_else answer answer.status refl (cert
 failure_else : (answer : Answer) (text : List ℕ) → answer ≡ failure text → IsElse answer
 failure_else answer text is = status_else answer 1 (ap (λ (a : Answer). a.status) is) (λ e. omega arith)
 
-run_else : (view : View) (c : Declarations) (cut : Matrix) (u : List Move) (text : List ℕ) (answer : Answer) → ShowsRun view c cut u text answer → IsElse answer
-run_else view.Explanation c cut u text answer (steps, made, is) = failure_else answer (below text steps) is
-run_else view.Trace c cut u text answer (steps, made, is) = failure_else answer (below text steps) is
-run_else view.TraceFromSetup c cut u text answer (steps, made, is) = failure_else answer (below text steps) is
-run_else view.Picture c cut u text answer (picture, made, is) = failure_else answer picture.text is
-run_else view.ExplainedPicture c cut u text answer (picture, made, is) = failure_else answer picture.text is
+run_else : (view : View) (how : Wording) (c : Declarations) (cut : Matrix) (u : List Move) (text : List ℕ) (answer : Answer) → ShowsRun view how c cut u text answer → IsElse answer
+run_else view.Explanation how c cut u text answer (steps, made, is) = failure_else answer (below text steps) is
+run_else view.Trace how c cut u text answer (steps, made, is) = failure_else answer (below text steps) is
+run_else view.TraceFromSetup how c cut u text answer (steps, made, is) = failure_else answer (below text steps) is
+run_else view.Picture how c cut u text answer (picture, made, is) = failure_else answer picture.text is
+run_else view.ExplainedPicture how c cut u text answer (picture, made, is) = failure_else answer picture.text is
 
-failing_else : (view : View) (c : Declarations) (cut : Matrix) (r : Parts) (u : List Move) (answer : Answer) → ShowsFailing view c cut r u answer → IsElse answer
-failing_else view.Explanation c cut r u answer (why, explains, is) = run_else view.Explanation c cut u (below (two_texts c cut r) why) answer is
-failing_else view.ExplainedPicture c cut r u answer (picture, explains, is) = failure_else answer picture.text is
-failing_else view.Trace c cut r u answer is = run_else view.Trace c cut u (two_texts c cut r) answer is
-failing_else view.TraceFromSetup c cut r u answer is = run_else view.TraceFromSetup c cut u (two_texts c cut r) answer is
-failing_else view.Picture c cut r u answer is = run_else view.Picture c cut u (two_texts c cut r) answer is
+failing_else : (view : View) (how : Wording) (c : Declarations) (cut : Matrix) (r : Parts) (u : List Move) (answer : Answer) → ShowsFailing view how c cut r u answer → IsElse answer
+failing_else view.Explanation how c cut r u answer (why, explains, is) = run_else view.Explanation how c cut u (below (two_texts c cut r) why) answer is
+failing_else view.ExplainedPicture how c cut r u answer (picture, explains, is) = failure_else answer picture.text is
+failing_else view.Trace how c cut r u answer is = run_else view.Trace how c cut u (two_texts c cut r) answer is
+failing_else view.TraceFromSetup how c cut r u answer is = run_else view.TraceFromSetup how c cut u (two_texts c cut r) answer is
+failing_else view.Picture how c cut r u answer is = run_else view.Picture how c cut u (two_texts c cut r) answer is
 
-by_view_else : (view : View) (c : Declarations) (certificate : Certificate) (answer : Answer) → ShowsByView view c certificate answer → IsElse answer
-by_view_else view c (Linearizable members) answer is = shown_else c (Linearizable members) answer is
-by_view_else view c (Undecided cut r) answer is = shown_else c (Undecided cut r) answer is
-by_view_else view c (Livelock cut u) answer is = run_else view c cut u (with_schedule c (cut, u)).text answer is
-by_view_else view c (NotLinearizable cut r) answer is = go (shown_schedule r.finding) is
+by_view_else : (view : View) (how : Wording) (c : Declarations) (certificate : Certificate) (answer : Answer) → ShowsByView view how c certificate answer → IsElse answer
+by_view_else view how c (Linearizable members) answer is = shown_else c (Linearizable members) answer is
+by_view_else view how c (Undecided cut r) answer is = shown_else c (Undecided cut r) answer is
+by_view_else view how c (Livelock cut u) answer is = run_else view how c cut u (with_schedule c (cut, u)).text answer is
+by_view_else view how c (NotLinearizable cut r) answer is = go (shown_schedule r.finding) is
   where
-    go : (found : Option (List Move)) → MatchOption found (ShowsCertificate c (NotLinearizable cut r) answer) (λ u. ShowsFailing view c cut r u answer) → IsElse answer
+    go : (found : Option (List Move)) → MatchOption found (ShowsCertificate c (NotLinearizable cut r) answer) (λ u. ShowsFailing view how c cut r u answer) → IsElse answer
     go None is = shown_else c (NotLinearizable cut r) answer is
-    go (Some u) is = failing_else view c cut r u answer is
+    go (Some u) is = failing_else view how c cut r u answer is
 
 certified_else : (c : Declarations) (m : Matrix) (asked : CertifyOptions) (answer : Answer) → IsCertified c m asked answer → IsElse answer
 certified_else c m asked answer (inl is) = shown_else c is.0 answer is.2
@@ -230,6 +236,19 @@ texts_else component matrix IsAnswer answer h is =
     (λ c more. value_else matrix_code_of (meaning_of (matrix_grammar c) matrix) (λ m. ToSettled c m (IsAnswer c m)) answer
     (λ m last. settled_else c m (IsAnswer c m) answer (h c m) last) more) is
 
+component_else : (text : List ℕ) (IsAnswer : Declarations → Answer → Type 0) (answer : Answer) → ((c : Declarations) → IsAnswer c answer → IsElse answer) → ToComponent text IsAnswer answer → IsElse answer
+component_else text IsAnswer answer h is = go (is_source text) is
+  where
+    go : (b : Bool) → MatchBool b (ToValue source_code_of (component_meant text) IsAnswer answer) (ToValue code_of (meaning_of component_grammar text) IsAnswer answer) → IsElse answer
+    go true is = value_else source_code_of (component_meant text) IsAnswer answer h is
+    go false is = value_else code_of (meaning_of component_grammar text) IsAnswer answer h is
+
+told_else : (text matrix : List ℕ) (IsAnswer : Wording → Declarations → Matrix → Answer → Type 0) (answer : Answer) → ((how : Wording) (c : Declarations) (m : Matrix) → IsAnswer how c m answer → IsElse answer) → ToTold text matrix IsAnswer answer → IsElse answer
+told_else text matrix IsAnswer answer h is =
+    component_else text (λ c. ToMatrix c matrix (λ m. ToSettled c m (λ a. (how : Wording) × IsWordingOf text how × IsAnswer how c m a))) answer
+    (λ c more. value_else matrix_code_of (meaning_of (matrix_grammar c) matrix) (λ m. ToSettled c m (λ a. (how : Wording) × IsWordingOf text how × IsAnswer how c m a)) answer
+    (λ m last. settled_else c m (λ a. (how : Wording) × IsWordingOf text how × IsAnswer how c m a) answer (λ (how, by, shown). h how c m shown) last) more) is
+
 parts_else : {A : Type 0} (parts : Option A) (IsAnswer : A → Answer → Type 0) (answer : Answer) → ((p : A) → IsAnswer p answer → IsElse answer) → ToParts parts IsAnswer answer → IsElse answer
 parts_else None IsAnswer answer h is = refused_else (codes "B1") answer is
 parts_else (Some parts) IsAnswer answer h is = h parts is
@@ -246,17 +265,17 @@ three_else parts IsAnswer answer h is =
 told_shown_else : (text : List ℕ) (IsAnswer : List Move → Answer → Type 0) (answer : Answer) → ((u : List Move) → IsAnswer u answer → IsElse answer) → ToShown text IsAnswer answer → IsElse answer
 told_shown_else text IsAnswer answer h (found, of, more) = scheduled_else (or_schedule found text) IsAnswer answer h more
 
-behind_else : (parts : List (List ℕ)) (IsAnswer : Declarations → Matrix → List Move → Answer → Type 0) (answer : Answer) → ((c : Declarations) (m : Matrix) (u : List Move) → IsAnswer c m u answer → IsElse answer) → ToParts (shown_parts parts) (λ p. ToTexts p.0 p.1 (λ c m. ToShown p.2 (IsAnswer c m))) answer → IsElse answer
+behind_else : (parts : List (List ℕ)) (IsAnswer : Wording → Declarations → Matrix → List Move → Answer → Type 0) (answer : Answer) → ((how : Wording) (c : Declarations) (m : Matrix) (u : List Move) → IsAnswer how c m u answer → IsElse answer) → ToParts (shown_parts parts) (λ p. ToTold p.0 p.1 (λ how c m. ToShown p.2 (IsAnswer how c m))) answer → IsElse answer
 behind_else parts IsAnswer answer h is =
-    parts_else (shown_parts parts) (λ p. ToTexts p.0 p.1 (λ c m. ToShown p.2 (IsAnswer c m))) answer
-    (λ p more. texts_else p.0 p.1 (λ c m. ToShown p.2 (IsAnswer c m)) answer (λ c m play. told_shown_else p.2 (IsAnswer c m) answer (h c m) play) more) is
+    parts_else (shown_parts parts) (λ p. ToTold p.0 p.1 (λ how c m. ToShown p.2 (IsAnswer how c m))) answer
+    (λ p more. told_else p.0 p.1 (λ how c m. ToShown p.2 (IsAnswer how c m)) answer (λ how c m play. told_shown_else p.2 (IsAnswer how c m) answer (h how c m) play) more) is
 
 alone_or_else : (view : View) (IsShown : List (List ℕ) → Answer → Type 0) (parts : List (List ℕ)) (answer : Answer) → (IsShown parts answer → IsElse answer) → AloneOr view IsShown parts answer → IsElse answer
 alone_or_else view IsShown parts answer h is = go (exactly_two parts) is
   where
-    go : (found : Option (List ℕ × List ℕ)) → MatchOption found (IsShown parts answer) (λ p. ToTexts p.0 p.1 (IsShownAlone view) answer) → IsElse answer
+    go : (found : Option (List ℕ × List ℕ)) → MatchOption found (IsShown parts answer) (λ p. ToTold p.0 p.1 (IsShownAlone view) answer) → IsElse answer
     go None is = h is
-    go (Some p) is = texts_else p.0 p.1 (IsShownAlone view) answer (λ c m shown. by_view_else view c shown.0 answer shown.2) is
+    go (Some p) is = told_else p.0 p.1 (IsShownAlone view) answer (λ how c m shown. by_view_else view how c shown.0 answer shown.2) is
 
 matrix_else : (c : Declarations) (m : Matrix) (r : Parts) (answer : Answer) → answer ≡ with_matrix c m r → IsElse answer
 matrix_else c m r answer is = status_else answer (status_of r.finding) (ap (λ (a : Answer). a.status) is) (status_of_else r.finding)
@@ -309,14 +328,17 @@ ended_else Running IsAnswer answer h is = unexplained_else (codes "running") [] 
 ended_else Complete IsAnswer answer h is = h is
 ended_else Stuck IsAnswer answer h is = h is
 
-pictured_else : (members : List (List SerialOp)) (c : Declarations) (m : Matrix) (u : List Move) (h : List Event) (answer : Answer) → IsPicturedBy members c m u h answer → IsElse answer
-pictured_else members c m u h answer (e, shown, is) = drawn_else (Some e) c m u answer is
+pictured_else : (how : Wording) (members : List (List SerialOp)) (c : Declarations) (m : Matrix) (u : List Move) (h : List Event) (answer : Answer) → IsPicturedBy how members c m u h answer → IsElse answer
+pictured_else how members c m u h answer (e, shown, is) = drawn_else how (Some e) c m u answer is
 
-presented_else : (by : Presentation) (members : List (List SerialOp)) (c : Declarations) (m : Matrix) (u : List Move) (h : List Event) (answer : Answer) → IsPresentedBy by members c m u h answer → IsElse answer
-presented_else Words members c m u h answer is = by_else members c m u h answer is
-presented_else Picture members c m u h answer is = pictured_else members c m u h answer is
+presented_as_else : (by : Presentation) (how : Wording) (members : List (List SerialOp)) (c : Declarations) (m : Matrix) (u : List Move) (h : List Event) (answer : Answer) → IsPresentedAs by how members c m u h answer → IsElse answer
+presented_as_else Words how members c m u h answer is = by_else members c m u h answer is
+presented_as_else Picture how members c m u h answer is = pictured_else how members c m u h answer is
 
-explained_else : (by : Presentation) (members : List (List SerialOp)) (c : Declarations) (m : Matrix) (u : List Move) (answer : Answer) → IsExplainedSchedule by members c m u answer → IsElse answer
+presented_else : (by : Presenting) (members : List (List SerialOp)) (c : Declarations) (m : Matrix) (u : List Move) (h : List Event) (answer : Answer) → IsPresentedBy by members c m u h answer → IsElse answer
+presented_else by members c m u h answer is = presented_as_else by.by by.how members c m u h answer is
+
+explained_else : (by : Presenting) (members : List (List SerialOp)) (c : Declarations) (m : Matrix) (u : List Move) (answer : Answer) → IsExplainedSchedule by members c m u answer → IsElse answer
 explained_else by members c m u answer (inl is) = ended_else is.1 (IsPresentedBy by members c m u is.0) answer (presented_else by members c m u is.0 answer) is.3
 explained_else by members c m u answer (inr is) = status_else answer 1 (ap (λ (a : Answer). a.status) is.2) (λ e. omega arith)
 
@@ -326,11 +348,11 @@ finding_else IsAnswer (Nondeterministic u before earlier) answer h is = unexplai
 finding_else IsAnswer (Fail u why) answer h is = h u is
 finding_else IsAnswer (Pass counts) answer h is = unexplained_else (codes "pass") [] answer is
 
-explanation_else : (by : Presentation) (members : List (List SerialOp)) (c : Declarations) (m : Matrix) (t : Target) (answer : Answer) → IsExplained by members c m t answer → IsElse answer
+explanation_else : (by : Presenting) (members : List (List SerialOp)) (c : Declarations) (m : Matrix) (t : Target) (answer : Answer) → IsExplained by members c m t answer → IsElse answer
 explanation_else by members c m (target.Schedule u) answer is = explained_else by members c m u answer is
 explanation_else by members c m (target.Report r) answer is = finding_else (IsExplainedSchedule by members c m) r.finding answer (λ u more. explained_else by members c m u answer more) is
 
-serially_else : (by : Presentation) (limits : Limits) (c : Declarations) (m : Matrix) (t : Target) (answer : Answer) → IsExplainedSerially by limits c m t answer → IsElse answer
+serially_else : (by : Presenting) (limits : Limits) (c : Declarations) (m : Matrix) (t : Target) (answer : Answer) → IsExplainedSerially by limits c m t answer → IsElse answer
 serially_else by limits c m t answer (inl is) = explanation_else by is.1 c m t answer is.4
 serially_else by limits c m t answer (inr is) = finding_else (λ v a. ⊥) is.0 answer (λ u never. absurd never) is.2
 
@@ -343,19 +365,19 @@ target_else text IsAnswer answer h is = go (is_report text) is
 
 explain_behind_else : (by : Presentation) (limits : Limits) (parts : List (List ℕ)) (answer : Answer) → IsExplainBehind by limits parts answer → IsElse answer
 explain_behind_else by limits parts answer is =
-    parts_else (shown_parts parts) (λ p. ToTexts p.0 p.1 (λ c m. IsExplainedText by limits c m p.2)) answer
-    (λ p more. texts_else p.0 p.1 (λ c m. IsExplainedText by limits c m p.2) answer
-    (λ c m from. target_else p.2 (λ t. IsExplainedSerially by (limits_for limits t) c m t) answer (λ t last. serially_else by (limits_for limits t) c m t answer last) from) more) is
+    parts_else (shown_parts parts) (λ p. ToTold p.0 p.1 (λ how c m. IsExplainedText (in_words by how) limits c m p.2)) answer
+    (λ p more. told_else p.0 p.1 (λ how c m. IsExplainedText (in_words by how) limits c m p.2) answer
+    (λ how c m from. target_else p.2 (λ t. IsExplainedSerially (in_words by how) (limits_for limits t) c m t) answer (λ t last. serially_else (in_words by how) (limits_for limits t) c m t answer last) from) more) is
 
 explain_else : (by : Presentation) (limits : Limits) (parts : List (List ℕ)) (answer : Answer) → IsExplainOf by limits parts answer → IsElse answer
 explain_else by limits parts answer is = alone_or_else (view_of by) (IsExplainBehind by limits) parts answer (explain_behind_else by limits parts answer) is
 
 explain_against_else : (parts : List (List ℕ)) (answer : Answer) → IsExplainAgainstOf parts answer → IsElse answer
 explain_against_else parts answer is =
-    parts_else (exactly_four parts) (λ p. ToTexts p.0 p.1 (λ c m. IsExplainedAgainst c m p.2 p.3)) answer
-    (λ p more. texts_else p.0 p.1 (λ c m. IsExplainedAgainst c m p.2 p.3) answer
-    (λ c m from. target_else p.2 (λ t. ToSpec m p.3 (λ members. IsExplained Words members c m t)) answer
-    (λ t read. spec_else m p.3 (λ members. IsExplained Words members c m t) answer (λ members last. explanation_else Words members c m t answer last) read) from) more) is
+    parts_else (exactly_four parts) (λ p. ToTold p.0 p.1 (λ how c m. IsExplainedAgainst how c m p.2 p.3)) answer
+    (λ p more. told_else p.0 p.1 (λ how c m. IsExplainedAgainst how c m p.2 p.3) answer
+    (λ how c m from. target_else p.2 (λ t. ToSpec m p.3 (λ members. IsExplained (in_words Words how) members c m t)) answer
+    (λ t read. spec_else m p.3 (λ members. IsExplained (in_words Words how) members c m t) answer (λ members last. explanation_else (in_words Words how) members c m t answer last) read) from) more) is
 
 found_else : (c : Declarations) (found : Campaign) (answer : Answer) → answer ≡ found_answer c found → IsElse answer
 found_else c (AllPass count) answer is = status_else answer 0 (ap (λ (a : Answer). a.status) is) (λ e. omega arith)
@@ -537,9 +559,9 @@ compile_else (source ∷ parts) answer is =
 
 pub order_else : (order : BundleCommand) (parts : List (List ℕ)) (answer : Answer) → IsAnswerToOrder order parts answer → IsElse answer
 order_else Replay parts answer is = three_else parts IsReplayed answer (λ c m u more. replayed_else c m u answer more) is
-order_else Trace parts answer is = alone_or_else view.Trace IsTraceBehind parts answer (λ behind. behind_else parts IsTraced answer (λ c m u more. traced_else c m u answer more) behind) is
-order_else TraceFromSetup parts answer is = alone_or_else view.TraceFromSetup IsTraceFromSetupBehind parts answer (λ behind. behind_else parts IsTracedFromSetup answer (λ c m u more. from_setup_else c m u answer more) behind) is
-order_else Draw parts answer is = alone_or_else view.Picture IsDrawBehind parts answer (λ behind. behind_else parts IsDrawn answer (λ c m u more. drawn_else None c m u answer more) behind) is
+order_else Trace parts answer is = alone_or_else view.Trace IsTraceBehind parts answer (λ behind. behind_else parts IsTraced answer (λ how c m u more. traced_else how c m u answer more) behind) is
+order_else TraceFromSetup parts answer is = alone_or_else view.TraceFromSetup IsTraceFromSetupBehind parts answer (λ behind. behind_else parts IsTracedFromSetup answer (λ how c m u more. from_setup_else how c m u answer more) behind) is
+order_else Draw parts answer is = alone_or_else view.Picture IsDrawBehind parts answer (λ behind. behind_else parts IsDrawn answer (λ how c m u more. drawn_else how None c m u answer more) behind) is
 order_else (DrawExplained limits) parts answer is = explain_else Picture limits parts answer is
 order_else (Explain limits) parts answer is = explain_else Words limits parts answer is
 order_else ExplainAgainst parts answer is = explain_against_else parts answer is
@@ -557,15 +579,33 @@ order_else Compile parts answer is = compile_else parts answer is
 order_else (CampaignAgainst options) parts answer is = campaign_against_else options parts answer is
 order_else (Campaigning options) parts answer is = two_else parts (λ c m. IsCampaignFrom c options m) answer (λ c m more. matrices_else options.threads c options m answer more) is
 
-pub linted_else : (limits : Limits) (bundle : List ℕ) (answer : Answer) → IsLinted limits bundle answer → IsElse answer
-linted_else limits bundle answer (remarks, is, sorted, e) = go (list_any (λ r. is_fault r.said.cause) remarks) (ap (λ (a : Answer). a.status) e)
+marked_else : (answer : Answer) (b : Bool) → answer.status ≡ (if b then 2 else 0) → IsElse answer
+marked_else answer true e = status_else answer 2 e (λ f. omega arith)
+marked_else answer false e = status_else answer 0 e (λ f. omega arith)
+
+linted_else : (limits : Limits) (bundle : List ℕ) (answer : Answer) → IsLinted limits bundle answer → IsElse answer
+linted_else limits bundle answer (remarks, are, e) = marked_else answer (list_any (λ r. is_fault r.said.cause) remarks) (ap (λ (a : Answer). a.status) e)
+
+source_linted_else : (limits : Limits) (source : List ℕ) (parts : List (List ℕ)) (answer : Answer) → IsSourceLinted limits source parts answer → IsElse answer
+source_linted_else limits source parts answer is = go (component_meant source) is
   where
-    go : (b : Bool) → answer.status ≡ (if b then 2 else 0) → IsElse answer
-    go true e = status_else answer 2 e (λ f. omega arith)
-    go false e = status_else answer 0 e (λ f. omega arith)
+    go : (meant : Result Declarations (Fault SourceFaultKind)) → MatchResult meant (λ c. IsLintedBehind limits source parts c answer) (λ fault. IsFaulted source answer) → IsElse answer
+    go (Ok c) (said, remarks, tells, are, e) = marked_else answer (list_any (λ r. is_fault r.said.cause) (below_source source c remarks)) (ap (λ (a : Answer). a.status) e)
+    go (Err fault) (text, tells, e) = status_else answer 2 (ap (λ (a : Answer). a.status) e) (λ f. omega arith)
+
+lint_else : (limits : Limits) (bundle : List ℕ) (answer : Answer) → IsLint limits bundle answer → IsElse answer
+lint_else limits bundle answer is = go (bundle_parts bundle) is
+  where
+    by : (first : List ℕ) (parts : List (List ℕ)) (b : Bool) → MatchBool b (IsSourceLinted limits first parts answer) (IsLinted limits bundle answer) → IsElse answer
+    by first parts true is = source_linted_else limits first parts answer is
+    by first parts false is = linted_else limits bundle answer is
+
+    go : (parts : List (List ℕ)) → IsLintedBy parts limits bundle answer → IsElse answer
+    go [] is = linted_else limits bundle answer is
+    go (first ∷ parts) is = by first parts (is_source first) is
 
 request_else : (request : Request) (input : List ℕ) (answer : Answer) → IsAnswerIn request input answer → IsElse answer
-request_else (Lint limits) input answer is = linted_else limits input answer is
+request_else (Lint limits) input answer is = lint_else limits input answer is
 request_else (Ordered order) input answer is = order_else order (bundle_parts input) answer is
 
 either_else : (long : Bool) (request : Request) (input : List ℕ) (answer : Answer) → MatchBool long (answer ≡ refused (codes "B2")) (IsAnswerIn request input answer) → IsElse answer

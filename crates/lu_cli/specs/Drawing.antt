@@ -1,5 +1,5 @@
 -- What `draw` answers.
-use Rattle.std.specs.Prelude.{◌≡◌, ◌⊎◌, ℕ, ◌<◌, true, false, List, Option, String}
+use Rattle.std.specs.Prelude.{◌≡◌, ◌⊎◌, ℕ, ◌<◌, true, false, List, Option, String, string_bytes}
 use denote.Ref.{Bor}
 use Rattle.std.specs.Option.{option_copied}
 use Rattle.lu_component.specs.Component.{Declarations}
@@ -14,24 +14,29 @@ use Rattle.lu_witness.specs.declared.judgement.Verdict.TheVariants.{Good, NoWitn
 use Rattle.lu_witness.specs.Witnesses.{IsMember, IsVerdict}
 use Rattle.lu_explain.specs.Explanations.{Explained, IsExplanation}
 use Rattle.lu_replay.specs.Replays.{IsInfeasibleAt}
-use Rattle.lu_picture.specs.Pictures.{IsPicture, IsPictureText}
+use Rattle.lu_trace.specs.declared.wording.Wording.{Wording}
+use Rattle.lu_picture.specs.Pictures.{IsWordedPicture}
 use Rattle.lu_cli.specs.Outcomes.{Answer, infeasible}
 
--- the picture of the schedule, with this explanation or none, or where it is infeasible
-abbrev pub IsDrawnWith : Option Explained → Declarations → Matrix → List Move → Answer → Type 0
-IsDrawnWith why c matrix u answer =
-    ((text : List ℕ) × IsPicture c matrix u why text
+-- the picture of the schedule in these words, with this explanation or none, or where it is
+-- infeasible
+abbrev pub IsDrawnWith : Wording → Option Explained → Declarations → Matrix → List Move → Answer
+    → Type 0
+IsDrawnWith how why c matrix u answer =
+    ((text : List ℕ) × IsWordedPicture how c matrix u why text
     × (answer ≡ record { text = text; status = 0 }))
     ⊎ ((i : ℕ) × IsInfeasibleAt c matrix u i × (answer ≡ infeasible i))
 
 -- the picture of the schedule, with the explanation that is lent, or none
-abbrev pub IsPictureOf : {Z : Type 0} → Option (Bor Explained) → Declarations → Matrix → List Move
-    → String Z → Type 0
-IsPictureOf why c matrix u text = IsPictureText c matrix u (option_copied why) text
+abbrev pub IsPictureOf : {Z : Type 0} → Wording → Option (Bor Explained) → Declarations → Matrix
+    → List Move → String Z → Type 0
+IsPictureOf how why c matrix u text =
+    IsWordedPicture how c matrix u (option_copied why) (string_bytes text)
 
 -- the same, or where the schedule is infeasible
-abbrev pub IsDrawnOf : Option (Bor Explained) → Declarations → Matrix → List Move → Answer → Type 0
-IsDrawnOf why c matrix u answer = IsDrawnWith (option_copied why) c matrix u answer
+abbrev pub IsDrawnOf : Wording → Option (Bor Explained) → Declarations → Matrix → List Move → Answer
+    → Type 0
+IsDrawnOf how why c matrix u answer = IsDrawnWith how (option_copied why) c matrix u answer
 
 -- ---- of a stuck history one pending call is explained
 

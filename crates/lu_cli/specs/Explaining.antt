@@ -24,7 +24,9 @@ use Rattle.lu_replay.specs.Reports.{IsFinding}
 use Rattle.lu_explain.specs.Blocks.{IsTextFor, run_of}
 use Rattle.lu_explain.specs.EventMoves.{AreEventMoves}
 use Rattle.lu_explain.specs.Explanations.{Explained}
+use Rattle.lu_trace.specs.declared.wording.Wording.{Wording}
 use Rattle.lu_cli.specs.declared.explaining.Presentation.{Presentation}
+use Rattle.lu_cli.specs.declared.explaining.Presenting.{Presenting}
 use Rattle.lu_cli.specs.declared.explaining.Presentation.TheVariants.{Words, Picture}
 use Rattle.lu_cli.specs.Drawing.{IsDrawnWith, IsShownExplanation}
 use Rattle.lu_cli.specs.declared.explaining.ShownSchedule.{ShownSchedule}
@@ -52,16 +54,20 @@ IsExplainedBy members c m u h answer =
     × (answer ≡ record { text = text; status = status_by verdict })
 
 -- the same as a picture
-abbrev pub IsPicturedBy : List (List SerialOp) → Declarations → Matrix → List Move → List Event
-    → Answer → Type 0
-IsPicturedBy members c m u h answer =
-    (e : Explained) × IsShownExplanation members h e × IsDrawnWith (Some e) c m u answer
-
--- in words, or as a picture
-abbrev pub IsPresentedBy : Presentation → List (List SerialOp) → Declarations → Matrix → List Move
+abbrev pub IsPicturedBy : Wording → List (List SerialOp) → Declarations → Matrix → List Move
     → List Event → Answer → Type 0
-IsPresentedBy Words = IsExplainedBy
-IsPresentedBy Picture = IsPicturedBy
+IsPicturedBy how members c m u h answer =
+    (e : Explained) × IsShownExplanation members h e × IsDrawnWith how (Some e) c m u answer
+
+-- by an explanation, or as a picture in these words
+abbrev pub IsPresentedAs : Presentation → Wording → List (List SerialOp) → Declarations → Matrix
+    → List Move → List Event → Answer → Type 0
+IsPresentedAs Words how = IsExplainedBy
+IsPresentedAs Picture how = IsPicturedBy how
+
+abbrev pub IsPresentedBy : Presenting → List (List SerialOp) → Declarations → Matrix → List Move
+    → List Event → Answer → Type 0
+IsPresentedBy shown = IsPresentedAs shown.by shown.how
 
 -- a finding that is no failure explains nothing
 abbrev pub ToFinding : (List Move → Answer → Type 0) → Finding → Answer → Type 0
@@ -79,7 +85,7 @@ ToEnded Complete IsAnswer answer = IsAnswer answer
 ToEnded Stuck IsAnswer answer = IsAnswer answer
 
 -- a schedule, explained by these serial histories, or where it is infeasible
-abbrev pub IsExplainedSchedule : Presentation → List (List SerialOp) → Declarations → Matrix
+abbrev pub IsExplainedSchedule : Presenting → List (List SerialOp) → Declarations → Matrix
     → List Move → Answer → Type 0
 IsExplainedSchedule by members c m u answer =
     ((h : List Event) × (status : Status) × PlaysToStatus c m u h status
@@ -87,7 +93,7 @@ IsExplainedSchedule by members c m u answer =
     ⊎ ((i : ℕ) × IsInfeasibleAt c m u i × (answer ≡ infeasible i))
 
 -- a schedule, or that of a report
-abbrev pub IsExplained : Presentation → List (List SerialOp) → Declarations → Matrix → Target
+abbrev pub IsExplained : Presenting → List (List SerialOp) → Declarations → Matrix → Target
     → Answer → Type 0
 IsExplained by members c m (target.Schedule u) = IsExplainedSchedule by members c m u
 IsExplained by members c m (target.Report r) =
@@ -106,7 +112,7 @@ BySerialRuns c m serial IsAnswer answer =
     × IsAnswer members answer)
     ⊎ ((f : Finding) × IsOffenceOf c m serial f × ToFinding (λ v a. ⊥) f answer)
 
-abbrev pub IsExplainedSerially : Presentation → Limits → Declarations → Matrix → Target → Answer
+abbrev pub IsExplainedSerially : Presenting → Limits → Declarations → Matrix → Target → Answer
     → Type 0
 IsExplainedSerially by limits c m explained =
     BySerialRuns c m limits.serial (λ members. IsExplained by members c m explained)
@@ -127,26 +133,38 @@ limits_for limits (target.Report r) = serial_of limits r.serial
 abbrev pub IsPlayed : Declarations → Matrix → ShownSchedule → Type 0
 IsPlayed c m run = PlaysToStatus c m run.schedule.now run.shown.now.history run.shown.now.status
 
--- the answer, where there is one, presents the history of an ended schedule
-abbrev pub Presents : {T E : Type 0} → Presentation → (T → List (List SerialOp)) → T → Declarations
+-- the answer, where there is one, explains the history of an ended schedule
+abbrev pub ExplainsRun : {T E : Type 0} → (T → List (List SerialOp)) → T → Declarations → Matrix
+    → ShownSchedule → Result Answer E → Type 0
+ExplainsRun members tree c m run result =
+    IfOk result (IsExplainedBy (members tree) c m run.schedule.now run.shown.now.history)
+
+-- it is a picture of it in these words
+abbrev pub PicturesRun : {T E : Type 0} → Wording → (T → List (List SerialOp)) → T → Declarations
+    → Matrix → ShownSchedule → Result Answer E → Type 0
+PicturesRun how members tree c m run result =
+    IfOk result (IsPicturedBy how (members tree) c m run.schedule.now run.shown.now.history)
+
+-- it presents it so
+abbrev pub Presents : {T E : Type 0} → Presenting → (T → List (List SerialOp)) → T → Declarations
     → Matrix → ShownSchedule → Result Answer E → Type 0
 Presents by members tree c m run result =
     IfOk result (IsPresentedBy by (members tree) c m run.schedule.now run.shown.now.history)
 
 -- it explains a schedule
-abbrev pub ExplainsSchedule : {T E : Type 0} → Presentation → (T → List (List SerialOp)) → T
+abbrev pub ExplainsSchedule : {T E : Type 0} → Presenting → (T → List (List SerialOp)) → T
     → Declarations → Matrix → List Move → Result Answer E → Type 0
 ExplainsSchedule by members tree c m u result =
     IfOk result (IsExplainedSchedule by (members tree) c m u)
 
 -- the schedule of a finding
-abbrev pub ExplainsFinding : {T E : Type 0} → Presentation → (T → List (List SerialOp)) → T
+abbrev pub ExplainsFinding : {T E : Type 0} → Presenting → (T → List (List SerialOp)) → T
     → Declarations → Matrix → Finding → Result Answer E → Type 0
 ExplainsFinding by members tree c m f result =
     IfOk result (ToFinding (IsExplainedSchedule by (members tree) c m) f)
 
 -- a schedule, or that of a report
-abbrev pub ExplainsTarget : {T E : Type 0} → Presentation → (T → List (List SerialOp)) → T
+abbrev pub ExplainsTarget : {T E : Type 0} → Presenting → (T → List (List SerialOp)) → T
     → Declarations → Matrix → Target → Result Answer E → Type 0
 ExplainsTarget by members tree c m explained result =
     IfOk result (IsExplained by (members tree) c m explained)

@@ -12,7 +12,9 @@ use Rattle.lu_report.specs.Parts.{Parts, shown_schedule}
 use Rattle.lu_certify.specs.declared.certificate.Certificate.{Certificate}
 use Rattle.lu_certify.specs.declared.certificate.Certificate.TheVariants.{Linearizable, NotLinearizable, Livelock, Undecided}
 use Rattle.lu_certify.specs.Certificates.{IsCertificate}
+use Rattle.lu_trace.specs.declared.wording.Wording.{Wording}
 use Rattle.lu_cli.specs.declared.explaining.Presentation.{Presentation}
+use Rattle.lu_cli.specs.declared.explaining.Presenting.{Presenting}
 use Rattle.lu_cli.specs.declared.explaining.Presentation.TheVariants.{Words, Picture as Marked}
 use Rattle.lu_cli.specs.declared.failing.View.{View}
 use Rattle.lu_cli.specs.declared.failing.View.TheVariants.{Explanation, Trace, TraceFromSetup, Picture, ExplainedPicture}
@@ -57,53 +59,58 @@ abbrev pub failure : List ℕ → Answer
 failure text = record { text = text; status = 1 }
 
 -- the finding, explained by the serial runs within the bounds of a certificate
-abbrev pub IsFindingExplained : Presentation → Declarations → Matrix → Finding → Answer → Type 0
+abbrev pub IsFindingExplained : Presenting → Declarations → Matrix → Finding → Answer → Type 0
 IsFindingExplained by c m f =
     BySerialRuns c m most_moves (λ members. ToFinding (IsExplainedSchedule by members c m) f)
 
+-- in these words, or by marks in a picture
+abbrev pub in_words : Presentation → Wording → Presenting
+in_words by how = record { by = by; how = how }
+
 -- The cut and what shows that it fails, `text`, with what each move of the schedule does below; or
 -- the picture of the schedule alone.
-abbrev pub ShowsRun : View → Declarations → Matrix → List Move → List ℕ → Answer → Type 0
-ShowsRun Explanation c cut u text answer =
-    (steps : Answer) × IsTraced c cut u steps × (answer ≡ failure (below text steps))
-ShowsRun Trace c cut u text answer =
-    (steps : Answer) × IsTraced c cut u steps × (answer ≡ failure (below text steps))
-ShowsRun TraceFromSetup c cut u text answer =
-    (steps : Answer) × IsTracedFromSetup c cut u steps × (answer ≡ failure (below text steps))
-ShowsRun Picture c cut u text answer =
-    (picture : Answer) × IsDrawn c cut u picture × (answer ≡ failure picture.text)
-ShowsRun ExplainedPicture c cut u text answer =
-    (picture : Answer) × IsDrawn c cut u picture × (answer ≡ failure picture.text)
+abbrev pub ShowsRun : View → Wording → Declarations → Matrix → List Move → List ℕ → Answer → Type 0
+ShowsRun Explanation how c cut u text answer =
+    (steps : Answer) × IsTraced how c cut u steps × (answer ≡ failure (below text steps))
+ShowsRun Trace how c cut u text answer =
+    (steps : Answer) × IsTraced how c cut u steps × (answer ≡ failure (below text steps))
+ShowsRun TraceFromSetup how c cut u text answer =
+    (steps : Answer) × IsTracedFromSetup how c cut u steps × (answer ≡ failure (below text steps))
+ShowsRun Picture how c cut u text answer =
+    (picture : Answer) × IsDrawn how c cut u picture × (answer ≡ failure picture.text)
+ShowsRun ExplainedPicture how c cut u text answer =
+    (picture : Answer) × IsDrawn how c cut u picture × (answer ≡ failure picture.text)
 
 -- the answer, where there is one, shows that of the text
-abbrev pub ShowsRunBelow : {E Z : Type 0} → View → Declarations → Matrix → List Move → String Z
-    → Result Answer E → Type 0
-ShowsRunBelow view c cut u text result =
-    IfOk result (ShowsRun view c cut u (string_bytes text))
+abbrev pub ShowsRunBelow : {E Z : Type 0} → View → Wording → Declarations → Matrix → List Move
+    → String Z → Result Answer E → Type 0
+ShowsRunBelow view how c cut u text result =
+    IfOk result (ShowsRun view how c cut u (string_bytes text))
 
 -- The same where the cut has this report, with why it fails between them, or in the picture, where
 -- that is asked for.
-abbrev pub ShowsFailing : View → Declarations → Matrix → Parts → List Move → Answer → Type 0
-ShowsFailing Explanation c cut r u answer =
-    (why : Answer) × IsFindingExplained Words c cut r.finding why
-    × ShowsRun Explanation c cut u (below (two_texts c cut r) why) answer
-ShowsFailing ExplainedPicture c cut r u answer =
-    (picture : Answer) × IsFindingExplained Marked c cut r.finding picture
+abbrev pub ShowsFailing : View → Wording → Declarations → Matrix → Parts → List Move → Answer
+    → Type 0
+ShowsFailing Explanation how c cut r u answer =
+    (why : Answer) × IsFindingExplained (in_words Words how) c cut r.finding why
+    × ShowsRun Explanation how c cut u (below (two_texts c cut r) why) answer
+ShowsFailing ExplainedPicture how c cut r u answer =
+    (picture : Answer) × IsFindingExplained (in_words Marked how) c cut r.finding picture
     × (answer ≡ failure picture.text)
-ShowsFailing Trace c cut r u answer = ShowsRun Trace c cut u (two_texts c cut r) answer
-ShowsFailing TraceFromSetup c cut r u answer =
-    ShowsRun TraceFromSetup c cut u (two_texts c cut r) answer
-ShowsFailing Picture c cut r u answer = ShowsRun Picture c cut u (two_texts c cut r) answer
+ShowsFailing Trace how c cut r u answer = ShowsRun Trace how c cut u (two_texts c cut r) answer
+ShowsFailing TraceFromSetup how c cut r u answer =
+    ShowsRun TraceFromSetup how c cut u (two_texts c cut r) answer
+ShowsFailing Picture how c cut r u answer = ShowsRun Picture how c cut u (two_texts c cut r) answer
 
 -- of a certificate the cut that fails or has a livelock is shown; another one as it is
-abbrev pub ShowsByView : View → Declarations → Certificate → Answer → Type 0
-ShowsByView view c (Linearizable members) answer = ShowsCertificate c (Linearizable members) answer
-ShowsByView view c (NotLinearizable cut r) answer =
+abbrev pub ShowsByView : View → Wording → Declarations → Certificate → Answer → Type 0
+ShowsByView view how c (Linearizable members) answer = ShowsCertificate c (Linearizable members) answer
+ShowsByView view how c (NotLinearizable cut r) answer =
     MatchOption (shown_schedule r.finding) (ShowsCertificate c (NotLinearizable cut r) answer)
-    (λ u. ShowsFailing view c cut r u answer)
-ShowsByView view c (Livelock cut u) answer =
-    ShowsRun view c cut u (with_schedule c (cut, u)).text answer
-ShowsByView view c (Undecided cut r) answer = ShowsCertificate c (Undecided cut r) answer
+    (λ u. ShowsFailing view how c cut r u answer)
+ShowsByView view how c (Livelock cut u) answer =
+    ShowsRun view how c cut u (with_schedule c (cut, u)).text answer
+ShowsByView view how c (Undecided cut r) answer = ShowsCertificate c (Undecided cut r) answer
 
 -- the cut that it names, if any, can be run
 abbrev pub CanRunCut : Declarations → Certificate → Type 0
@@ -113,7 +120,7 @@ CanRunCut c (Livelock cut u) = CanRun c cut
 CanRunCut c (Undecided cut r) = Unit {0}
 
 -- what is shown of the certificate, which has the bounds of `certify`
-abbrev pub IsShownAlone : View → Declarations → Matrix → Answer → Type 0
-IsShownAlone view c m answer =
+abbrev pub IsShownAlone : View → Wording → Declarations → Matrix → Answer → Type 0
+IsShownAlone view how c m answer =
     (certificate : Certificate) × IsCertificate c m most_moves most_moves certificate
-    × ShowsByView view c certificate answer
+    × ShowsByView view how c certificate answer

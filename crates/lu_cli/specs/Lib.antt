@@ -8,9 +8,11 @@ pub mod Explaining
 pub mod Failing
 pub mod Inputs
 pub mod Judging
+pub mod Linting
 pub mod Orders
 pub mod Outcomes
 pub mod Refusals
 pub mod Replies
 pub mod Shows
+pub mod Telling
 pub mod Texts

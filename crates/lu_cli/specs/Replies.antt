@@ -35,13 +35,10 @@ use Rattle.lu_report.specs.Forms.{IsFault, Spells}
 use Rattle.lu_replay.specs.Confirmed.{IsFailure}
 use Rattle.lu_replay.specs.Replays.{PlaysToStatus, IsInfeasibleAt}
 use Rattle.lu_replay.specs.Text.{replay_text}
-use Rattle.lu_lint.specs.declared.remark.Remark.{Remark}
-use Rattle.lu_lint.specs.Bundle.{IsSaidOf}
-use Rattle.lu_lint.specs.Messages.{remarks_text}
-use Rattle.lu_lint.specs.Said.{is_fault, said_of}
 use Rattle.std.specs.List.{list_any}
 use Rattle.std.specs.List.Sorted.{IsNonDecreasingBy}
 use Rattle.lu_cli.specs.declared.explaining.Presentation.{Presentation}
+use Rattle.lu_cli.specs.declared.explaining.Presenting.{Presenting}
 use Rattle.lu_cli.specs.declared.explaining.Presentation.TheVariants.{Words, Picture}
 use Rattle.lu_parallel.specs.Ranges.{Choice}
 use Rattle.lu_refine.specs.declared.campaigns.Campaign.{Campaign}
@@ -93,10 +90,14 @@ use Rattle.lu_cli.specs.declared.explaining.Target.TheVariants as target
 use Rattle.lu_cli.specs.Explaining.{IsExplained, IsExplainedSerially, is_report, limits_for}
 use Rattle.lu_cli.specs.declared.failing.View.{View}
 use Rattle.lu_cli.specs.declared.failing.View.TheVariants as view
-use Rattle.lu_cli.specs.Failing.{IsShownAlone, shown_parts}
+use Rattle.lu_cli.specs.Failing.{IsShownAlone, in_words, shown_parts}
 pub use Rattle.lu_cli.specs.Shows.{IsCertified, IsDrawn, IsTraced, IsTracedFromSetup, ShowsCertificate, certified_local, reported, status_of, two_texts, verdict, with_matrix, with_schedule}
 use Rattle.lu_cli.specs.Judging.{IsJudgedBy, ToRecorded, four_parts, three_parts}
+use Rattle.lu_trace.specs.declared.wording.Wording.{Wording}
+use Rattle.lu_source_text.specs.Begins.{is_source}
 use Rattle.lu_cli.specs.Compiling.{IsCompiledBundle}
+use Rattle.lu_cli.specs.Linting.{IsLint}
+use Rattle.lu_cli.specs.Telling.{IsWordingOf}
 use Rattle.lu_cli.specs.Conforming.{IsConformedTexts}
 use Rattle.lu_source_text.specs.Kinds.{code_of as source_code_of}
 use Rattle.lu_source_text.specs.Readers.{component_meant}
@@ -307,14 +308,14 @@ IsShownRefusal text refused =
     × IsScheduleUnlessMemory fault (or_schedule found text) × (refused ≡ refusal.Schedule fault))
     ⊎ (refused ≡ refusal.Memory)
 
-abbrev pub IsTracedText : Declarations → Matrix → List ℕ → Answer → Type 0
-IsTracedText c m text = ToShown text (IsTraced c m)
+abbrev pub IsTracedText : Wording → Declarations → Matrix → List ℕ → Answer → Type 0
+IsTracedText how c m text = ToShown text (IsTraced how c m)
 
-abbrev pub IsTracedFromSetupText : Declarations → Matrix → List ℕ → Answer → Type 0
-IsTracedFromSetupText c m text = ToShown text (IsTracedFromSetup c m)
+abbrev pub IsTracedFromSetupText : Wording → Declarations → Matrix → List ℕ → Answer → Type 0
+IsTracedFromSetupText how c m text = ToShown text (IsTracedFromSetup how c m)
 
-abbrev pub IsDrawnText : Declarations → Matrix → List ℕ → Answer → Type 0
-IsDrawnText c m text = ToShown text (IsDrawn c m)
+abbrev pub IsDrawnText : Wording → Declarations → Matrix → List ℕ → Answer → Type 0
+IsDrawnText how c m text = ToShown text (IsDrawn how c m)
 
 -- ---- `explain`
 
@@ -339,15 +340,15 @@ IsTargetRefusal text refused =
     × (refused ≡ refusal.Schedule fault))
 
 -- the schedule or the report is read, and explained by the serial runs: a report by its own bound
-abbrev pub IsExplainedText : Presentation → Limits → Declarations → Matrix → List ℕ → Answer
+abbrev pub IsExplainedText : Presenting → Limits → Declarations → Matrix → List ℕ → Answer
     → Type 0
 IsExplainedText by limits c m text =
     ToTarget text (λ t. IsExplainedSerially by (limits_for limits t) c m t)
 
 -- the schedule or the report is read first, and then the specification
-abbrev pub IsExplainedAgainst : Declarations → Matrix → List ℕ → List ℕ → Answer → Type 0
-IsExplainedAgainst c m text spec =
-    ToTarget text (λ t. ToSpec m spec (λ members. IsExplained Words members c m t))
+abbrev pub IsExplainedAgainst : Wording → Declarations → Matrix → List ℕ → List ℕ → Answer → Type 0
+IsExplainedAgainst how c m text spec =
+    ToTarget text (λ t. ToSpec m spec (λ members. IsExplained (in_words Words how) members c m t))
 
 -- ---- `campaign`
 
@@ -636,6 +637,19 @@ ToTexts component matrix IsAnswer =
     ToValue code_of (meaning_of component_grammar component)
     (λ c. ToMatrix c matrix (λ m. ToSettled c m (IsAnswer c m)))
 
+-- A component, or a source, whose component is taken, is read first, and then the matrix, whose
+-- setup is run. What a source does is told in its own words.
+abbrev pub ToComponent : List ℕ → (Declarations → Answer → Type 0) → Answer → Type 0
+ToComponent text IsAnswer answer =
+    MatchBool (is_source text) (ToValue source_code_of (component_meant text) IsAnswer answer)
+    (ToValue code_of (meaning_of component_grammar text) IsAnswer answer)
+
+abbrev pub ToTold : List ℕ → List ℕ → (Wording → Declarations → Matrix → Answer → Type 0) → Answer
+    → Type 0
+ToTold text matrix IsAnswer =
+    ToComponent text (λ c. ToMatrix c matrix (λ m. ToSettled c m (λ answer.
+    (how : Wording) × IsWordingOf text how × IsAnswer how c m answer)))
+
 -- ---- the whole program
 
 -- what is answered to the parts of a bundle, where it has so many and no more
@@ -652,23 +666,25 @@ IsReplayOf parts =
 abbrev pub AloneOr : View → (List (List ℕ) → Answer → Type 0) → List (List ℕ) → Answer → Type 0
 AloneOr view IsShown parts answer =
     MatchOption (exactly_two parts) (IsShown parts answer)
-    (λ p. ToTexts p.0 p.1 (IsShownAlone view) answer)
+    (λ p. ToTold p.0 p.1 (IsShownAlone view) answer)
 
 abbrev pub IsTraceBehind : List (List ℕ) → Answer → Type 0
 IsTraceBehind parts =
-    ToParts (shown_parts parts) (λ p. ToTexts p.0 p.1 (λ c m. IsTracedText c m p.2))
+    ToParts (shown_parts parts) (λ p. ToTold p.0 p.1 (λ how c m. IsTracedText how c m p.2))
 
 abbrev pub IsTraceFromSetupBehind : List (List ℕ) → Answer → Type 0
 IsTraceFromSetupBehind parts =
-    ToParts (shown_parts parts) (λ p. ToTexts p.0 p.1 (λ c m. IsTracedFromSetupText c m p.2))
+    ToParts (shown_parts parts)
+    (λ p. ToTold p.0 p.1 (λ how c m. IsTracedFromSetupText how c m p.2))
 
 abbrev pub IsDrawBehind : List (List ℕ) → Answer → Type 0
 IsDrawBehind parts =
-    ToParts (shown_parts parts) (λ p. ToTexts p.0 p.1 (λ c m. IsDrawnText c m p.2))
+    ToParts (shown_parts parts) (λ p. ToTold p.0 p.1 (λ how c m. IsDrawnText how c m p.2))
 
 abbrev pub IsExplainBehind : Presentation → Limits → List (List ℕ) → Answer → Type 0
 IsExplainBehind by limits parts =
-    ToParts (shown_parts parts) (λ p. ToTexts p.0 p.1 (λ c m. IsExplainedText by limits c m p.2))
+    ToParts (shown_parts parts)
+    (λ p. ToTold p.0 p.1 (λ how c m. IsExplainedText (in_words by how) limits c m p.2))
 
 abbrev pub IsTraceOf : List (List ℕ) → Answer → Type 0
 IsTraceOf = AloneOr view.Trace IsTraceBehind
@@ -688,7 +704,7 @@ IsExplainOf by limits = AloneOr (view_of by) (IsExplainBehind by limits)
 
 abbrev pub IsExplainAgainstOf : List (List ℕ) → Answer → Type 0
 IsExplainAgainstOf parts =
-    ToParts (exactly_four parts) (λ p. ToTexts p.0 p.1 (λ c m. IsExplainedAgainst c m p.2 p.3))
+    ToParts (exactly_four parts) (λ p. ToTold p.0 p.1 (λ how c m. IsExplainedAgainst how c m p.2 p.3))
 
 abbrev pub IsSerialOf : Limits → List (List ℕ) → Answer → Type 0
 IsSerialOf limits parts =
@@ -787,22 +803,9 @@ IsAnswerToOrder (Campaigning options) parts = IsCampaignOf options parts
 IsAnswerToOrder (CampaignAgainst options) parts = IsCampaignAgainstOf options parts
 IsAnswerToOrder Compile parts = IsCompileOf parts
 
--- what is said of the lines of a bundle, and whether one of it is a fault
-abbrev pub remarked : List Remark → Answer
-remarked remarks = record {
-  text = remarks_text remarks;
-  status = if list_any (λ r. is_fault r.said.cause) remarks then 2 else 0;
-}
-
--- what there is to say of a bundle, in the order of its lines
-abbrev pub IsLinted : Limits → List ℕ → Answer → Type 0
-IsLinted limits bundle answer =
-    (remarks : List Remark) × IsSaidOf limits.serial bundle (said_of remarks)
-    × IsNonDecreasingBy (λ r. r.said.place) remarks × (answer ≡ remarked remarks)
-
 -- the answer to what is asked for and the input, where that is not too long
 abbrev pub IsAnswerIn : Request → List ℕ → Answer → Type 0
-IsAnswerIn (Lint limits) input answer = IsLinted limits input answer
+IsAnswerIn (Lint limits) input answer = IsLint limits input answer
 IsAnswerIn (Ordered order) input answer = IsAnswerToOrder order (bundle_parts input) answer
 
 -- the answer to what is asked for and the whole input

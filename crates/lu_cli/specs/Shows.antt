@@ -11,8 +11,9 @@ use Rattle.lu_report.specs.declared.report.Finding.TheVariants.{SerialCut, Nonde
 use Rattle.lu_report.specs.Parts.{Parts}
 use Rattle.lu_report.specs.Text.{report_text}
 use Rattle.lu_replay.specs.Replays.{IsInfeasibleAt}
-use Rattle.lu_trace.specs.Traces.{IsTrace}
-use Rattle.lu_trace.specs.Setups.{IsTraceFromSetup}
+use Rattle.lu_trace.specs.declared.wording.Wording.{Wording}
+use Rattle.lu_trace.specs.Traces.{IsWordedTrace}
+use Rattle.lu_trace.specs.Setups.{IsWordedTraceFromSetup}
 use Rattle.lu_spec.specs.Listed.{IsListing}
 use Rattle.lu_spec.specs.SpecText.{spec_text}
 use Rattle.lu_certify.specs.declared.certificate.Certificate.{Certificate}
@@ -24,17 +25,18 @@ use Rattle.lu_cli.specs.Outcomes.{Answer, infeasible, no_worker}
 
 -- ---- `trace`
 
--- the trace of the schedule, or where it is infeasible
-abbrev pub IsTraced : Declarations → Matrix → List Move → Answer → Type 0
-IsTraced c matrix u answer =
-    ((text : List ℕ) × IsTrace c matrix u text × (answer ≡ record { text = text; status = 0 }))
+-- the trace of the schedule in these words, or where it is infeasible
+abbrev pub IsTraced : Wording → Declarations → Matrix → List Move → Answer → Type 0
+IsTraced how c matrix u answer =
+    ((text : List ℕ) × IsWordedTrace how c matrix u text
+    × (answer ≡ record { text = text; status = 0 }))
     ⊎ ((i : ℕ) × IsInfeasibleAt c matrix u i
     × (answer ≡ infeasible i))
 
 -- the trace from the setup on, or where the schedule is infeasible
-abbrev pub IsTracedFromSetup : Declarations → Matrix → List Move → Answer → Type 0
-IsTracedFromSetup c matrix u answer =
-    ((text : List ℕ) × IsTraceFromSetup c matrix u text
+abbrev pub IsTracedFromSetup : Wording → Declarations → Matrix → List Move → Answer → Type 0
+IsTracedFromSetup how c matrix u answer =
+    ((text : List ℕ) × IsWordedTraceFromSetup how c matrix u text
     × (answer ≡ record { text = text; status = 0 }))
     ⊎ ((i : ℕ) × IsInfeasibleAt c matrix u i
     × (answer ≡ infeasible i))
@@ -42,8 +44,8 @@ IsTracedFromSetup c matrix u answer =
 -- ---- `draw`
 
 -- the picture of the schedule, or where it is infeasible
-abbrev pub IsDrawn : Declarations → Matrix → List Move → Answer → Type 0
-IsDrawn c matrix u answer = IsDrawnWith None c matrix u answer
+abbrev pub IsDrawn : Wording → Declarations → Matrix → List Move → Answer → Type 0
+IsDrawn how c matrix u answer = IsDrawnWith how None c matrix u answer
 
 -- ---- reports
 

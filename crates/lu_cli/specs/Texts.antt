@@ -26,6 +26,19 @@ AreTexts component matrix c m =
 abbrev pub AreSettled : List ℕ → List ℕ → Declarations → AMatrix → Type 0
 AreSettled component matrix c m = AreTexts component matrix c m × Settles c m
 
+-- the text is that of the matrix m, and the setup settles
+abbrev pub IsSettledMatrix : Declarations → List ℕ → AMatrix → Type 0
+IsSettledMatrix c text m = (meaning_of (matrix_grammar c) text ≡ Ok m) × Settles c m
+
+-- the fault of the matrix's text; or the number of the first call of the setup that does not end
+abbrev pub IsFaultOfMatrix : Declarations → List ℕ → TextsFault → Type 0
+IsFaultOfMatrix c text (Component fault) = ⊥
+IsFaultOfMatrix c text (Matrix fault) = IsUnlessMemory fault (meaning_of (matrix_grammar c) text)
+IsFaultOfMatrix c text (Setup k) =
+    (m : AMatrix) × (meaning_of (matrix_grammar c) text ≡ Ok m) × IsUnsettledAt c m k
+IsFaultOfMatrix c text (Spec fault) = ⊥
+IsFaultOfMatrix c text (Check fault) = ⊥
+
 -- the one report of the component and the matrix of these texts
 abbrev pub IsReportOfTexts : List ℕ → List ℕ → Choice → Parts → Type 0
 IsReportOfTexts component matrix choice r =

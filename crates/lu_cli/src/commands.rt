@@ -26,6 +26,7 @@ use crate::order::{BundleCommand, CertifyOptions};
 use crate::refusal::Refusal;
 use crate::shown::{read_shown, shown_parts};
 use crate::texts::read_texts;
+use crate::told::read_told;
 use lu_grain::{certify_longer, certify_longer_by_workers};
 use lu_lang::Component;
 use lu_parallel::{OpenGate, Options, check, check_against, check_one, check_one_against};
@@ -37,7 +38,7 @@ use lu_serial::learn;
 use lu_spec::{Spec, collect_spec, read_spec};
 use lu_test::{Matrix, Schedule, read_schedule};
 use lu_text::{exactly_four, exactly_three, exactly_two};
-use lu_trace::{TraceFault, write_trace, write_trace_from_setup};
+use lu_trace::{TraceFault, Wording, write_worded_trace, write_worded_trace_from_setup};
 use std::alloc::{AllocError, Global};
 use std::sync::Wait;
 use std::thread::Threads;
@@ -75,14 +76,15 @@ fn answer_replay(alloc: Global, parts: &[&[u8]]) -> Result<Answer, Refusal>
 /// The trace of the schedule, or where it is infeasible.
 pub(crate) fn trace(
     alloc: Global,
+    how: Wording<'_>,
     component: &Component,
     matrix: &Matrix,
     schedule: &Schedule,
 ) -> Result<Answer, AllocError>
     requires { CanRun component.now matrix.now }
-    ensures { IfOk result (spec.IsTraced component.now matrix.now schedule.now) }
+    ensures { IfOk result (spec.IsTraced how.entry component.now matrix.now schedule.now) }
 {
-    match write_trace(alloc, component, matrix, schedule) {
+    match write_worded_trace(alloc, &how, component, matrix, schedule) {
         Ok(text) => Ok(Answer { text, status: 0 }),
         Err(TraceFault::Infeasible(index)) => infeasible(alloc, index),
         Err(TraceFault::Memory) => Err(AllocError),
@@ -92,15 +94,16 @@ pub(crate) fn trace(
 /// The trace of the schedule that a text says or a report shows.
 fn trace_text(
     alloc: Global,
+    how: Wording<'_>,
     component: &Component,
     matrix: &Matrix,
     text: &[u8],
 ) -> Result<Answer, Refusal>
     requires { CanRun component.now matrix.now }
-    ensures { Answered (spec.IsTracedText component.now matrix.now text.now) result }
+    ensures { Answered (spec.IsTracedText how.entry component.now matrix.now text.now) result }
 {
     let schedule = read_shown(alloc, text)?;
-    Ok(trace(alloc, component, matrix, &schedule)?)
+    Ok(trace(alloc, how, component, matrix, &schedule)?)
 }
 
 /// Component, matrix, and a schedule or a report.
@@ -108,8 +111,8 @@ fn trace_behind(alloc: Global, parts: &[&[u8]]) -> Result<Answer, Refusal>
     ensures { Answered (spec.IsTraceBehind (texts parts.now)) result }
 {
     let (component, matrix, shown) = shown_parts(parts).ok_or(Refusal::Parts)?;
-    let case = read_texts(alloc, component, matrix)?;
-    trace_text(alloc, &case.component, &case.matrix, shown)
+    let told = read_told(alloc, component, matrix)?;
+    trace_text(alloc, told.wording(), &told.component, &told.matrix, shown)
 }
 
 /// `lineup trace`: component and matrix, and a schedule or a report; of component and matrix alone
@@ -126,14 +129,15 @@ fn answer_trace(alloc: Global, parts: &[&[u8]]) -> Result<Answer, Refusal>
 /// The trace of the schedule from the setup on, or where it is infeasible.
 pub(crate) fn trace_from_setup(
     alloc: Global,
+    how: Wording<'_>,
     component: &Component,
     matrix: &Matrix,
     schedule: &Schedule,
 ) -> Result<Answer, AllocError>
     requires { CanRun component.now matrix.now }
-    ensures { IfOk result (spec.IsTracedFromSetup component.now matrix.now schedule.now) }
+    ensures { IfOk result (spec.IsTracedFromSetup how.entry component.now matrix.now schedule.now) }
 {
-    match write_trace_from_setup(alloc, component, matrix, schedule) {
+    match write_worded_trace_from_setup(alloc, &how, component, matrix, schedule) {
         Ok(text) => Ok(Answer { text, status: 0 }),
         Err(TraceFault::Infeasible(index)) => infeasible(alloc, index),
         Err(TraceFault::Memory) => Err(AllocError),
@@ -143,15 +147,16 @@ pub(crate) fn trace_from_setup(
 /// The trace from the setup on of the schedule that a text says or a report shows.
 fn trace_text_from_setup(
     alloc: Global,
+    how: Wording<'_>,
     component: &Component,
     matrix: &Matrix,
     text: &[u8],
 ) -> Result<Answer, Refusal>
     requires { CanRun component.now matrix.now }
-    ensures { Answered (spec.IsTracedFromSetupText component.now matrix.now text.now) result }
+    ensures { Answered (spec.IsTracedFromSetupText how.entry component.now matrix.now text.now) result }
 {
     let schedule = read_shown(alloc, text)?;
-    Ok(trace_from_setup(alloc, component, matrix, &schedule)?)
+    Ok(trace_from_setup(alloc, how, component, matrix, &schedule)?)
 }
 
 /// Component, matrix, and a schedule or a report.
@@ -159,8 +164,8 @@ fn trace_from_setup_behind(alloc: Global, parts: &[&[u8]]) -> Result<Answer, Ref
     ensures { Answered (spec.IsTraceFromSetupBehind (texts parts.now)) result }
 {
     let (component, matrix, shown) = shown_parts(parts).ok_or(Refusal::Parts)?;
-    let case = read_texts(alloc, component, matrix)?;
-    trace_text_from_setup(alloc, &case.component, &case.matrix, shown)
+    let told = read_told(alloc, component, matrix)?;
+    trace_text_from_setup(alloc, told.wording(), &told.component, &told.matrix, shown)
 }
 
 /// `lineup trace --setup`: component and matrix, and a schedule or a report; of component and matrix alone
@@ -177,15 +182,16 @@ fn answer_trace_from_setup(alloc: Global, parts: &[&[u8]]) -> Result<Answer, Ref
 /// The picture of the schedule that a text says or a report shows.
 fn draw_text(
     alloc: Global,
+    how: Wording<'_>,
     component: &Component,
     matrix: &Matrix,
     text: &[u8],
 ) -> Result<Answer, Refusal>
     requires { CanRun component.now matrix.now }
-    ensures { Answered (spec.IsDrawnText component.now matrix.now text.now) result }
+    ensures { Answered (spec.IsDrawnText how.entry component.now matrix.now text.now) result }
 {
     let schedule = read_shown(alloc, text)?;
-    Ok(draw(alloc, component, matrix, &schedule, None)?)
+    Ok(draw(alloc, how, component, matrix, &schedule, None)?)
 }
 
 /// Component, matrix, and a schedule or a report.
@@ -193,8 +199,8 @@ fn draw_behind(alloc: Global, parts: &[&[u8]]) -> Result<Answer, Refusal>
     ensures { Answered (spec.IsDrawBehind (texts parts.now)) result }
 {
     let (component, matrix, shown) = shown_parts(parts).ok_or(Refusal::Parts)?;
-    let case = read_texts(alloc, component, matrix)?;
-    draw_text(alloc, &case.component, &case.matrix, shown)
+    let told = read_told(alloc, component, matrix)?;
+    draw_text(alloc, told.wording(), &told.component, &told.matrix, shown)
 }
 
 /// `lineup draw`: component and matrix, and a schedule or a report; of component and matrix alone

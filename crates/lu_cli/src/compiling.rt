@@ -71,7 +71,7 @@ fn show_bundle(alloc: Global, component: &Component, parts: &[&[u8]]) -> Result<
 }
 
 /// The component that a source's text is compiled to.
-fn read_source(alloc: Global, text: &[u8]) -> Result<Component, Refusal>
+pub(crate) fn read_source(alloc: Global, text: &[u8]) -> Result<Component, Refusal>
     ensures read { IfOk result (λ c. component_meant text.now ≡ Ok c) }
     ensures refused { IfErr result (IsSourceRefusal text.now) }
 {

@@ -8,41 +8,40 @@ ghost use Rattle.lu_cli.specs.Drawing.{IsDrawnOf, IsPictureOf};
 use crate::answer::{Answer, infeasible};
 use lu_component::Component;
 use lu_explain::Explanation;
-use lu_picture::{write_explained_picture, write_picture};
+use lu_picture::write_worded_picture;
 use lu_test::{Matrix, Schedule};
-use lu_trace::TraceFault;
+use lu_trace::{TraceFault, Wording};
 use std::alloc::{AllocError, Global};
 
-/// The picture of a schedule, with this explanation or none.
+/// The picture of a schedule in these words, with this explanation or none.
 fn picture(
     alloc: Global,
+    how: Wording<'_>,
     component: &Component,
     matrix: &Matrix,
     schedule: &Schedule,
     why: Option<&Explanation>,
 ) -> Result<String, TraceFault>
     requires { CanRun component.now matrix.now }
-    ensures picture { IfOk result (IsPictureOf why.entry component.now matrix.now schedule.now) }
+    ensures picture { IfOk result (IsPictureOf how.entry why.entry component.now matrix.now schedule.now) }
     ensures fault { IfErr result (IsTraceFault component.now matrix.now schedule.now) }
 {
-    match why {
-        None => write_picture(alloc, component, matrix, schedule),
-        Some(why) => write_explained_picture(alloc, component, matrix, schedule, why),
-    }
+    write_worded_picture(alloc, &how, component, matrix, schedule, why)
 }
 
 /// The picture of a schedule, with this explanation or none, or where the schedule is infeasible.
 pub(crate) fn draw(
     alloc: Global,
+    how: Wording<'_>,
     component: &Component,
     matrix: &Matrix,
     schedule: &Schedule,
     why: Option<&Explanation>,
 ) -> Result<Answer, AllocError>
     requires { CanRun component.now matrix.now }
-    ensures { IfOk result (IsDrawnOf why.entry component.now matrix.now schedule.now) }
+    ensures { IfOk result (IsDrawnOf how.entry why.entry component.now matrix.now schedule.now) }
 {
-    match picture(alloc, component, matrix, schedule, why) {
+    match picture(alloc, how, component, matrix, schedule, why) {
         Ok(text) => Ok(Answer { text, status: 0 }),
         Err(TraceFault::Infeasible(index)) => infeasible(alloc, index),
         Err(TraceFault::Memory) => Err(AllocError),

@@ -6,8 +6,7 @@ ghost use Rattle.lu_machine.specs.Starts.{CanRun};
 ghost use Rattle.lu_cli.specs.Refusals.{Answered};
 ghost use Rattle.lu_cli.specs.Drawing.{IsLeastPending, IsShownExplanation, IsShownThread};
 ghost use Rattle.lu_cli.specs.Explaining as spec;
-ghost use Rattle.lu_cli.specs.Explaining.{ExplainsTarget, ExplainsFinding, ExplainsSchedule, IsPlayed, Presents};
-ghost use Rattle.lu_cli.specs.declared.explaining.Presentation.TheVariants.{Words, Picture};
+ghost use Rattle.lu_cli.specs.Explaining.{ExplainsFinding, ExplainsRun, ExplainsSchedule, ExplainsTarget, IsPlayed, PicturesRun, Presents};
 ghost use Rattle.lu_cli.specs.Failing.{IsFindingExplained};
 ghost use Rattle.lu_cli.specs.Replies.{IsExplainAgainstOf, IsExplainBehind, IsExplainOf, IsExplainedAgainst, IsExplainedText, IsTarget, IsTargetRefusal, view_of as spec_of_view};
 
@@ -16,7 +15,7 @@ use crate::drawing::draw;
 use crate::failing::{View, answer_failing};
 use crate::refusal::Refusal;
 use crate::shown::shown_parts;
-use crate::texts::read_texts;
+use crate::told::read_told;
 use lu_component::Component;
 use lu_explain::{Explanation, event_moves, explain as explain_history, write_explanations};
 use lu_history::{History, HistoryFault};
@@ -27,6 +26,7 @@ use lu_serial::learn;
 use lu_spec::read_spec;
 use lu_test::{Matrix, Schedule, read_schedule, write_schedule};
 use lu_text::{exactly_four, exactly_two};
+use lu_trace::Wording;
 use lu_trie::SerialTree;
 use lu_witness::{Verdict, verdict};
 use std::alloc::{AllocError, Global};
@@ -49,6 +49,13 @@ pub(crate) enum Presentation {
 
     /// By marks in the picture of its schedule.
     Picture,
+}
+
+/// How a history is explained, and the words in which a picture tells what each move does.
+#[derive(Clone, Copy)]
+pub(crate) struct Presenting<'a> {
+    pub(crate) by: Presentation,
+    pub(crate) how: Wording<'a>,
 }
 
 /// Why nothing is explained.
@@ -96,7 +103,7 @@ fn explain_by<T: SerialTree>(
 ) -> Result<Answer, AllocError>
     requires run { CanRun component.now matrix.now }
     requires shows { IsPlayed component.now matrix.now run }
-    ensures { Presents Words T.members tree.now component.now matrix.now run.entry result }
+    ensures { ExplainsRun T.members tree.now component.now matrix.now run.entry result }
 {
     let ShownSchedule { schedule, shown } = run;
     let moves = event_moves(alloc, component, matrix, schedule)?;
@@ -144,17 +151,18 @@ fn explanation_shown<T: SerialTree>(tree: &T, history: &History) -> Result<Expla
 /// The history of an ended schedule, explained in the picture of the schedule.
 fn picture_by<T: SerialTree>(
     alloc: Global,
+    how: Wording<'_>,
     component: &Component,
     matrix: &Matrix,
     tree: &T,
     run: ShownSchedule<'_>,
 ) -> Result<Answer, AllocError>
     requires { CanRun component.now matrix.now }
-    ensures { Presents Picture T.members tree.now component.now matrix.now run.entry result }
+    ensures { PicturesRun how.entry T.members tree.now component.now matrix.now run.entry result }
 {
     let ShownSchedule { schedule, shown } = run;
     let explanation = explanation_shown(tree, &shown.history)?;
-    draw(alloc, component, matrix, schedule, Some(&explanation))
+    draw(alloc, how, component, matrix, schedule, Some(&explanation))
 }
 
 /// The history of an ended schedule, explained in words or in a picture.
@@ -164,15 +172,15 @@ fn present<T: SerialTree>(
     matrix: &Matrix,
     tree: &T,
     run: ShownSchedule<'_>,
-    by: Presentation,
+    by: Presenting<'_>,
 ) -> Result<Answer, AllocError>
     requires of { CanRun component.now matrix.now }
     requires shows { IsPlayed component.now matrix.now run }
-    ensures { Presents by T.members tree.now component.now matrix.now run.entry result }
+    ensures { Presents by.entry T.members tree.now component.now matrix.now run.entry result }
 {
-    match by {
+    match by.by {
         Presentation::Words => explain_by(alloc, component, matrix, tree, run),
-        Presentation::Picture => picture_by(alloc, component, matrix, tree, run),
+        Presentation::Picture => picture_by(alloc, by.how, component, matrix, tree, run),
     }
 }
 
@@ -196,10 +204,10 @@ fn explain_schedule<T: SerialTree>(
     matrix: &Matrix,
     tree: &T,
     schedule: &Schedule,
-    by: Presentation,
+    by: Presenting<'_>,
 ) -> Result<Answer, AllocError>
     requires { CanRun component.now matrix.now }
-    ensures { ExplainsSchedule by T.members tree.now component.now matrix.now schedule.now result }
+    ensures { ExplainsSchedule by.entry T.members tree.now component.now matrix.now schedule.now result }
 {
     match replay(alloc, component, matrix, schedule) {
         Ok(shown) => match shown.status {
@@ -228,10 +236,10 @@ fn explain_finding<T: SerialTree>(
     matrix: &Matrix,
     tree: &T,
     finding: &Finding,
-    by: Presentation,
+    by: Presenting<'_>,
 ) -> Result<Answer, AllocError>
     requires { CanRun component.now matrix.now }
-    ensures { ExplainsFinding by T.members tree.now component.now matrix.now finding.now result }
+    ensures { ExplainsFinding by.entry T.members tree.now component.now matrix.now finding.now result }
 {
     match finding {
         Finding::SerialCut(schedule) => say_with(alloc, "serial-cut", schedule),
@@ -250,10 +258,10 @@ fn explain<T: SerialTree>(
     matrix: &Matrix,
     tree: &T,
     target: &Target,
-    by: Presentation,
+    by: Presenting<'_>,
 ) -> Result<Answer, AllocError>
     requires { CanRun component.now matrix.now }
-    ensures { ExplainsTarget by T.members tree.now component.now matrix.now target.now result }
+    ensures { ExplainsTarget by.entry T.members tree.now component.now matrix.now target.now result }
 {
     match target {
         Target::Schedule(schedule) => {
@@ -272,10 +280,10 @@ pub(crate) fn explain_finding_serially(
     component: &Component,
     matrix: &Matrix,
     finding: &Finding,
-    by: Presentation,
+    by: Presenting<'_>,
 ) -> Result<Answer, AllocError>
     requires { CanRun component.now matrix.now }
-    ensures { IfOk result (IsFindingExplained by component.now matrix.now finding.now) }
+    ensures { IfOk result (IsFindingExplained by.entry component.now matrix.now finding.now) }
 {
     match set_or_offence(learn(alloc, alloc, component, matrix, MOST_MOVES)?) {
         Ok(set) => explain_finding(alloc, component, matrix, &&set, finding, by),
@@ -290,10 +298,10 @@ fn explain_serially(
     matrix: &Matrix,
     bounds: Bounds,
     target: &Target,
-    by: Presentation,
+    by: Presenting<'_>,
 ) -> Result<Answer, AllocError>
     requires { CanRun component.now matrix.now }
-    ensures { IfOk result (spec.IsExplainedSerially by bounds component.now matrix.now target.now) }
+    ensures { IfOk result (spec.IsExplainedSerially by.entry bounds component.now matrix.now target.now) }
 {
     match set_or_offence(learn(alloc, alloc, component, matrix, bounds.serial())?) {
         Ok(set) => explain(alloc, component, matrix, &&set, target, by),
@@ -356,8 +364,10 @@ fn explain_behind(
     ensures { Answered (IsExplainBehind by bounds (texts parts.now)) result }
 {
     let (component, matrix, target) = shown_parts(parts).ok_or(Refusal::Parts)?;
-    let case = read_texts(alloc, component, matrix)?;
-    explain_text(alloc, &case.component, &case.matrix, bounds, target, by)
+    let told = read_told(alloc, component, matrix)?;
+    let how = told.wording();
+    let by = Presenting { by, how };
+    explain_text(alloc, &told.component, &told.matrix, bounds, target, by)
 }
 
 /// The bounds by which it is explained: a report has its own bound of serial runs.
@@ -380,10 +390,10 @@ fn explain_text(
     matrix: &Matrix,
     bounds: Bounds,
     target: &[u8],
-    by: Presentation,
+    by: Presenting<'_>,
 ) -> Result<Answer, Refusal>
     requires { CanRun component.now matrix.now }
-    ensures { Answered (IsExplainedText by bounds component.now matrix.now target.now) result }
+    ensures { Answered (IsExplainedText by.entry bounds component.now matrix.now target.now) result }
 {
     let target = read_target(alloc, target)?;
     let bounds = bounds_for(bounds, &target);
@@ -393,18 +403,23 @@ fn explain_text(
 /// The text of a schedule or of a report, explained by a specification.
 fn explain_against(
     alloc: Global,
+    how: Wording<'_>,
     component: &Component,
     matrix: &Matrix,
     target: &[u8],
     spec: &[u8],
 ) -> Result<Answer, Refusal>
     requires { CanRun component.now matrix.now }
-    ensures { Answered (IsExplainedAgainst component.now matrix.now target.now spec.now) result }
+    ensures { Answered (IsExplainedAgainst how.entry component.now matrix.now target.now spec.now) result }
 {
     let target = read_target(alloc, target)?;
     let specification = read_spec(alloc, matrix, spec)?;
     let tree = &specification.tree();
-    Ok(explain(alloc, component, matrix, tree, &target, Presentation::Words)?)
+    let by = Presenting {
+        by: Presentation::Words,
+        how,
+    };
+    Ok(explain(alloc, component, matrix, tree, &target, by)?)
 }
 
 /// `lineup explain --spec`: component, matrix, a schedule or a report, and specification.
@@ -412,6 +427,14 @@ pub(crate) fn answer_explain_against(alloc: Global, parts: &[&[u8]]) -> Result<A
     ensures { Answered (IsExplainAgainstOf (texts parts.now)) result }
 {
     let (component, matrix, target, specification) = exactly_four(parts).ok_or(Refusal::Parts)?;
-    let case = read_texts(alloc, component, matrix)?;
-    explain_against(alloc, &case.component, &case.matrix, target, specification)
+    let told = read_told(alloc, component, matrix)?;
+    let how = told.wording();
+    explain_against(
+        alloc,
+        how,
+        &told.component,
+        &told.matrix,
+        target,
+        specification,
+    )
 }

@@ -9,18 +9,19 @@ ghost use Rattle.lu_cli.specs.Refusals.{Answered};
 ghost use Rattle.lu_cli.specs.Failing as spec;
 ghost use Rattle.lu_certify.specs.Certificates.{NamesCutOf};
 ghost use Rattle.lu_cli.specs.Failing.{CanRunCut, ShowsRunBelow};
-ghost use Rattle.lu_cli.specs.Replies.{ToTexts};
+ghost use Rattle.lu_cli.specs.Replies.{ToTold};
 
 use crate::answer::{Answer, show_certificate, show_schedule, write_both};
 use crate::commands::{trace, trace_from_setup};
 use crate::drawing::draw;
-use crate::explaining::{Presentation, explain_finding_serially};
+use crate::explaining::{Presentation, Presenting, explain_finding_serially};
 use crate::refusal::Refusal;
-use crate::texts::read_texts;
+use crate::told::read_told;
 use lu_certify::{Certificate, certify};
 use lu_component::Component;
 use lu_report::{Finding, MOST_MOVES, Report};
 use lu_test::{Matrix, Schedule};
+use lu_trace::Wording;
 use std::alloc::{AllocError, Global};
 
 /// How what fails is shown.
@@ -61,6 +62,7 @@ fn below(mut text: String, more: &Answer) -> Result<String, AllocError>
 /// A text with what each move of the schedule does below it; or the picture of the schedule alone.
 fn show_run(
     alloc: Global,
+    how: Wording<'_>,
     component: &Component,
     cut: &Matrix,
     schedule: &Schedule,
@@ -68,19 +70,19 @@ fn show_run(
     view: View,
 ) -> Result<Answer, AllocError>
     requires { CanRun component.now cut.now }
-    ensures { ShowsRunBelow view component.now cut.now schedule.now text result }
+    ensures { ShowsRunBelow view how.entry component.now cut.now schedule.now text result }
 {
     match view {
         View::Explanation | View::Trace => {
-            let steps = trace(alloc, component, cut, schedule)?;
+            let steps = trace(alloc, how, component, cut, schedule)?;
             Ok(failure(below(text, &steps)?))
         }
         View::TraceFromSetup => {
-            let steps = trace_from_setup(alloc, component, cut, schedule)?;
+            let steps = trace_from_setup(alloc, how, component, cut, schedule)?;
             Ok(failure(below(text, &steps)?))
         }
         View::Picture | View::ExplainedPicture => {
-            let picture = draw(alloc, component, cut, schedule, None)?;
+            let picture = draw(alloc, how, component, cut, schedule, None)?;
             Ok(failure(picture.text))
         }
     }
@@ -101,6 +103,7 @@ fn schedule_of(finding: &Finding) -> Option<&Schedule>
 /// A cut that fails with this report, by this schedule.
 fn show_failing(
     alloc: Global,
+    how: Wording<'_>,
     component: &Component,
     cut: &Matrix,
     report: &Report,
@@ -109,29 +112,38 @@ fn show_failing(
 ) -> Result<Answer, AllocError>
     requires { CanRun component.now cut.now }
     ensures { IfOk result
-        (spec.ShowsFailing view component.now cut.now report.now schedule.now) }
+        (spec.ShowsFailing view how.entry component.now cut.now report.now schedule.now) }
 {
     let finding = report.finding();
     match view {
         View::Explanation => {
             let text = write_both(alloc, component, cut, report)?;
-            let why = explain_finding_serially(
+            let by = Presenting {
+                by: Presentation::Words,
+                how,
+            };
+            let why = explain_finding_serially(alloc, component, cut, finding, by)?;
+            show_run(
                 alloc,
+                how,
                 component,
                 cut,
-                finding,
-                Presentation::Words,
-            )?;
-            show_run(alloc, component, cut, schedule, below(text, &why)?, view)
+                schedule,
+                below(text, &why)?,
+                view,
+            )
         }
         View::ExplainedPicture => {
-            let by = Presentation::Picture;
+            let by = Presenting {
+                by: Presentation::Picture,
+                how,
+            };
             let picture = explain_finding_serially(alloc, component, cut, finding, by)?;
             Ok(failure(picture.text))
         }
         View::Trace | View::TraceFromSetup | View::Picture => {
             let text = write_both(alloc, component, cut, report)?;
-            show_run(alloc, component, cut, schedule, text, view)
+            show_run(alloc, how, component, cut, schedule, text, view)
         }
     }
 }
@@ -139,23 +151,24 @@ fn show_failing(
 /// Of a certificate the cut that fails or has a livelock, shown so; another one as it is.
 fn show_by_view(
     alloc: Global,
+    how: Wording<'_>,
     component: &Component,
     certificate: &Certificate,
     view: View,
 ) -> Result<Answer, AllocError>
     requires of { NamesCutOf component.now certificate.now }
     requires runs { CanRunCut component.now certificate.now }
-    ensures { IfOk result (spec.ShowsByView view component.now certificate.now) }
+    ensures { IfOk result (spec.ShowsByView view how.entry component.now certificate.now) }
 {
     match certificate {
         Certificate::Linearizable(_) => show_certificate(alloc, component, certificate),
         Certificate::NotLinearizable { matrix, report } => match schedule_of(report.finding()) {
             None => show_certificate(alloc, component, certificate),
-            Some(schedule) => show_failing(alloc, component, matrix, report, schedule, view),
+            Some(schedule) => show_failing(alloc, how, component, matrix, report, schedule, view),
         },
         Certificate::Livelock { matrix, schedule } => {
             let shown = show_schedule(alloc, component, matrix, schedule)?;
-            show_run(alloc, component, matrix, schedule, shown.text, view)
+            show_run(alloc, how, component, matrix, schedule, shown.text, view)
         }
         Certificate::Undecided { .. } => show_certificate(alloc, component, certificate),
     }
@@ -164,15 +177,16 @@ fn show_by_view(
 /// What fails of a component and a matrix, shown so; or their certificate, where nothing fails.
 fn show_alone(
     alloc: Global,
+    how: Wording<'_>,
     component: &Component,
     matrix: &Matrix,
     view: View,
 ) -> Result<Answer, AllocError>
     requires { CanRun component.now matrix.now }
-    ensures { IfOk result (spec.IsShownAlone view component.now matrix.now) }
+    ensures { IfOk result (spec.IsShownAlone view how.entry component.now matrix.now) }
 {
     let certificate = certify(alloc, component, matrix, MOST_MOVES, MOST_MOVES)?;
-    show_by_view(alloc, component, &certificate, view)
+    show_by_view(alloc, how, component, &certificate, view)
 }
 
 /// `lineup explain`, `trace` and `draw` of component and matrix alone.
@@ -182,8 +196,8 @@ pub(crate) fn answer_failing(
     matrix: &[u8],
     view: View,
 ) -> Result<Answer, Refusal>
-    ensures { Answered (ToTexts component.now matrix.now (spec.IsShownAlone view)) result }
+    ensures { Answered (ToTold component.now matrix.now (spec.IsShownAlone view)) result }
 {
-    let case = read_texts(alloc, component, matrix)?;
-    Ok(show_alone(alloc, &case.component, &case.matrix, view)?)
+    let told = read_told(alloc, component, matrix)?;
+    Ok(show_alone(alloc, told.wording(), &told.component, &told.matrix, view)?)
 }

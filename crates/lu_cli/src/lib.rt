@@ -15,12 +15,14 @@ mod explaining;
 mod failing;
 mod input;
 mod judging;
+mod linting;
 mod order;
 mod output;
 mod program;
 mod refusal;
 mod shown;
 mod texts;
+mod told;
 
 pub use answer::Answer;
 pub use args::read_request;

@@ -4,7 +4,7 @@ ghost use Rattle.std.specs.Prelude.{◌≡◌, ◌≢◌, ◌<◌, ◌≤◌, �
 ghost use Rattle.lu_cli.specs.declared.program.Failure.TheVariants.{Memory};
 ghost use Rattle.lu_cli.specs.Args.{request_said};
 ghost use Rattle.lu_cli.specs.Counted.{IsUnfailed};
-ghost use Rattle.lu_cli.specs.Replies.{IsAnswerFor, IsAnswerFrom, IsAnswerOf, IsLinted, SaysAnswer, SaysNoCommand, Sends, TellsElse, TellsUnread, no_command, no_device};
+ghost use Rattle.lu_cli.specs.Replies.{IsAnswerFor, IsAnswerFrom, IsAnswerOf, SaysAnswer, SaysNoCommand, Sends, TellsElse, TellsUnread, no_command, no_device};
 
 use crate::answer::{Answer, refused};
 use crate::args::read_request;
@@ -12,10 +12,9 @@ use crate::bundle::parts_in;
 use crate::commands::{carry_out, carry_out_alone, or_refusal};
 use crate::counted::Counted;
 use crate::input::{InputFault, MOST_BYTES, read_input};
+use crate::linting::answer_lint;
 use crate::order::{ArgsFault, Request};
 use crate::output::write_text;
-use lu_lint::lint;
-use lu_report::Bounds;
 use std::alloc::{AllocError, Global};
 use std::convert::AsStr;
 use std::io::{Read, Write};
@@ -38,17 +37,6 @@ impl From<AllocError> for Failure {
     fn from(_e: AllocError) -> Failure {
         Failure::Memory
     }
-}
-
-/// What there is to say of a bundle.
-fn answer_lint(alloc: Global, bounds: Bounds, bundle: &[u8]) -> Result<Answer, AllocError>
-    ensures { IfOk result (IsLinted bounds bundle.now) }
-{
-    let linted = lint(alloc, bundle, bounds.serial())?;
-    Ok(Answer {
-        text: linted.text,
-        status: if linted.faults { 2 } else { 0 },
-    })
 }
 
 /// The answer to what is read.

@@ -4,7 +4,7 @@ ghost use Rattle.std.specs.Prelude.{◌≡◌, IfErr, IfOk};
 ghost use Rattle.lu_text.specs.declared.fault.Fault.TheVariants.{Memory};
 ghost use Rattle.lu_test.specs.Matrix.{IsOf};
 ghost use Rattle.lu_machine.specs.Starts.{CanRun, IsFirstUnsettled};
-ghost use Rattle.lu_cli.specs.Texts.{AreSettled, IsFaultAgainst, IsCheckFault, IsFaultIn, IsFaultOfTexts, IsReportIn, IsReportOf, IsReportOfTexts, IsReportRead};
+ghost use Rattle.lu_cli.specs.Texts.{AreSettled, IsFaultAgainst, IsCheckFault, IsFaultIn, IsFaultOfMatrix, IsFaultOfTexts, IsReportIn, IsReportOf, IsReportOfTexts, IsReportRead, IsSettledMatrix};
 
 use lu_lang::{Component, LangFault, read_component};
 use lu_machine::settles;
@@ -114,6 +114,19 @@ fn find_unsettled(
     Ok(settles(alloc, component, matrix)?)
 }
 
+/// The matrix of a component, from its text. Its setup is run last.
+pub(crate) fn matrix_of(alloc: Global, component: &Component, text: &[u8]) -> Result<Matrix, Fault>
+    ensures read { IfOk result (IsSettledMatrix component.now text.now) }
+    ensures runs { IfOk result (CanRun component.now) }
+    ensures fault { IfErr result (IsFaultOfMatrix component.now text.now) }
+{
+    let matrix = read_matrix(alloc, component, text)?;
+    match find_unsettled(alloc, component, &matrix)? {
+        Some(call) => Err(Fault::Setup(call)),
+        None => Ok(matrix),
+    }
+}
+
 /// The component and the matrix of two texts. The component's text is read first, and the matrix's
 /// setup is run last.
 ///
@@ -127,11 +140,8 @@ pub fn read_texts(alloc: Global, component: &[u8], matrix: &[u8]) -> Result<Case
     ensures fault { IfErr result (IsFaultOfTexts component.now matrix.now) }
 {
     let component = read_component(alloc, component)?;
-    let matrix = read_matrix(alloc, &component, matrix)?;
-    match find_unsettled(alloc, &component, &matrix)? {
-        Some(call) => Err(Fault::Setup(call)),
-        None => Ok(Case { component, matrix }),
-    }
+    let matrix = matrix_of(alloc, &component, matrix)?;
+    Ok(Case { component, matrix })
 }
 
 /// Checks the component and the matrix of two texts: returns the text of their report, which is the

@@ -3,21 +3,21 @@ use Rattle.std.proofs.lemmas.Result.{err_from_is_err_and}
 use Rattle.lu_text.specs.Lines.{texts}
 use Rattle.lu_cli.specs.Failing.{shown_parts}
 use Rattle.lu_cli.specs.Replies.{IsTracedText}
-use Rattle.lu_cli.proofs.Refuted.{texts_answered, texts_refused}
+use Rattle.lu_cli.proofs.ToldTexts.{told_answered, told_refused}
 use Rattle.lu_cli.proofs.commands.trace_behind.Goals as goal
 
-pub returns-in_err-case : goal.returns-in_err-case
-returns-in_err-case c =
+pub returns-in_err-told : goal.returns-in_err-told
+returns-in_err-told c =
     let p = c.in_ok-component in
-    let refused = err_from_is_err_and c.from_residual-in_err-case.result c.from_residual-in_err-case.ensures.1 in
+    let refused = err_from_is_err_and c.from_residual-in_err-told.result c.from_residual-in_err-told.ensures.1 in
     let parts : shown_parts (texts c.args.parts.now) ≡ Some (p.component.now, p.matrix.now, p.shown.now) = search rules in
-    rw (refused.1, refused.2, parts) (texts_refused p.component.now p.matrix.now c.in_err-case.field-0.0 (λ d m. IsTracedText d m p.shown.now) c.in_err-case.ensures.fault)
+    rw (refused.1, refused.2, parts) (told_refused p.component.now p.matrix.now c.in_err-told.field-0.0 (λ how d m. IsTracedText how d m p.shown.now) c.in_err-told.ensures.refused)
 
 pub returns : goal.returns
 returns c =
     let p = c.in_ok-component in
-    let read = c.in_ok-case in
+    let read = c.in_ok-told in
     let parts : shown_parts (texts c.args.parts.now) ≡ Some (p.component.now, p.matrix.now, p.shown.now) = search rules in
     rw parts
-    (texts_answered p.component.now p.matrix.now read.case.component read.case.matrix (λ d m. IsTracedText d m p.shown.now)
-    read.ensures.read c.trace_text.result c.trace_text.ensures)
+    (told_answered p.component.now p.matrix.now read.told c.wording.result (λ how d m. IsTracedText how d m p.shown.now)
+    read.ensures.read c.wording.ensures c.trace_text.result c.trace_text.ensures)

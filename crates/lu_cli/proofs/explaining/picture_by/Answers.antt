@@ -10,5 +10,5 @@ returns g c =
     let matrix = c.args.matrix.now in
     let schedule = c.args.run.schedule.now in
     let e = c.in_ok-explanation.explanation in
-    IfOk-weaker c.draw.result (IsDrawnWith (Some e) component matrix schedule) (IsPicturedBy (g.T.SerialTree.members c.args.tree.now) component matrix schedule c.args.run.shown.now.history)
+    IfOk-weaker c.draw.result (IsDrawnWith c.args.how (Some e) component matrix schedule) (IsPicturedBy c.args.how (g.T.SerialTree.members c.args.tree.now) component matrix schedule c.args.run.shown.now.history)
     (λ answer is. (e, c.in_ok-explanation.ensures, is)) c.draw.ensures

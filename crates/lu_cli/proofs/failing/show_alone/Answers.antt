@@ -6,5 +6,5 @@ pub returns : goal.returns
 returns c =
     let component = c.args.component.now in
     let certificate = c.in_ok-certificate.certificate in
-    IfOk-weaker c.show_by_view.result (ShowsByView c.args.view component certificate) (IsShownAlone c.args.view component c.args.matrix.now)
+    IfOk-weaker c.show_by_view.result (ShowsByView c.args.view c.args.how component certificate) (IsShownAlone c.args.view c.args.how component c.args.matrix.now)
     (λ answer is. (certificate, c.in_ok-certificate.ensures.certificate, is)) c.show_by_view.ensures

@@ -1,0 +1,95 @@
+//! What a component or a source does, and the words in which it is told.
+
+ghost use Rattle.std.specs.Prelude.{◌≡◌, IfErr, IfOk};
+ghost use Rattle.lu_machine.specs.Starts.{CanRun};
+ghost use Rattle.lu_cli.specs.Telling.{AreWordsOf, IsToldOf, IsToldOfSource, IsToldRefusal, IsToldRefusalOfSource, IsWordsRefusal, TellsBy};
+
+use crate::compiling::read_source;
+use crate::refusal::Refusal;
+use crate::texts::{matrix_of, read_texts};
+use lu_component::Component;
+use lu_source::Origins;
+use lu_source_text::{is_source, source_origins};
+use lu_test::Matrix;
+use lu_text::lines_of;
+use lu_trace::Wording;
+use std::alloc::Global;
+
+/// The lines of a source, and where the instructions of its component come from.
+#[derive(Drop)]
+pub(crate) struct SourceWords<'a> {
+    lines: Vec<&'a [u8]>,
+    origins: Origins,
+}
+
+/// A component and a matrix of it, and the source of the component, where it has one.
+#[derive(Drop)]
+pub(crate) struct Told<'a> {
+    pub(crate) component: Component,
+    pub(crate) matrix: Matrix,
+    source: Option<SourceWords<'a>>,
+}
+
+impl<'a> Told<'a> {
+    /// How instructions of the component are told.
+    pub(crate) fn wording(&self) -> Wording<'_>
+        ensures { TellsBy self.now.source result }
+    {
+        match &self.source {
+            None => Wording::Component,
+            Some(words) => Wording::Source {
+                lines: &words.lines,
+                origins: &words.origins,
+            },
+        }
+    }
+}
+
+/// The lines of a source, and where the instructions of its component come from.
+fn words_of<'a>(alloc: Global, text: &'a [u8]) -> Result<SourceWords<'a>, Refusal>
+    ensures read { IfOk result (AreWordsOf text.now) }
+    ensures refused { IfErr result (IsWordsRefusal text.now) }
+{
+    let lines = lines_of(alloc, text)?;
+    match source_origins(alloc, text) {
+        Ok(origins) => Ok(SourceWords { lines, origins }),
+        Err(fault) => Err(Refusal::Source(fault)),
+    }
+}
+
+/// The component of a source, and a matrix of it.
+fn read_told_source<'a>(alloc: Global, source: &'a [u8], matrix: &[u8]) -> Result<Told<'a>, Refusal>
+    ensures read { IfOk result (IsToldOfSource source.now matrix.now) }
+    ensures runs { IfOk result (λ told. CanRun told.component told.matrix) }
+    ensures refused { IfErr result (IsToldRefusalOfSource source.now matrix.now) }
+{
+    let component = read_source(alloc, source)?;
+    let matrix = matrix_of(alloc, &component, matrix)?;
+    let words = words_of(alloc, source)?;
+    Ok(Told {
+        component,
+        matrix,
+        source: Some(words),
+    })
+}
+
+/// The component that a text spells, or of the source that it spells, and a matrix of it.
+pub(crate) fn read_told<'a>(
+    alloc: Global,
+    component: &'a [u8],
+    matrix: &[u8],
+) -> Result<Told<'a>, Refusal>
+    ensures read { IfOk result (IsToldOf component.now matrix.now) }
+    ensures runs { IfOk result (λ told. CanRun told.component told.matrix) }
+    ensures refused { IfErr result (IsToldRefusal component.now matrix.now) }
+{
+    if is_source(alloc, component)? {
+        return read_told_source(alloc, component, matrix);
+    }
+    let case = read_texts(alloc, component, matrix)?;
+    Ok(Told {
+        component: case.component,
+        matrix: case.matrix,
+        source: None,
+    })
+}

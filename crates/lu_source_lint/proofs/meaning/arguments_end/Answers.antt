@@ -1,0 +1,18 @@
+use Rattle.std.proofs.Common.{◌+◌, ◌∙◌, arith, drop, get_or, sym}
+use Rattle.lu_text.specs.Lines.{texts}
+use Rattle.lu_text.proofs.Reading.{text_more, texts_end}
+use Rattle.lu_source_lint.proofs.Found.{ends_here, ends_nowhere, ends_on, no_word}
+use Rattle.lu_source_lint.proofs.meaning.arguments_end.Goals as goal
+
+pub returns-then-ends_arguments : goal.returns-then-ends_arguments
+returns-then-ends_arguments c =
+    let step = text_more c.args.words.now c.loop-place.place no_word c.loop-place-test.true in
+    ends_here c.loop-place.place (get_or c.args.words.now c.loop-place.place no_word).now (drop (c.loop-place.place + 1) (texts c.args.words.now)) _ (sym c.ends_arguments.ensures ∙ c.if-ends_arguments.true) (rw step at c.loop-place.invariant)
+
+pub loop-place-preserved : goal.loop-place-preserved
+loop-place-preserved c =
+    let step = text_more c.args.words.now c.loop-place.place no_word c.loop-place-test.true in
+    ends_on c.loop-place.place (get_or c.args.words.now c.loop-place.place no_word).now (drop (c.loop-place.place + 1) (texts c.args.words.now)) _ (sym c.ends_arguments.ensures ∙ c.if-ends_arguments.false) (rw step at c.loop-place.invariant)
+
+pub returns : goal.returns
+returns c = ends_nowhere c.loop-place.place _ (drop c.loop-place.place (texts c.args.words.now)) _ (omega arith) (texts_end c.args.words.now c.loop-place.place (omega arith)) c.loop-place.invariant

@@ -1,0 +1,186 @@
+-- Every fault of a source's text: the first one, and then those that are left where the faulty line
+-- is read as it may have been meant.
+use Rattle.std.specs.Prelude.{◌≡◌, ℕ, zero, suc, ◌+◌, ◌-◌, ◌==◌, nat_lt, min, Bool, true, false, not, ◌||◌, List, [], ◌∷◌, ◌++◌, length, map, set, take, Option, Some, None, Result, Ok, Err, IfOk, Vec, codes, if◌then◌else◌}
+use Rattle.std.specs.List.{slice_get}
+use Rattle.std.specs.Option.{unwrap_or}
+use Rattle.lu_text.specs.declared.fault.Fault.{Fault}
+use Rattle.lu_text.specs.declared.fault.Fault.TheVariants.{At, Memory}
+use Rattle.lu_text.specs.Faults.{meaning_of_lines}
+use Rattle.lu_text.specs.Lines.{lines_of}
+use Rattle.lu_text.specs.Words.{Word}
+use Rattle.lu_source.specs.Trees.{Program}
+use Rattle.lu_source_text.specs.declared.fault.SourceFaultKind.{SourceFaultKind as Kind}
+use Rattle.lu_source_text.specs.declared.fault.SourceFaultKind.TheVariants.{Limit, Missing}
+use Rattle.lu_source_text.specs.Grammar.{is_word, source_grammar, source_words, where_some}
+use Rattle.lu_source_lint.specs.declared.faults.LineFault.{LineFault}
+use Rattle.lu_source_lint.specs.declared.message.SourceMessage.{SourceMessage}
+use Rattle.lu_source_lint.specs.declared.message.What.TheVariants.{Fault as AFault}
+
+-- ---- what a faulty line may have meant
+
+-- whether word i of a line is this one
+abbrev pub word_is : List Word → ℕ → List ℕ → Bool
+word_is words i text = where_some (slice_get words i) false (λ word. is_word word text)
+
+abbrev pub is_missing : Kind → Bool
+is_missing Missing = true
+is_missing _ = false
+
+-- whether the last word of a line opens a block
+abbrev pub opens : List Word → Bool
+opens words = word_is words (length words - 1) (codes "{")
+
+abbrev pub ends_arguments : Word → Bool
+ends_arguments word = is_word word (codes ")") || is_word word (codes "{")
+
+-- where the arguments of a line end that begins an operation
+abbrev pub arguments_end : List Word → ℕ
+arguments_end [] = 0
+arguments_end (word ∷ words) = if ends_arguments word then 0 else 1 + arguments_end words
+
+-- How many words of a faulty line stay, and what stands behind them in place of the others: a name
+-- that the line declares is declared, and a block that it opens is open. First of a line that
+-- begins with `}`, then of one that begins with `op`, of which the first 4 arguments stay, then of
+-- one that begins with `word`, and then of any.
+abbrev pub meant_end : List Word → ℕ × List ℕ
+meant_end words =
+    if not (opens words) then (1, [])
+    else (if word_is words 2 (codes "if") then (1, codes "else if 1 {") else (1, codes "else {"))
+
+abbrev pub meant_op : List Word → ℕ × List ℕ
+meant_op words =
+    if nat_lt (arguments_end words) 3 then (2, codes "() {")
+    else (min (arguments_end words) 10, codes ") {")
+
+abbrev pub meant_word : List Word → ℕ × List ℕ
+meant_word words = if word_is words 2 (codes "[") then (2, codes "[1]") else (2, [])
+
+abbrev pub meant : List Word → ℕ × List ℕ
+meant words =
+    if word_is words 0 (codes "let") then (2, codes "= 0")
+    else (if word_is words 0 (codes "const") then (2, codes "= 0")
+    else (if word_is words 0 (codes "word") then meant_word words
+    else (if word_is words 0 (codes "lock") then (2, [])
+    else (if word_is words 0 (codes "op") then meant_op words
+    else (if word_is words 0 (codes "if") then (1, codes "1 {")
+    else (if word_is words 0 (codes "while") then (1, codes "1 {")
+    else (if word_is words 0 (codes "loop") then (1, codes "{")
+    else (if word_is words 0 (codes "}") then meant_end words
+    else (if opens words then (0, codes "if 1 {")
+    else (0, []))))))))))
+
+-- the same of a line with this fault: one that should have named the object names it
+abbrev pub meant_by : Kind → List Word → ℕ × List ℕ
+meant_by kind words =
+    if is_missing kind || word_is words 0 (codes "object") then (0, codes "object a")
+    else meant words
+
+-- each word, and a blank behind it
+abbrev pub spelled : List Word → List ℕ
+spelled [] = []
+spelled (word ∷ words) = word ++ 32 ∷ spelled words
+
+-- so many words, and what stands behind them
+abbrev pub line_with : List Word → ℕ × List ℕ → List ℕ
+line_with words (count, behind) = spelled (take count words) ++ behind
+
+abbrev pub meant_line : Kind → List ℕ → List ℕ
+meant_line kind line = line_with (source_words line) (meant_by kind (source_words line))
+
+-- ---- one fault after the other
+
+abbrev pub fault_of : Result Program (Fault Kind) → Option LineFault
+fault_of (Ok p) = None
+fault_of (Err (At kind n)) = Some (record { line = n; kind = kind })
+fault_of (Err Memory) = None
+
+-- the first fault of these lines
+abbrev pub first_fault : List (List ℕ) → Option LineFault
+first_fault lines = fault_of (meaning_of_lines source_grammar lines)
+
+-- whether the first fault of these lines is that of line n
+abbrev pub is_faulty : List (List ℕ) → ℕ → Bool
+is_faulty lines n = where_some (first_fault lines) false (λ fault. fault.line == n)
+
+-- line n, or an empty one where there are fewer
+abbrev pub line_at : List (List ℕ) → ℕ → List ℕ
+line_at lines n = unwrap_or (slice_get lines (n - 1)) []
+
+-- the lines with this one in place of line n
+abbrev pub with_line : List (List ℕ) → ℕ → List ℕ → List (List ℕ)
+with_line lines n line = set lines (n - 1) line
+
+-- the lines with this one in place of line n, where that is faulty
+abbrev pub or_line : List (List ℕ) → ℕ → List ℕ → List (List ℕ)
+or_line lines n line = if is_faulty lines n then with_line lines n line else lines
+
+-- what a line that opens a block may have meant outside of operations
+abbrev pub meant_outside : List ℕ → List ℕ
+meant_outside line = if opens (source_words line) then codes "op unnamed() {" else []
+
+-- the lines with the faulty one as it may have been meant, in an operation or else outside of them;
+-- or with an empty one in its place, where that is faulty too
+abbrev pub mended : List (List ℕ) → LineFault → List (List ℕ)
+mended lines fault =
+    let line = line_at lines fault.line in
+    let first = with_line lines fault.line (meant_line fault.kind line) in
+    or_line (or_line first fault.line (meant_outside line)) fault.line []
+
+-- whether a line declares something, and is not the one that names the object
+abbrev pub is_declaration : List Word → Bool
+is_declaration words =
+    word_is words 0 (codes "const") || (word_is words 0 (codes "word")
+    || (word_is words 0 (codes "lock") || (word_is words 0 (codes "local")
+    || word_is words 0 (codes "op"))))
+
+-- Whether nothing behind a line with this fault can be read on: it closes an operation that passes
+-- a limit, or declares something before the object is named.
+abbrev pub ends_all : Kind → List Word → Bool
+ends_all Limit words = word_is words 0 (codes "}")
+ends_all Missing words = is_declaration words
+ends_all _ words = false
+
+-- whether nothing behind the fault is told: it is at the end of the text, or such a one
+abbrev pub is_last : List (List ℕ) → LineFault → Bool
+is_last lines fault =
+    nat_lt (length lines) fault.line
+    || ends_all fault.kind (source_words (line_at lines fault.line))
+
+abbrev pub message : LineFault → SourceMessage
+message fault = record { line = fault.line; what = AFault fault.kind }
+
+-- this fault of the lines, and then those that are left, as `rest` tells them
+abbrev pub faults_from : (List (List ℕ) → List SourceMessage) → List (List ℕ) → LineFault
+    → List SourceMessage
+faults_from rest lines fault =
+    message fault ∷ (if is_last lines fault then [] else rest (mended lines fault))
+
+-- the faults of these lines, at most so many: the first one, and then those that are left
+unfoldable pub faults_by : ℕ → List (List ℕ) → List SourceMessage
+faults_by zero lines = []
+faults_by (suc most) lines =
+    where_some (first_fault lines) [] (faults_from (faults_by most) lines)
+
+-- this fault, and then at most so many more
+abbrev pub faults_then : ℕ → List (List ℕ) → LineFault → List SourceMessage
+faults_then more lines fault = faults_from (faults_by more) lines fault
+
+-- the faults of a text, at most 20
+abbrev pub faults_in : List ℕ → List SourceMessage
+faults_in text = faults_by 20 (lines_of text)
+
+-- No fault is told of what is read; else the first that is told is the first there is.
+abbrev pub AgreeOn : Result Program (Fault Kind) → List SourceMessage → Type 0
+AgreeOn (Ok p) told = told ≡ []
+AgreeOn (Err (At kind n)) told =
+    (others : List SourceMessage) × (told ≡ message (record { line = n; kind = kind }) ∷ others)
+AgreeOn (Err Memory) told = told ≡ []
+
+-- ---- lines in memory
+
+abbrev pub bytes_of : {Z : Type 0} → List (Vec ℕ Z) → List (List ℕ)
+bytes_of lines = map (λ line. line.items) lines
+
+-- these lines, unless memory ran out
+abbrev pub HasLines : {Y Z E : Type 0} → Result (Vec (Vec ℕ Y) Z) E → List (List ℕ) → Type 0
+HasLines result lines = IfOk result (λ built. bytes_of built.items ≡ lines)

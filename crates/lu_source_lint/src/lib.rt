@@ -1,0 +1,13 @@
+//! Every fault of a source, and what is odd in one without faults.
+#![tactic(auto)]
+
+mod faults;
+mod meaning;
+mod message;
+mod saying;
+mod warnings;
+
+pub use faults::faults_of;
+pub use message::{SourceMessage, Warning, What};
+pub use saying::wording;
+pub use warnings::warnings_of;

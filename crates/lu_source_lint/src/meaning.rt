@@ -1,0 +1,190 @@
+//! What a faulty line may have meant.
+
+ghost use Rattle.std.specs.Prelude.{◌≡◌, take, IfOk};
+ghost use Rattle.lu_text.specs.Lines.{texts};
+ghost use Rattle.lu_text.specs.Results.{HasItems};
+ghost use Rattle.lu_source_lint.specs.Faults as spec;
+
+use lu_source_text::{SourceFaultKind, source_words};
+use std::alloc::{AllocError, Global};
+
+/// What a faulty line may have meant.
+#[derive(Clone, Copy, Drop)]
+struct Mending {
+    /// How many of its words stay.
+    kept: usize,
+
+    /// What stands behind them in place of the others.
+    behind: &'static [u8],
+}
+
+/// Whether this word of a line, counted from 0, is that one.
+pub(crate) fn word_is(words: &[&[u8]], place: usize, text: &[u8]) -> bool
+    ensures { result ≡ spec.word_is (texts words.now) place text.now }
+{
+    match words.get(place) {
+        None => false,
+        Some(word) => *word == text,
+    }
+}
+
+fn keep(kept: usize, behind: &'static [u8]) -> Mending
+    ensures kept { result.kept ≡ kept }
+    ensures behind { result.behind.now ≡ behind.now }
+{
+    Mending { kept, behind }
+}
+
+/// Whether the last word of a line opens a block.
+pub(crate) fn opens(words: &[&[u8]]) -> bool
+    ensures { result ≡ spec.opens (texts words.now) }
+{
+    word_is(words, words.len().saturating_sub(1), b"{")
+}
+
+/// A line that begins with `}`.
+fn meant_end(words: &[&[u8]]) -> Mending
+    ensures { (result.kept, result.behind.now) ≡ spec.meant_end (texts words.now) }
+{
+    if !opens(words) {
+        keep(1, b"")
+    } else if word_is(words, 2, b"if") {
+        keep(1, b"else if 1 {")
+    } else {
+        keep(1, b"else {")
+    }
+}
+
+fn ends_arguments(word: &[u8]) -> bool
+    ensures { result ≡ spec.ends_arguments word.now }
+{
+    word == b")".as_slice() || word == b"{".as_slice()
+}
+
+/// Where the arguments of an operation end.
+fn arguments_end(words: &[&[u8]]) -> usize
+    ensures { result ≡ spec.arguments_end (texts words.now) }
+{
+    for (place, word) in words.iter().enumerate() {
+        if ends_arguments(word) {
+            return place;
+        }
+    }
+    words.len()
+}
+
+/// A line that begins with `op`, of which the first 4 arguments stay.
+fn meant_op(words: &[&[u8]]) -> Mending
+    ensures { (result.kept, result.behind.now) ≡ spec.meant_op (texts words.now) }
+{
+    let end = arguments_end(words);
+    if end < 3 {
+        keep(2, b"() {")
+    } else {
+        keep(end.min(10), b") {")
+    }
+}
+
+/// A line that begins with `word`.
+fn meant_word(words: &[&[u8]]) -> Mending
+    ensures { (result.kept, result.behind.now) ≡ spec.meant_word (texts words.now) }
+{
+    if word_is(words, 2, b"[") {
+        keep(2, b"[1]")
+    } else {
+        keep(2, b"")
+    }
+}
+
+/// A line by its first word.
+fn meant(words: &[&[u8]]) -> Mending
+    ensures { (result.kept, result.behind.now) ≡ spec.meant (texts words.now) }
+{
+    if word_is(words, 0, b"let") {
+        keep(2, b"= 0")
+    } else if word_is(words, 0, b"const") {
+        keep(2, b"= 0")
+    } else if word_is(words, 0, b"word") {
+        meant_word(words)
+    } else if word_is(words, 0, b"lock") {
+        keep(2, b"")
+    } else if word_is(words, 0, b"op") {
+        meant_op(words)
+    } else if word_is(words, 0, b"if") {
+        keep(1, b"1 {")
+    } else if word_is(words, 0, b"while") {
+        keep(1, b"1 {")
+    } else if word_is(words, 0, b"loop") {
+        keep(1, b"{")
+    } else if word_is(words, 0, b"}") {
+        meant_end(words)
+    } else if opens(words) {
+        keep(0, b"if 1 {")
+    } else {
+        keep(0, b"")
+    }
+}
+
+/// A line with this fault.
+fn meant_by(kind: SourceFaultKind, words: &[&[u8]]) -> Mending
+    ensures { (result.kept, result.behind.now) ≡ spec.meant_by kind (texts words.now) }
+{
+    if matches!(kind, SourceFaultKind::Missing) || word_is(words, 0, b"object") {
+        keep(0, b"object a")
+    } else {
+        meant(words)
+    }
+}
+
+/// The first words, so many or as many as there are.
+fn first_words<'a, 'b>(words: &'a [&'b [u8]], count: usize) -> &'a [&'b [u8]]
+    ensures { texts result.now ≡ take count (texts words.now) }
+{
+    let (first, _) = words.split_at(count.min(words.len()));
+    first
+}
+
+/// Each word, and a blank behind it.
+fn spelled(alloc: Global, words: &[&[u8]]) -> Result<Vec<u8>, AllocError>
+    ensures { HasItems result (spec.spelled (texts words.now)) }
+{
+    let mut text = Vec::new(alloc);
+    for word in words {
+        text.extend_from_slice(word)?;
+        text.push(b' ')?;
+    }
+    Ok(text)
+}
+
+fn line_with(alloc: Global, words: &[&[u8]], meant: Mending) -> Result<Vec<u8>, AllocError>
+    ensures { HasItems result
+        (spec.line_with (texts words.now) (meant.kept, meant.behind.now)) }
+{
+    let mut text = spelled(alloc, first_words(words, meant.kept))?;
+    text.extend_from_slice(meant.behind)?;
+    Ok(text)
+}
+
+/// The line that one with this fault may have meant.
+pub(crate) fn meant_line(
+    alloc: Global,
+    kind: SourceFaultKind,
+    line: &[u8],
+) -> Result<Vec<u8>, AllocError>
+    ensures { HasItems result (spec.meant_line kind line.now) }
+{
+    let words = source_words(alloc, line)?;
+    line_with(alloc, &words, meant_by(kind, &words))
+}
+
+/// What a line that opens a block may have meant outside of operations.
+pub(crate) fn meant_outside(alloc: Global, line: &[u8]) -> Result<&'static [u8], AllocError>
+    ensures { IfOk result (λ text. text.now ≡ spec.meant_outside line.now) }
+{
+    let words = source_words(alloc, line)?;
+    if opens(&words) {
+        Ok(b"op unnamed() {")
+    } else {
+        Ok(b"")
+    }
+}
