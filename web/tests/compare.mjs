@@ -70,6 +70,15 @@ async function try_page(shown) {
     await shown.until(IDLE);
     await is('refused L2 line 7', 'a word that is misspelt while one types');
     if (await shown.evaluate(`document.getElementById('box-lint').hidden`)) tell('a misspelt word is not linted');
+    // a source is compiled first, and a fault of it is told by its own line
+    await example('sources/broken-counter');
+    await shown.until(IDLE);
+    await is('fail complete', 'the source of broken-counter');
+    if (await shown.evaluate(`document.getElementById('box-trace').hidden`)) tell('the source of broken-counter shows no trace');
+    await shown.evaluate(`$('bundle').value = $('bundle').value.replace('seen = count', 'seen = cuont'), $('bundle').dispatchEvent(new Event('input'))`);
+    await wait(600);
+    await shown.until(IDLE);
+    await is('refused O3 line 7', 'a name that is misspelt in a source');
     // a search that runs for long: the page answers meanwhile, and stops it
     await example('examples/peterson');
     await shown.until(IDLE);

@@ -1,1 +1,1 @@
-autocmd BufRead,BufNewFile *.bundle setfiletype lineup
+autocmd BufRead,BufNewFile *.bundle,*.lineup setfiletype lineup
