@@ -6,6 +6,7 @@ use lu_fixtures::ROWS;
 use lu_lang::{read_component, write_component};
 use lu_recorded::{read_recorded, write_recorded};
 use lu_report::{read_report, write_report};
+use lu_source_text::compile_text;
 use lu_spec::{read_spec, write_spec};
 use lu_test::{Matrix, ScheduleFault, read_matrix, read_schedule, write_matrix, write_schedule};
 use lu_text::Fault;
@@ -144,6 +145,24 @@ impl Texts for Histories {
     }
 }
 
+/// Texts of sources, each compiled to a component that is read again from its own text.
+struct Sources;
+
+impl Texts for Sources {
+    fn outcome<X: AllocGlobal + Abort>(&self, rt: &X, text: &[u8]) -> Result<TextOutcome, Fail> {
+        match compile_text(rt.alloc(), text) {
+            Ok(component) => {
+                let written = write_component(rt.alloc(), &component)?;
+                let again = component_again(rt, written.as_bytes())?;
+                assert!(rt; again.as_str() == written.as_str());
+                Ok(TextOutcome::Read)
+            }
+            Err(Fault::At(_, line)) => Ok(TextOutcome::Refused(line)),
+            Err(Fault::Memory) => panic!(rt; "memory"),
+        }
+    }
+}
+
 /// A component with what the one of the worked examples doesn't have: comments, an empty line, more
 /// blanks, `local`.
 const LOCAL: &[u8] =
@@ -185,6 +204,40 @@ fn components_are_read_or_refused(rt: HostRuntime) -> Result<(), Fail> {
         ReadCounts {
             read: 402,
             refused: 2041
+        }
+    );
+    Ok(())
+}
+
+/// Loops and compare-and-swap; locks, conditions and expressions; waits, exchanges and choices.
+const SOURCES: [&[u8]; 3] = [
+    b"object stack # of nodes\nconst NONE = 0\nword top = NONE\nword next[4] = NONE\n\nop push(node) {\n\
+loop {\nlet head = top\nnext[node] = head\nif cas(top, head, node) {\nreturn 0\n}\n}\n}\n",
+    b"object account\nlocal 2\nword left = 7\nlock m\nop take(n) {\nlock m\nif n <= left && !(n == 0) {\n\
+left = left - n * 2 + 0 * pick(2)\n} else if n > 9 || left {\nunlock m\nreturn\n} else {\nleft = 1\n}\nunlock m\n\
+return left\n}\n",
+    b"object turn\nword now\nword seen[2] = 4294967295\nop next(me) {\nawait now == me\nlet i = 0\n\
+while i < 2 {\nseen[i] = me\ni = i + 1\nif seen[0] != me {\ncontinue\n}\nbreak\n}\nnow = 1 - me\n\
+await seen[1] != 0\nreturn i\n}\n",
+];
+
+#[test]
+fn sources_are_compiled_or_refused(rt: HostRuntime) -> Result<(), Fail> {
+    let mut all = ReadCounts {
+        read: 0,
+        refused: 0,
+    };
+    for text in &SOURCES {
+        assert!(rt; compile_text(rt.alloc(), text).is_ok());
+        let tally = try_all(&rt, &Sources, text)?;
+        all.read = all.read.saturating_add(tally.read);
+        all.refused = all.refused.saturating_add(tally.refused);
+    }
+    assert_eq!(rt;
+        all,
+        ReadCounts {
+            read: 0,
+            refused: 0
         }
     );
     Ok(())

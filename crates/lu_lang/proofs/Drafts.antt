@@ -23,7 +23,7 @@ use Rattle.lu_lang.specs.declared.fault.LangFaultKind.{LangFaultKind}
 use Rattle.lu_lang.specs.declared.fault.LangFaultKind.TheVariants.{Byte, Missing, Form, Number, Limit, Flow, Name}
 use Rattle.lu_component.specs.Component.{operation_place, AreDistinct, EndsWell, IsArray, IsComponent, IsInstr, IsOp}
 use Rattle.lu_lang.specs.Draft.{Begun, Drafted, nothing, named}
-use Rattle.lu_lang.specs.Grammar.{value, is_value, array_place, lock_place, component_line, local_line, array_line, lock_line, op_line, declaration, statement, sooner, place_fault, with_label, with_statement, placed, instr_line, labelled, are_there, is_last, ends_well, target, resolved, op_of, end_line, by_label, by_name, closed, by_words, line_of, label_in}
+use Rattle.lu_lang.specs.Grammar.{value, is_value, array_place, lock_place, component_line, local_line, array_line, lock_line, op_line, declaration, statement, sooner, place_fault, with_label, with_statement, placed, instr_line, labelled, are_there, is_last, ends_well, target, resolved, op_of, end_line, by_label, by_state, closed, by_words, line_of, label_in}
 use Rattle.lu_lang.specs.Words.{keyword_in}
 use Rattle.lu_lang.specs.Sound.{IsStatement, IsBegun, IsSoundDraft}
 use Rattle.lu_text.proofs.Says.{NoneHold, said}
@@ -400,12 +400,6 @@ inside_keeps d h none b begun (Some label) word words = labelled_keeps d h b beg
 inside_keeps d h none b begun None word words =
     keeps_if (bytes_eq word (codes "end")) (end_line d b words) (instr_line d b None word words) (end_keeps d h none b begun words) (instr_keeps d h b begun None word words)
 
-state_keeps : (d : Drafted) → IsSoundDraft d → d.begun ≡ None → (name : Option Word) (begun : Option Begun) → IfSome begun (IsBegun (length d.arrays) (length d.locks) d.operations) → (word : Word) (words : List Word) → Keeps (by_name d name begun word words)
-state_keeps d h none None begun is word words =
-    keeps_if (bytes_eq word (codes "component")) (component_line d (exactly_one words)) (Err Missing) (component_keeps d h (exactly_one words)) (refused Missing)
-state_keeps d h none (Some name) None is word words = declaration_keeps d h none word words
-state_keeps d h none (Some name) (Some b) is word words = inside_keeps d h none b is (label_in word) word words
-
 closed_draft : (d : Drafted) → IsSoundDraft d → IsSoundDraft (closed d)
 closed_draft d h = record {
   name = h.name;
@@ -413,9 +407,15 @@ closed_draft d h = record {
   begun = tt;
 }
 
+state_keeps : (d : Drafted) → IsSoundDraft d → (name : Option Word) (begun : Option Begun) → d.begun ≡ begun → IfSome begun (IsBegun (length d.arrays) (length d.locks) d.operations) → (word : Word) (words : List Word) → Keeps (by_state d name begun word words)
+state_keeps d h None begun same is word words =
+    keeps_if (bytes_eq word (codes "component")) (component_line d (exactly_one words)) (Err Missing) (component_keeps d h (exactly_one words)) (refused Missing)
+state_keeps d h (Some name) None same is word words = declaration_keeps d h same word words
+state_keeps d h (Some name) (Some b) same is word words = inside_keeps (closed d) (closed_draft d h) refl b is (label_in word) word words
+
 words_keep : (d : Drafted) → IsSoundDraft d → (words : List Word) → Keeps (by_words d words)
 words_keep d h [] = λ next e. let same : d ≡ next = cc in subst IsSoundDraft same h
-words_keep d h (word ∷ words) = state_keeps (closed d) (closed_draft d h) refl d.name d.begun h.begun word words
+words_keep d h (word ∷ words) = state_keeps d h d.name d.begun refl h.begun word words
 
 -- a line without a fault keeps what is declared within the rules
 pub line_keeps : (d : Drafted) → IsSoundDraft d → (line : List ℕ) (next : Drafted) → line_of d line ≡ Ok next → IsSoundDraft next

@@ -8,6 +8,5 @@ pub mod WrittenLines
 pub mod WrittenInstrs
 pub mod WrittenCode
 pub mod RoundTrip
-pub mod Kept
 pub mod Behind
 pub mod Understood

@@ -359,25 +359,21 @@ abbrev pub component_first : Drafted → Word → List Word → Result Drafted L
 component_first d word words =
     if bytes_eq word (codes "component") then component_line d (exactly_one words) else Err Missing
 
--- by the component's name and the open operation, where they are there
-abbrev pub by_name : Drafted → Option Word → Option Begun → Word → List Word
-    → Result Drafted LangFaultKind
-by_name d None begun word words = component_first d word words
-by_name d (Some name) None word words = declaration d word words
-by_name d (Some name) (Some b) word words = inside d b word words
-
--- The first line with words is the `component` line. Then come declarations, and in an open
--- operation instructions.
-abbrev pub by_state : Drafted → Option Begun → Word → List Word → Result Drafted LangFaultKind
-by_state d begun word words = by_name d d.name begun word words
-
 -- what is declared, without the open operation
 abbrev pub closed : Drafted → Drafted
 closed d = record d { begun = None }
 
+-- The first line with words is the `component` line. Then come declarations, and in an open
+-- operation instructions.
+abbrev pub by_state : Drafted → Option Word → Option Begun → Word → List Word
+    → Result Drafted LangFaultKind
+by_state d None begun word words = component_first d word words
+by_state d (Some name) None word words = declaration d word words
+by_state d (Some name) (Some b) word words = inside (closed d) b word words
+
 abbrev pub by_words : Drafted → List Word → Result Drafted LangFaultKind
 by_words d [] = Ok d
-by_words d (word ∷ words) = by_state (closed d) d.begun word words
+by_words d (word ∷ words) = by_state d d.name d.begun word words
 
 unfoldable pub line_of : Drafted → List ℕ → Result Drafted LangFaultKind
 line_of d line = if list_all is_allowed line then by_words d (words_of line) else Err Byte

@@ -6,8 +6,7 @@ pub mod Sound
 pub mod ComponentText
 pub mod Laws
 pub mod Results
-pub mod Parts
-pub mod Going
+pub mod Lines
 pub mod Mend
 pub mod Place
 pub mod Faulty

@@ -3,7 +3,6 @@
 
 mod draft;
 mod fault;
-mod going;
 mod instructions;
 mod keyword;
 mod laws;
@@ -15,7 +14,6 @@ mod writing;
 
 pub use draft::{Draft, Label, OpenOp, Statement};
 pub use fault::{LangFault, LangFaultKind};
-pub use going::{end_fault, line_or_fault};
 pub use laws::round_trip;
 pub use lu_component::{
     Arithmetic, Array, Code, Component, Instr, MOST_ARGUMENTS, MOST_ARRAYS, MOST_CELLS,
@@ -25,5 +23,5 @@ pub use meant::{
     Family, FaultyDraft, MeantName, meant_line, mended, read_or_fault, with_spaced_words,
 };
 pub use place::{left_backs, message_backs, open_backs};
-pub use reading::read_component;
+pub use reading::{end_fault, read_component};
 pub use writing::{array_name, lock_name, write_component, write_instr, write_label};

@@ -13,7 +13,6 @@ ghost use Rattle.lu_lang.specs.declared.meant.Family.TheVariants.{Operation};
 
 use crate::draft::{Draft, OpenOp};
 use crate::fault::LangFaultKind;
-use crate::going::line_or_fault;
 use crate::instructions::{array_number, lock_number};
 use crate::keyword::{Keyword, keyword_in};
 use crate::mending::{bare, mended_draft};
@@ -321,8 +320,8 @@ pub fn read_or_fault(
     ensures { Builds result (going_on draft (faulty_grammar.line draft text.now)) }
 {
     let line = meant_line(alloc, &draft, text)?;
-    let FaultyDraft { draft, meant } = draft;
-    let (draft, fault) = line_or_fault(alloc, draft, or_as_it_stands(&line, text))?;
+    let FaultyDraft { mut draft, meant } = draft;
+    let fault = draft.line(alloc, or_as_it_stands(&line, text))?;
     Ok((FaultyDraft { draft, meant }, fault))
 }
 

@@ -6,12 +6,12 @@ ghost use Rattle.std.specs.List.{position, list_all};
 ghost use Rattle.std.specs.Str.{bytes_eq};
 ghost use Rattle.lu_text.specs.Lines.{text_if, texts};
 ghost use Rattle.lu_text.specs.Words.{exactly_one, exactly_two, exactly_three};
-ghost use Rattle.lu_text.specs.Faults.{Gives, OnLine, TellsFirst, meaning_of, meaning_of_lines};
-ghost use Rattle.lu_lang.specs.Parts.{ReadsArray, ReadsCode, ReadsEnd, ReadsLocal, ReadsLock, ReadsName, ReadsOp, code_read};
+ghost use Rattle.lu_text.specs.Faults.{Gives, TellsFirst, fault_in, meaning_of, meaning_of_lines};
+ghost use Rattle.lu_lang.specs.Lines.{Changes, Closes, Takes, TakesInside, code_read};
 ghost use Rattle.lu_text.specs.Results.{Builds, HasItems};
 ghost use Rattle.lu_lang.specs.Sound.{IsSoundDraft};
 ghost use Rattle.lu_lang.specs.Grammar as spec;
-ghost use Rattle.lu_lang.specs.Grammar.{component_grammar};
+ghost use Rattle.lu_lang.specs.Grammar.{component_grammar, labelled};
 
 use crate::draft::{Draft, Label, OpenOp, Statement};
 use crate::fault::{LangFault, LangFaultKind};
@@ -27,111 +27,10 @@ use lu_text::{
 };
 use std::alloc::{AllocError, Global};
 
-/// The name of `component NAME`.
-pub(crate) fn name_in(alloc: Global, line: usize, words: &[&[u8]]) -> Result<Name, LangFault>
-    ensures { ReadsName line result (texts words.now) }
-{
-    let Some(name) = exactly_one(words) else {
-        return Err(Fault::At(LangFaultKind::Form, line));
-    };
-    if !has_name_form(name) {
-        return Err(Fault::At(LangFaultKind::Form, line));
-    }
-    if is_long(name) {
-        return Err(Fault::At(LangFaultKind::Limit, line));
-    }
-    Ok(Name::new(alloc, name)?)
-}
-
-/// `component NAME`
-fn component_line(
-    alloc: Global,
-    line: usize,
-    mut draft: Draft,
-    words: &[&[u8]],
-) -> Result<Draft, LangFault>
-    ensures { OnLine line result (spec.component_line draft (exactly_one (texts words.now))) }
-{
-    draft.name = Some(name_in(alloc, line, words)?);
-    Ok(draft)
-}
-
-/// The number of `local L`.
-pub(crate) fn local_in(line: usize, draft: &Draft, words: &[&[u8]]) -> Result<u8, LangFault>
-    ensures { ReadsLocal draft.now line result (texts words.now) }
-{
-    let Some(most) = exactly_one(words) else {
-        return Err(Fault::At(LangFaultKind::Form, line));
-    };
-    if draft.local.is_some() || !draft.operations.is_empty() {
-        return Err(Fault::At(LangFaultKind::Form, line));
-    }
-    let Some(most) = value_in(most) else {
-        return Err(Fault::At(LangFaultKind::Number, line));
-    };
-    if most > MOST_LOCAL {
-        return Err(Fault::At(LangFaultKind::Limit, line));
-    }
-    Ok(most as u8)
-}
-
-/// `local L`
-fn local_line(line: usize, mut draft: Draft, words: &[&[u8]]) -> Result<Draft, LangFault>
-    ensures { OnLine line result (spec.local_line draft (exactly_one (texts words.now))) }
-{
-    draft.local = Some(local_in(line, &draft, words)?);
-    Ok(draft)
-}
-
 pub(crate) fn has_most_arrays(draft: &Draft) -> bool
     ensures { result ≡ nat_le 16 (length draft.now.arrays) }
 {
     draft.arrays.len() >= MOST_ARRAYS
-}
-
-/// The array of `word NAME LEN INIT`.
-pub(crate) fn array_in(
-    alloc: Global,
-    line: usize,
-    draft: &Draft,
-    words: &[&[u8]],
-) -> Result<Array, LangFault>
-    ensures { ReadsArray draft.now line result (texts words.now) }
-{
-    let Some((name, len, init)) = exactly_three(words) else {
-        return Err(Fault::At(LangFaultKind::Form, line));
-    };
-    if !has_name_form(name) {
-        return Err(Fault::At(LangFaultKind::Form, line));
-    }
-    let (Some(len), Some(init)) = (value_in(len), value_in(init)) else {
-        return Err(Fault::At(LangFaultKind::Number, line));
-    };
-    if is_long(name) || has_most_arrays(draft) || len < 1 || len > MOST_CELLS {
-        return Err(Fault::At(LangFaultKind::Limit, line));
-    }
-    if array_number(draft, name).is_some() {
-        return Err(Fault::At(LangFaultKind::Name, line));
-    }
-    Ok(Array {
-        name: Name::new(alloc, name)?,
-        len: len as u8,
-        init,
-    })
-}
-
-/// `word NAME LEN INIT`
-fn array_line(
-    alloc: Global,
-    line: usize,
-    mut draft: Draft,
-    words: &[&[u8]],
-) -> Result<Draft, LangFault>
-    ensures { OnLine line result (spec.array_line draft (exactly_three (texts words.now))) }
-{
-    let array = array_in(alloc, line, &draft, words)?;
-    draft.arrays.push(array)?;
-    Ok(draft)
 }
 
 pub(crate) fn has_most_locks(draft: &Draft) -> bool
@@ -140,119 +39,14 @@ pub(crate) fn has_most_locks(draft: &Draft) -> bool
     draft.locks.len() >= MOST_LOCKS
 }
 
-/// The name of `lock NAME`, outside an operation.
-pub(crate) fn lock_in(
-    alloc: Global,
-    line: usize,
-    draft: &Draft,
-    words: &[&[u8]],
-) -> Result<Name, LangFault>
-    ensures { ReadsLock draft.now line result (texts words.now) }
-{
-    let Some(name) = exactly_one(words) else {
-        return Err(Fault::At(LangFaultKind::Form, line));
-    };
-    if !has_name_form(name) {
-        return Err(Fault::At(LangFaultKind::Form, line));
-    }
-    if is_long(name) || has_most_locks(draft) {
-        return Err(Fault::At(LangFaultKind::Limit, line));
-    }
-    if lock_number(draft, name).is_some() {
-        return Err(Fault::At(LangFaultKind::Name, line));
-    }
-    Ok(Name::new(alloc, name)?)
-}
-
-/// `lock NAME`, outside an operation
-fn lock_line(
-    alloc: Global,
-    line: usize,
-    mut draft: Draft,
-    words: &[&[u8]],
-) -> Result<Draft, LangFault>
-    ensures { OnLine line result (spec.lock_line draft (exactly_one (texts words.now))) }
-{
-    let lock = lock_in(alloc, line, &draft, words)?;
-    draft.locks.push(lock)?;
-    Ok(draft)
-}
-
 fn has_most_operations(draft: &Draft) -> bool
     ensures { result ≡ nat_le 16 (length draft.now.operations) }
 {
     draft.operations.len() >= MOST_OPS
 }
 
-/// The operation that `op NAME ARGS` begins.
-pub(crate) fn op_in(
-    alloc: Global,
-    line: usize,
-    draft: &Draft,
-    words: &[&[u8]],
-) -> Result<OpenOp, LangFault>
-    ensures { ReadsOp draft.now line result (texts words.now) }
-{
-    let Some((name, args)) = exactly_two(words) else {
-        return Err(Fault::At(LangFaultKind::Form, line));
-    };
-    if !has_name_form(name) {
-        return Err(Fault::At(LangFaultKind::Form, line));
-    }
-    let Some(args) = value_in(args) else {
-        return Err(Fault::At(LangFaultKind::Number, line));
-    };
-    if is_long(name) || has_most_operations(draft) || args > MOST_ARGUMENTS {
-        return Err(Fault::At(LangFaultKind::Limit, line));
-    }
-    if operation_place(&draft.operations, name).is_some() {
-        return Err(Fault::At(LangFaultKind::Name, line));
-    }
-    Ok(OpenOp {
-        name: Name::new(alloc, name)?,
-        args: args as u8,
-        statements: Vec::new(alloc),
-        labels: Vec::new(alloc),
-    })
-}
-
-/// `op NAME ARGS`
-fn op_line(
-    alloc: Global,
-    line: usize,
-    mut draft: Draft,
-    words: &[&[u8]],
-) -> Result<Draft, LangFault>
-    ensures { OnLine line result (spec.op_line draft (exactly_two (texts words.now))) }
-{
-    draft.begun = Some(op_in(alloc, line, &draft, words)?);
-    Ok(draft)
-}
-
-fn declaration(
-    alloc: Global,
-    line: usize,
-    draft: Draft,
-    word: &[u8],
-    words: &[&[u8]],
-) -> Result<Draft, LangFault>
-    ensures { OnLine line result (spec.declaration draft word.now (texts words.now)) }
-{
-    if word == b"word".as_slice() {
-        array_line(alloc, line, draft, words)
-    } else if word == b"lock".as_slice() {
-        lock_line(alloc, line, draft, words)
-    } else if word == b"op".as_slice() {
-        op_line(alloc, line, draft, words)
-    } else if word == b"local".as_slice() {
-        local_line(line, draft, words)
-    } else {
-        Err(Fault::At(LangFaultKind::Form, line))
-    }
-}
-
 /// Which of two faults is looked for first.
-pub(crate) fn sooner(fault: Option<LangFaultKind>, other: LangFaultKind) -> LangFaultKind
+fn sooner(fault: Option<LangFaultKind>, other: LangFaultKind) -> LangFaultKind
     ensures { Some result ≡ spec.sooner fault (Some other) }
 {
     match fault {
@@ -290,7 +84,7 @@ fn has_most_statements(op: &OpenOp) -> bool
 }
 
 /// What is wrong with a label, and with one more instruction.
-pub(crate) fn place_fault(op: &OpenOp, label: Option<&[u8]>) -> Option<LangFaultKind>
+fn place_fault(op: &OpenOp, label: Option<&[u8]>) -> Option<LangFaultKind>
     ensures { result ≡ spec.place_fault op.now (text_if label.entry) }
 {
     let Some(label) = label else {
@@ -349,62 +143,6 @@ pub(crate) struct CodeLine<'a> {
     pub rest: &'a [&'a [u8]],
 }
 
-/// The open operation with the label and the instruction of a line.
-fn with_instr(
-    alloc: Global,
-    line: usize,
-    draft: &Draft,
-    op: OpenOp,
-    code: CodeLine<'_>,
-) -> Result<OpenOp, LangFault>
-    ensures { ReadsCode draft.now op line result code.entry }
-{
-    let fault = place_fault(&op, code.label);
-    match statement(alloc, draft, keyword_in(code.word), code.rest)? {
-        Err(kind) => Err(Fault::At(sooner(fault, kind), line)),
-        Ok(statement) => match fault {
-            Some(kind) => Err(Fault::At(kind, line)),
-            None => Ok(with_statement(alloc, op, code.label, statement)?),
-        },
-    }
-}
-
-/// A label or none, and an instruction.
-fn instr_line(
-    alloc: Global,
-    line: usize,
-    mut draft: Draft,
-    op: OpenOp,
-    code: CodeLine<'_>,
-) -> Result<Draft, LangFault>
-    ensures { OnLine line result (code_read draft op code.entry) }
-{
-    draft.begun = Some(with_instr(alloc, line, &draft, op, code)?);
-    Ok(draft)
-}
-
-/// An instruction behind a label.
-fn read_labelled<'a>(
-    alloc: Global,
-    line: usize,
-    draft: Draft,
-    op: OpenOp,
-    label: &'a [u8],
-    words: &'a [&'a [u8]],
-) -> Result<Draft, LangFault>
-    ensures { OnLine line result (spec.labelled draft op label.now (texts words.now)) }
-{
-    let Some((word, rest)) = words.split_first() else {
-        return Err(Fault::At(LangFaultKind::Form, line));
-    };
-    let code = CodeLine {
-        label: Some(label),
-        word,
-        rest,
-    };
-    instr_line(alloc, line, draft, op, code)
-}
-
 fn is_last(statement: &Statement) -> bool
     ensures { result ≡ spec.is_last (Some statement.now) }
 {
@@ -415,7 +153,7 @@ fn is_last(statement: &Statement) -> bool
 }
 
 /// Whether there is an instruction, and the last is `return` or `jump`.
-pub(crate) fn ends_well(op: &OpenOp) -> bool
+fn ends_well(op: &OpenOp) -> bool
     ensures { result ≡ spec.ends_well op.now }
 {
     match op.statements.last() {
@@ -444,7 +182,7 @@ fn all_there(labels: &[Label], statements: &[Statement]) -> bool
 }
 
 /// Whether each label that is used is there.
-pub(crate) fn are_there(op: &OpenOp) -> bool
+fn are_there(op: &OpenOp) -> bool
     ensures { result ≡ spec.are_there op.now }
 {
     all_there(&op.labels, &op.statements)
@@ -499,130 +237,344 @@ pub(crate) fn op_of(alloc: Global, op: OpenOp) -> Result<Op, AllocError>
     })
 }
 
-/// The operation that `end` closes.
-fn closed_op(alloc: Global, line: usize, op: OpenOp, words: &[&[u8]]) -> Result<Op, LangFault>
-    ensures { ReadsEnd op line result (texts words.now) }
+/// What is wrong with `end`.
+fn end_line_fault(op: &OpenOp, words: &[&[u8]]) -> Option<LangFaultKind>
+    ensures { Closes op.now (texts words.now) result }
 {
     if !words.is_empty() {
-        return Err(Fault::At(LangFaultKind::Form, line));
+        return Some(LangFaultKind::Form);
     }
-    if !ends_well(&op) {
-        return Err(Fault::At(LangFaultKind::Flow, line));
+    if !ends_well(op) {
+        return Some(LangFaultKind::Flow);
     }
-    if !are_there(&op) {
-        return Err(Fault::At(LangFaultKind::Name, line));
+    if !are_there(op) {
+        return Some(LangFaultKind::Name);
     }
-    Ok(op_of(alloc, op)?)
+    None
 }
 
-/// `end`
-fn end_line(
-    alloc: Global,
-    line: usize,
-    mut draft: Draft,
-    op: OpenOp,
-    words: &[&[u8]],
-) -> Result<Draft, LangFault>
-    requires { draft.begun ≡ None }
-    ensures { OnLine line result (spec.end_line draft op (texts words.now)) }
-{
-    draft.operations.push(closed_op(alloc, line, op, words)?)?;
-    Ok(draft)
-}
-
-/// A line inside an operation.
-fn read_inside<'a>(
-    alloc: Global,
-    line: usize,
-    draft: Draft,
-    op: OpenOp,
-    word: &'a [u8],
-    words: &'a [&'a [u8]],
-) -> Result<Draft, LangFault>
-    requires { draft.begun ≡ None }
-    ensures { OnLine line result (spec.inside draft op word.now (texts words.now)) }
-{
-    if let Some(label) = label_in(word) {
-        return read_labelled(alloc, line, draft, op, label, words);
-    }
-    if word == b"end".as_slice() {
-        end_line(alloc, line, draft, op, words)
-    } else {
-        let code = CodeLine {
-            label: None,
-            word,
-            rest: words,
+// Each of these takes one more line, whose first word is known: what it declares, and no fault, or
+// the fault, and the draft is as it was.
+impl Draft {
+    /// `component NAME`
+    fn take_name(
+        &mut self,
+        alloc: Global,
+        words: &[&[u8]],
+    ) -> Result<Option<LangFaultKind>, AllocError>
+        ensures { Takes self (spec.component_line self.old (exactly_one (texts words.now))) result }
+    {
+        let Some(name) = exactly_one(words) else {
+            return Ok(Some(LangFaultKind::Form));
         };
-        instr_line(alloc, line, draft, op, code)
+        if !has_name_form(name) {
+            return Ok(Some(LangFaultKind::Form));
+        }
+        if is_long(name) {
+            return Ok(Some(LangFaultKind::Limit));
+        }
+        self.name = Some(Name::new(alloc, name)?);
+        Ok(None)
+    }
+
+    /// `local L`
+    fn take_local(&mut self, words: &[&[u8]]) -> Option<LangFaultKind>
+        ensures { Changes self (spec.local_line self.old (exactly_one (texts words.now))) result }
+    {
+        let Some(most) = exactly_one(words) else {
+            return Some(LangFaultKind::Form);
+        };
+        if self.local.is_some() || !self.operations.is_empty() {
+            return Some(LangFaultKind::Form);
+        }
+        let Some(most) = value_in(most) else {
+            return Some(LangFaultKind::Number);
+        };
+        if most > MOST_LOCAL {
+            return Some(LangFaultKind::Limit);
+        }
+        self.local = Some(most as u8);
+        None
+    }
+
+    /// `word NAME LEN INIT`
+    fn take_array(
+        &mut self,
+        alloc: Global,
+        words: &[&[u8]],
+    ) -> Result<Option<LangFaultKind>, AllocError>
+        ensures { Takes self (spec.array_line self.old (exactly_three (texts words.now))) result }
+    {
+        let Some((name, len, init)) = exactly_three(words) else {
+            return Ok(Some(LangFaultKind::Form));
+        };
+        if !has_name_form(name) {
+            return Ok(Some(LangFaultKind::Form));
+        }
+        let (Some(len), Some(init)) = (value_in(len), value_in(init)) else {
+            return Ok(Some(LangFaultKind::Number));
+        };
+        if is_long(name) || has_most_arrays(self) || len < 1 || len > MOST_CELLS {
+            return Ok(Some(LangFaultKind::Limit));
+        }
+        if array_number(self, name).is_some() {
+            return Ok(Some(LangFaultKind::Name));
+        }
+        self.arrays.push(Array {
+            name: Name::new(alloc, name)?,
+            len: len as u8,
+            init,
+        })?;
+        Ok(None)
+    }
+
+    /// `lock NAME`, outside an operation
+    fn take_lock(
+        &mut self,
+        alloc: Global,
+        words: &[&[u8]],
+    ) -> Result<Option<LangFaultKind>, AllocError>
+        ensures { Takes self (spec.lock_line self.old (exactly_one (texts words.now))) result }
+    {
+        let Some(name) = exactly_one(words) else {
+            return Ok(Some(LangFaultKind::Form));
+        };
+        if !has_name_form(name) {
+            return Ok(Some(LangFaultKind::Form));
+        }
+        if is_long(name) || has_most_locks(self) {
+            return Ok(Some(LangFaultKind::Limit));
+        }
+        if lock_number(self, name).is_some() {
+            return Ok(Some(LangFaultKind::Name));
+        }
+        self.locks.push(Name::new(alloc, name)?)?;
+        Ok(None)
+    }
+
+    /// `op NAME ARGS`
+    fn take_operation(
+        &mut self,
+        alloc: Global,
+        words: &[&[u8]],
+    ) -> Result<Option<LangFaultKind>, AllocError>
+        ensures { Takes self (spec.op_line self.old (exactly_two (texts words.now))) result }
+    {
+        let Some((name, args)) = exactly_two(words) else {
+            return Ok(Some(LangFaultKind::Form));
+        };
+        if !has_name_form(name) {
+            return Ok(Some(LangFaultKind::Form));
+        }
+        let Some(args) = value_in(args) else {
+            return Ok(Some(LangFaultKind::Number));
+        };
+        if is_long(name) || has_most_operations(self) || args > MOST_ARGUMENTS {
+            return Ok(Some(LangFaultKind::Limit));
+        }
+        if operation_place(&self.operations, name).is_some() {
+            return Ok(Some(LangFaultKind::Name));
+        }
+        self.begun = Some(OpenOp {
+            name: Name::new(alloc, name)?,
+            args: args as u8,
+            statements: Vec::new(alloc),
+            labels: Vec::new(alloc),
+        });
+        Ok(None)
+    }
+
+    /// A declaration.
+    fn take_declaration(
+        &mut self,
+        alloc: Global,
+        word: &[u8],
+        words: &[&[u8]],
+    ) -> Result<Option<LangFaultKind>, AllocError>
+        ensures { Takes self (spec.declaration self.old word.now (texts words.now)) result }
+    {
+        if word == b"word".as_slice() {
+            self.take_array(alloc, words)
+        } else if word == b"lock".as_slice() {
+            self.take_lock(alloc, words)
+        } else if word == b"op".as_slice() {
+            self.take_operation(alloc, words)
+        } else if word == b"local".as_slice() {
+            Ok(self.take_local(words))
+        } else {
+            Ok(Some(LangFaultKind::Form))
+        }
+    }
+
+    /// The first line with words.
+    fn take_first(
+        &mut self,
+        alloc: Global,
+        word: &[u8],
+        words: &[&[u8]],
+    ) -> Result<Option<LangFaultKind>, AllocError>
+        ensures { Takes self (spec.component_first self.old word.now (texts words.now)) result }
+    {
+        if word == b"component".as_slice() {
+            self.take_name(alloc, words)
+        } else {
+            Ok(Some(LangFaultKind::Missing))
+        }
+    }
+
+    /// A label or none, and an instruction, of the operation that is open.
+    fn take_code(
+        &mut self,
+        alloc: Global,
+        op: OpenOp,
+        code: CodeLine<'_>,
+    ) -> Result<Option<LangFaultKind>, AllocError>
+        ensures { TakesInside self op (code_read self.old op code.entry) result }
+    {
+        let fault = place_fault(&op, code.label);
+        let statement = match statement(alloc, self, keyword_in(code.word), code.rest)? {
+            Err(kind) => {
+                self.begun = Some(op);
+                return Ok(Some(sooner(fault, kind)));
+            }
+            Ok(statement) => statement,
+        };
+        match fault {
+            Some(kind) => {
+                self.begun = Some(op);
+                Ok(Some(kind))
+            }
+            None => {
+                self.begun = Some(with_statement(alloc, op, code.label, statement)?);
+                Ok(None)
+            }
+        }
+    }
+
+    /// An instruction behind a label.
+    fn take_labelled<'a>(
+        &mut self,
+        alloc: Global,
+        op: OpenOp,
+        label: &'a [u8],
+        words: &'a [&'a [u8]],
+    ) -> Result<Option<LangFaultKind>, AllocError>
+        ensures { TakesInside self op (labelled self.old op label.now (texts words.now)) result }
+    {
+        let Some((word, rest)) = words.split_first() else {
+            self.begun = Some(op);
+            return Ok(Some(LangFaultKind::Form));
+        };
+        let code = CodeLine {
+            label: Some(label),
+            word,
+            rest,
+        };
+        self.take_code(alloc, op, code)
+    }
+
+    /// `end`
+    fn take_end(
+        &mut self,
+        alloc: Global,
+        op: OpenOp,
+        words: &[&[u8]],
+    ) -> Result<Option<LangFaultKind>, AllocError>
+        requires { self.old.begun ≡ None }
+        ensures { TakesInside self op (spec.end_line self.old op (texts words.now)) result }
+    {
+        match end_line_fault(&op, words) {
+            Some(kind) => {
+                self.begun = Some(op);
+                Ok(Some(kind))
+            }
+            None => {
+                self.operations.push(op_of(alloc, op)?)?;
+                Ok(None)
+            }
+        }
+    }
+
+    /// A line inside an operation.
+    fn take_inside<'a>(
+        &mut self,
+        alloc: Global,
+        op: OpenOp,
+        word: &'a [u8],
+        words: &'a [&'a [u8]],
+    ) -> Result<Option<LangFaultKind>, AllocError>
+        requires { self.old.begun ≡ None }
+        ensures { TakesInside self op (spec.inside self.old op word.now (texts words.now)) result }
+    {
+        if let Some(label) = label_in(word) {
+            return self.take_labelled(alloc, op, label, words);
+        }
+        if word == b"end".as_slice() {
+            self.take_end(alloc, op, words)
+        } else {
+            let code = CodeLine {
+                label: None,
+                word,
+                rest: words,
+            };
+            self.take_code(alloc, op, code)
+        }
+    }
+
+    /// A line with these words.
+    fn take_words(
+        &mut self,
+        alloc: Global,
+        words: &[&[u8]],
+    ) -> Result<Option<LangFaultKind>, AllocError>
+        ensures { Takes self (spec.by_words self.old (texts words.now)) result }
+    {
+        let Some((word, rest)) = words.split_first() else {
+            return Ok(None);
+        };
+        if self.name.is_none() {
+            return self.take_first(alloc, word, rest);
+        }
+        match self.begun.take() {
+            None => self.take_declaration(alloc, word, rest),
+            Some(op) => self.take_inside(alloc, op, word, rest),
+        }
+    }
+
+    /// Takes one more line: `None` where it has no fault, and else its fault, and the draft is as it
+    /// was.
+    ///
+    /// # Errors
+    ///
+    /// There is no memory for what the line declares.
+    #[tactic(auto, unfolding(crate::specs::Grammar::line_of))]
+    pub fn line(&mut self, alloc: Global, text: &[u8]) -> Result<Option<LangFaultKind>, AllocError>
+        ensures { Takes self (component_grammar.line self.old text.now) result }
+    {
+        if !are_allowed(text) {
+            return Ok(Some(LangFaultKind::Byte));
+        }
+        let words = words_of(alloc, text)?;
+        self.take_words(alloc, &words)
     }
 }
 
-/// The first line with words.
-fn component_first(
-    alloc: Global,
-    line: usize,
-    draft: Draft,
-    word: &[u8],
-    words: &[&[u8]],
-) -> Result<Draft, LangFault>
-    ensures { OnLine line result (spec.component_first draft word.now (texts words.now)) }
+/// What is wrong at the end of the text.
+pub fn end_fault(draft: &Draft) -> Option<LangFaultKind>
+    ensures { result ≡ fault_in (component_grammar.finish draft.now) }
 {
-    if word == b"component".as_slice() {
-        component_line(alloc, line, draft, words)
+    if draft.name.is_none() || draft.begun.is_some() {
+        Some(LangFaultKind::Missing)
     } else {
-        Err(Fault::At(LangFaultKind::Missing, line))
+        None
     }
 }
 
-fn by_state(
-    alloc: Global,
-    line: usize,
-    mut draft: Draft,
-    word: &[u8],
-    words: &[&[u8]],
-) -> Result<Draft, LangFault>
-    ensures { OnLine line result (spec.by_words draft (word.now ∷ texts words.now)) }
-{
-    let begun = draft.begun.take();
-    if draft.name.is_none() {
-        return component_first(alloc, line, draft, word, words);
-    }
-    match begun {
-        None => declaration(alloc, line, draft, word, words),
-        Some(op) => read_inside(alloc, line, draft, op, word, words),
-    }
-}
-
-fn by_words(alloc: Global, line: usize, draft: Draft, words: &[&[u8]]) -> Result<Draft, LangFault>
-    ensures { OnLine line result (spec.by_words draft (texts words.now)) }
-{
-    match words.split_first() {
-        None => Ok(draft),
-        Some((word, rest)) => by_state(alloc, line, draft, word, rest),
-    }
-}
-
-#[tactic(auto, unfolding(crate::specs::Grammar::line_of))]
-pub(crate) fn read_line(
-    alloc: Global,
-    line: usize,
-    draft: Draft,
-    text: &[u8],
-) -> Result<Draft, LangFault>
-    ensures { OnLine line result (spec.line_of draft text.now) }
-{
-    if !are_allowed(text) {
-        return Err(Fault::At(LangFaultKind::Byte, line));
-    }
-    let words = words_of(alloc, text)?;
-    by_words(alloc, line, draft, &words)
-}
-
-/// What is declared at the end of the text.
+/// What is declared at the end of the text, or what is wrong there.
 #[tactic(auto, using(crate::proofs::Drafts::draft_component))]
-fn finish(line: usize, draft: Draft) -> Result<Component, LangFault>
+fn finish(draft: Draft) -> Result<Component, LangFaultKind>
     requires { IsSoundDraft draft }
-    ensures { OnLine line result (component_grammar.finish draft) }
+    ensures { result ≡ component_grammar.finish draft }
 {
     let Draft {
         name,
@@ -641,7 +593,7 @@ fn finish(line: usize, draft: Draft) -> Result<Component, LangFault>
             locks,
             operations,
         )),
-        _ => Err(Fault::At(LangFaultKind::Missing, line)),
+        _ => Err(LangFaultKind::Missing),
     }
 }
 
@@ -650,16 +602,14 @@ fn read_lines(alloc: Global, lines: &[&[u8]]) -> Result<Component, LangFault>
 {
     let mut draft = Draft::new(alloc);
     for (before, text) in lines.iter().enumerate() {
-        draft = read_line(alloc, before + 1, draft, text)?;
+        if let Some(kind) = draft.line(alloc, text)? {
+            return Err(Fault::At(kind, before + 1));
+        }
     }
-    finish(lines.len() + 1, draft)
-}
-
-fn component_in(alloc: Global, text: &[u8]) -> Result<Component, LangFault>
-    ensures { Gives result (meaning_of component_grammar text.now) }
-{
-    let lines = lines_of(alloc, text)?;
-    read_lines(alloc, &lines)
+    match finish(draft) {
+        Ok(component) => Ok(component),
+        Err(kind) => Err(Fault::At(kind, lines.len() + 1)),
+    }
 }
 
 /// Reads a component from its text.
@@ -676,5 +626,6 @@ pub fn read_component(alloc: Global, text: &[u8]) -> Result<Component, LangFault
     // No line before the fault's has one.
     ensures first { TellsFirst component_grammar text.now result }
 {
-    component_in(alloc, text)
+    let lines = lines_of(alloc, text)?;
+    read_lines(alloc, &lines)
 }

@@ -18,7 +18,7 @@ use crate::remark::{
 };
 use lu_component::Component;
 use lu_lang::FaultyDraft;
-use lu_test::{Draft, MatrixFaultKind, end_fault, line_or_fault, mended};
+use lu_test::{Draft, MatrixFaultKind, end_fault, mended};
 use lu_text::lines_of;
 use std::alloc::{AllocError, Global};
 
@@ -81,7 +81,7 @@ fn words_of_fault(
 fn judged(
     alloc: Global,
     basis: &Basis<'_>,
-    draft: Draft,
+    mut draft: Draft,
     text: &[u8],
 ) -> Result<(Draft, Option<MatrixFaultKind>), AllocError>
     requires { IsDraft draft }
@@ -90,13 +90,14 @@ fn judged(
     ensures sound { OnOk result (IsComponent basis.now.component.now) }
 {
     let operations = basis.component.operations();
-    match basis.faulty {
-        None => line_or_fault(alloc, operations, draft, text),
+    let fault = match basis.faulty {
+        None => draft.line(alloc, operations, text)?,
         Some(faulty) => {
             let line = sure_line(alloc, faulty, text)?;
-            line_or_fault(alloc, operations, draft, &line)
+            draft.line(alloc, operations, &line)?
         }
-    }
+    };
+    Ok((draft, fault))
 }
 
 /// The remarks with that on this line, where it has a fault.

@@ -13,7 +13,7 @@ ghost use Rattle.lu_text.specs.Lines.{texts};
 use crate::remark::{Cause, Hint, Position, Remark, Said, line_before, with_remark, with_words};
 use crate::warning_wording::warning_wording;
 use lu_component::{Arithmetic, Component, Instr};
-use lu_lang::{Draft, Label, OpenOp, Statement, line_or_fault};
+use lu_lang::{Draft, Label, OpenOp, Statement};
 use lu_text::{lines_of, words_of};
 use std::alloc::{AllocError, Global};
 
@@ -485,11 +485,11 @@ fn with_found(
 }
 
 /// The draft behind a line, which has no fault.
-fn draft_behind(alloc: Global, draft: Draft, text: &[u8]) -> Result<Draft, AllocError>
+fn draft_behind(alloc: Global, mut draft: Draft, text: &[u8]) -> Result<Draft, AllocError>
     ensures { IfOk result (λ next. next ≡ spec.draft_behind draft text.now) }
 {
-    let (next, _) = line_or_fault(alloc, draft, text)?;
-    Ok(next)
+    draft.line(alloc, text)?;
+    Ok(draft)
 }
 
 fn warnings_of_lines(

@@ -9,5 +9,4 @@ pub mod SomeComponent
 pub mod FewerCalls
 pub mod Cutting
 pub mod MatrixRoundTrip
-pub mod Left
 pub mod MatrixLeft

@@ -1,6 +1,6 @@
 -- Each line of a matrix without a fault keeps the limits, and its calls are the component's.
 use Rattle.std.proofs.Common.{◌≡◌, ℕ, ◌+◌, ◌^◌, ◌<◌, ◌≤◌, Bool, true, false, cond, List, [], ◌∷◌, ◌++◌, length, get_or, Option, Some, None, suc, Result, Ok, Err, refl, ap, subst, sym, ◌∙◌, inl, inr, arith}
-use Rattle.std.specs.Prelude.{◌==◌, ◌||◌, ◌&&◌, not, nat_le, nat_lt, is_some, drop, sum_by, All, IfOk, slice_get, codes}
+use Rattle.std.specs.Prelude.{◌==◌, ◌||◌, ◌&&◌, not, nat_le, nat_lt, is_some, drop, sum_by, All, slice_get, codes}
 use Rattle.std.specs.List.{filter_map, list_all, AllByRecursion}
 use Rattle.std.specs.Str.{bytes_eq}
 use Rattle.std.specs.Option.{option_map, option_map_or, option_and_then}
@@ -12,10 +12,8 @@ use Rattle.std.proofs.lemmas.Option.{slice_get_cases}
 use Rattle.lu_text.specs.Lines.{is_allowed}
 use Rattle.lu_text.specs.Numbers.{value_in}
 use Rattle.lu_text.specs.Words.{Word}
-use Rattle.lu_text.specs.declared.fault.Fault.{Fault}
-use Rattle.lu_text.specs.Faults.{on_line, or_else, Gives}
+use Rattle.lu_text.specs.Faults.{or_else}
 use Rattle.lu_text.proofs.Says.{said}
-use Rattle.lu_text.proofs.Reading.{line_ok}
 use Rattle.lu_text.proofs.Written.{All-last}
 use Rattle.lu_component.specs.declared.component.Op.{Op}
 use Rattle.lu_component.specs.Component.{Declarations, IsComponent, IsOp}
@@ -231,8 +229,7 @@ pub nothing_fits : (c : Declarations) → IsOf (matrix_of nothing) c
 nothing_fits c = (All-nil (IsCallOf c), All-nil (λ calls. All (IsCallOf c) calls))
 
 -- the calls of the finished matrix are the component's
-pub of_finished : (c : Declarations) (draft : Drafted) (n : ℕ) (r : Result Matrix (Fault MatrixFaultKind)) → Gives r (on_line n (finished draft)) → IsOf (matrix_of draft) c → IfOk r (λ m. IsOf m c)
-of_finished c draft n (Err e) gives fits = tt
-of_finished c draft n (Ok m) gives fits =
-    let x = said ((length draft.threads == 0, Limit) ∷ []) (matrix_of draft) m (line_ok n (finished draft) m gives) in
+pub of_finished : (c : Declarations) (draft : Drafted) (r : Result Matrix MatrixFaultKind) (m : Matrix) → r ≡ finished draft → r ≡ Ok m → IsOf (matrix_of draft) c → IsOf m c
+of_finished c draft r m says is fits =
+    let x = said ((length draft.threads == 0, Limit) ∷ []) (matrix_of draft) m (sym says ∙ is) in
     subst (λ (m : Matrix). IsOf m c) x.same fits

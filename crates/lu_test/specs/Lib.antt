@@ -4,6 +4,7 @@ pub mod Codes
 pub mod ScheduleText
 pub mod MatrixText
 pub mod Laws
+pub mod MatrixLines
 pub mod MatrixGoing
 pub mod ScheduleGoing
 pub mod Results

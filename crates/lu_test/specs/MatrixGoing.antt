@@ -1,5 +1,5 @@
 -- Reading of a matrix that goes on behind a fault.
-use Rattle.std.specs.Prelude.{ℕ, List, [], ◌∷◌, ◌++◌, length, Option, Some, None, Result, Ok, Err, codes, ◌&&◌, nat_le, if◌then◌else◌}
+use Rattle.std.specs.Prelude.{ℕ, List, [], ◌∷◌, ◌++◌, length, Some, codes, ◌&&◌, nat_le, if◌then◌else◌}
 use Rattle.std.specs.Str.{bytes_eq}
 use Rattle.lu_text.specs.Words.{Word}
 use Rattle.lu_test.specs.MatrixText.{Drafted, is_nothing, parts_in}

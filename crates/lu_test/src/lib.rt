@@ -17,8 +17,8 @@ pub use edits::{copy_call, copy_calls, copy_matrix, cut_to, remove, setup_alone}
 pub use laws::round_trip;
 pub use matrix::{Arguments, Call, Calls, MOST_CALLS, MOST_CALLS_OF_THREAD, MOST_THREADS, Matrix};
 pub use matrix_fault::{MatrixFault, MatrixFaultKind};
-pub use matrix_going::{end_fault, line_or_fault, mended};
-pub use matrix_text::{Draft, read_matrix};
+pub use matrix_going::mended;
+pub use matrix_text::{Draft, end_fault, read_matrix};
 pub use matrix_writer::write_matrix;
 pub use schedule::{MOST_MOVES, Move, Schedule};
 pub use schedule_fault::ScheduleFault;

@@ -6,11 +6,12 @@ ghost use Rattle.std.specs.List.{position, filter_map, list_all, slice_split};
 ghost use Rattle.std.specs.Str.{bytes_eq};
 ghost use Rattle.lu_text.specs.Lines.{texts, words_of};
 ghost use Rattle.lu_text.specs.Numbers.{value_in};
-ghost use Rattle.lu_text.specs.Faults.{Gives, OnLine, TellsFirst, meaning_of};
+ghost use Rattle.lu_text.specs.Faults.{Gives, TellsFirst, fault_in, meaning_of};
 ghost use Rattle.lu_component.specs.Component.{operation_place};
 ghost use Rattle.lu_test.specs.Matrix.{AreThreads, IsMatrix, IsOf, IsOfSome};
 ghost use Rattle.lu_test.specs.MatrixText as spec;
-ghost use Rattle.lu_test.specs.MatrixText.{AreFew, CanRead, IsDraft, all_words, by_parts, calls_after, matrix_grammar, words_in};
+ghost use Rattle.lu_test.specs.MatrixText.{AreFew, CanRead, IsDraft, by_parts, calls_after, matrix_grammar, with_setup, with_thread, words_in};
+ghost use Rattle.lu_test.specs.MatrixLines.{Takes, by_words};
 ghost use Rattle.lu_text.specs.Results.{Builds, HasItems};
 
 use crate::matrix::{
@@ -24,7 +25,7 @@ use std::marker::Model;
 
 /// The words of one part of a line.
 #[derive(Drop)]
-pub(crate) struct Part<'a> {
+struct Part<'a> {
     words: Vec<&'a [u8]>,
 }
 
@@ -202,7 +203,7 @@ fn total_calls(threads: &[Calls]) -> usize
 }
 
 /// Whether there is no room for one more thread of so many calls.
-pub(crate) fn is_full(threads: &[Calls], calls: usize) -> bool
+fn is_full(threads: &[Calls], calls: usize) -> bool
     requires { AreThreads threads.now }
     ensures { result ≡ spec.is_full threads.now calls }
 {
@@ -212,11 +213,7 @@ pub(crate) fn is_full(threads: &[Calls], calls: usize) -> bool
 }
 
 /// What is wrong with the calls of a line, if anything is. `full`: there is no room for them.
-pub(crate) fn calls_fault(
-    operations: &[Op],
-    calls: &[Part<'_>],
-    full: bool,
-) -> Option<MatrixFaultKind>
+fn calls_fault(operations: &[Op], calls: &[Part<'_>], full: bool) -> Option<MatrixFaultKind>
     ensures { result ≡ spec.calls_fault operations.now calls.now full }
 {
     if !all_have_names(calls) {
@@ -234,53 +231,9 @@ pub(crate) fn calls_fault(
     }
 }
 
-/// One more thread with these calls, or what is wrong with them.
-fn with_thread(
-    alloc: Global,
-    line: usize,
-    operations: &[Op],
-    mut draft: Draft,
-    calls: &[Part<'_>],
-) -> Result<Draft, MatrixFault>
-    requires { CanRead operations.now draft }
-    ensures { OnLine line result (spec.with_thread operations.now draft calls.now) }
-{
-    let full = is_full(&draft.threads, calls.len());
-    match calls_fault(operations, calls, full) {
-        Some(kind) => Err(Fault::At(kind, line)),
-        None => {
-            let calls = calls_said(alloc, operations, calls)?;
-            draft.threads.push(Calls::new(calls))?;
-            Ok(draft)
-        }
-    }
-}
-
-/// The setup with these calls, or what is wrong with them.
-fn with_setup(
-    alloc: Global,
-    line: usize,
-    operations: &[Op],
-    mut draft: Draft,
-    calls: &[Part<'_>],
-) -> Result<Draft, MatrixFault>
-    requires { AreFew operations.now }
-    ensures { OnLine line result (spec.with_setup operations.now draft calls.now) }
-{
-    let full = calls.len() > MOST_CALLS_OF_THREAD;
-    match calls_fault(operations, calls, full) {
-        Some(kind) => Err(Fault::At(kind, line)),
-        None => {
-            let calls = calls_said(alloc, operations, calls)?;
-            draft.setup = Some(Calls::new(calls));
-            Ok(draft)
-        }
-    }
-}
-
 /// The parts behind the first word: none, or the words of the first and the other parts of the
 /// line.
-pub(crate) fn call_parts<'a>(
+fn call_parts<'a>(
     alloc: Global,
     words: &[&'a [u8]],
     others: &[&'a [u8]],
@@ -300,76 +253,130 @@ pub(crate) fn call_parts<'a>(
     Ok(calls)
 }
 
-/// A line whose first part has these words, and its other parts.
-fn by_words(
-    alloc: Global,
-    line: usize,
-    operations: &[Op],
-    draft: Draft,
-    words: &[&[u8]],
-    more: &[&[u8]],
-) -> Result<Draft, MatrixFault>
-    requires { CanRead operations.now draft }
-    ensures { OnLine line result (by_parts operations.now draft (all_words words.now more.now)) }
-{
-    match words {
-        [] => {
-            if more.is_empty() {
-                Ok(draft)
-            } else {
-                Err(Fault::At(MatrixFaultKind::Form, line))
+impl Draft {
+    /// One more thread with these calls.
+    fn take_thread(
+        &mut self,
+        alloc: Global,
+        operations: &[Op],
+        calls: &[Part<'_>],
+    ) -> Result<Option<MatrixFaultKind>, AllocError>
+        requires { CanRead operations.now self.old }
+        ensures { Takes self (with_thread operations.now self.old calls.now) result }
+    {
+        let full = is_full(&self.threads, calls.len());
+        let fault = calls_fault(operations, calls, full);
+        if fault.is_none() {
+            let calls = calls_said(alloc, operations, calls)?;
+            self.threads.push(Calls::new(calls))?;
+        }
+        Ok(fault)
+    }
+
+    /// The setup with these calls.
+    fn take_setup(
+        &mut self,
+        alloc: Global,
+        operations: &[Op],
+        calls: &[Part<'_>],
+    ) -> Result<Option<MatrixFaultKind>, AllocError>
+        requires { AreFew operations.now }
+        ensures { Takes self (with_setup operations.now self.old calls.now) result }
+    {
+        let full = calls.len() > MOST_CALLS_OF_THREAD;
+        let fault = calls_fault(operations, calls, full);
+        if fault.is_none() {
+            let calls = calls_said(alloc, operations, calls)?;
+            self.setup = Some(Calls::new(calls));
+        }
+        Ok(fault)
+    }
+
+    /// A line whose first part has these words, and its other parts.
+    fn take_words(
+        &mut self,
+        alloc: Global,
+        operations: &[Op],
+        words: &[&[u8]],
+        more: &[&[u8]],
+    ) -> Result<Option<MatrixFaultKind>, AllocError>
+        requires { CanRead operations.now self.old }
+        ensures { Takes self (by_words operations.now self.old words.now more.now) result }
+    {
+        match words {
+            [] => {
+                if more.is_empty() {
+                    Ok(None)
+                } else {
+                    Ok(Some(MatrixFaultKind::Form))
+                }
+            }
+            [word, rest @ ..] => {
+                if *word == b"thread".as_slice() {
+                    let calls = call_parts(alloc, rest, more)?;
+                    self.take_thread(alloc, operations, &calls)
+                } else if *word == b"setup".as_slice() && self.is_nothing() {
+                    let calls = call_parts(alloc, rest, more)?;
+                    self.take_setup(alloc, operations, &calls)
+                } else {
+                    Ok(Some(MatrixFaultKind::Form))
+                }
             }
         }
-        [word, rest @ ..] => {
-            if *word == b"thread".as_slice() {
-                let calls = call_parts(alloc, rest, more)?;
-                with_thread(alloc, line, operations, draft, &calls)
-            } else if *word == b"setup".as_slice() && draft.is_nothing() {
-                let calls = call_parts(alloc, rest, more)?;
-                with_setup(alloc, line, operations, draft, &calls)
-            } else {
-                Err(Fault::At(MatrixFaultKind::Form, line))
+    }
+
+    /// A line by its parts, between which stands `;`.
+    fn take_parts(
+        &mut self,
+        alloc: Global,
+        operations: &[Op],
+        parts: &[&[u8]],
+    ) -> Result<Option<MatrixFaultKind>, AllocError>
+        requires { CanRead operations.now self.old }
+        ensures { Takes self (by_parts operations.now self.old (words_in parts.now)) result }
+    {
+        match parts {
+            [] => Ok(None),
+            [first, others @ ..] => {
+                let words = words_of(alloc, first)?;
+                self.take_words(alloc, operations, &words, others)
             }
         }
+    }
+
+    /// Takes one more line, of a component with these operations: `None` where it has no fault, and
+    /// else its fault, and the draft is as it was.
+    ///
+    /// # Errors
+    ///
+    /// There is no memory for what the line says.
+    #[tactic(auto, unfolding(crate::specs::MatrixText::line_of))]
+    pub fn line(
+        &mut self,
+        alloc: Global,
+        operations: &[Op],
+        text: &[u8],
+    ) -> Result<Option<MatrixFaultKind>, AllocError>
+        requires { CanRead operations.now self.old }
+        ensures { Takes self (spec.line_of operations.now self.old text.now) result }
+    {
+        if !are_allowed(text) {
+            return Ok(Some(MatrixFaultKind::Byte));
+        }
+        let parts = parts_of(alloc, b';', before_comment(text))?;
+        self.take_parts(alloc, operations, &parts)
     }
 }
 
-/// A line by its parts, between which stands `;`.
-fn by_parts(
-    alloc: Global,
-    line: usize,
-    operations: &[Op],
-    draft: Draft,
-    parts: &[&[u8]],
-) -> Result<Draft, MatrixFault>
-    requires { CanRead operations.now draft }
-    ensures { OnLine line result (spec.by_parts operations.now draft (words_in parts.now)) }
+/// What is wrong at the end of the text.
+pub fn end_fault(draft: &Draft) -> Option<MatrixFaultKind>
+    ensures { result ≡ fault_in (spec.finished draft.now) }
 {
-    match parts {
-        [] => Ok(draft),
-        [first, others @ ..] => {
-            let words = words_of(alloc, first)?;
-            by_words(alloc, line, operations, draft, &words, others)
-        }
+    if draft.threads.is_empty() {
+        Some(MatrixFaultKind::Limit)
+    } else {
+        None
     }
-}
-
-#[tactic(auto, unfolding(crate::specs::MatrixText::line_of))]
-pub(crate) fn read_line(
-    alloc: Global,
-    line: usize,
-    operations: &[Op],
-    draft: Draft,
-    text: &[u8],
-) -> Result<Draft, MatrixFault>
-    requires { CanRead operations.now draft }
-    ensures { OnLine line result (spec.line_of operations.now draft text.now) }
-{
-    if !are_allowed(text) {
-        return Err(Fault::At(MatrixFaultKind::Byte, line));
-    }
-    let parts = parts_of(alloc, b';', before_comment(text))?;
-    by_parts(alloc, line, operations, draft, &parts)
 }
 
 /// The calls of the setup: none where there is no line of it.
@@ -382,14 +389,14 @@ fn setup_of(alloc: Global, setup: Option<Calls>) -> Calls
     }
 }
 
-/// The matrix at the end of the text.
-fn finish(alloc: Global, line: usize, draft: Draft) -> Result<Matrix, MatrixFault>
+/// The matrix at the end of the text, or what is wrong there.
+fn finish(alloc: Global, draft: Draft) -> Result<Matrix, MatrixFaultKind>
     requires limits { IsDraft draft }
     requires of_some { IsOfSome (spec.matrix_of draft) }
-    ensures { OnLine line result (spec.finished draft) }
+    ensures { result ≡ spec.finished draft }
 {
-    if draft.threads.is_empty() {
-        return Err(Fault::At(MatrixFaultKind::Limit, line));
+    if let Some(kind) = end_fault(&draft) {
+        return Err(kind);
     }
     Ok(Matrix::of_calls(setup_of(alloc, draft.setup), draft.threads))
 }
@@ -404,17 +411,14 @@ fn read_lines(alloc: Global, component: &Component, lines: &[&[u8]]) -> Result<M
         threads: Vec::new(alloc),
     };
     for (before, text) in lines.iter().enumerate() {
-        draft = read_line(alloc, before + 1, operations, draft, text)?;
+        if let Some(kind) = draft.line(alloc, operations, text)? {
+            return Err(Fault::At(kind, before + 1));
+        }
     }
-    finish(alloc, lines.len() + 1, draft)
-}
-
-fn matrix_in(alloc: Global, component: &Component, text: &[u8]) -> Result<Matrix, MatrixFault>
-    ensures exact { Gives result (meaning_of (matrix_grammar component.now) text.now) }
-    ensures of { IfOk result (λ matrix. IsOf matrix component.now) }
-{
-    let lines = lines_of(alloc, text)?;
-    read_lines(alloc, component, &lines)
+    match finish(alloc, draft) {
+        Ok(matrix) => Ok(matrix),
+        Err(kind) => Err(Fault::At(kind, lines.len() + 1)),
+    }
 }
 
 /// Reads a matrix of a component from its text.
@@ -433,5 +437,6 @@ pub fn read_matrix(alloc: Global, component: &Component, text: &[u8]) -> Result<
     // Each call's operation is there, with its number of arguments.
     ensures of { IfOk result (λ matrix. IsOf matrix component.now) }
 {
-    matrix_in(alloc, component, text)
+    let lines = lines_of(alloc, text)?;
+    read_lines(alloc, component, &lines)
 }

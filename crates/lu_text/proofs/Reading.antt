@@ -1,11 +1,11 @@
 -- Reading lines one after the other, as a reader's loop does; and a fault that is read is the first.
-use Rattle.std.proofs.Common.{◌≡◌, ℕ, zero, suc, add-one, ◌+◌, ◌<◌, ◌≤◌, List, [], ◌∷◌, ◌++◌, length, get_or, drop, Result, Ok, Err, refl, sym, ap, subst, ◌∙◌, arith}
+use Rattle.std.proofs.Common.{◌≡◌, ℕ, zero, suc, add-one, ◌+◌, ◌<◌, ◌≤◌, List, [], ◌∷◌, ◌++◌, length, get_or, drop, Option, Some, None, Result, Ok, Err, refl, sym, ap, subst, ◌∙◌, arith}
 use Rattle.std.proofs.Math.ListN.{drop_of_length-le}
 use denote.Ref.{Bor}
 use Rattle.lu_text.specs.Lines.{texts, lines_of}
 use Rattle.lu_text.specs.declared.fault.Fault.{Fault}
 use Rattle.lu_text.specs.declared.fault.Fault.TheVariants.{At, Memory}
-use Rattle.lu_text.specs.Faults.{Grammar, on_line, then_lines, lines_after, meaning_of, Gives, IsUnlessMemory, LeadsTo, IsNext, IsFirstFault}
+use Rattle.lu_text.specs.Faults.{Grammar, on_line, then_lines, lines_after, meaning_of, going_on, Gives, IsUnlessMemory, LeadsTo, IsNext, IsFirstFault}
 
 -- ---- words in memory
 
@@ -22,6 +22,27 @@ pub texts_end : (words : List (Bor (List ℕ))) (i : ℕ) → length words ≤ i
 texts_end [] i h = drop_of_length-le [] h
 texts_end (w ∷ ws) zero h = absurd (omega arith)
 texts_end (w ∷ ws) (suc i) h = texts_end ws i (omega arith)
+
+-- ---- a line that is taken
+
+-- without a fault, the line says the next draft
+pub says_next : {Kind Draft : Type 0} (d next : Draft) (meant : Result Draft Kind) → (next, None) ≡ going_on d meant → meant ≡ Ok next
+says_next {Kind = Kind} {Draft = Draft} d next (Ok x) e =
+    let same : x ≡ next = ap (λ (p : Draft × Option Kind). p.0) (sym e) in
+    subst (λ (y : Draft). ◌≡◌ {A = Result Draft Kind} (Ok x) (Ok y)) same refl
+says_next {Kind = Kind} {Draft = Draft} d next (Err k) e =
+    let none : ◌≡◌ {A = Option Kind} None (Some k) = ap (λ (p : Draft × Option Kind). p.1) e in
+    absurd cc
+
+-- with a fault, it has that fault
+pub has_fault : {Kind Draft : Type 0} (d next : Draft) (kind : Kind) (meant : Result Draft Kind) → (next, Some kind) ≡ going_on d meant → meant ≡ Err kind
+has_fault {Kind = Kind} {Draft = Draft} d next kind (Ok x) e =
+    let none : ◌≡◌ {A = Option Kind} (Some kind) None = ap (λ (p : Draft × Option Kind). p.1) e in
+    absurd cc
+has_fault {Kind = Kind} {Draft = Draft} d next kind (Err k) e =
+    let same : ◌≡◌ {A = Option Kind} (Some kind) (Some k) = ap (λ (p : Draft × Option Kind). p.1) e in
+    let kinds : k ≡ kind = cc in
+    subst (λ (y : Kind). ◌≡◌ {A = Result Draft Kind} (Err k) (Err y)) kinds refl
 
 -- ---- the loop
 
@@ -52,6 +73,30 @@ pub is_done : {Kind Draft Value : Type 0} (g : Grammar Kind Draft Value) (n m : 
     → n ≡ m → Gives r (on_line m (g.finish d)) → lines_after g n d [] ≡ total → Gives r total
 unfolding lines_after
 is_done g n m d r total e h so_far = subst (Gives r) (ap (λ (k : ℕ). on_line k (g.finish d)) (sym e) ∙ so_far) h
+
+-- ---- the same of a draft that takes line by line
+
+-- a line without a fault is taken
+pub taken : {Kind Draft Value : Type 0} (g : Grammar Kind Draft Value) (d next : Draft) (line : List ℕ) → (next, None) ≡ going_on d (g.line d line) → g.line d line ≡ Ok next
+taken g d next line e = says_next d next (g.line d line) e
+
+pub goes_on_taken : {Kind Draft Value : Type 0} (g : Grammar Kind Draft Value) (n : ℕ) (d next : Draft) (line : List ℕ) (rest : List (List ℕ)) (total : Result Value (Fault Kind))
+    → (next, None) ≡ going_on d (g.line d line) → lines_after g n d (line ∷ rest) ≡ total → lines_after g (n + 1) next rest ≡ total
+goes_on_taken {Kind = Kind} {Draft = Draft} g n d next line rest total e so_far =
+    goes_on g n d next line rest total (ap (λ (r : Result Draft Kind). on_line n r) (says_next d next (g.line d line) e)) so_far
+
+-- one with a fault is not: that fault is the answer
+pub ends_untaken : {Kind Draft Value : Type 0} (g : Grammar Kind Draft Value) (kind : Kind) (n : ℕ) (d next : Draft) (line : List ℕ) (rest : List (List ℕ)) (total : Result Value (Fault Kind))
+    → (next, Some kind) ≡ going_on d (g.line d line) → lines_after g n d (line ∷ rest) ≡ total → total ≡ Err (At kind n)
+ends_untaken {Kind = Kind} {Draft = Draft} g kind n d next line rest total e so_far =
+    ends g (At kind n) n d line rest total (ap (λ (r : Result Draft Kind). on_line n r) (has_fault d next kind (g.line d line) e)) so_far
+
+-- what the end says is the answer
+pub done_so : {Kind Draft Value : Type 0} (g : Grammar Kind Draft Value) (n m : ℕ) (d : Draft) (r : Result Value Kind) (total : Result Value (Fault Kind))
+    → n ≡ m → r ≡ g.finish d → lines_after g n d [] ≡ total → total ≡ on_line m r
+unfolding lines_after
+done_so {Kind = Kind} {Value = Value} g n m d r total e says so_far =
+    sym so_far ∙ (ap (λ (k : ℕ). on_line k (g.finish d)) e ∙ ap (λ (x : Result Value Kind). on_line m x) (sym says))
 
 -- ---- the first fault
 

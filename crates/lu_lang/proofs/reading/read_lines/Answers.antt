@@ -1,6 +1,5 @@
-use Rattle.std.proofs.Common.{refl, arith}
-use Rattle.std.proofs.lemmas.Result.{err_from_is_err_and}
-use Rattle.lu_text.proofs.Reading.{goes_on, ends, is_done, line_ok, text_more, texts_end}
+use Rattle.std.proofs.Common.{refl, arith, ◌+◌, length}
+use Rattle.lu_text.proofs.Reading.{done_so, ends_untaken, goes_on_taken, taken, text_more, texts_end}
 use Rattle.lu_lang.specs.Grammar.{component_grammar}
 use Rattle.lu_lang.proofs.Drafts.{line_keeps, nothing_draft}
 use Rattle.lu_lang.proofs.reading.read_lines.Goals as goal
@@ -8,19 +7,30 @@ use Rattle.lu_lang.proofs.reading.read_lines.Goals as goal
 pub loop-before-init : goal.loop-before-init
 loop-before-init c = rw c.new-draft.ensures (record { sound = nothing_draft; read = refl })
 
-pub returns-in_err-draft : goal.returns-in_err-draft
-returns-in_err-draft c =
-    let p = err_from_is_err_and c.from_residual.result c.from_residual.ensures.1 in
+pub returns-in-Some : goal.returns-in-Some
+returns-in-Some c =
     let step = text_more c.args.lines.now c.loop-before.before _ (omega arith) in
-    rw (p.1, p.2) (ends component_grammar c.in_err-draft.field-0.0 _ _ _ _ _ c.in_err-draft.ensures (rw step at c.loop-before.invariant.read))
+    let told = rw c.in-Some.is at c.in_ok-kind.ensures in
+    ends_untaken component_grammar c.in-Some.kind (c.loop-before.before + 1) c.loop-before.draft c.line.new.self _ _ _ told (rw step at c.loop-before.invariant.read)
 
 pub loop-before-preserved : goal.loop-before-preserved
 loop-before-preserved c =
     let step = text_more c.args.lines.now c.loop-before.before _ (omega arith) in
+    let told = rw c.in_default.is at c.in_ok-kind.ensures in
     record {
-      sound = line_keeps _ c.loop-before.invariant.sound _ _ (line_ok _ _ _ c.in_ok-draft.ensures);
-      read = goes_on component_grammar _ _ _ _ _ _ c.in_ok-draft.ensures (rw step at c.loop-before.invariant.read);
+      sound = line_keeps _ c.loop-before.invariant.sound _ _ (taken component_grammar c.loop-before.draft c.line.new.self _ told);
+      read = goes_on_taken component_grammar (c.loop-before.before + 1) c.loop-before.draft c.line.new.self _ _ _ told (rw step at c.loop-before.invariant.read);
     }
 
-pub returns : goal.returns
-returns c = is_done component_grammar _ _ c.loop-before.draft _ _ (omega arith) c.finish.ensures (rw (texts_end c.args.lines.now c.loop-before.before (omega arith)) at c.loop-before.invariant.read)
+pub finish-requires : goal.finish-requires
+finish-requires c = c.loop-before.invariant.sound
+
+pub returns-in-Ok : goal.returns-in-Ok
+returns-in-Ok c =
+    let read = rw (texts_end c.args.lines.now c.loop-before.before (omega arith)) at c.loop-before.invariant.read in
+    rw c.in-Ok.is at (done_so component_grammar (c.loop-before.before + 1) (length c.args.lines.now + 1) c.loop-before.draft c.finish.result _ (omega arith) c.finish.ensures read)
+
+pub returns-in-Err : goal.returns-in-Err
+returns-in-Err c =
+    let read = rw (texts_end c.args.lines.now c.loop-before.before (omega arith)) at c.loop-before.invariant.read in
+    rw c.in-Err.is at (done_so component_grammar (c.loop-before.before + 1) (length c.args.lines.now + 1) c.loop-before.draft c.finish.result _ (omega arith) c.finish.ensures read)

@@ -1,0 +1,43 @@
+-- What a draft becomes by one line.
+use Rattle.std.specs.Prelude.{◌≡◌, List, Option, Some, Result, IfOk}
+use Rattle.lu_text.specs.Faults.{fault_in, going_on}
+use Rattle.lu_text.specs.Lines.{text_if, texts}
+use Rattle.lu_text.specs.Words.{Word}
+use denote.Ref.{MutBor}
+use denote.Triple.Both.{Both}
+use Rattle.lu_lang.specs.declared.fault.LangFaultKind.{LangFaultKind}
+use Rattle.lu_lang.specs.declared.reading.CodeLine.{CodeLine}
+use Rattle.lu_lang.specs.Draft.{Begun, Drafted}
+use Rattle.lu_lang.specs.Grammar.{end_line, instr_line}
+
+-- a draft before and after a line
+abbrev pub Changing : Type 0
+Changing = Both (MutBor Drafted) (MutBor Drafted)
+
+-- the draft after the line, and no fault; or the draft as it was, and the line's fault
+abbrev pub Changes : Changing → Result Drafted LangFaultKind → Option LangFaultKind → Type 0
+Changes draft meant fault = (draft.exit.now, fault) ≡ going_on draft.entry.now meant
+
+-- so it is unless memory ran out
+abbrev pub Takes : {E : Type 0} → Changing → Result Drafted LangFaultKind
+    → Result (Option LangFaultKind) E → Type 0
+Takes draft meant result = IfOk result (Changes draft meant)
+
+-- ---- in an operation that is open, which is taken out of the draft meanwhile
+
+abbrev pub with_open : Drafted → Begun → Drafted
+with_open d b = record d { begun = Some b }
+
+-- the draft after the line, and no fault; or with that operation as it was, and the line's fault
+abbrev pub TakesInside : {E : Type 0} → Changing → Begun → Result Drafted LangFaultKind
+    → Result (Option LangFaultKind) E → Type 0
+TakesInside draft b meant result =
+    IfOk result (λ fault. (draft.exit.now, fault) ≡ going_on (with_open draft.entry.now b) meant)
+
+-- what the line says: a label or none, and an instruction
+abbrev pub code_read : Drafted → Begun → CodeLine → Result Drafted LangFaultKind
+code_read d b code = instr_line d b (text_if code.label) code.word.now (texts code.rest.now)
+
+-- what is wrong with `end` and these words, whatever else is declared
+abbrev pub Closes : Begun → List Word → Option LangFaultKind → Type 0
+Closes b words fault = (d : Drafted) → fault ≡ fault_in (end_line d b words)
