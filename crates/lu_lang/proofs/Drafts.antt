@@ -280,7 +280,7 @@ begun_kept a l operations b label s h room is = record {
   labels = labels_kept b label s h.labels;
 }
 
-sooner_some : (fault : Option LangFaultKind) (kind : LangFaultKind) → is_some (sooner fault (Some kind)) ≡ true
+pub sooner_some : (fault : Option LangFaultKind) (kind : LangFaultKind) → is_some (sooner fault (Some kind)) ≡ true
 sooner_some None kind = refl
 sooner_some (Some other) kind = go _
   where

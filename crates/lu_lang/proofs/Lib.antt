@@ -10,3 +10,4 @@ pub mod WrittenCode
 pub mod RoundTrip
 pub mod Behind
 pub mod Understood
+mod Labelled

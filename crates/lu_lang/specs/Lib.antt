@@ -11,3 +11,4 @@ pub mod Mend
 pub mod Place
 pub mod Faulty
 pub mod Meant
+pub mod Labels

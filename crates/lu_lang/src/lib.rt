@@ -5,6 +5,7 @@ mod draft;
 mod fault;
 mod instructions;
 mod keyword;
+mod labels;
 mod laws;
 mod meant;
 mod mending;
@@ -14,7 +15,8 @@ mod writing;
 
 pub use draft::{Draft, Label, OpenOp, Statement};
 pub use fault::{LangFault, LangFaultKind};
-pub use laws::round_trip;
+pub use labels::{Labels, labels_of};
+pub use laws::{labels_law, round_trip};
 pub use lu_component::{
     Arithmetic, Array, Code, Component, Instr, MOST_ARGUMENTS, MOST_ARRAYS, MOST_CELLS,
     MOST_INSTRS, MOST_LOCAL, MOST_LOCKS, MOST_OPS, MOST_PICKS, Op, Operand,
@@ -24,4 +26,4 @@ pub use meant::{
 };
 pub use place::{left_backs, message_backs, open_backs};
 pub use reading::{end_fault, read_component};
-pub use writing::{array_name, lock_name, write_component, write_instr, write_label};
+pub use writing::{array_name, has_jump_to, lock_name, write_component, write_instr, write_label};

@@ -118,7 +118,8 @@ fn leads_to(place: usize, instr: Instr) -> bool
     }
 }
 
-fn has_label(code: &[Instr], place: usize) -> bool
+/// Whether some instruction of the code jumps to this place.
+pub fn has_jump_to(code: &[Instr], place: usize) -> bool
     ensures { result ≡ list_any (spec.leads_to place) code.now }
 {
     code.iter().any(|instr| leads_to(place, *instr))
@@ -133,7 +134,7 @@ fn has_label(code: &[Instr], place: usize) -> bool
 pub fn write_label(text: &mut String, code: &[Instr], place: usize) -> Result<(), AllocError>
     ensures { Writes result text.old text.new (spec.label_text code.now place) }
 {
-    if has_label(code, place) {
+    if has_jump_to(code, place) {
         write!(text, "L{place}: ")?;
     }
     Ok(())

@@ -34,13 +34,14 @@ use Rattle.lu_machine.specs.States.{State, instr_at, owner_of}
 use Rattle.lu_machine.specs.Steps.{is_blocked, owns}
 use Rattle.lu_machine.proofs.Moves.{all_at}
 use Rattle.lu_history.specs.Text.{event_text, history_text, operation_text, outcome_text}
+use Rattle.lu_history.specs.declared.serial.SerialOp.{SerialOp}
 use Rattle.lu_history.specs.declared.serial.SerialOutcome.{SerialOutcome}
 use Rattle.lu_history.specs.declared.serial.SerialOutcome.TheVariants.{Ret, Trap, Stuck}
 use Rattle.lu_witness.specs.Witnesses.{entries}
 use Rattle.lu_explain.specs.declared.explanation.Reason.{Reason}
 use Rattle.lu_explain.specs.declared.explanation.Reason.TheVariants.{After, Outcome, Nothing}
 use Rattle.lu_explain.specs.Explanations.{Explained, reason_of}
-use Rattle.lu_explain.specs.Lines.{call_words as call_behind, operation_words, outcome_words as ended_words, reason_words}
+use Rattle.lu_explain.specs.Lines.{call_words as call_behind, operation_words, nothing_words, outcome_words as ended_words, reason_words, stuck_last}
 use Rattle.lu_replay.specs.Text.{replay_text, status_text}
 use Rattle.lu_trace.specs.declared.wording.Wording.{Wording}
 use Rattle.lu_trace.specs.declared.wording.Wording.TheVariants.{Component}
@@ -325,12 +326,17 @@ named_plain c matrix t k limits =
     by_call (Some call) =
         plain_append (codes " ") (call_text c.operations call) refl (call_plain c call limits)
 
-reason_plain : (c : Declarations) (matrix : Matrix) (reason : Reason) → IsComponent c → IsPlain (reason_words c matrix reason)
-reason_plain c matrix (After a) limits =
+nothing_plain : (c : Declarations) (matrix : Matrix) (stuck : Option (ℕ × ℕ)) → IsComponent c → IsPlain (nothing_words c matrix stuck)
+nothing_plain c matrix None limits = refl
+nothing_plain c matrix (Some (t, k)) limits =
+    plain_three (codes ", but ") (operation_words c matrix t k) (codes " is stuck") refl (named_plain c matrix t k limits) refl
+
+reason_plain : (c : Declarations) (matrix : Matrix) (order : List SerialOp) (reason : Reason) → IsComponent c → IsPlain (reason_words c matrix order reason)
+reason_plain c matrix order (After a) limits =
     plain_three (codes ", but ") (operation_words c matrix a.t a.k) (codes " precedes it") refl (named_plain c matrix a.t a.k limits) refl
-reason_plain c matrix (Outcome o) limits =
+reason_plain c matrix order (Outcome o) limits =
     plain_append (codes ", but serially ") (ended_words o) refl (ended_plain o)
-reason_plain c matrix Nothing limits = refl
+reason_plain c matrix order Nothing limits = nothing_plain c matrix (stuck_last order) limits
 
 why_plain : (c : Declarations) (matrix : Matrix) (why : Option Explained) (t k : ℕ) (end : Option End) → IsComponent c → IsPlain (why_words c matrix why t k end)
 why_plain c matrix None t k end limits = refl
@@ -338,12 +344,12 @@ why_plain c matrix (Some e) t k end limits =
     plain_if (k == length (entries t e.order)) (option_map_or said (reason_of e t) []) [] (by_reason (reason_of e t)) refl
   where
     said : Reason → List ℕ
-    said reason = ended_words (outcome_of end) ++ reason_words c matrix reason
+    said reason = ended_words (outcome_of end) ++ reason_words c matrix e.order reason
 
     by_reason : (o : Option Reason) → IsPlain (option_map_or said o [])
     by_reason None = refl
     by_reason (Some reason) =
-        plain_append (ended_words (outcome_of end)) (reason_words c matrix reason) (ended_plain (outcome_of end)) (reason_plain c matrix reason limits)
+        plain_append (ended_words (outcome_of end)) (reason_words c matrix e.order reason) (ended_plain (outcome_of end)) (reason_plain c matrix e.order reason limits)
 
 pub says_plain : (s : State) → IsComponent s.component → SaysPlain s
 says_plain s limits = record {

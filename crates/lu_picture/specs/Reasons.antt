@@ -55,7 +55,9 @@ outcome_of (Some end) = as_serial end.outcome
 abbrev pub reason_said : Declarations → Matrix → Explained → ℕ → ℕ → SerialOutcome → List ℕ
 reason_said c matrix e t k o =
     if k == length (entries t e.order)
-    then option_map_or (λ reason. ended_words o ++ reason_words c matrix reason) (reason_of e t) []
+    then
+    option_map_or (λ reason. ended_words o ++ reason_words c matrix e.order reason) (reason_of e t)
+    []
     else []
 
 -- where there is an explanation

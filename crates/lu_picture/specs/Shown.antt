@@ -4,7 +4,7 @@ use Rattle.std.specs.List.{flat_map}
 use Rattle.std.specs.Char.{encode_utf8}
 use Rattle.std.specs.Str.{chars}
 use Rattle.lu_trace.specs.declared.wording.Wording.{Wording}
-use Rattle.lu_trace.specs.declared.wording.Wording.TheVariants.{Component, Source}
+use Rattle.lu_trace.specs.declared.wording.Wording.TheVariants.{Component, Labelled, Source}
 
 -- a letter between tags: three of them begin something else there, and have names
 abbrev pub letter_shown : ℕ → List ℕ
@@ -20,4 +20,5 @@ escaped words = flat_map letter_shown (chars words)
 -- the words of a step between tags: a component's have none of those letters, and a source's may
 abbrev pub shown : Wording → List ℕ → List ℕ
 shown Component words = words
+shown (Labelled labels) words = escaped words
 shown (Source lines origins) words = escaped words

@@ -39,6 +39,6 @@ pub(crate) fn write_shown(
 {
     match how {
         Wording::Component => text.push_str(words),
-        Wording::Source { .. } => write_escaped(text, words),
+        Wording::Labelled(_) | Wording::Source { .. } => write_escaped(text, words),
     }
 }

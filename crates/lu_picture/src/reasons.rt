@@ -84,7 +84,8 @@ fn write_reason_of(
         None => Ok(()),
         Some(reason) => {
             write_outcome(text, outcome)?;
-            write_reason(text, machine.component(), machine.matrix(), reason)
+            let order = explanation.order();
+            write_reason(text, machine.component(), machine.matrix(), order, reason)
         }
     }
 }

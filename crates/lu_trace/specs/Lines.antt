@@ -1,11 +1,15 @@
 -- The lines of a trace.
-use Rattle.std.specs.Prelude.{ℕ, zero, suc, ◌++◌, nat_lt, if◌then◌else◌, List, [], length, codes, Option, Some, None, slice_get}
+use Rattle.std.specs.Prelude.{ℕ, zero, suc, ◌++◌, nat_lt, if◌then◌else◌, List, [], ◌∷◌, length, codes, Option, Some, None, slice_get}
 use Rattle.std.specs.Option.{option_map_or}
-use Rattle.std.specs.List.{repeat, join_with_byte}
+use Rattle.std.specs.List.{repeat, join_with_byte, list_any}
 use Rattle.std.specs.Fmt.{decimal}
 use Rattle.lu_component.specs.declared.instr.Instr.{Instr}
+use Rattle.lu_component.specs.declared.instr.Instr.TheVariants.{Jump, JumpIfZero}
+use Rattle.lu_component.specs.Operands.{operand_word}
 use Rattle.lu_component.specs.Component.{Declarations}
-use Rattle.lu_lang.specs.ComponentText.{instr_words, label_text}
+use Rattle.lu_lang.specs.declared.keyword.Keyword.TheVariants as keyword
+use Rattle.lu_lang.specs.Words.{keyword_word}
+use Rattle.lu_lang.specs.ComponentText.{instr_words, label_text, leads_to}
 use Rattle.lu_test.specs.declared.matrix.Call.{Call}
 use Rattle.lu_test.specs.declared.schedule.Move.{Move}
 use Rattle.lu_test.specs.Matrix.{calls_of}
@@ -18,8 +22,8 @@ use Rattle.lu_machine.specs.declared.thread.Frame.{Frame}
 use Rattle.lu_machine.specs.States.{State, instr_at}
 use Rattle.lu_machine.specs.Steps.{is_blocked}
 use Rattle.lu_trace.specs.declared.wording.Wording.{Wording}
-use Rattle.lu_trace.specs.declared.wording.Wording.TheVariants.{Component, Source}
-use Rattle.lu_trace.specs.Wordings.{source_line}
+use Rattle.lu_trace.specs.declared.wording.Wording.TheVariants.{Component, Labelled, Source}
+use Rattle.lu_trace.specs.Wordings.{place_word, source_line}
 use Rattle.lu_trace.specs.Deeds.{deed, awaited}
 
 -- the first line
@@ -68,9 +72,35 @@ component_line c f instr =
     label_text (code_of_operation c f.op) f.place ++ join_with_byte 32 (instr_words c instr)
     ++ codes "  # "
 
+-- a label and a space, where some jump of the code of operation `op` leads to the place
+abbrev pub named_label : List (List (Option (List ℕ))) → ℕ → List Instr → ℕ → List ℕ
+named_label labels op code place =
+    if list_any (leads_to place) code then place_word labels op place ++ codes ": " else []
+
+-- the words of an instruction of operation `op`: a jump names the label to which it leads
+abbrev pub labelled_words : List (List (Option (List ℕ))) → Declarations → ℕ → Instr
+    → List (List ℕ)
+labelled_words labels c op (Jump target) =
+    keyword_word keyword.Jump ∷ place_word labels op target ∷ []
+labelled_words labels c op (JumpIfZero v target) =
+    keyword_word keyword.JumpIfZero ∷ operand_word v ∷ place_word labels op target ∷ []
+labelled_words labels c op i = instr_words c i
+
+-- one space between them
+abbrev pub labelled_instr : List (List (Option (List ℕ))) → Declarations → ℕ → Instr → List ℕ
+labelled_instr labels c op i = join_with_byte 32 (labelled_words labels c op i)
+
+-- the instruction at the operation's place with the labels that the component's text has, and what
+-- begins a remark
+abbrev pub labelled_line : List (List (Option (List ℕ))) → Declarations → Frame → Instr → List ℕ
+labelled_line labels c f instr =
+    named_label labels f.op (code_of_operation c f.op) f.place
+    ++ labelled_instr labels c f.op instr ++ codes "  # "
+
 -- what the instruction at the operation's place is told by, and what begins a remark
 abbrev pub told_by : Wording → Declarations → Frame → Instr → List ℕ
 told_by Component c f instr = component_line c f instr
+told_by (Labelled labels) c f instr = labelled_line labels.now c f instr
 told_by (Source lines origins) c f instr =
     source_line lines.now origins.now f
 

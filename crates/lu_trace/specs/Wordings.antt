@@ -1,5 +1,5 @@
--- How instructions are told: as the component's text has them, or as the source has them that the
--- component was compiled from.
+-- How instructions are told: as the component's text has them, with its labels or without, or as
+-- the source has them that the component was compiled from.
 use Rattle.std.specs.Prelude.{ℕ, ◌-◌, ◌++◌, if◌then◌else◌, Bool, true, List, [], codes, Option, Some, None, slice_get}
 use Rattle.std.specs.Option.{option_and_then, option_map, option_map_or, unwrap_or}
 use Rattle.std.specs.Fmt.{decimal}
@@ -8,11 +8,12 @@ use denote.Ref.{Bor}
 use Rattle.lu_text.specs.Lines.{before_comment}
 use Rattle.lu_component.specs.Operands.{register_word}
 use Rattle.lu_lang.specs.ComponentText.{label_word}
+use Rattle.lu_lang.specs.Labels.{label_name}
 use Rattle.lu_machine.specs.declared.thread.Frame.{Frame}
 use Rattle.lu_source.specs.declared.origin.Origin.{Origin}
 use Rattle.lu_source.specs.declared.origin.Origins.{Origins}
 use Rattle.lu_trace.specs.declared.wording.Wording.{Wording}
-use Rattle.lu_trace.specs.declared.wording.Wording.TheVariants.{Component, Source}
+use Rattle.lu_trace.specs.declared.wording.Wording.TheVariants.{Component, Labelled, Source}
 
 -- ---- where instructions come from
 
@@ -31,6 +32,7 @@ local_in origins f r =
 -- `r1`, or the local in register r
 abbrev pub register_name : Wording → Frame → ℕ → Option (List ℕ)
 register_name Component f r = Some (register_word r)
+register_name (Labelled labels) f r = Some (register_word r)
 register_name (Source lines origins) f r = local_in origins.now f r
 
 -- `r1 = 5`, and `= 5` of what has no name
@@ -42,9 +44,14 @@ becomes (Some name) n = name ++ codes " = " ++ decimal n
 abbrev pub register_becomes : Wording → Frame → ℕ → ℕ → List ℕ
 register_becomes how f r n = becomes (register_name how f r) n
 
--- `L3`, or `line 12`: where a jump of the operation f to this place leads
+-- `again`, the label that stands at a place of operation `op`; where none does, `L3`
+abbrev pub place_word : List (List (Option (List ℕ))) → ℕ → ℕ → List ℕ
+place_word labels op place = unwrap_or (label_name labels op place) (label_word place)
+
+-- `L3`, `again` or `line 12`: where a jump of the operation f to this place leads
 abbrev pub target_name : Wording → Frame → ℕ → Option (List ℕ)
 target_name Component f place = Some (label_word place)
+target_name (Labelled labels) f place = Some (place_word labels.now f.op place)
 target_name (Source lines origins) f place =
     option_map (λ origin. codes "line " ++ decimal origin.line) (origin_in origins.now f.op place)
 
@@ -60,6 +67,7 @@ goes_on_at how f place = goes_on_to (target_name how f place)
 -- whether the cells of array w are told with their index
 abbrev pub is_indexed : Wording → ℕ → Bool
 is_indexed Component w = true
+is_indexed (Labelled labels) w = true
 is_indexed (Source lines origins) w = unwrap_or (slice_get origins.now.indexed.items w) true
 
 -- ---- lines of a source

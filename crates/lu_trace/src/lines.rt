@@ -4,12 +4,12 @@ ghost use Rattle.std.specs.Prelude.{◌≡◌};
 ghost use Rattle.lu_text.specs.Writing.{Writes};
 ghost use Rattle.lu_test.specs.MatrixText.{argument_text, arguments_text, call_text, operation_name};
 ghost use Rattle.lu_trace.specs.Lines as spec;
-ghost use Rattle.lu_trace.specs.Lines.{component_line, told_by};
+ghost use Rattle.lu_trace.specs.Lines.{component_line, labelled_line, told_by};
 
 use crate::deeds::write_deed;
-use crate::wording::{Wording, write_source_line};
+use crate::wording::{Wording, write_place, write_source_line};
 use lu_component::{Component, Instr};
-use lu_lang::{write_instr, write_label};
+use lu_lang::{Labels, has_jump_to, write_instr, write_label};
 use lu_machine::{Activity, Frame, Machine, Status};
 use lu_test::{Call, Move};
 use std::alloc::{AllocError, Global};
@@ -98,6 +98,67 @@ fn write_component_line(
     text.push_str("  # ")
 }
 
+/// Adds the label of a place and a space, where some jump of the code of an operation leads to the
+/// place.
+fn write_named_label(
+    text: &mut String,
+    labels: &Labels,
+    op: u8,
+    code: &[Instr],
+    place: u8,
+) -> Result<(), AllocError>
+    ensures { Writes result text.old text.new (spec.named_label labels.now op code.now place) }
+{
+    if has_jump_to(code, usize::from(place)) {
+        write_place(text, labels, op, place)?;
+        text.push_str(": ")
+    } else {
+        Ok(())
+    }
+}
+
+/// Adds an instruction of an operation, a jump with the label to which it leads.
+fn write_labelled_instr(
+    text: &mut String,
+    labels: &Labels,
+    component: &Component,
+    op: u8,
+    instr: Instr,
+) -> Result<(), AllocError>
+    ensures { Writes result text.old text.new
+        (spec.labelled_instr labels.now component.now op instr) }
+{
+    match instr {
+        Instr::Jump(target) => {
+            text.push_str("jump ")?;
+            write_place(text, labels, op, target)
+        }
+        Instr::JumpIfZero { value, target } => {
+            write!(text, "jz {value} ")?;
+            write_place(text, labels, op, target)
+        }
+        _ => write_instr(text, component, instr),
+    }
+}
+
+/// Adds the instruction at the operation's place with the labels that the component's text has, and
+/// what begins a remark.
+fn write_labelled_line(
+    text: &mut String,
+    labels: &Labels,
+    component: &Component,
+    frame: &Frame,
+    instr: &Instr,
+) -> Result<(), AllocError>
+    ensures { Writes result text.old text.new
+        (labelled_line labels.now component.now frame.now instr.now) }
+{
+    let code = code_of_operation(component, frame.op);
+    write_named_label(text, labels, frame.op, code, frame.place)?;
+    write_labelled_instr(text, labels, component, frame.op, *instr)?;
+    text.push_str("  # ")
+}
+
 /// Adds what the instruction at the operation's place is told by, and what begins a remark.
 pub(crate) fn write_instr_text(
     text: &mut String,
@@ -111,6 +172,7 @@ pub(crate) fn write_instr_text(
 {
     match *how {
         Wording::Component => write_component_line(text, component, frame, instr),
+        Wording::Labelled(labels) => write_labelled_line(text, labels, component, frame, instr),
         Wording::Source { lines, origins } => write_source_line(text, lines, origins, frame),
     }
 }

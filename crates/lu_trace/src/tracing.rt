@@ -65,8 +65,9 @@ fn write_move(
 /// number. Last comes a line for each thread that is blocked in the end, with what it waits for.
 ///
 /// An instruction is told as the component's text has it, `load r1 top 0`, and its remark by
-/// registers, cells and labels; or by the line of the source that it comes from, and its remark by
-/// locals, words and lines:
+/// registers, cells and labels, which have the names that the text gives them or are told by their
+/// places; or by the line of the source that it comes from, and its remark by locals, words and
+/// lines:
 ///
 /// ```text
 ///    1 T0 line 7: let head = top  # head = 0

@@ -4,8 +4,9 @@ ghost use Rattle.std.specs.Prelude.{◌≡◌, is_some};
 ghost use Rattle.std.specs.Option.{option_copied};
 ghost use Rattle.lu_text.specs.Writing.{Writes};
 ghost use Rattle.lu_trace.specs.Wordings as spec;
-ghost use Rattle.lu_trace.specs.Wordings.{goes_on_at, register_becomes, register_name};
+ghost use Rattle.lu_trace.specs.Wordings.{goes_on_at, place_word, register_becomes, register_name};
 
+use lu_lang::Labels;
 use lu_machine::Frame;
 use lu_source::{Origin, Origins};
 use lu_text::{Name, before_comment};
@@ -15,8 +16,12 @@ use std::str;
 /// How instructions are told.
 #[derive(Clone, Copy)]
 pub enum Wording<'a> {
-    /// As the component's text has them.
+    /// As the component's text has them, its labels by their places: `L3`.
     Component,
+
+    /// As the component's text has them, with these labels of it: `again`. Where none stands at a
+    /// place, `L3`.
+    Labelled(&'a Labels),
 
     /// As the source has them that the component was compiled from.
     Source {
@@ -50,7 +55,7 @@ pub(crate) fn has_name(how: &Wording<'_>, frame: &Frame, register: u8) -> bool
     ensures { result ≡ is_some (register_name how.now frame.now register) }
 {
     match *how {
-        Wording::Component => true,
+        Wording::Component | Wording::Labelled(_) => true,
         Wording::Source { origins, .. } => local_in(origins, frame, register).is_some(),
     }
 }
@@ -67,7 +72,7 @@ pub(crate) fn write_register(
         (register_becomes how.now frame.now register value) }
 {
     match *how {
-        Wording::Component => write!(text, "r{register} = {value}"),
+        Wording::Component | Wording::Labelled(_) => write!(text, "r{register} = {value}"),
         Wording::Source { origins, .. } => match local_in(origins, frame, register) {
             None => write!(text, "= {value}"),
             Some(name) => write!(text, "{} = {value}", name.as_str()),
@@ -80,11 +85,26 @@ pub(crate) fn is_indexed(how: &Wording<'_>, array: u8) -> bool
     ensures { result ≡ spec.is_indexed how.now array }
 {
     match *how {
-        Wording::Component => true,
+        Wording::Component | Wording::Labelled(_) => true,
         Wording::Source { origins, .. } => match origins.indexed.get(usize::from(array)) {
             None => true,
             Some(indexed) => *indexed,
         },
+    }
+}
+
+/// Adds the label that stands at a place of an operation, or its number where none does.
+pub(crate) fn write_place(
+    text: &mut String,
+    labels: &Labels,
+    op: u8,
+    place: u8,
+) -> Result<(), AllocError>
+    ensures { Writes result text.old text.new (place_word labels.now op place) }
+{
+    match labels.name(op, place) {
+        None => write!(text, "L{place}"),
+        Some(name) => text.push_str(name.as_str()),
     }
 }
 
@@ -100,6 +120,10 @@ pub(crate) fn write_jump(
 {
     match *how {
         Wording::Component => write!(text, "goes on at L{target}"),
+        Wording::Labelled(labels) => {
+            text.push_str("goes on at ")?;
+            write_place(text, labels, frame.op, target)
+        }
         Wording::Source { origins, .. } => match origin_in(origins, frame.op, target) {
             None => text.push_str("goes on"),
             Some(origin) => write!(text, "goes on at line {}", origin.line),
