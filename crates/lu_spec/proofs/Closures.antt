@@ -58,7 +58,7 @@ module _ (set closed : List (List SerialOp)) (closure : IsClosureOf set closed) 
       by_parts (inr (g, first, member)) (inl empty) = none_right p i o (subst (λ (x : List SerialOp). ConflictAt p x i o) empty conflict)
       by_parts (inr (g, first, member)) (inr (h, second, other)) = apart g h i o member other (conflict_on p q g h i o first second conflict)
 
-  is_closed : IsClosed closed
+  pub is_closed : IsClosed closed
   is_closed q h begins has = by_part ((closure h).0 has)
     where
       none_before : (x rest : List SerialOp) → [] ≡ x ++ rest → x ≡ []
@@ -69,13 +69,13 @@ module _ (set closed : List (List SerialOp)) (closure : IsClosureOf set closed) 
       by_part (inl empty) = (closure q).1 (inl (none_before q begins.0 (sym empty ∙ begins.1)))
       by_part (inr (g, on, member)) = (closure q).1 (inr (g, begins_trans q h g begins on, member))
 
-  all_serial : AllSerial set → AllSerial closed
+  pub all_serial : AllSerial set → AllSerial closed
   all_serial serial q has = elim ((closure q).0 has) [
     | inl empty ↦ rw empty tt
     | inr (h, begins, member) ↦ serial_begin q h begins (serial h member)
   ]
 
-  all_outcomes : AllHaveOutcomes set → AllHaveOutcomes closed
+  pub all_outcomes : AllHaveOutcomes set → AllHaveOutcomes closed
   all_outcomes outcomes q has = elim ((closure q).0 has) [
     | inl empty ↦ subst (λ (x : List SerialOp). All HasOutcome x) (sym empty) (All-nil HasOutcome)
     | inr (h, begins, member) ↦

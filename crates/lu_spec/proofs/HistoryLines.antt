@@ -34,7 +34,7 @@ outcome_same Stuck (Ret n) x y e = absurd (let v : value_in (codes "stuck") ≡ 
 outcome_same Stuck Trap x y e = absurd cc
 outcome_same Stuck Stuck x y e = refl
 
-entry_same : (a b : SerialOp) → IsEntry a → IsEntry b → entry_text a ≡ entry_text b → a ≡ b
+pub entry_same : (a b : SerialOp) → IsEntry a → IsEntry b → entry_text a ≡ entry_text b → a ≡ b
 entry_same a b x y e =
     let bytes : (48 + a.thread) ∷ 61 ∷ listed_outcome_text a.outcome ≡ (48 + b.thread) ∷ 61 ∷ listed_outcome_text b.outcome = sym (spelled a x.0) ∙ (e ∙ spelled b y.0) in
     let digit : 48 + a.thread ≡ 48 + b.thread = cc in

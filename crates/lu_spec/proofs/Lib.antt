@@ -14,3 +14,8 @@ pub mod Spelling
 pub mod Faultless
 pub mod Rereading
 pub mod FaultLines
+pub mod MarkedWords
+pub mod FirmSets
+pub mod FreeLines
+pub mod FreeAlike
+pub mod FreeFaultLines

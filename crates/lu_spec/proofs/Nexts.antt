@@ -100,7 +100,7 @@ split_push (y ∷ xs) (b ∷ before) after q x e =
     ]
 
 module _ (listed : List (List SerialOp)) (q : List SerialOp) where
-  either : (x : List SerialOp) → Has (listed ++ q ∷ []) x → Has listed x ⊎ (x ≡ q)
+  pub either : (x : List SerialOp) → Has (listed ++ q ∷ []) x → Has listed x ⊎ (x ≡ q)
   either x has = elim (has_either listed (q ∷ []) x has) [
     | inl was ↦ inl was
     | inr here ↦ elim (has_cons q [] x here) [ inl is ↦ inr is | inr none ↦ absurd cc ]

@@ -7,3 +7,8 @@ pub mod Listed
 pub mod Laws
 pub mod Collecting
 pub mod EveryFault
+pub mod MarkedEntries
+pub mod FreeSpecs
+pub mod FirmEnds
+pub mod FreeLaws
+pub mod EveryFreeFault

@@ -48,14 +48,14 @@ fn is_head(words: &[&[u8]]) -> bool
 
 /// Whether a line with these words lists a history, where `begun` tells whether a line before it
 /// had words.
-fn lists(begun: bool, words: &[&[u8]]) -> bool
+pub(crate) fn lists(begun: bool, words: &[&[u8]]) -> bool
     ensures { result ≡ spec.lists begun (texts words.now) }
 {
     !words.is_empty() && (begun || !is_head(words))
 }
 
 /// Whether this line or one before it had words.
-fn has_begun(begun: bool, words: &[&[u8]]) -> bool
+pub(crate) fn has_begun(begun: bool, words: &[&[u8]]) -> bool
     ensures { result ≡ spec.has_begun begun (texts words.now) }
 {
     begun || !words.is_empty()

@@ -91,7 +91,7 @@ fn judge_line(
 }
 
 /// The faults with one more, where there is one.
-fn with_fault(
+pub(crate) fn with_fault(
     mut faults: Vec<SpecLineFault>,
     fault: Option<SpecLineFault>,
 ) -> Result<Vec<SpecLineFault>, AllocError>

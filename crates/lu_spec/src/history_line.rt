@@ -34,7 +34,7 @@ fn outcome_in(word: &[u8]) -> Option<SerialOutcome>
 }
 
 /// The operation that a word says.
-fn entry_in(word: &[u8]) -> Option<SerialOp>
+pub(crate) fn entry_in(word: &[u8]) -> Option<SerialOp>
     ensures some { IfSome result (λ op. IsEntry op × (word.now ≡ entry_text op)) }
     ensures none { IfNone result ((op : SerialOp) →
         IsEntry op → word.now ≡ entry_text op → ⊥) }
@@ -96,7 +96,7 @@ pub(crate) fn comes_after(last: &[SerialOp], history: &[SerialOp]) -> bool
 
 /// Whether a specification may list a history of these entries: 1 to 16 of them, and `Stuck` stands
 /// only last.
-fn is_listable(entries: &[SerialOp]) -> bool
+pub(crate) fn is_listable(entries: &[SerialOp]) -> bool
     requires { All IsEntry entries.now }
     ensures { IsTrue result ↔ IsListable entries.now }
 {

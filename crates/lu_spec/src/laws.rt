@@ -1,5 +1,7 @@
 //! Laws of specifications, for the crates above.
 
+ghost use Rattle.lu_spec.specs.EveryFreeFault.{GivenToldAsRead};
+ghost use Rattle.lu_spec.specs.FreeLaws.{FirmIsPlain, ReadAlike, RefusedAlike};
 ghost use Rattle.lu_spec.specs.Laws.{NoFault, NoneTold, OneSpelling, ReadAgain, ToldAsRead};
 
 /// What is read of a text is written as that text: a specification has one spelling. The function
@@ -27,4 +29,20 @@ pub fn read_again()
 pub fn told_as_read()
     ensures first { ToldAsRead }
     ensures none { NoneTold }
+{}
+
+/// Without marks a specification that may leave outcomes free is a specification: histories
+/// conflict firmly where they conflict, and [`crate::collect_free_spec`] reads and refuses such a
+/// text as [`crate::collect_spec`] does. The function does nothing.
+pub fn free_without_marks()
+    ensures conflicts { FirmIsPlain }
+    ensures read { ReadAlike }
+    ensures refused { RefusedAlike }
+{}
+
+/// [`crate::given_spec_faults`] agrees with [`crate::read_given_spec`]: where it tells no fault the
+/// text lists histories of the matrix, and else its first fault is the reader's. The function does
+/// nothing.
+pub fn given_told_as_read()
+    ensures { GivenToldAsRead }
 {}

@@ -65,6 +65,14 @@ impl Spec {
         Spec { set }
     }
 
+    /// The set.
+    pub(crate) fn into_set(self) -> Trie<Global>
+        ensures set { result ≡ self }
+        ensures sound { IsSpec self }
+    {
+        self.set
+    }
+
     /// Whether this is a specification of the matrix: no history has more operations of a thread
     /// than the thread has calls, nor any of a thread that the matrix does not have.
     pub fn of(&self, matrix: &Matrix) -> bool

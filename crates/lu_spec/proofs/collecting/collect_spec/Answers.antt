@@ -1,6 +1,6 @@
-use Rattle.std.proofs.Common.{rules, ◌+◌, List, Bool, ◌≤◌, length, sym, subst}
+use Rattle.std.proofs.Common.{rules, ◌+◌, Bool, ◌≤◌, length, sym, subst}
 use Rattle.std.proofs.lemmas.Result.{err_from_is_err_and}
-use Rattle.lu_text.specs.Lines.{lines_of, texts}
+use Rattle.lu_text.specs.Lines.{lines_of}
 use Rattle.lu_spec.specs.Specs.{AreOf}
 use Rattle.lu_spec.specs.Collecting.{IsCollectedAs}
 use Rattle.lu_spec.proofs.Collected.{AreCollectedTo, all_collected, line_collected, line_refused, none_collected, so_far_deterministic}

@@ -1,0 +1,6 @@
+use Rattle.lu_spec.specs.FirmEnds.{with_outcome}
+use Rattle.lu_spec.proofs.FirmSets.{AddedTo}
+use Rattle.lu_spec.proofs.firm.add_ends.Given as goal
+
+abbrev pub invariant-loop-i : goal.invariant-loop-i
+invariant-loop-i l = AddedTo with_outcome l.fn.set l.set l.entries l.i

@@ -1,0 +1,138 @@
+//! What is kept of entries without marks, to find firm conflicts.
+
+ghost use Rattle.std.specs.Prelude.{◌≡◌, ◌↔◌, ◌∷◌, ◌++◌, [], IsTrue, IfOk, OnOk};
+ghost use Rattle.lu_history.specs.Serial.{IsSerial};
+ghost use Rattle.lu_spec.specs.FirmEnds.{AddsEnds, KeepsMore, Refuses, RefusesSome, with_outcome, without_outcome};
+ghost use Rattle.lu_spec.specs.MarkedEntries.{erased};
+
+use crate::marked_line::{MarkedOp, erased};
+use lu_history::{SerialOp, SerialOutcome};
+use lu_trie::Trie;
+use std::alloc::{AllocError, Global};
+
+/// The beginnings of listed histories that end with an entry without a mark.
+#[derive(Drop)]
+pub(crate) struct FirmEnds {
+    /// These beginnings.
+    pub ends: Trie<Global>,
+
+    /// The same, each without the outcome of its last operation: `Stuck` stands in its place.
+    pub asked: Trie<Global>,
+}
+
+/// Nothing is kept.
+pub(crate) fn nothing_kept(alloc: Global) -> FirmEnds
+    ensures ends { result.ends ≡ [] }
+    ensures asked { result.asked ≡ [] }
+{
+    FirmEnds {
+        ends: Trie::new(alloc),
+        asked: Trie::new(alloc),
+    }
+}
+
+/// The operation with `Stuck` in the place of its outcome.
+fn without_outcome(op: SerialOp) -> SerialOp
+    ensures { result ≡ without_outcome op }
+{
+    SerialOp {
+        outcome: SerialOutcome::Stuck,
+        ..op
+    }
+}
+
+/// A history with one more operation.
+fn followed_by(alloc: Global, begin: &[SerialOp], op: SerialOp) -> Result<Vec<SerialOp>, AllocError>
+    ensures { IfOk result (λ longer. longer.items ≡ begin.now ++ op ∷ []) }
+{
+    let mut longer = Vec::with_capacity(alloc, begin.len() + 1)?;
+    longer.extend_from_slice(begin)?;
+    longer.push(op)?;
+    Ok(longer)
+}
+
+/// Adds the beginnings that end with an entry without a mark.
+fn add_ends(
+    alloc: Global,
+    set: &mut Trie<Global>,
+    entries: &[MarkedOp],
+    history: &[SerialOp],
+) -> Result<(), AllocError>
+    requires of { history.now ≡ erased entries.now }
+    requires serial { IsSerial history.now }
+    ensures { OnOk result (AddsEnds with_outcome set.old set.new entries.now) }
+{
+    for (i, entry) in entries.iter().enumerate() {
+        if !entry.marked {
+            set.insert(&followed_by(alloc, &history[..i], entry.op)?)?;
+        }
+    }
+    Ok(())
+}
+
+/// Adds the same, each without the outcome of its last operation.
+fn add_asked(
+    alloc: Global,
+    set: &mut Trie<Global>,
+    entries: &[MarkedOp],
+    history: &[SerialOp],
+) -> Result<(), AllocError>
+    requires of { history.now ≡ erased entries.now }
+    requires serial { IsSerial history.now }
+    ensures { OnOk result (AddsEnds without_outcome set.old set.new entries.now) }
+{
+    for (i, entry) in entries.iter().enumerate() {
+        if !entry.marked {
+            set.insert(&followed_by(alloc, &history[..i], without_outcome(entry.op))?)?;
+        }
+    }
+    Ok(())
+}
+
+/// What is kept, with the entries of one more history.
+pub(crate) fn keep_more(
+    alloc: Global,
+    mut kept: FirmEnds,
+    entries: &[MarkedOp],
+    history: &[SerialOp],
+) -> Result<FirmEnds, AllocError>
+    requires of { history.now ≡ erased entries.now }
+    requires serial { IsSerial history.now }
+    ensures { IfOk result (λ next. KeepsMore kept next entries.now) }
+{
+    add_ends(alloc, &mut kept.ends, entries, history)?;
+    add_asked(alloc, &mut kept.asked, entries, history)?;
+    Ok(kept)
+}
+
+/// Whether the operation is kept behind this beginning, with other outcomes alone.
+fn refuses(
+    alloc: Global,
+    kept: &FirmEnds,
+    begin: &[SerialOp],
+    op: SerialOp,
+) -> Result<bool, AllocError>
+    ensures { IfOk result (λ b. IsTrue b ↔ Refuses kept.now begin.now op) }
+{
+    let asked = followed_by(alloc, begin, without_outcome(op))?;
+    let end = followed_by(alloc, begin, op)?;
+    Ok(kept.asked.contains(&asked) && !kept.ends.contains(&end))
+}
+
+/// Whether an entry without a mark is refused.
+pub(crate) fn refuses_some(
+    alloc: Global,
+    kept: &FirmEnds,
+    entries: &[MarkedOp],
+    history: &[SerialOp],
+) -> Result<bool, AllocError>
+    requires of { history.now ≡ erased entries.now }
+    ensures { IfOk result (λ b. IsTrue b ↔ RefusesSome kept.now entries.now) }
+{
+    for (i, entry) in entries.iter().enumerate() {
+        if !entry.marked && refuses(alloc, kept, &history[..i], entry.op)? {
+            return Ok(true);
+        }
+    }
+    Ok(false)
+}
