@@ -7,7 +7,7 @@ use Rattle.std.proofs.lemmas.Option.{same_Some, slice_get_past, slice_get_within
 use Rattle.lu_machine.specs.declared.event.Event.{Event}
 use Rattle.lu_machine.specs.States.{State}
 use Rattle.lu_history.specs.declared.serial.SerialOp.{SerialOp}
-use Rattle.lu_graph.specs.declared.kept.Kept.{Kept}
+use Rattle.lu_graph.specs.Kept.{Kept}
 use Rattle.lu_graph.specs.Alive.{AreTold, IsPossible}
 use Rattle.lu_graph.specs.Judging.{IsOneOf}
 use Rattle.lu_graph.specs.Nodes.{AreAlike, Node, node_of}
@@ -63,7 +63,7 @@ module _ (members : List (Vec SerialOp)) where
       (let first = x.alike.1 q of in
       let second = y.alike.1 q of in
       ((λ z. second.0 (first.1 z)), (λ z. first.0 (second.1 z)))) in
-      (positions_same s.component s.matrix a b states, same_told x.history y.history a.alive.items b.alive.items x.is.told y.is.told both)
+      (positions_same s.component s.matrix a b states, same_told x.history y.history a.alive b.alive x.is.told y.is.told both)
 
 -- for each of the list there is one of another
 pub list_of : {A B : Type 0} (P : A → B → Type 0) (xs : List A) → ((i : ℕ) (x : A) → slice_get xs i ≡ Some x → (y : B) × P x y) → (ys : List B) × (length ys ≡ length xs) × ((i : ℕ) (x : A) → slice_get xs i ≡ Some x → (y : B) × (slice_get ys i ≡ Some y) × P x y)

@@ -77,15 +77,15 @@ module _ (s : State) (found : Discovered) (place : ℕ) (ended : List Bool) (kno
         (on.0, image_at (state_of s) known.searched.entries on.0 on.1 next on.2 on.3));
   }
 
-  pub has_few : length found.positions.keys ≤ place → length found.positions.keys ≤ 262144 → HasFewStates s 262144
-  has_few all few =
+  pub has_few : (most : ℕ) → length found.positions.keys ≤ place → length found.positions.keys ≤ most → HasFewStates s most
+  has_few most all few =
       let size = many in
       let same : length (map (state_of s) known.searched.entries) ≡ length known.searched.entries = length-map known.searched.entries (state_of s) in
       (map (state_of s) known.searched.entries, has_all all, omega (arith, size, same, few))
 
   -- no list that has all is shorter
-  pub no_fewer : IsDistinct position_eq found.positions.keys → HasFewStates s 262144 → length found.positions.keys ≤ 262144
-  no_fewer distinct few =
+  pub no_fewer : (most : ℕ) → IsDistinct position_eq found.positions.keys → HasFewStates s most → length found.positions.keys ≤ most
+  no_fewer limit distinct few =
       let there : (i : ℕ) (position : Position) → slice_get found.positions.keys i ≡ Some position → (state : State) × IsAmong few.0 state × (at_position s position ≡ state) = λ i position at. (
         at_position s position,
         (let one = entry_of i position at in
@@ -110,17 +110,17 @@ module _ (c : Declarations) (matrix : Matrix) (settles : Settles c matrix) where
 
   module _ (found : Discovered) (place : ℕ) (ended : List Bool) (all : ChartsFrom c matrix found place ended) where
     -- too many
-    pub many_states : IsDistinct position_eq found.positions.keys → 262144 < length found.positions.keys → (s : State) → IsStart c matrix s → IsExplored s None
-    many_states distinct more s is few = (let less = no_fewer s found place ended (all s is) distinct few in omega (arith, less, more))
+    pub many_states : (most : ℕ) → IsDistinct position_eq found.positions.keys → most < length found.positions.keys → (s : State) → IsStart c matrix s → IsExplored most s None
+    many_states most distinct more s is few = (let less = no_fewer s found place ended (all s is) most distinct few in omega (arith, less, more))
 
     -- all were gone through
-    pub explored : (graph : StateGraph) → graph.found ≡ found → graph.ended.items ≡ ended → length found.positions.keys ≤ place → length found.positions.keys ≤ 262144 → (s : State) → IsStart c matrix s → IsExplored s (Some graph)
-    explored graph same marks past few s is =
+    pub explored : (most : ℕ) (graph : StateGraph) → graph.found ≡ found → graph.ended.items ≡ ended → length found.positions.keys ≤ place → length found.positions.keys ≤ most → (s : State) → IsStart c matrix s → IsExplored most s (Some graph)
+    explored most graph same marks past few s is =
         let x = all s is in
         let within = x.within in
         let whole : place ≡ length found.positions.keys = omega (arith, past, within) in
         let told : AreEnded s found.positions.keys (length found.positions.keys) ended = subst (λ (n : ℕ). AreEnded s found.positions.keys n ended) whole x.marks in (
-          has_few s found place ended x past few,
+          has_few s found place ended x most past few,
           record {
             place = place;
             all = subst (λ (f : Discovered). length f.positions.keys ≤ place) (sym same) past;

@@ -1,8 +1,8 @@
 -- What is told of the members behind one event more.
-use Rattle.std.proofs.Common.{arith, ◌≡◌, ℕ, Bool, List, [], ◌∷◌, ◌++◌, length, Option, Some, None, slice_get, sym, refl, ◌∙◌, ap, subst, inl, inr}
+use Rattle.std.proofs.Common.{arith, ◌≡◌, ℕ, Bool, false, get_or, List, [], ◌∷◌, ◌++◌, length, Option, Some, None, slice_get, sym, refl, ◌∙◌, ap, subst, inl, inr}
 use Rattle.std.specs.Global.{Vec}
 use Rattle.std.proofs.lemmas.List.{append-nil}
-use Rattle.std.proofs.lemmas.Option.{same_Some, slice_get_within}
+use Rattle.std.proofs.lemmas.Option.{get_or_from_slice_get, same_Some, slice_get_within}
 use Rattle.lu_machine.specs.declared.event.Event.{Event}
 use Rattle.lu_machine.specs.declared.event.Event.TheVariants.{Call, Return}
 use Rattle.lu_machine.specs.declared.event.Outcome.{Outcome}
@@ -19,7 +19,7 @@ use Rattle.lu_graph.proofs.Possible.{possible_goes_on}
 
 -- one member more
 pub stay_more : (s : State) (members : List (Vec SerialOp)) (a : OpId) (outcome : Outcome) (old now new : List Bool) (place : ℕ) (q : Vec SerialOp) (b so : Bool)
-    → slice_get members place ≡ Some q → slice_get old place ≡ Some b → TellsStays s q.items a outcome b so → new ≡ now ++ so ∷ [] → length now ≡ place
+    → slice_get members place ≡ Some q → b ≡ get_or old place false → TellsStays s q.items a outcome b so → new ≡ now ++ so ∷ [] → length now ≡ place
     → Stay s members a outcome old now → Stay s members a outcome old new
 stay_more s members a outcome old now new place q b so at was tells grown many stay i p d c there before made =
     elim (at_push now so c i (subst (λ x. slice_get x i ≡ Some c) grown made)) as (λ _. TellsStays s p.items a outcome d c) [
@@ -27,7 +27,7 @@ stay_more s members a outcome old now new place q b so at was tells grown many s
       | inr late ↦
           (let here : i ≡ place = late.0 ∙ many in
           let one : q ≡ p = same_Some q p (sym at ∙ (ap (slice_get members) (sym here) ∙ there)) in
-          let same : b ≡ d = same_Some b d (sym was ∙ (ap (slice_get old) (sym here) ∙ before)) in
+          let same : b ≡ d = was ∙ get_or_from_slice_get old place d false (ap (slice_get old) (sym here) ∙ before) in
           subst (λ x. TellsStays s p.items a outcome d x) (sym late.1) (subst (λ x. TellsStays s p.items a outcome x so) same (subst (λ (v : Vec SerialOp). TellsStays s v.items a outcome b so) one tells)))
     ]
 

@@ -27,7 +27,7 @@ written size now marks xs whole same is =
     let none : drop (length marks) xs ≡ [] = drop_all (length marks) xs (omega (arith, same)) in
     is ∙ (ap (λ (ys : List Bool). take size (marks ++ ys)) none ∙ (ap (take size) (append-nil marks) ∙ take_all size marks (omega (arith, whole, same))))
 
-module _ (c : Declarations) (matrix : Matrix) (settles : Settles c matrix) (graph : StateGraph) (told : (s : State) → IsStart c matrix s → IsExplored s (Some graph)) where
+module _ (c : Declarations) (matrix : Matrix) (settles : Settles c matrix) (most : ℕ) (graph : StateGraph) (told : (s : State) → IsStart c matrix s → IsExplored most s (Some graph)) where
   pub edges_within : (edges : List Edge) (marks : List Bool) → edges ≡ graph.found.edges.items → marks ≡ graph.ended.items → All (IsWithin (length marks)) edges
   edges_within edges marks is same =
       let there = start_there c matrix settles in
@@ -64,7 +64,7 @@ module _ (c : Declarations) (matrix : Matrix) (settles : Settles c matrix) (grap
     are : AreMarkedBack graph.found.edges.items graph.ended.items hopeful
     are = subst (λ (xs : List Bool). AreMarkedBack graph.found.edges.items xs hopeful) old_are (subst (λ (es : List Edge). AreMarkedBack es old hopeful) edges_are back)
 
-    pub none_found : None ≡ position not hopeful → (s : State) → IsStart c matrix s → IsFirstLostIfAny s None
+    pub none_found : None ≡ position not hopeful → (s : State) → IsStart c matrix s → IsFirstLostIfAny most s None
     none_found is s at few u moves r = none_lost s graph (told s at).1 hopeful sized are (first_is hopeful None is) u r
 
     abbrev paths : (s : State) → IsStart c matrix s → List (List Move)
@@ -84,7 +84,7 @@ module _ (c : Declarations) (matrix : Matrix) (settles : Settles c matrix) (grap
           ap (λ (xs : List Discovery). length xs) (same ∙ graph_is.searched.discoveries) ∙ length-map graph_is.searched.entries (λ (entry : Entry). entry.way) in
           omega (arith, within, whole, ended, keys, all)
 
-      by_path : (s : State) (at : IsStart c matrix s) (found : Option (List Move)) → IsPathTo (paths s at) place found → IsFirstLostIfAny s found
+      by_path : (s : State) (at : IsStart c matrix s) (found : Option (List Move)) → IsPathTo (paths s at) place found → IsFirstLostIfAny most s found
       by_path s at None path = λ few v moves r.
           (let x = told s at in
           all_longer s graph x.1 hopeful sized are place (first_is hopeful (Some place) is) path.0 path.1 path.2 v moves r)
@@ -92,6 +92,6 @@ module _ (c : Declarations) (matrix : Matrix) (settles : Settles c matrix) (grap
           let x = told s at in
           (x.0, first_lost s graph x.1 hopeful sized are place (first_is hopeful (Some place) is) u path.0 path.1)
 
-      pub found_by_path : {E : Type 0} (ways : List Discovery) → ways ≡ graph.found.discoveries.items → (result : Result (Option (List Move)) E) → ((paths : List (List Move)) → ArePaths ways paths → IfOk result (IsPathTo paths place)) → (s : State) → IsStart c matrix s → IfOk result (IsFirstLostIfAny s)
+      pub found_by_path : {E : Type 0} (ways : List Discovery) → ways ≡ graph.found.discoveries.items → (result : Result (Option (List Move)) E) → ((paths : List (List Move)) → ArePaths ways paths → IfOk result (IsPathTo paths place)) → (s : State) → IsStart c matrix s → IfOk result (IsFirstLostIfAny most s)
       found_by_path ways same (Ok found) path s at = by_path s at found (path (paths s at) (subst (λ (xs : List Discovery). ArePaths xs (paths s at)) (sym same) (are_paths s graph (told s at).1)))
       found_by_path ways same (Err e) path s at = tt

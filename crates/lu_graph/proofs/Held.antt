@@ -1,9 +1,9 @@
 -- The nodes that were found, as one more is put in.
-use Rattle.std.proofs.Common.{arith, ◌≡◌, ℕ, zero, suc, ◌+◌, ◌≤◌, Bool, true, false, ◌||◌, if◌then◌else◌, List, [], ◌∷◌, ◌++◌, length, drop, Option, Some, slice_get, refl, sym, ◌∙◌, ap, subst, inl, inr}
+use Rattle.std.proofs.Common.{arith, ◌≡◌, ℕ, zero, suc, ◌+◌, ◌≤◌, Bool, true, false, ◌||◌, if◌then◌else◌, List, [], ◌∷◌, ◌++◌, length, drop, map, Option, Some, slice_get, refl, sym, ◌∙◌, ap, subst, inl, inr}
 use Rattle.std.specs.Prelude.{not}
 use Rattle.std.specs.Bool.{beq}
 use Rattle.std.specs.List.{list_any}
-use Rattle.std.proofs.lemmas.List.{append-nil}
+use Rattle.std.proofs.lemmas.List.{append-nil, map-append}
 use Rattle.std.proofs.lemmas.List.Elements.{All-cons, All-nil}
 use Rattle.std.proofs.lemmas.Option.{slice_get_within}
 use Rattle.indexmap.specs.IndexSet.{insert_key}
@@ -11,15 +11,20 @@ use Rattle.lu_machine.specs.declared.thread.Thread.{Thread}
 use Rattle.lu_machine.specs.Positions.{CanStandAt}
 use Rattle.lu_machine.specs.States.{State}
 use Rattle.lu_graph.specs.declared.holding.Nodes.{Nodes}
-use Rattle.lu_graph.specs.declared.kept.Kept.{Kept}
+use Rattle.lu_graph.specs.Kept.{Kept, unvisited}
 use Rattle.lu_graph.specs.declared.row.Parts.{Parts}
 use Rattle.lu_graph.specs.declared.row.Row.{Row}
 use Rattle.lu_graph.specs.Growing.{AddsOne}
 use Rattle.lu_graph.specs.Holding.{Hold, HoldMore, Knows, StandsFor}
-use Rattle.lu_graph.specs.Rows.{Grow, IsNumber, IsRow, IsRowAt, IsRowOf, is_list}
+use Rattle.std.specs.Global.{Vec}
+use Rattle.lu_history.specs.declared.serial.SerialOp.{SerialOp}
+use Rattle.lu_graph.specs.Numbered.{IsNumber, is_list}
+use Rattle.lu_graph.specs.Possibilities.{AreLeft, IsNumberOf}
+use Rattle.lu_graph.specs.Rows.{Grow, IsRow, IsRowAt, IsRowOf}
 use Rattle.lu_graph.proofs.Among.{at_either, at_last, only_one}
 use Rattle.lu_graph.proofs.Many.{some_at}
 use Rattle.lu_graph.proofs.Numbers.{number_stays}
+use Rattle.lu_graph.proofs.Recalled.{left_none}
 use Rattle.lu_graph.proofs.Same.{one_alive, one_row, row_eq, row_of_stays, same_row}
 
 -- where one passes a test, it stands somewhere
@@ -58,13 +63,13 @@ put_nowhere row rows new added not_so is keys =
     is_so true h = refl
     is_so false h = absurd (cc)
 
-module _ (s : State) (alive : List Bool) (number : ℕ) (before parts : Parts) (row : Row) (at : IsRowAt s number before parts row) (knows : IsNumber (is_list beq alive) before.alive.keys number) where
+module _ (s : State) (alive : List Bool) (number : ℕ) (before parts : Parts) (row : Row) (at : IsRowAt s number before parts row) (knows : IsNumberOf before.alive alive number) where
   -- what stands for the state has its row
   row_of_it : (kept : Kept) → StandsFor s alive kept → kept.row.alive ≡ number → IsRowOf parts kept row
   row_of_it kept stands is = record {
     is = subst (λ (x : State). IsRow parts x.cells x.locks x.threads row) (sym stands.0) at.is;
-    alive = subst (λ xs. IsNumber (is_list beq xs) parts.alive.keys row.alive) (sym stands.1)
-        (subst (IsNumber (is_list beq alive) parts.alive.keys) (sym at.alive) (number_stays (is_list beq alive) before.alive.keys parts.alive.keys number at.grows.alive knows));
+    alive = subst (λ xs. IsNumber (is_list beq xs) parts.alive.lists.keys row.alive) (sym stands.1)
+        (subst (IsNumber (is_list beq alive) parts.alive.lists.keys) (sym at.alive) (number_stays (is_list beq alive) before.alive.lists.keys parts.alive.lists.keys number at.grows.alive knows));
     number = is ∙ sym at.alive;
   }
 
@@ -74,12 +79,12 @@ module _ (s : State) (alive : List Bool) (number : ℕ) (before parts : Parts) (
       let same = one_row parts kept.position.cells.items s.cells kept.position.locks.items s.locks kept.position.threads.items s.threads row is.is at.is in
       let make : List ℕ → List (Option ℕ) → List Thread → State = λ cells locks threads. record { component = s.component; matrix = s.matrix; cells = cells; locks = locks; threads = threads } in (
         ap (λ x. make x kept.position.locks.items kept.position.threads.items) same.0 ∙ (ap (λ x. make s.cells x kept.position.threads.items) same.1 ∙ ap (λ x. make s.cells s.locks x) same.2),
-        one_alive parts number kept.alive.items alive (subst (IsNumber (is_list beq kept.alive.items) parts.alive.keys) at.alive is.alive) (number_stays (is_list beq alive) before.alive.keys parts.alive.keys number at.grows.alive knows),
+        one_alive parts.alive number kept.alive alive (subst (IsNumber (is_list beq kept.alive) parts.alive.lists.keys) at.alive is.alive) (number_stays (is_list beq alive) before.alive.lists.keys parts.alive.lists.keys number at.grows.alive knows),
       )
 
   -- the first
-  pub held_first : (kept : Kept) (rows : List Row) (new : Nodes) → rows ≡ [] → new.parts ≡ parts → new.rows.keys ≡ insert_key row_eq rows row → new.waiting.items ≡ kept ∷ [] → StandsFor s alive kept → kept.row.alive ≡ number → Hold new (kept ∷ []) 0
-  held_first kept rows new none same_parts keys waiting stands is =
+  pub held_first : (members : List (Vec SerialOp)) (kept : Kept) (rows : List Row) (new : Nodes) → rows ≡ [] → before.alive.returns.entries ≡ [] → new.parts ≡ parts → new.rows.keys ≡ insert_key row_eq rows row → new.waiting.items ≡ unvisited kept ∷ [] → StandsFor s alive kept → kept.row.alive ≡ number → Hold members new (kept ∷ []) 0
+  held_first members kept rows new none fresh same_parts keys waiting stands is =
       let its = row_of_it kept stands is in
       let one : new.rows.keys ≡ row ∷ [] = keys ∙ ap (λ xs. insert_key row_eq xs row) none in
       record {
@@ -90,18 +95,22 @@ module _ (s : State) (alive : List Bool) (number : ℕ) (before parts : Parts) (
             subst (λ x. IsRowOf x k r) (sym same_parts) (subst (λ x. IsRowOf parts x r) second.1 (subst (IsRowOf parts kept) first.1 its)));
         within = omega arith;
         waiting = waiting;
+        left = subst (λ (x : Parts). AreLeft members x.alive) (sym same_parts) (subst (AreLeft members) (sym at.same) (left_none members before.alive fresh));
       }
 
-module _ (s : State) (alive : List Bool) (number : ℕ) (old : Nodes) (parts : Parts) (row : Row) (at : IsRowAt s number old.parts parts row) where
-  module _ (list : List Kept) (place : ℕ) (hold : Hold old list place) (knows : Knows old alive number) (new : Nodes) (same_parts : new.parts ≡ parts) where
+module _ (members : List (Vec SerialOp)) (s : State) (alive : List Bool) (number : ℕ) (old : Nodes) (parts : Parts) (row : Row) (at : IsRowAt s number old.parts parts row) where
+  module _ (list : List Kept) (place : ℕ) (hold : Hold members old list place) (knows : Knows old alive number) (new : Nodes) (same_parts : new.parts ≡ parts) where
     more_rows : (i : ℕ) (r : Row) (kept : Kept) → slice_get old.rows.keys i ≡ Some r → slice_get list i ≡ Some kept → IsRowOf parts kept r
     more_rows i r kept p q = row_of_stays old.parts parts kept r at.grows (hold.rows i r kept p q)
 
     grown_parts : (x : Parts) → x ≡ parts → Grow old.parts x
     grown_parts x is = subst (Grow old.parts) (sym is) at.grows
 
+    left_still : AreLeft members new.parts.alive
+    left_still = subst (λ (x : Parts). AreLeft members x.alive) (sym same_parts) (subst (AreLeft members) (sym at.same) hold.left)
+
     -- it is there
-    pub held_there : (added : Bool) → added ≡ false → added ≡ not (list_any (row_eq row) old.rows.keys) → new.rows.keys ≡ insert_key row_eq old.rows.keys row → new.waiting.items ≡ old.waiting.items → HoldMore (AddsOne s.component s.matrix (StandsFor s alive) list) place old new
+    pub held_there : (added : Bool) → added ≡ false → added ≡ not (list_any (row_eq row) old.rows.keys) → new.rows.keys ≡ insert_key row_eq old.rows.keys row → new.waiting.items ≡ old.waiting.items → HoldMore members (AddsOne s.component s.matrix (StandsFor s alive) list) place old new
     held_there added not_so is keys waiting =
         let put = put_nowhere row old.rows.keys new.rows.keys added not_so is keys in
         let rows = put.1 in
@@ -117,6 +126,7 @@ module _ (s : State) (alive : List Bool) (number : ℕ) (old : Nodes) (parts : P
             rows = λ i r k p q. subst (λ x. IsRowOf x k r) (sym same_parts) (more_rows i r k (subst (λ x. slice_get x i ≡ Some r) rows p) q);
             within = hold.within;
             waiting = waiting ∙ hold.waiting;
+            left = left_still;
           };
           grown = record {
             there = (one.0, kept.0, kept.1, stands_for s alive number old.parts parts row at knows kept.0 its);
@@ -126,7 +136,7 @@ module _ (s : State) (alive : List Bool) (number : ℕ) (old : Nodes) (parts : P
         }
 
     -- it is new
-    pub held_more : (kept : Kept) (added : Bool) → added ≡ true → added ≡ not (list_any (row_eq row) old.rows.keys) → new.rows.keys ≡ insert_key row_eq old.rows.keys row → new.waiting.items ≡ old.waiting.items ++ kept ∷ [] → CanStandAt s.component s.matrix kept.position → StandsFor s alive kept → kept.row.alive ≡ number → HoldMore (AddsOne s.component s.matrix (StandsFor s alive) list) place old new
+    pub held_more : (kept : Kept) (added : Bool) → added ≡ true → added ≡ not (list_any (row_eq row) old.rows.keys) → new.rows.keys ≡ insert_key row_eq old.rows.keys row → new.waiting.items ≡ old.waiting.items ++ unvisited kept ∷ [] → CanStandAt s.component s.matrix kept.position → StandsFor s alive kept → kept.row.alive ≡ number → HoldMore members (AddsOne s.component s.matrix (StandsFor s alive) list) place old new
     held_more kept added so fresh keys waiting can stands is =
         let rows = put_last row old.rows.keys new.rows.keys added so fresh keys in
         let many = hold.many in
@@ -152,7 +162,8 @@ module _ (s : State) (alive : List Bool) (number : ℕ) (old : Nodes) (parts : P
                       ]
                 ];
             within = (let within = hold.within in let long = length_push list kept in omega (arith, within, long));
-            waiting = waiting ∙ (ap (λ xs. xs ++ kept ∷ []) hold.waiting ∙ sym (drop_push place list kept hold.within));
+            waiting = waiting ∙ (ap (λ xs. xs ++ unvisited kept ∷ []) hold.waiting ∙ (sym (map-append unvisited (drop place list) (kept ∷ [])) ∙ ap (map unvisited) (sym (drop_push place list kept hold.within))));
+            left = left_still;
           };
           grown = record {
             there = (length list, kept, at_last list kept, stands);

@@ -13,7 +13,7 @@ use Rattle.lu_machine.specs.Steps.{Step}
 use Rattle.lu_machine.proofs.Paths.{child_leads, leads_split}
 use Rattle.lu_history.specs.declared.serial.SerialOp.{SerialOp}
 use Rattle.lu_history.specs.Standing.{Agree}
-use Rattle.lu_graph.specs.declared.kept.Kept.{Kept}
+use Rattle.lu_graph.specs.Kept.{Kept}
 use Rattle.lu_graph.specs.Growing.{AddsNext, ComesBy, HasStart, IsNext}
 use Rattle.lu_graph.specs.Judging.{IsOneOf}
 use Rattle.lu_graph.specs.Nodes.{IsBadAt, IsGoodIfEnded, IsShortestBad, longer}
@@ -131,14 +131,14 @@ module _ (s : State) (members : List (Vec SerialOp)) where
       reached : IsReachedIn s members moves kept
       reached = known.now place kept (omega arith) less at
 
-      module _ (new : List Kept) (adds : AddsNext members (its s kept) kept.alive.items list new) (good : (x : State) (h : List Event) → IsFor s members x h kept → IsGoodIfEnded (IsOneOf members) x h) where
+      module _ (new : List Kept) (adds : AddsNext members (its s kept) kept.alive list new) (good : (x : State) (h : List Event) → IsFor s members x h kept → IsGoodIfEnded (IsOneOf members) x h) where
         stood : (i : ℕ) (one : Kept) → i < length list → slice_get new i ≡ Some one → slice_get list i ≡ Some one
         stood i one lt is = at_first list adds.grows.0 i one lt (subst (λ (x : List Kept). slice_get x i ≡ Some one) adds.grows.1 is)
 
         still : (i : ℕ) (one : Kept) → slice_get list i ≡ Some one → slice_get new i ≡ Some one
         still i one is = subst (λ (x : List Kept). slice_get x i ≡ Some one) (sym adds.grows.1) (at_left list adds.grows.0 i one is)
 
-        next_reached : (one : Kept) → CanStandAt s.component s.matrix one.position × IsNext members (its s kept) kept.alive.items one → IsReachedIn s members (moves + 1) one
+        next_reached : (one : Kept) → CanStandAt s.component s.matrix one.position × IsNext members (its s kept) kept.alive one → IsReachedIn s members (moves + 1) one
         next_reached one (stands, (m, next, event, step, by)) =
             let u = reached.way.schedule in
             let h = reached.way.history in
@@ -171,7 +171,7 @@ module _ (s : State) (members : List (Vec SerialOp)) where
           now = λ i one le lt is. (let within = known.within in known.now i one (omega (arith, le)) lt (stood i one (omega (arith, lt, within)) is));
           next = λ i one le is. elim (at_either list adds.grows.0 i one (subst (λ (x : List Kept). slice_get x i ≡ Some one) adds.grows.1 is)) as (λ _. IsReachedIn s members (moves + 1) one) [
             | inl old ↦ known.next i one le old.1
-            | inr more ↦ next_reached one (all_at (λ (k : Kept). CanStandAt s.component s.matrix k.position × IsNext members (its s kept) kept.alive.items k) adds.grows.0 adds.grows.2 more.0 one more.2)
+            | inr more ↦ next_reached one (all_at (λ (k : Kept). CanStandAt s.component s.matrix k.position × IsNext members (its s kept) kept.alive k) adds.grows.0 adds.grows.2 more.0 one more.2)
           ];
         }
 

@@ -11,6 +11,7 @@ mod AlikeLaws
 pub mod OtherSet
 mod Among
 mod Held
+mod Recalled
 mod Numbers
 mod Grown
 mod Added

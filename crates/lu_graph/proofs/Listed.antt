@@ -18,7 +18,7 @@ use Rattle.lu_trie.specs.Members.{behind, contains, empty_if, same_history}
 use Rattle.lu_trie.proofs.Ops.{histories_equiv, same_histories_are}
 use Rattle.lu_witness.specs.Witnesses.{IsMember}
 use Rattle.lu_graph.specs.declared.ending.Ending.{Ending}
-use Rattle.lu_graph.specs.declared.kept.Kept.{Kept}
+use Rattle.lu_graph.specs.Kept.{Kept}
 use Rattle.lu_graph.specs.declared.holding.Nodes.{Nodes}
 use Rattle.lu_graph.specs.Growing.{ComesBy}
 use Rattle.lu_graph.specs.Holding.{HoldsOne, HoldsStart}
@@ -131,7 +131,7 @@ holds_start s members alive bits nodes same told (kept, hold, can, is) =
     let comes : ComesBy s.component s.matrix members s bits None kept = record { state = is.0; follows = subst (Follows members s bits None) (sym is.1) (follows_none members s bits bits refl) } in
     let Such : Kept → Type 0 = λ k. CanStandAt s.component s.matrix k.position × ComesBy s.component s.matrix members s bits None k in (
       kept ∷ [],
-      hold,
+      hold members,
       (
         bits,
         subst (AreTold members []) (sym same) told,
@@ -140,8 +140,8 @@ holds_start s members alive bits nodes same told (kept, hold, can, is) =
     )
 
 -- what is searched with the members of a tree is told of its set
-pub for_tree : {E : Type 0} (c : Declarations) (matrix : Matrix) (members : List (Vec SerialOp)) (set : List (List SerialOp)) (bound : ℕ) (result : Result Ending E) → histories members ≡ set → FromEachStart c matrix (λ s. IfOk result (IsEnding (IsOneOf members) bound s)) → FromEachStart c matrix (TellsEnding set bound result)
-for_tree c matrix members set bound result same all s is =
-    IfOk-weaker result (IsEnding (IsOneOf members) bound s) (IsEnding (IsMember set) bound s)
-    (ending_too (IsOneOf members) (IsMember set) (λ q x. subst (λ z. IsMember z q) same (one_member members q x)) (λ q x. member_one members q (subst (λ z. IsMember z q) (sym same) x)) bound s)
+pub for_tree : {E : Type 0} (c : Declarations) (matrix : Matrix) (members : List (Vec SerialOp)) (set : List (List SerialOp)) (bound most : ℕ) (result : Result Ending E) → histories members ≡ set → FromEachStart c matrix (λ s. IfOk result (IsEnding (IsOneOf members) bound most s)) → FromEachStart c matrix (TellsEnding set bound most result)
+for_tree c matrix members set bound most result same all s is =
+    IfOk-weaker result (IsEnding (IsOneOf members) bound most s) (IsEnding (IsMember set) bound most s)
+    (ending_too (IsOneOf members) (IsMember set) (λ q x. subst (λ z. IsMember z q) same (one_member members q x)) (λ q x. member_one members q (subst (λ z. IsMember z q) (sym same) x)) bound most s)
     (all s is)

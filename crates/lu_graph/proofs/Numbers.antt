@@ -9,7 +9,8 @@ use Rattle.std.proofs.lemmas.Map.Keys.{apart_from_distinct}
 use Rattle.std.proofs.lemmas.Option.{get_or_from_slice_get, same_Some, slice_get_past, slice_get_within}
 use Rattle.lu_machine.specs.declared.thread.Thread.{Thread}
 use Rattle.lu_graph.specs.Discovering.{Extends}
-use Rattle.lu_graph.specs.Rows.{AreNumbers, IsNumber, IsNumberOrNone, IsNumbered, NumbersThreads, same_standing}
+use Rattle.lu_graph.specs.Numbered.{IsNumber, IsNumbered}
+use Rattle.lu_graph.specs.Rows.{AreNumbers, IsNumberOrNone, NumbersThreads, same_standing}
 use Rattle.lu_graph.proofs.Among.{at_left}
 use Rattle.lu_graph.proofs.Many.{some_at}
 

@@ -43,7 +43,7 @@ shortest_too S T to back s moves is = record {
   shortest = λ v lt ends. is.shortest v lt (bad_too T S back to s v ends);
 }
 
-pub ending_too : (S T : List SerialOp → Type 0) → ((q : List SerialOp) → S q → T q) → ((q : List SerialOp) → T q → S q) → (bound : ℕ) (s : State) (ending : Ending) → IsEnding S bound s ending → IsEnding T bound s ending
-ending_too S T to back bound s Well is = (few_too S T to back s 262144 is.0, well_too S T to back s is.1)
-ending_too S T to back bound s (Badly moves) is = (shortest_too S T to back s moves is.0, λ far. few_too S T to back s 262144 (is.1 far))
-ending_too S T to back bound s TooMany is = λ few. is (few_too T S back to s 262144 few)
+pub ending_too : (S T : List SerialOp → Type 0) → ((q : List SerialOp) → S q → T q) → ((q : List SerialOp) → T q → S q) → (bound most : ℕ) (s : State) (ending : Ending) → IsEnding S bound most s ending → IsEnding T bound most s ending
+ending_too S T to back bound most s Well is = (few_too S T to back s most is.0, well_too S T to back s is.1)
+ending_too S T to back bound most s (Badly moves) is = (shortest_too S T to back s moves is.0, λ far. few_too S T to back s most (is.1 far))
+ending_too S T to back bound most s TooMany is = λ few. is (few_too T S back to s most few)

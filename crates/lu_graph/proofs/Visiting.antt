@@ -12,7 +12,7 @@ use Rattle.lu_machine.specs.States.{State}
 use Rattle.lu_machine.proofs.Starting.{start_component, start_matrix, start_same, start_there}
 use Rattle.lu_history.specs.declared.serial.SerialOp.{SerialOp}
 use Rattle.lu_history.proofs.Following.{start_agrees}
-use Rattle.lu_graph.specs.declared.kept.Kept.{Kept}
+use Rattle.lu_graph.specs.Kept.{Kept}
 use Rattle.lu_graph.specs.declared.level.Level.{Level}
 use Rattle.lu_graph.specs.Growing.{AddsNext, HasStart}
 use Rattle.lu_graph.specs.Judging.{IsOneOf, JudgesGood}
@@ -50,19 +50,19 @@ module _ (members : List (Vec SerialOp)) (c : Declarations) (matrix : Matrix) (s
 
   module _ (list : List Kept) (place : ℕ) (all : AreVisitedFrom members c matrix list place) where
     -- all were gone through
-    module _ (past : length list ≤ place) (few : length list ≤ 262144) where
-      pub few_nodes : FromEachStart c matrix (λ s. HasFewNodes (IsOneOf members) s 262144)
+    module _ (most : ℕ) (past : length list ≤ place) (few : length list ≤ most) where
+      pub few_nodes : FromEachStart c matrix (λ s. HasFewNodes (IsOneOf members) s most)
       few_nodes s is =
           let x = has_all s members list place past (all s is) in
           let many = x.1 in
           (x.0, x.2, omega (arith, many, few))
 
-      pub ends_well_there : (moves end : ℕ) → AreSearchedFrom members c matrix list place moves end → FromEachStart c matrix (EndsWellOnFewNodes (IsOneOf members))
+      pub ends_well_there : (moves end : ℕ) → AreSearchedFrom members c matrix list place moves end → FromEachStart c matrix (λ s. EndsWellOnFewNodes (IsOneOf members) s most)
       ends_well_there moves end known s is = (few_nodes s is, well s members list place past (all s is) (known s is).good)
 
     -- they are too many
-    pub no_more_than : AreDifferent list → (s : State) → IsStart c matrix s → HasFewNodes (IsOneOf members) s 262144 → length list ≤ 262144
-    no_more_than differ s is holds =
+    pub no_more_than : (most : ℕ) → AreDifferent list → (s : State) → IsStart c matrix s → HasFewNodes (IsOneOf members) s most → length list ≤ most
+    no_more_than most differ s is holds =
         let x = all s is in
         let within = no_more_apart (IsLike members s) list (λ i j x y n lt at there p q. differ i j x y lt at there (one_kept members s x y n p q)) holds.0
         (λ i kept at.
@@ -72,13 +72,13 @@ module _ (members : List (Vec SerialOp)) (c : Declarations) (matrix : Matrix) (s
         let few = holds.2 in
         omega (arith, within, few)
 
-    pub too_many : AreDifferent list → 262144 < length list → FromEachStart c matrix (λ s. HasFewNodes (IsOneOf members) s 262144 → ⊥)
-    too_many differ many s is holds = let few = no_more_than differ s is holds in omega (arith, few, many)
+    pub too_many : (most : ℕ) → AreDifferent list → most < length list → FromEachStart c matrix (λ s. HasFewNodes (IsOneOf members) s most → ⊥)
+    too_many most differ many s is holds = let few = no_more_than most differ s is holds in omega (arith, few, many)
 
-    pub many_or_few : AreDifferent list → (n : ℕ) → n ≡ length list → 262144 ≤ place → FromEachStart c matrix (λ s. IsTrue (leb n 262144) ↔ HasFewNodes (IsOneOf members) s 262144)
-    many_or_few differ n many past s at = (
-      (λ t. let few = leb-true n 262144 t in few_nodes (omega (arith, few, many, past)) (omega (arith, few, many)) s at),
-      (λ few. let most = no_more_than differ s at few in le-leb n 262144 (omega (arith, most, many))),
+    pub many_or_few : (most : ℕ) → AreDifferent list → (n : ℕ) → n ≡ length list → most ≤ place → FromEachStart c matrix (λ s. IsTrue (leb n most) ↔ HasFewNodes (IsOneOf members) s most)
+    many_or_few most differ n many past s at = (
+      (λ t. let few = leb-true n most t in few_nodes most (omega (arith, few, many, past)) (omega (arith, few, many)) s at),
+      (λ few. let within = no_more_than most differ s at few in le-leb n most (omega (arith, within, many))),
     )
 
     module _ (m : State) (component : m.component ≡ c) (matrix_is : m.matrix ≡ matrix) (kept : Kept) (at : slice_get list place ≡ Some kept) where
@@ -99,10 +99,10 @@ module _ (members : List (Vec SerialOp)) (c : Declarations) (matrix : Matrix) (s
           let y = subst (λ d. CanStandAt d s.matrix kept.position) (start_component c matrix s there.1 ∙ sym component) x in
           subst (λ d. CanStandAt m.component d kept.position) (start_matrix c matrix s there.1 ∙ sym matrix_is) y
 
-      pub as_many : (alive : List Bool) → alive ≡ kept.alive.items → length alive ≡ length members
+      pub as_many : (alive : List Bool) → alive ≡ kept.alive → length alive ≡ length members
       as_many alive are = let there = start_there c matrix settles in ap length are ∙ (sound there.0 there.1).1.is.told.many
 
-      module _ (now : State) (alive : List Bool) (stands : now ≡ at_position m kept.position) (are : alive ≡ kept.alive.items) where
+      module _ (now : State) (alive : List Bool) (stands : now ≡ at_position m kept.position) (are : alive ≡ kept.alive) where
         component_there : now.component ≡ c
         component_there = ap (λ (s : State). s.component) stands ∙ component
 
@@ -117,11 +117,11 @@ module _ (members : List (Vec SerialOp)) (c : Declarations) (matrix : Matrix) (s
         from_here = from_same c now.component matrix now.matrix (sym component_there) (sym matrix_there)
 
         -- what holds where the machine stands holds of the node
-        of_node : (P : State → List Bool → Type 0) (s : State) → IsStart c matrix s → P now alive → P (its s kept) kept.alive.items
+        of_node : (P : State → List Bool → Type 0) (s : State) → IsStart c matrix s → P now alive → P (its s kept) kept.alive
         of_node P s is x = subst (P (its s kept)) are (subst (λ z. P z alive) (stands ∙ here s is) x)
 
         -- what is judged there
-        judged : (good : Bool) → JudgesGood members now alive good → (s : State) → IsStart c matrix s → JudgesGood members (its s kept) kept.alive.items good
+        judged : (good : Bool) → JudgesGood members now alive good → (s : State) → IsStart c matrix s → JudgesGood members (its s kept) kept.alive good
         judged good says s is = of_node (λ z bits. JudgesGood members z bits good) s is says
 
         module _ (new : List Kept) (adds : AddsNext members now alive list new) where
@@ -131,12 +131,12 @@ module _ (members : List (Vec SerialOp)) (c : Declarations) (matrix : Matrix) (s
           pub searched_next : (moves end : ℕ) → AreSearchedFrom members c matrix list place moves end → place < end → (good : Bool) → good ≡ true → JudgesGood members now alive good → AreSearchedFrom members c matrix new (place + 1) moves end
           searched_next moves end searched less good fine says s is =
               searched_more s members list place moves end (searched s is) less kept at new (of_node (λ z bits. AddsNext members z bits list new) s is adds)
-              (λ x h for. subst (JudgesGood members x kept.alive.items) fine (subst (λ z. JudgesGood members z kept.alive.items good) for.state (judged good says s is)) h for.well_formed for.agree for.told)
+              (λ x h for. subst (JudgesGood members x kept.alive) fine (subst (λ z. JudgesGood members z kept.alive good) for.state (judged good says s is)) h for.well_formed for.agree for.told)
 
         pub badly : (moves end : ℕ) → AreSearchedFrom members c matrix list place moves end → place < end → (good : Bool) → good ≡ false → JudgesGood members now alive good → FromEachStart c matrix (λ s. IsShortestBad (IsOneOf members) s moves)
         badly moves end searched less good fails says s is =
             shortest_bad s members list place moves end (searched s is) less kept at
-            (λ h for. subst (JudgesGood members (its s kept) kept.alive.items) fails (judged good says s is) h for.well_formed for.agree for.told)
+            (λ h for. subst (JudgesGood members (its s kept) kept.alive) fails (judged good says s is) h for.well_formed for.agree for.told)
 
     -- the level of the place
     pub searched_at : (old level : Level) (many : ℕ) → many ≡ length list → AreSearchedFrom members c matrix list place old.moves old.end → old.moves < old.end → (kept : Kept) → Some kept ≡ slice_get list place → IsLevelAt old place many level → (place < level.end) × (level.moves < level.end) × AreSearchedFrom members c matrix list place level.moves level.end

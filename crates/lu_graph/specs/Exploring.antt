@@ -28,10 +28,10 @@ pub record IsStateGraph (s : State) (graph : StateGraph) : Type 0 where
   pub ended : AreEnded s graph.found.positions.keys (length graph.found.positions.keys)
       graph.ended.items
 
--- the graph, where there are no more than 262,144 states
-abbrev pub IsExplored : State → Option StateGraph → Type 0
-IsExplored s None = HasFewStates s 262144 → ⊥
-IsExplored s (Some graph) = HasFewStates s 262144 × IsStateGraph s graph
+-- the graph, where there are no more than so many states
+abbrev pub IsExplored : ℕ → State → Option StateGraph → Type 0
+IsExplored most s None = HasFewStates s most → ⊥
+IsExplored most s (Some graph) = HasFewStates s most × IsStateGraph s graph
 
 -- ---- the schedules by which states were discovered
 

@@ -10,9 +10,9 @@ use Rattle.lu_machine.specs.Positions.{CanStandAt}
 use Rattle.lu_machine.specs.States.{State}
 use Rattle.lu_machine.specs.Steps.{Step}
 use Rattle.lu_history.specs.declared.serial.SerialOp.{SerialOp}
-use Rattle.lu_graph.specs.declared.kept.Kept.{Kept}
 use Rattle.lu_graph.specs.Alive.{AreTold}
 use Rattle.lu_graph.specs.Judging.{Follows}
+use Rattle.lu_graph.specs.Kept.{Kept}
 
 -- the state for which it stands, of a run of the component and the matrix
 abbrev pub state_of : Declarations → Matrix → Kept → State
@@ -28,7 +28,7 @@ state_of c matrix kept = record {
 pub record ComesBy (c : Declarations) (matrix : Matrix) (members : List (Vec SerialOp)) (s : State)
     (alive : List Bool) (event : Option Event) (kept : Kept) : Type 0 where
   pub state : state_of c matrix kept ≡ s
-  pub follows : Follows members s alive event kept.alive.items
+  pub follows : Follows members s alive event kept.alive
 
 -- one of the list is such
 abbrev pub Keeps : (Kept → Type 0) → List Kept → Type 0

@@ -1,6 +1,5 @@
 -- The nodes that were found.
-use Rattle.std.specs.Prelude.{◌≡◌, ℕ, ◌≤◌, Bool, List, [], ◌∷◌, length, drop, IfOk, Option, Result, Some, slice_get}
-use Rattle.std.specs.Bool.{beq}
+use Rattle.std.specs.Prelude.{◌≡◌, ℕ, ◌≤◌, Bool, List, [], ◌∷◌, length, drop, map, IfOk, Option, Result, Some, slice_get}
 use Rattle.std.specs.Global.{Vec}
 use Rattle.lu_machine.specs.declared.event.Event.{Event}
 use Rattle.lu_machine.specs.Positions.{CanStandAt}
@@ -9,87 +8,98 @@ use Rattle.lu_machine.specs.States.{State}
 use Rattle.lu_history.specs.declared.serial.SerialOp.{SerialOp}
 use Rattle.lu_graph.specs.declared.ending.Ending.{Ending}
 use Rattle.lu_graph.specs.declared.holding.Nodes.{Nodes}
-use Rattle.lu_graph.specs.declared.kept.Kept.{Kept}
 use Rattle.lu_graph.specs.declared.row.Row.{Row}
 use Rattle.lu_graph.specs.Discovering.{Extends}
 use Rattle.lu_graph.specs.Growing.{AddsHere, AddsNext, AddsOne, HasStart, state_of}
 use Rattle.lu_graph.specs.Judging.{IsOneOf}
+use Rattle.lu_graph.specs.Kept.{Kept, unvisited}
 use Rattle.lu_graph.specs.Nodes.{IsEnding, TellsFewNodes}
 use Rattle.lu_graph.specs.Visiting.{AreVisitedFrom}
-use Rattle.lu_graph.specs.Rows.{IsNumber, IsRowOf, is_list}
+use Rattle.lu_graph.specs.Possibilities.{AreLeft, IsNumberOf}
+use Rattle.lu_graph.specs.Rows.{IsRowOf}
 
--- the nodes are those of the list, each with its row; those from the place on are waiting
-pub record Hold (nodes : Nodes) (list : List Kept) (place : ℕ) : Type 0 where
+-- The nodes are those of the list, each with its row; those from the place on are waiting. What is
+-- remembered of returns is so, for these members.
+pub record Hold (members : List (Vec SerialOp)) (nodes : Nodes) (list : List Kept) (place : ℕ)
+    : Type 0 where
   pub many : length nodes.rows.keys ≡ length list
   pub rows : (i : ℕ) (row : Row) (kept : Kept) → slice_get nodes.rows.keys i ≡ Some row
       → slice_get list i ≡ Some kept → IsRowOf nodes.parts kept row
   pub within : place ≤ length list
-  pub waiting : nodes.waiting.items ≡ drop place list
+  pub waiting : nodes.waiting.items ≡ map unvisited (drop place list)
+  pub left : AreLeft members nodes.parts.alive
 
 abbrev pub HoldsNone : Nodes → Type 0
-HoldsNone nodes = (nodes.rows.keys ≡ []) × (nodes.waiting.items ≡ [])
+HoldsNone nodes =
+    (nodes.rows.keys ≡ []) × (nodes.waiting.items ≡ []) × (nodes.parts.alive.returns.entries ≡ [])
 
 -- it stands for the state s, where these members are possible
 abbrev pub StandsFor : State → List Bool → Kept → Type 0
-StandsFor s alive kept = (state_of s.component s.matrix kept ≡ s) × (kept.alive.items ≡ alive)
+StandsFor s alive kept = (state_of s.component s.matrix kept ≡ s) × (kept.alive ≡ alive)
 
 -- the node of s, where these members are possible, and no other
 abbrev pub HoldsOne : State → List Bool → Nodes → Type 0
 HoldsOne s alive nodes =
-    (kept : Kept) × Hold nodes (kept ∷ []) 0 × CanStandAt s.component s.matrix kept.position
-    × StandsFor s alive kept
+    (kept : Kept) × ((members : List (Vec SerialOp)) → Hold members nodes (kept ∷ []) 0)
+    × CanStandAt s.component s.matrix kept.position × StandsFor s alive kept
 
 -- it is the number of these members, as the nodes know them
 abbrev pub Knows : Nodes → List Bool → ℕ → Type 0
-Knows nodes alive number = IsNumber (is_list beq alive) nodes.parts.alive.keys number
+Knows nodes alive number = IsNumberOf nodes.parts.alive alive number
 
 -- the nodes are those of a list that has grown so, and more may be known that is possible
-pub record HoldMore (Grown : List Kept → Type 0) (place : ℕ) (old new : Nodes) : Type 0 where
+pub record HoldMore (members : List (Vec SerialOp)) (Grown : List Kept → Type 0) (place : ℕ)
+    (old new : Nodes) : Type 0 where
   pub list : List Kept
-  pub hold : Hold new list place
+  pub hold : Hold members new list place
   pub grown : Grown list
-  pub known : Extends old.parts.alive.keys new.parts.alive.keys
+  pub known : Extends old.parts.alive.lists.keys new.parts.alive.lists.keys
 
--- so it is where the nodes were those of an old list, and these members had this number
-abbrev pub HoldsMore : (List Kept → List Kept → Type 0) → List Bool → ℕ → Nodes → Nodes → Type 0
-HoldsMore Grows alive number old new =
-    (list : List Kept) (place : ℕ) → Hold old list place → Knows old alive number
-    → HoldMore (Grows list) place old new
+-- so it is where the nodes were those of an old list, and what was possible had this number
+abbrev pub HoldsMore : List (Vec SerialOp) → (List Bool → List Kept → List Kept → Type 0) → ℕ
+    → Nodes → Nodes → Type 0
+HoldsMore members Grows number old new =
+    (list : List Kept) (place : ℕ) (alive : List Bool)
+    → Hold members old list place → Knows old alive number
+    → HoldMore members (Grows alive list) place old new
 
--- with the node of s, where these members are possible, whose number is in the row
-abbrev pub HoldsOneMore : State → List Bool → Row → Nodes → Nodes → Type 0
-HoldsOneMore s alive row old new =
-    HoldsMore (AddsOne s.component s.matrix (StandsFor s alive)) alive row.alive old new
+-- with the node of s, where what has the number in the row is possible
+abbrev pub HoldsOneMore : State → Row → Nodes → Nodes → Type 0
+HoldsOneMore s row old new =
+    (members : List (Vec SerialOp))
+    → HoldsMore members (λ alive. AddsOne s.component s.matrix (StandsFor s alive)) row.alive
+    old new
 
--- with the node of s, to which this event led from the node that is kept so, or none
-abbrev pub HoldsHere : List (Vec SerialOp) → State → Kept → Option Event → Nodes → Nodes → Type 0
+-- with the node of s, to which this event led from the node of the row, or none
+abbrev pub HoldsHere : List (Vec SerialOp) → State → Row → Option Event → Nodes → Nodes → Type 0
 HoldsHere members s from event old new =
-    HoldsMore (AddsHere members s from.alive.items event) from.alive.items from.row.alive old new
+    HoldsMore members (λ alive. AddsHere members s alive event) from.alive old new
 
--- with all nodes to which moves of s lead, the state of the node that is kept so
-abbrev pub HoldsNext : List (Vec SerialOp) → State → Kept → Nodes → Nodes → Type 0
-HoldsNext members s from old new =
-    HoldsMore (AddsNext members s from.alive.items) from.alive.items from.row.alive old new
+-- with all nodes to which moves of s lead, the state of the node of the row
+abbrev pub HoldsNext : List (Vec SerialOp) → State → Row → Nodes → Nodes → Type 0
+HoldsNext members s from old new = HoldsMore members (AddsNext members s) from.alive old new
 
 -- the nodes are the start alone
 abbrev pub HoldsStart : List (Vec SerialOp) → State → Nodes → Type 0
-HoldsStart members s nodes = (list : List Kept) × Hold nodes list 0 × HasStart members s list
+HoldsStart members s nodes =
+    (list : List Kept) × Hold members nodes list 0 × HasStart members s list
 
 -- the nodes are those of a list, of which those before the place were gone through, in runs of the
 -- component and the matrix of s
 abbrev pub AreVisitedBy : List (Vec SerialOp) → State → Nodes → ℕ → Type 0
 AreVisitedBy members s nodes place =
-    (list : List Kept) × Hold nodes list place
+    (list : List Kept) × Hold members nodes list place
     × AreVisitedFrom members s.component s.matrix list place
 
 -- ---- what is told of all nodes
 
--- from each start of the component and the matrix of s it is told whether there are few
-abbrev pub AreFewAsTold : {E : Type 0} → List (Vec SerialOp) → State → Result Bool E → Type 0
-AreFewAsTold members s result =
-    FromEachStart s.component s.matrix (TellsFewNodes (IsOneOf members) result)
+-- from each start of the component and the matrix of s it is told whether there are so few
+abbrev pub AreFewAsTold : {E : Type 0} → List (Vec SerialOp) → ℕ → State → Result Bool E → Type 0
+AreFewAsTold members most s result =
+    FromEachStart s.component s.matrix (TellsFewNodes (IsOneOf members) most result)
 
--- and how all schedules end, searched up to a bound
-abbrev pub EndsSo : {E : Type 0} → List (Vec SerialOp) → ℕ → State → Result Ending E → Type 0
-EndsSo members bound s result =
-    FromEachStart s.component s.matrix (λ r. IfOk result (IsEnding (IsOneOf members) bound r))
+-- and how all schedules end, searched up to a bound and with so many nodes at most
+abbrev pub EndsSo : {E : Type 0} → List (Vec SerialOp) → ℕ → ℕ → State → Result Ending E → Type 0
+EndsSo members bound most s result =
+    FromEachStart s.component s.matrix
+    (λ r. IfOk result (IsEnding (IsOneOf members) bound most r))

@@ -47,11 +47,11 @@ pub record IsFirstLost (s : State) (u : List Move) : Type 0 where
   pub least : (v : List Move) → length v ≡ length u → IsSmaller v u → LosesHope s v → ⊥
 
 -- What is found of s: the first schedule that leads to a hopeless state, where there are no more
--- than 262,144 states; none where there are more, or no schedule of so many moves leads to one.
-abbrev pub IsFirstLostIfAny : State → Option (List Move) → Type 0
-IsFirstLostIfAny s None =
-    HasFewStates s 262144 → (u : List Move) → AreMoves u → LosesHope s u → ⊥
-IsFirstLostIfAny s (Some u) = HasFewStates s 262144 × IsFirstLost s u
+-- than so many states; none where there are more, or no schedule as short as a text leads to one.
+abbrev pub IsFirstLostIfAny : ℕ → State → Option (List Move) → Type 0
+IsFirstLostIfAny most s None =
+    HasFewStates s most → (u : List Move) → AreMoves u → LosesHope s u → ⊥
+IsFirstLostIfAny most s (Some u) = HasFewStates s most × IsFirstLost s u
 
 -- ---- a law
 

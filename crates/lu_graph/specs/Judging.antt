@@ -99,12 +99,6 @@ Follows members s old event new =
     (h : List Event) → Agree (progress s) (longer h event) → AreTold members h old
     → AreTold members (longer h event) new
 
--- the same where something is told, and else the old list stays
-abbrev pub FollowsOrStays : List (Vec SerialOp) → State → List Bool → Option Event
-    → Option (Vec Bool) → Type 0
-FollowsOrStays members s old event None = Follows members s old event old
-FollowsOrStays members s old event (Some new) = Follows members s old event new.items
-
 -- whether an ended state is good, of each history that may have led there, of which this is told
 abbrev pub JudgesGood : List (Vec SerialOp) → State → List Bool → Bool → Type 0
 JudgesGood members s alive good =

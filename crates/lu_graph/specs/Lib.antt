@@ -9,5 +9,8 @@ pub mod Hopeless
 pub mod Discovering
 pub mod Marking
 pub mod Exploring
+pub mod Numbered
+pub mod Possibilities
+pub mod Kept
 pub mod Rows
 pub mod Holding

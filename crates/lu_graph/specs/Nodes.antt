@@ -62,9 +62,9 @@ abbrev pub EndsWell : (List SerialOp → Type 0) → State → Type 0
 EndsWell Set s =
     (u : List Move) → Reaches s u (λ end _. IsEnded end) → Reaches s u (IsGoodAt Set)
 
--- there are no more than 262,144 nodes, and each ended schedule, of any length, is good
-abbrev pub EndsWellOnFewNodes : (List SerialOp → Type 0) → State → Type 0
-EndsWellOnFewNodes Set s = HasFewNodes Set s 262144 × EndsWell Set s
+-- there are no more than so many nodes, and each ended schedule, of any length, is good
+abbrev pub EndsWellOnFewNodes : (List SerialOp → Type 0) → State → ℕ → Type 0
+EndsWellOnFewNodes Set s most = HasFewNodes Set s most × EndsWell Set s
 
 -- the schedule u ends, and is not good
 abbrev pub EndsBadly : (List SerialOp → Type 0) → State → List Move → Type 0
@@ -77,23 +77,25 @@ pub record IsShortestBad (Set : List SerialOp → Type 0) (s : State) (moves : �
   pub bad : EndsBadly Set s schedule
   pub shortest : (v : List Move) → length v < moves → EndsBadly Set s v → ⊥
 
--- How all schedules end, of any length, searched up to a bound: well, on few nodes; or the shortest
--- that ends badly has so many moves, and there are few nodes where that is more than the bound; or
--- there are too many nodes.
-abbrev pub IsEnding : (List SerialOp → Type 0) → ℕ → State → Ending → Type 0
-IsEnding Set bound s Well = EndsWellOnFewNodes Set s
-IsEnding Set bound s (Badly moves) =
-    IsShortestBad Set s moves × (bound < moves → HasFewNodes Set s 262144)
-IsEnding Set bound s TooMany = HasFewNodes Set s 262144 → ⊥
+-- How all schedules end, of any length, searched up to a bound and with so many nodes at most:
+-- well; or the shortest that ends badly has so many moves, and the nodes are few where that is more
+-- than the bound; or the nodes are too many.
+abbrev pub IsEnding : (List SerialOp → Type 0) → ℕ → ℕ → State → Ending → Type 0
+IsEnding Set bound most s Well = EndsWellOnFewNodes Set s most
+IsEnding Set bound most s (Badly moves) =
+    IsShortestBad Set s moves × (bound < moves → HasFewNodes Set s most)
+IsEnding Set bound most s TooMany = HasFewNodes Set s most → ⊥
 
 -- so it is of the result, if there is one, for the set of these members
-abbrev pub TellsEnding : {E : Type 0} → List (List SerialOp) → ℕ → Result Ending E → State → Type 0
-TellsEnding members bound result s = IfOk result (IsEnding (IsMember members) bound s)
+abbrev pub TellsEnding : {E : Type 0} → List (List SerialOp) → ℕ → ℕ → Result Ending E → State
+    → Type 0
+TellsEnding members bound most result s = IfOk result (IsEnding (IsMember members) bound most s)
 
 -- the answer, if there is one, is whether this holds
 abbrev pub Tells : {E : Type 0} → Type 0 → Result Bool E → Type 0
 Tells P result = IfOk result (λ answer. IsTrue answer ↔ P)
 
--- the answer, if there is one, is whether there are no more than 262,144 nodes
-abbrev pub TellsFewNodes : {E : Type 0} → (List SerialOp → Type 0) → Result Bool E → State → Type 0
-TellsFewNodes Set result s = Tells (HasFewNodes Set s 262144) result
+-- the answer, if there is one, is whether there are no more than so many nodes
+abbrev pub TellsFewNodes : {E : Type 0} → (List SerialOp → Type 0) → ℕ → Result Bool E → State
+    → Type 0
+TellsFewNodes Set most result s = Tells (HasFewNodes Set s most) result

@@ -1,32 +1,18 @@
 -- Nodes as rows of numbers: of each part its number in a table that has each different one once.
-use Rattle.std.specs.Prelude.{◌≡◌, ℕ, ◌+◌, Bool, List, length, nat_eq, position, Option, Some, None, slice_get}
-use Rattle.std.specs.Bool.{beq}
-use Rattle.std.specs.Global.{Vec}
+use Rattle.std.specs.Prelude.{◌≡◌, ℕ, Bool, List, length, nat_eq, Option, Some, None, slice_get}
 use Rattle.std.specs.List.{slice_index}
 use Rattle.std.specs.Option.{option_eq}
-use lib.Pointwise.{pointwise}
 use Rattle.lu_machine.specs.declared.thread.Thread.{Thread}
 use Rattle.lu_machine.specs.contracts.thread.ThreadPartialEq as thread
 use Rattle.lu_machine.specs.States.{State, first_cell}
-use Rattle.lu_graph.specs.declared.kept.Kept.{Kept}
 use Rattle.lu_graph.specs.declared.row.Parts.{Parts}
 use Rattle.lu_graph.specs.declared.row.Row.{Row}
 use Rattle.lu_graph.specs.Discovering.{Extends}
+use Rattle.lu_graph.specs.Kept.{Kept}
+use Rattle.lu_graph.specs.Numbered.{IsNumber, is_list}
+use Rattle.lu_graph.specs.Possibilities.{IsNumberOf}
 
--- ---- numbers
-
--- n is the number of the first of the table that passes the test, from 1
-abbrev pub IsNumber : {A : Type 0} → (A → Bool) → List A → ℕ → Type 0
-IsNumber test table n = (place : ℕ) × (position test table ≡ Some place) × (n ≡ place + 1)
-
--- so it is of the table as it has become, the old one with more behind it or nothing
-pub record IsNumbered {A : Type 0} (test : A → Bool) (old new : List A) (n : ℕ) : Type 0 where
-  pub number : IsNumber test new n
-  pub grows : Extends old new
-
--- whether it is this list
-abbrev pub is_list : {A : Type 0} → (A → A → Bool) → List A → Vec A → Bool
-is_list eq xs v = pointwise eq xs v.items
+-- ---- threads
 
 -- whether these are the same
 abbrev pub same_standing : Thread → Thread → Bool
@@ -59,7 +45,7 @@ pub record Grow (old new : Parts) : Type 0 where
   pub cells : Extends old.cells.keys new.cells.keys
   pub locks : Extends old.locks.keys new.locks.keys
   pub threads : Extends old.threads.keys new.threads.keys
-  pub alive : Extends old.alive.keys new.alive.keys
+  pub alive : Extends old.alive.lists.keys new.alive.lists.keys
 
 -- the row has the numbers of these cells, locks and threads
 pub record IsRow (parts : Parts) (values : List ℕ) (owners : List (Option ℕ))
@@ -73,10 +59,11 @@ pub record IsRowAt (s : State) (possible : ℕ) (old new : Parts) (row : Row) : 
   pub is : IsRow new s.cells s.locks s.threads row
   pub alive : row.alive ≡ possible
   pub grows : Grow old new
+  pub same : new.alive ≡ old.alive
 
 -- the row of what is kept
 pub record IsRowOf (parts : Parts) (kept : Kept) (row : Row) : Type 0 where
   pub is : IsRow parts kept.position.cells.items kept.position.locks.items
       kept.position.threads.items row
-  pub alive : IsNumber (is_list beq kept.alive.items) parts.alive.keys row.alive
+  pub alive : IsNumberOf parts.alive kept.alive row.alive
   pub number : kept.row.alive ≡ row.alive

@@ -13,10 +13,10 @@ use Rattle.lu_machine.specs.Steps.{Step}
 use Rattle.lu_history.specs.declared.serial.SerialOp.{SerialOp}
 use Rattle.lu_history.specs.Histories.{IsWellFormed}
 use Rattle.lu_history.specs.Standing.{Agree}
-use Rattle.lu_graph.specs.declared.kept.Kept.{Kept}
 use Rattle.lu_graph.specs.declared.level.Level.{Level}
 use Rattle.lu_graph.specs.Alive.{AreTold}
 use Rattle.lu_graph.specs.Growing.{IsNextBy, Keeps, state_of}
+use Rattle.lu_graph.specs.Kept.{Kept}
 
 -- the state of what is kept, in runs that start in s
 abbrev pub its : State → Kept → State
@@ -28,7 +28,7 @@ pub record IsFor (s : State) (members : List (Vec SerialOp)) (end : State) (h : 
   pub state : its s kept ≡ end
   pub well_formed : IsWellFormed h
   pub agree : Agree (progress end) h
-  pub told : AreTold members h kept.alive.items
+  pub told : AreTold members h kept.alive
 
 -- a schedule leads from s to it
 pub record IsReached (s : State) (members : List (Vec SerialOp)) (kept : Kept) : Type 0 where
@@ -49,7 +49,7 @@ pub record AreVisited (members : List (Vec SerialOp)) (s : State) (list : List K
   pub reached : All (IsReachedAndSound s members) list
   pub closed : (i : ℕ) (kept : Kept) → i < place → slice_get list i ≡ Some kept
       → (m : Move) (next : State) (event : Option Event) → Step (its s kept) m next event
-      → Keeps (IsNextBy members (its s kept) kept.alive.items next event) list
+      → Keeps (IsNextBy members (its s kept) kept.alive next event) list
 
 -- so it is from each start
 abbrev pub AreVisitedFrom : List (Vec SerialOp) → Declarations → Matrix → List Kept → ℕ → Type 0

@@ -1,13 +1,13 @@
 //! Which members of a set are possible still: witnesses of histories that go on.
 
-ghost use Rattle.std.specs.Prelude.{◌≡◌, ◌↔◌, IfOk, IsTrue, length};
+ghost use Rattle.std.specs.Prelude.{◌≡◌, ◌↔◌, IfOk, IsTrue, false, get_or};
 ghost use Rattle.lu_history.specs.Parts.{as_serial};
-ghost use Rattle.lu_graph.specs.Judging.{AreCalled, FollowsOrStays, StayToldIn, TellsAdmits, TellsStays};
+ghost use Rattle.lu_graph.specs.Judging.{AreCalled, StayToldIn, TellsAdmits, TellsStays};
 
 use crate::members::{count, place_of};
 use crate::standing::called;
 use lu_history::{OpId, SerialOp, SerialOutcome};
-use lu_machine::{Event, Machine, Outcome};
+use lu_machine::{Machine, Outcome};
 use std::alloc::{AllocError, Global};
 
 /// Whether all these operations are called, where the machine stands.
@@ -59,8 +59,18 @@ fn stays(
     false
 }
 
+/// Whether the member at this place was possible. One that is not told of was not.
+fn was_alive(alive: &[bool], place: usize) -> bool
+    ensures { result ≡ get_or alive.now place false }
+{
+    match alive.get(place) {
+        None => false,
+        Some(was) => *was,
+    }
+}
+
 /// Which of the members stay possible, where the operation returns with this outcome.
-fn still_alive(
+pub(crate) fn still_alive(
     alloc: Global,
     machine: &Machine<'_>,
     members: &[Vec<SerialOp>],
@@ -68,38 +78,13 @@ fn still_alive(
     operation: OpId,
     outcome: Outcome,
 ) -> Result<Vec<bool>, AllocError>
-    requires { length alive.now ≡ length members.now }
     ensures { IfOk result (StayToldIn machine.now members.now operation outcome alive.now) }
 {
     let mut now = Vec::new(alloc);
     for place in 0..members.len() {
-        let stays = stays(machine, &members[place], alive[place], operation, outcome);
+        let was = was_alive(alive, place);
+        let stays = stays(machine, &members[place], was, operation, outcome);
         now.push(stays)?;
     }
     Ok(now)
-}
-
-/// Which members are possible behind the event, if there is one, by which the machine came where
-/// it stands; those that were before it are given, and none are told where they stay the same.
-pub(crate) fn alive_after(
-    alloc: Global,
-    machine: &Machine<'_>,
-    members: &[Vec<SerialOp>],
-    alive: &[bool],
-    event: Option<Event>,
-) -> Result<Option<Vec<bool>>, AllocError>
-    requires { length alive.now ≡ length members.now }
-    ensures { IfOk result (FollowsOrStays members.now machine.now alive.now event) }
-{
-    match event {
-        None => Ok(None),
-        Some(event) => match event {
-            Event::Call { .. } => Ok(None),
-            Event::Return { t, k, outcome } => {
-                let operation = OpId { t, k };
-                let now = still_alive(alloc, machine, members, alive, operation, outcome)?;
-                Ok(Some(now))
-            }
-        },
-    }
 }

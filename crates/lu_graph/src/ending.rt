@@ -4,11 +4,11 @@
 /// tells it.
 #[derive(Clone, Copy)]
 pub enum Ending {
-    /// There are no more than 262,144 nodes, no two alike, and each schedule that ends is good.
+    /// There are no more nodes than were to be kept, no two alike, and each schedule that ends is good.
     Well,
     /// The shortest schedule that ends and is not good has so many moves. Where these are more
-    /// than the bound, there are no more than 262,144 nodes, no two alike.
+    /// than the bound, there are no more nodes than were to be kept.
     Badly(usize),
-    /// There are more than 262,144 nodes, no two alike.
+    /// There are more nodes, no two alike, than were to be kept.
     TooMany,
 }

@@ -19,10 +19,7 @@ use lu_test::Matrix;
 use lu_trie::SerialTree;
 use std::alloc::{AllocError, Global};
 
-/// How many nodes are kept at most.
-const MOST_NODES: usize = 262_144;
-
-/// Whether the component of the machine has no more than 262,144 nodes on its matrix, where those
+/// Whether the component of the machine has no more than `most` nodes on its matrix, where those
 /// before this place were gone through.
 fn are_few(
     alloc: Global,
@@ -30,13 +27,14 @@ fn are_few(
     members: &[Vec<SerialOp>],
     nodes: &mut Nodes,
     place: usize,
+    most: usize,
 ) -> Result<bool, AllocError>
     requires settles { Settles machine.old.component machine.old.matrix }
     requires visited { AreVisitedBy members.now machine.old nodes.old place }
-    ensures { AreFewAsTold members.now machine.old result }
+    ensures { AreFewAsTold members.now most machine.old result }
 {
-    for at in place..MOST_NODES {
-        if nodes.rows.len() > MOST_NODES {
+    for at in place..most {
+        if nodes.rows.len() > most {
             return Ok(false);
         }
         let kept = match nodes.waiting.pop_front() {
@@ -44,9 +42,9 @@ fn are_few(
             Some(kept) => kept,
         };
         machine.stand_at(&kept.position);
-        add_next(alloc, machine, members, &kept, nodes)?;
+        add_next(alloc, machine, members, &kept.row, nodes)?;
     }
-    Ok(nodes.rows.len() <= MOST_NODES)
+    Ok(nodes.rows.len() <= most)
 }
 
 /// How all schedules of the machine's component on its matrix end. It stands at the start, which
@@ -57,18 +55,19 @@ fn search(
     members: &[Vec<SerialOp>],
     nodes: &mut Nodes,
     bound: u16,
+    most: usize,
 ) -> Result<Ending, AllocError>
     requires starts { IsStart machine.old.component machine.old.matrix machine.old }
     requires first { HoldsStart members.now machine.old nodes.old }
-    ensures { EndsSo members.now bound machine.old result }
+    ensures { EndsSo members.now bound most machine.old result }
 {
     let mut level = Level {
         moves: 0,
         end: nodes.rows.len(),
     };
-    for at in 0..MOST_NODES {
+    for at in 0..most {
         let known = nodes.rows.len();
-        if known > MOST_NODES {
+        if known > most {
             return Ok(Ending::TooMany);
         }
         let kept = match nodes.waiting.pop_front() {
@@ -77,17 +76,17 @@ fn search(
         };
         level = level.at(at, known);
         machine.stand_at(&kept.position);
-        let is_good = is_good(machine, members, &kept.alive);
-        add_next(alloc, machine, members, &kept, nodes)?;
+        let is_good = is_good(machine, members, nodes.parts.alive.list(kept.row.alive));
+        add_next(alloc, machine, members, &kept.row, nodes)?;
         if !is_good {
             let is_far = level.moves > usize::from(bound);
-            if is_far && !are_few(alloc, machine, members, nodes, at + 1)? {
+            if is_far && !are_few(alloc, machine, members, nodes, at + 1, most)? {
                 return Ok(Ending::TooMany);
             }
             return Ok(Ending::Badly(level.moves));
         }
     }
-    if nodes.rows.len() > MOST_NODES {
+    if nodes.rows.len() > most {
         return Ok(Ending::TooMany);
     }
     Ok(Ending::Well)
@@ -102,14 +101,15 @@ fn search_from(
     alive: &[bool],
     nodes: &mut Nodes,
     bound: u16,
+    most: usize,
 ) -> Result<Ending, AllocError>
     requires starts { IsStart machine.old.component machine.old.matrix machine.old }
     requires told { AreTold members.now [] alive.now }
     requires none { HoldsNone nodes.old }
-    ensures { EndsSo members.now bound machine.old result }
+    ensures { EndsSo members.now bound most machine.old result }
 {
     add_first(alloc, machine, alive, nodes)?;
-    search(alloc, machine, members, nodes, bound)
+    search(alloc, machine, members, nodes, bound, most)
 }
 
 /// How all schedules of the machine's component on its matrix end. It stands at the start.
@@ -118,20 +118,22 @@ fn search_all(
     machine: &mut Machine<'_>,
     members: &[Vec<SerialOp>],
     bound: u16,
+    most: usize,
 ) -> Result<Ending, AllocError>
     requires { IsStart machine.old.component machine.old.matrix machine.old }
-    ensures { EndsSo members.now bound machine.old result }
+    ensures { EndsSo members.now bound most machine.old result }
 {
     let alive = all_possible(alloc, members)?;
     let mut nodes = Nodes::new(alloc);
-    search_from(alloc, machine, members, &alive, &mut nodes, bound)
+    search_from(alloc, machine, members, &alive, &mut nodes, bound, most)
 }
 
 /// How all schedules of the component on the matrix end, of any length, for the set of the tree. A
 /// node is a state, with the history of a schedule that leads there; those of one state where the
-/// same members of the set can still become witnesses are alike, and count as one. Where a schedule
-/// of no more moves than the bound ends badly, the nodes behind it are not counted. Asks for a
-/// matrix of the component, whose setup settles.
+/// same members of the set can still become witnesses are alike, and count as one. At most `most`
+/// are kept, each of some 50 bytes, with the parts that they share. Where a schedule of no more
+/// moves than the bound ends badly, the nodes behind it are not counted. Asks for a matrix of the
+/// component, whose setup settles.
 ///
 /// # Errors
 ///
@@ -142,12 +144,13 @@ pub fn ends_well<T: SerialTree>(
     matrix: &Matrix,
     tree: &T,
     bound: u16,
+    most: u32,
 ) -> Result<Ending, AllocError>
     requires { CanRun component.now matrix.now }
     ensures { FromEachStart component.now matrix.now
-        (TellsEnding (T.members tree.now) bound result) }
+        (TellsEnding (T.members tree.now) bound most result) }
 {
     let members = list_members(alloc, tree)?;
     let mut machine = Machine::start(alloc, component, matrix)?;
-    search_all(alloc, &mut machine, &members, bound)
+    search_all(alloc, &mut machine, &members, bound, most as usize)
 }

@@ -13,9 +13,6 @@ use lu_machine::Machine;
 use lu_test::{Matrix, Move};
 use std::alloc::{AllocError, Global};
 
-/// How many states are discovered at most.
-const MOST_STATES: usize = 262_144;
-
 /// All states of a component on a matrix, and for each whether it has ended.
 #[derive(Drop)]
 pub(crate) struct StateGraph {
@@ -41,21 +38,22 @@ fn begin(alloc: Global, machine: &Machine<'_>) -> Result<Discovered, AllocError>
     })
 }
 
-/// The graph of all states, where there are no more than 262,144. Asks for a matrix of the
+/// The graph of all states, where there are no more than `most`. Asks for a matrix of the
 /// component, whose setup settles.
 pub(crate) fn explore(
     alloc: Global,
     component: &Component,
     matrix: &Matrix,
+    most: usize,
 ) -> Result<Option<StateGraph>, AllocError>
     requires { CanRun component.now matrix.now }
-    ensures { FromEachStart component.now matrix.now (λ s. IfOk result (IsExplored s)) }
+    ensures { FromEachStart component.now matrix.now (λ s. IfOk result (IsExplored most s)) }
 {
     let mut machine = Machine::start(alloc, component, matrix)?;
     let mut found = begin(alloc, &machine)?;
     let mut ended = Vec::new(alloc);
-    for at in 0..MOST_STATES {
-        if found.positions.len() > MOST_STATES {
+    for at in 0..most {
+        if found.positions.len() > most {
             return Ok(None);
         }
         let position = match found.positions.get_index(at) {
@@ -66,7 +64,7 @@ pub(crate) fn explore(
         ended.push(has_ended(&machine))?;
         discover_next(alloc, &mut machine, at, &mut found)?;
     }
-    if found.positions.len() > MOST_STATES {
+    if found.positions.len() > most {
         return Ok(None);
     }
     Ok(Some(StateGraph { found, ended }))

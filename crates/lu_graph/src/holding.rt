@@ -4,9 +4,9 @@ ghost use Rattle.std.specs.Prelude.{OnOk};
 ghost use Rattle.lu_graph.specs.Holding.{HoldsNone, HoldsOne, HoldsOneMore};
 ghost use Rattle.lu_graph.specs.Rows.{IsSized};
 
-use crate::kept::Kept;
 use crate::row::{Parts, Row, row_at};
 use crate::tables::number_of_list;
+use crate::unvisited::Unvisited;
 use indexmap::IndexSet;
 use lu_machine::Machine;
 use std::alloc::{AllocError, Global};
@@ -18,7 +18,7 @@ pub(crate) struct Nodes {
     pub(crate) rows: IndexSet<Row>,
 
     /// Those that were not gone through.
-    pub(crate) waiting: VecDeque<Kept>,
+    pub(crate) waiting: VecDeque<Unvisited>,
 
     pub(crate) parts: Parts,
 }
@@ -47,39 +47,28 @@ pub(crate) fn add_first(
     ensures { OnOk result (HoldsOne machine.now alive.now nodes.new) }
 {
     let position = machine.position(alloc)?;
-    let number = number_of_list(alloc, &mut nodes.parts.alive, alive, 0)?;
+    let number = number_of_list(alloc, &mut nodes.parts.alive.lists, alive, 0)?;
     let row = row_at(alloc, machine, &Row::of_alive(number), &mut nodes.parts)?;
     nodes.rows.insert(row)?;
-    let alive = Vec::from_slice(alloc, alive)?;
-    nodes.waiting.push_back(Kept {
-        position,
-        alive,
-        row,
-    })?;
+    nodes.waiting.push_back(Unvisited { position, row })?;
     Ok(())
 }
 
-/// Adds the node at which the machine stands, where these members are possible, if it is not there.
-/// They have the number that is in `likely`, and so have the other parts, if they are the same.
+/// Adds the node at which the machine stands, if it is not there. What is possible has the number
+/// that is in `likely`, and so have the other parts, if they are the same as there.
 pub(crate) fn add_at(
     alloc: Global,
     machine: &Machine<'_>,
-    alive: &[bool],
     likely: &Row,
     nodes: &mut Nodes,
 ) -> Result<(), AllocError>
     requires { IsSized machine.now }
-    ensures { OnOk result (HoldsOneMore machine.now alive.now likely.now nodes.old nodes.new) }
+    ensures { OnOk result (HoldsOneMore machine.now likely.now nodes.old nodes.new) }
 {
     let row = row_at(alloc, machine, likely, &mut nodes.parts)?;
     if nodes.rows.insert(row)? {
         let position = machine.position(alloc)?;
-        let alive = Vec::from_slice(alloc, alive)?;
-        nodes.waiting.push_back(Kept {
-            position,
-            alive,
-            row,
-        })?;
+        nodes.waiting.push_back(Unvisited { position, row })?;
     }
     Ok(())
 }

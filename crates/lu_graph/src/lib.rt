@@ -10,16 +10,20 @@
 //! reached that has ended, no schedule ends.
 //!
 //! ```text
-//! match ends_well(alloc, &component, &matrix, &set, 256)? {
+//! match ends_well(alloc, &component, &matrix, &set, 256, DEFAULT_NODES)? {
 //!     Ending::Well => ..,
 //!     Ending::Badly(moves) => ..,
 //!     Ending::TooMany => ..,
 //! }
-//! if let Some(schedule) = first_lost(alloc, &component, &matrix)? {
+//! if let Some(schedule) = first_lost(alloc, &component, &matrix, DEFAULT_NODES)? {
 //!     ..
 //! }
 //! ```
 #![tactic(auto)]
+
+/// As many nodes as are mostly kept, and as many states where histories play no part: where there
+/// are so many, they take about 1 GiB.
+pub const DEFAULT_NODES: u32 = 8_388_608;
 
 mod alive;
 mod discovering;
@@ -30,16 +34,17 @@ mod exploring_states;
 mod growing;
 mod holding;
 mod judging;
-mod kept;
 mod laws;
 mod level;
 mod listing;
 mod losing;
 mod marking;
 mod members;
+mod possibilities;
 mod row;
 mod standing;
 mod tables;
+mod unvisited;
 
 pub use ending::Ending;
 pub use exploring::ends_well;

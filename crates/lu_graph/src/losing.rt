@@ -41,7 +41,7 @@ fn schedule_to(
 
 /// The first schedule that leads to a state from which no schedule ends: the shortest one, and the
 /// least of that length (some thread goes on for ever there, whatever moves are made). None where
-/// no schedule of up to 4,112 moves leads to one, and where the component has more than 262,144
+/// no schedule of up to 4,112 moves leads to one, and where the component has more than `most`
 /// states on the matrix. Histories play no part. Asks for a matrix of the component, whose setup
 /// settles.
 ///
@@ -52,11 +52,12 @@ pub fn first_lost(
     alloc: Global,
     component: &Component,
     matrix: &Matrix,
+    most: u32,
 ) -> Result<Option<Schedule>, AllocError>
     requires { CanRun component.now matrix.now }
-    ensures { FromEachStart component.now matrix.now (λ s. IfOk result (IsFirstLostIfAny s)) }
+    ensures { FromEachStart component.now matrix.now (λ s. IfOk result (IsFirstLostIfAny most s)) }
 {
-    let mut graph = match explore(alloc, component, matrix)? {
+    let mut graph = match explore(alloc, component, matrix, most as usize)? {
         None => return Ok(None),
         Some(graph) => graph,
     };

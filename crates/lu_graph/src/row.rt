@@ -1,9 +1,10 @@
 //! Nodes as rows of numbers.
 
-ghost use Rattle.std.specs.Prelude.{◌≡◌, length, IfOk, OnOk};
+ghost use Rattle.std.specs.Prelude.{◌≡◌, [], length, IfOk, OnOk};
 ghost use Rattle.lu_machine.specs.States.{first_cell};
 ghost use Rattle.lu_graph.specs.Rows.{IsRowAt, IsSized, NumbersThreads};
 
+use crate::possibilities::Possibilities;
 use crate::tables::{number_of, number_of_list};
 use indexmap::IndexSet;
 use lu_component::Component;
@@ -29,7 +30,7 @@ pub(crate) struct Parts {
     pub(crate) cells: IndexSet<Vec<u32>>,
     pub(crate) locks: IndexSet<Vec<Option<u8>>>,
     pub(crate) threads: IndexSet<Thread>,
-    pub(crate) alive: IndexSet<Vec<bool>>,
+    pub(crate) alive: Possibilities,
 
     /// The cells and the locks that are looked up.
     cells_now: Vec<u32>,
@@ -52,12 +53,14 @@ impl Row {
 
 impl Parts {
     /// No parts.
-    pub(crate) fn new(alloc: Global) -> Parts {
+    pub(crate) fn new(alloc: Global) -> Parts
+        ensures { result.alive.returns.entries ≡ [] }
+    {
         Parts {
             cells: IndexSet::new(alloc),
             locks: IndexSet::new(alloc),
             threads: IndexSet::new(alloc),
-            alive: IndexSet::new(alloc),
+            alive: Possibilities::new(alloc),
             cells_now: Vec::new(alloc),
             locks_now: Vec::new(alloc),
         }

@@ -1,6 +1,6 @@
 //! How many operations of a thread have ended, and are called.
 
-ghost use Rattle.std.specs.Prelude.{◌≡◌};
+ghost use Rattle.std.specs.Prelude.{◌≡◌, ◌≤◌};
 ghost use Rattle.lu_graph.specs.Judging.{called, ended, is_waiting};
 
 use lu_machine::{Activity, Machine};
@@ -30,7 +30,8 @@ pub(crate) fn is_waiting(machine: &Machine<'_>, thread: u8) -> bool
 
 /// How many are called.
 pub(crate) fn called(machine: &Machine<'_>, thread: u8) -> usize
-    ensures { result ≡ called machine.now thread }
+    ensures value { result ≡ called machine.now thread }
+    ensures few { result ≤ 256 }
 {
     match machine.standing(thread) {
         None => 0,

@@ -1,7 +1,7 @@
 //! Tables in which each different value has a number.
 
 ghost use Rattle.std.specs.Prelude.{◌≡◌, ◌+◌, IfOk, IsTrue};
-ghost use Rattle.lu_graph.specs.Rows.{IsNumber, IsNumbered, is_list};
+ghost use Rattle.lu_graph.specs.Numbered.{IsNumber, IsNumbered, is_list};
 
 use indexmap::{Equivalent, IndexSet};
 use std::alloc::{AllocError, Global};

@@ -1,26 +1,26 @@
-use Rattle.std.proofs.Common.{arith, ◌≡◌, ◌≤◌, ◌+◌, length, refl, sym, ◌∙◌, ap}
-use Rattle.lu_machine.specs.Positions.{at_position}
+use Rattle.std.proofs.Common.{arith, ◌≡◌, ◌≤◌, ◌+◌, length, refl, sym, ◌∙◌, ap, subst}
+use Rattle.lu_machine.specs.Positions.{CanStandAt, at_position}
 use Rattle.lu_machine.specs.States.{State}
 use Rattle.lu_graph.specs.declared.holding.Nodes.{Nodes}
-use Rattle.lu_graph.proofs.Visiting.{as_many, can_stand, few_nodes, many_or_few, too_many, visited_next}
-use Rattle.lu_graph.proofs.Waiting.{all_differ, hold_popped, knows_kept, none_waits, sized_there, stands_next}
+use Rattle.lu_graph.proofs.Visiting.{can_stand, few_nodes, many_or_few, too_many, visited_next}
+use Rattle.lu_graph.proofs.Waiting.{all_differ, next_there, none_waits, sized_there}
 use Rattle.lu_graph.proofs.exploring.are_few.Goals as goal
 
-pub returns-then-len-gt-MOST_NODES : goal.returns-then-len-gt-MOST_NODES
-returns-then-len-gt-MOST_NODES c = λ s is.
+pub returns-then-len-most : goal.returns-then-len-most
+returns-then-len-most c = λ s is.
     (let v = c.loop-at.invariant.visited in
     let many = v.1.many in (
       (λ x. absurd (cc)),
-      (λ few. absurd (too_many c.args.members.now c.args.machine.now.component c.args.machine.now.matrix c.requires.settles v.0 c.loop-at.at v.2 (all_differ c.loop-at.nodes v.0 c.loop-at.at v.1 c.len.ensures.unique) (omega (arith, many, c.len.ensures.len)) s is few)),
+      (λ few. absurd (too_many c.args.members.now c.args.machine.now.component c.args.machine.now.matrix c.requires.settles v.0 c.loop-at.at v.2 c.args.most (all_differ c.args.members.now c.loop-at.nodes v.0 c.loop-at.at v.1 c.len.ensures.unique) (omega (arith, many, c.len.ensures.len)) s is few)),
     ))
 
 pub returns-in-None : goal.returns-in-None
 returns-in-None c = λ s is.
     (let v = c.loop-at.invariant.visited in
     let many = v.1.many in
-    let past : length v.0 ≤ c.loop-at.at = none_waits c.loop-at.nodes v.0 c.loop-at.at v.1 (sym c.loop-at.nodes.waiting.ok.0 ∙ c.in-None.ensures.cases.0) in
-    let few : length v.0 ≤ 262144 = omega (arith, many, c.len.ensures.len) in (
-      (λ x. few_nodes c.args.members.now c.args.machine.now.component c.args.machine.now.matrix c.requires.settles v.0 c.loop-at.at v.2 past few s is),
+    let past : length v.0 ≤ c.loop-at.at = none_waits c.args.members.now c.loop-at.nodes v.0 c.loop-at.at v.1 (sym c.loop-at.nodes.waiting.ok.0 ∙ c.in-None.ensures.cases.0) in
+    let few : length v.0 ≤ c.args.most = omega (arith, many, c.len.ensures.len) in (
+      (λ x. few_nodes c.args.members.now c.args.machine.now.component c.args.machine.now.matrix c.requires.settles v.0 c.loop-at.at v.2 c.args.most past few s is),
       (λ x. refl),
     ))
 
@@ -28,36 +28,30 @@ pub stand_at-requires : goal.stand_at-requires
 stand_at-requires c =
     let v = c.loop-at.invariant.visited in
     let popped : Nodes = record c.loop-at.nodes { waiting = c.pop_front.new.self } in
-    can_stand c.args.members.now c.args.machine.now.component c.args.machine.now.matrix c.requires.settles v.0 c.loop-at.at v.2
-    c.loop-at.machine c.loop-at.invariant.component c.loop-at.invariant.matrix_is c.in-Some.kept (stands_next c.loop-at.nodes v.0 c.loop-at.at v.1 popped c.in-Some.kept refl refl c.in-Some.ensures.items)
-
-pub add_next-requires-clause-many : goal.add_next-requires-clause-many
-add_next-requires-clause-many c =
-    let kept = c.in-Some.kept in
-    let v = c.loop-at.invariant.visited in
-    let popped : Nodes = record c.loop-at.nodes { waiting = c.pop_front.new.self } in
-    as_many c.args.members.now c.args.machine.now.component c.args.machine.now.matrix c.requires.settles v.0 c.loop-at.at v.2
-    c.loop-at.machine c.loop-at.invariant.component c.loop-at.invariant.matrix_is c.in-Some.kept (stands_next c.loop-at.nodes v.0 c.loop-at.at v.1 popped c.in-Some.kept refl refl c.in-Some.ensures.items)
-    kept.alive.items refl
-
-pub add_next-requires-clause-sized : goal.add_next-requires-clause-sized
-add_next-requires-clause-sized c =
-    let v = c.loop-at.invariant.visited in
-    let popped : Nodes = record c.loop-at.nodes { waiting = c.pop_front.new.self } in
-    sized_there c.loop-at.machine c.stand_at.new.self c.in-Some.kept
+    let one = next_there c.args.members.now c.loop-at.nodes v.0 c.loop-at.at v.1 popped c.in-Some.kept refl refl c.in-Some.ensures.items in
+    subst (CanStandAt c.loop-at.machine.component c.loop-at.machine.matrix) one.position
     (can_stand c.args.members.now c.args.machine.now.component c.args.machine.now.matrix c.requires.settles v.0 c.loop-at.at v.2
-    c.loop-at.machine c.loop-at.invariant.component c.loop-at.invariant.matrix_is c.in-Some.kept (stands_next c.loop-at.nodes v.0 c.loop-at.at v.1 popped c.in-Some.kept refl refl c.in-Some.ensures.items))
-    c.stand_at.ensures
+    c.loop-at.machine c.loop-at.invariant.component c.loop-at.invariant.matrix_is one.kept one.there)
+
+pub add_next-requires : goal.add_next-requires
+add_next-requires c =
+    let v = c.loop-at.invariant.visited in
+    let popped : Nodes = record c.loop-at.nodes { waiting = c.pop_front.new.self } in
+    let one = next_there c.args.members.now c.loop-at.nodes v.0 c.loop-at.at v.1 popped c.in-Some.kept refl refl c.in-Some.ensures.items in
+    sized_there c.loop-at.machine c.stand_at.new.self one.kept
+    (can_stand c.args.members.now c.args.machine.now.component c.args.machine.now.matrix c.requires.settles v.0 c.loop-at.at v.2
+    c.loop-at.machine c.loop-at.invariant.component c.loop-at.invariant.matrix_is one.kept one.there)
+    (c.stand_at.ensures ∙ ap (at_position c.loop-at.machine) (sym one.position))
 
 pub loop-at-preserved : goal.loop-at-preserved
 loop-at-preserved c =
     let v = c.loop-at.invariant.visited in
-    let kept = c.in-Some.kept in
     let popped : Nodes = record c.loop-at.nodes { waiting = c.pop_front.new.self } in
-    let here = stands_next c.loop-at.nodes v.0 c.loop-at.at v.1 popped kept refl refl c.in-Some.ensures.items in
-    let home : c.add_next.new.machine ≡ at_position c.loop-at.machine kept.position = c.in_ok-add_next.ensures.home ∙ c.stand_at.ensures in
-    let more = c.in_ok-add_next.ensures.next v.0 (c.loop-at.at + 1) (hold_popped c.loop-at.nodes v.0 c.loop-at.at v.1 popped kept refl refl c.in-Some.ensures.items)
-    (knows_kept c.loop-at.nodes v.0 c.loop-at.at v.1 popped kept refl refl c.in-Some.ensures.items kept.alive.items refl) in
+    let one = next_there c.args.members.now c.loop-at.nodes v.0 c.loop-at.at v.1 popped c.in-Some.kept refl refl c.in-Some.ensures.items in
+    let kept = one.kept in
+    let stood : c.stand_at.new.self ≡ at_position c.loop-at.machine kept.position = c.stand_at.ensures ∙ ap (at_position c.loop-at.machine) (sym one.position) in
+    let home : c.add_next.new.machine ≡ at_position c.loop-at.machine kept.position = c.in_ok-add_next.ensures.home ∙ stood in
+    let more = c.in_ok-add_next.ensures.next v.0 (c.loop-at.at + 1) kept.alive one.held one.knows in
     record {
       component = ap (λ (s : State). s.component) home ∙ c.loop-at.invariant.component;
       matrix_is = ap (λ (s : State). s.matrix) home ∙ c.loop-at.invariant.matrix_is;
@@ -65,13 +59,13 @@ loop-at-preserved c =
         more.list,
         more.hold,
         visited_next c.args.members.now c.args.machine.now.component c.args.machine.now.matrix c.requires.settles v.0 c.loop-at.at v.2
-            c.loop-at.machine c.loop-at.invariant.component c.loop-at.invariant.matrix_is kept here
-            c.stand_at.new.self kept.alive.items c.stand_at.ensures refl more.list more.grown,
+            c.loop-at.machine c.loop-at.invariant.component c.loop-at.invariant.matrix_is kept one.there
+            c.stand_at.new.self kept.alive stood refl more.list more.grown,
       );
     }
 
 pub returns : goal.returns
 returns c = λ s is.
     (let v = c.loop-at.invariant.visited in
-    many_or_few c.args.members.now c.args.machine.now.component c.args.machine.now.matrix c.requires.settles v.0 c.loop-at.at v.2
-    (all_differ c.loop-at.nodes v.0 c.loop-at.at v.1 c.len-2.ensures.unique) c.len-2.result (c.len-2.ensures.len ∙ v.1.many) (omega arith) s is)
+    many_or_few c.args.members.now c.args.machine.now.component c.args.machine.now.matrix c.requires.settles v.0 c.loop-at.at v.2 c.args.most
+    (all_differ c.args.members.now c.loop-at.nodes v.0 c.loop-at.at v.1 c.len-2.ensures.unique) c.len-2.result (c.len-2.ensures.len ∙ v.1.many) (omega arith) s is)

@@ -1,5 +1,5 @@
 use Rattle.std.proofs.Common.{arith, rules, ◌≡◌, ◌+◌, ◌≤◌, Bool, true, false, length, refl, sym, ◌∙◌, ap, subst}
-use Rattle.lu_machine.specs.Positions.{at_position}
+use Rattle.lu_machine.specs.Positions.{CanStandAt, at_position}
 use Rattle.lu_machine.specs.States.{State}
 use Rattle.lu_machine.proofs.Starting.{settled_start}
 use Rattle.lu_graph.specs.declared.holding.Nodes.{Nodes}
@@ -7,7 +7,7 @@ use Rattle.lu_graph.specs.Judging.{IsOneOf, JudgesGood}
 use Rattle.lu_graph.specs.Nodes.{HasFewNodes}
 use Rattle.lu_graph.specs.Visiting.{AreVisited}
 use Rattle.lu_graph.proofs.Visiting.{as_many, badly, can_stand, ends_well_there, from_here, from_there, one_there, searched_at, searched_first, searched_next, too_many, visited_first, visited_next}
-use Rattle.lu_graph.proofs.Waiting.{all_differ, hold_popped, knows_kept, none_waits, sized_there, stands_next}
+use Rattle.lu_graph.proofs.Waiting.{all_differ, next_there, none_waits, sized_there}
 use Rattle.lu_graph.proofs.exploring.search.Goals.{else-is_far-via-then-is_far+in_ok-are_few+else-not-branch, else-is_far-via-else-is_far}
 use Rattle.lu_graph.proofs.exploring.search.Goals as goal
 
@@ -33,8 +33,8 @@ loop-at-init c =
       moves = one_there members decl matrix settles c.args.machine.now c.requires.starts list start c.len.result many;
     }
 
-pub returns-then-known-gt-MOST_NODES : goal.returns-then-known-gt-MOST_NODES
-returns-then-known-gt-MOST_NODES c =
+pub returns-then-known-most : goal.returns-then-known-most
+returns-then-known-most c =
     let members = c.args.members.now in
     let decl = c.args.machine.now.component in
     let matrix = c.args.machine.now.matrix in
@@ -45,7 +45,7 @@ returns-then-known-gt-MOST_NODES c =
     let searched = c.loop-at.invariant.known.3 in
     let place = c.loop-at.at in
     let many = hold.many in
-    too_many members decl matrix settles list place visited (all_differ c.loop-at.nodes list place hold c.len-known.ensures.unique) (omega (arith, many, c.len-known.ensures.len))
+    too_many members decl matrix settles list place visited c.args.most (all_differ members c.loop-at.nodes list place hold c.len-known.ensures.unique) (omega (arith, many, c.len-known.ensures.len))
 
 differ : (b : Bool) → b ≡ false → b ≡ true → ⊥
 differ b p q = cc
@@ -62,8 +62,8 @@ returns-in-None c =
     let searched = c.loop-at.invariant.known.3 in
     let place = c.loop-at.at in
     let many = hold.many in
-    let past : length list ≤ place = none_waits c.loop-at.nodes list place hold (sym c.loop-at.nodes.waiting.ok.0 ∙ c.in-None.ensures.cases.0) in
-    ends_well_there members decl matrix settles list place visited past (omega (arith, many, c.len-known.ensures.len)) c.loop-at.level.moves c.loop-at.level.end searched
+    let past : length list ≤ place = none_waits members c.loop-at.nodes list place hold (sym c.loop-at.nodes.waiting.ok.0 ∙ c.in-None.ensures.cases.0) in
+    ends_well_there members decl matrix settles list place visited c.args.most past (omega (arith, many, c.len-known.ensures.len)) c.loop-at.level.moves c.loop-at.level.end searched
 
 pub stand_at-requires : goal.stand_at-requires
 stand_at-requires c =
@@ -77,11 +77,12 @@ stand_at-requires c =
     let searched = c.loop-at.invariant.known.3 in
     let place = c.loop-at.at in
     let many = hold.many in
-    let kept = c.in-Some.kept in
     let popped : Nodes = record c.loop-at.nodes { waiting = c.pop_front.new.self } in
-    let here = stands_next c.loop-at.nodes list place hold popped kept refl refl c.in-Some.ensures.items in
+    let one = next_there members c.loop-at.nodes list place hold popped c.in-Some.kept refl refl c.in-Some.ensures.items in
+    let kept = one.kept in
+    let here = one.there in
     let can = can_stand members decl matrix settles list place visited c.loop-at.machine c.loop-at.invariant.component c.loop-at.invariant.matrix_is kept here in
-    can
+    subst (CanStandAt c.loop-at.machine.component c.loop-at.machine.matrix) one.position can
 
 pub is_good-is_good-requires : goal.is_good-is_good-requires
 is_good-is_good-requires c =
@@ -95,14 +96,15 @@ is_good-is_good-requires c =
     let searched = c.loop-at.invariant.known.3 in
     let place = c.loop-at.at in
     let many = hold.many in
-    let kept = c.in-Some.kept in
     let popped : Nodes = record c.loop-at.nodes { waiting = c.pop_front.new.self } in
-    let here = stands_next c.loop-at.nodes list place hold popped kept refl refl c.in-Some.ensures.items in
+    let one = next_there members c.loop-at.nodes list place hold popped c.in-Some.kept refl refl c.in-Some.ensures.items in
+    let kept = one.kept in
+    let here = one.there in
     let can = can_stand members decl matrix settles list place visited c.loop-at.machine c.loop-at.invariant.component c.loop-at.invariant.matrix_is kept here in
-    as_many members decl matrix settles list place visited c.loop-at.machine c.loop-at.invariant.component c.loop-at.invariant.matrix_is kept here c.deref.result.now c.deref.ensures.value
+    as_many members decl matrix settles list place visited c.loop-at.machine c.loop-at.invariant.component c.loop-at.invariant.matrix_is kept here c.list.result.now (c.list.ensures kept.alive one.knows)
 
-pub add_next-requires-clause-many : goal.add_next-requires-clause-many
-add_next-requires-clause-many c =
+pub add_next-requires : goal.add_next-requires
+add_next-requires c =
     let members = c.args.members.now in
     let decl = c.args.machine.now.component in
     let matrix = c.args.machine.now.matrix in
@@ -113,29 +115,12 @@ add_next-requires-clause-many c =
     let searched = c.loop-at.invariant.known.3 in
     let place = c.loop-at.at in
     let many = hold.many in
-    let kept = c.in-Some.kept in
     let popped : Nodes = record c.loop-at.nodes { waiting = c.pop_front.new.self } in
-    let here = stands_next c.loop-at.nodes list place hold popped kept refl refl c.in-Some.ensures.items in
+    let one = next_there members c.loop-at.nodes list place hold popped c.in-Some.kept refl refl c.in-Some.ensures.items in
+    let kept = one.kept in
+    let here = one.there in
     let can = can_stand members decl matrix settles list place visited c.loop-at.machine c.loop-at.invariant.component c.loop-at.invariant.matrix_is kept here in
-    as_many members decl matrix settles list place visited c.loop-at.machine c.loop-at.invariant.component c.loop-at.invariant.matrix_is kept here kept.alive.items refl
-
-pub add_next-requires-clause-sized : goal.add_next-requires-clause-sized
-add_next-requires-clause-sized c =
-    let members = c.args.members.now in
-    let decl = c.args.machine.now.component in
-    let matrix = c.args.machine.now.matrix in
-    let settles = settled_start decl matrix c.args.machine.now c.requires.starts in
-    let list = c.loop-at.invariant.known.0 in
-    let hold = c.loop-at.invariant.known.1 in
-    let visited = c.loop-at.invariant.known.2 in
-    let searched = c.loop-at.invariant.known.3 in
-    let place = c.loop-at.at in
-    let many = hold.many in
-    let kept = c.in-Some.kept in
-    let popped : Nodes = record c.loop-at.nodes { waiting = c.pop_front.new.self } in
-    let here = stands_next c.loop-at.nodes list place hold popped kept refl refl c.in-Some.ensures.items in
-    let can = can_stand members decl matrix settles list place visited c.loop-at.machine c.loop-at.invariant.component c.loop-at.invariant.matrix_is kept here in
-    sized_there c.loop-at.machine c.stand_at.new.self kept can c.stand_at.ensures
+    sized_there c.loop-at.machine c.stand_at.new.self kept can (c.stand_at.ensures ∙ ap (at_position c.loop-at.machine) (sym one.position))
 
 pub are_few-requires-clause-visited : goal.are_few-requires-clause-visited
 are_few-requires-clause-visited c =
@@ -149,20 +134,21 @@ are_few-requires-clause-visited c =
     let searched = c.loop-at.invariant.known.3 in
     let place = c.loop-at.at in
     let many = hold.many in
-    let kept = c.in-Some.kept in
     let popped : Nodes = record c.loop-at.nodes { waiting = c.pop_front.new.self } in
-    let here = stands_next c.loop-at.nodes list place hold popped kept refl refl c.in-Some.ensures.items in
+    let one = next_there members c.loop-at.nodes list place hold popped c.in-Some.kept refl refl c.in-Some.ensures.items in
+    let kept = one.kept in
+    let here = one.there in
     let can = can_stand members decl matrix settles list place visited c.loop-at.machine c.loop-at.invariant.component c.loop-at.invariant.matrix_is kept here in
-    let home : c.add_next.new.machine ≡ at_position c.loop-at.machine kept.position = c.in_ok-add_next.ensures.home ∙ c.stand_at.ensures in
-    let alive = kept.alive.items in
-    let more = c.in_ok-add_next.ensures.next list (place + 1) (hold_popped c.loop-at.nodes list place hold popped kept refl refl c.in-Some.ensures.items)
-    (knows_kept c.loop-at.nodes list place hold popped kept refl refl c.in-Some.ensures.items alive refl) in (
+    let stood : c.stand_at.new.self ≡ at_position c.loop-at.machine kept.position = c.stand_at.ensures ∙ ap (at_position c.loop-at.machine) (sym one.position) in
+    let home : c.add_next.new.machine ≡ at_position c.loop-at.machine kept.position = c.in_ok-add_next.ensures.home ∙ stood in
+    let alive = kept.alive in
+    let more = c.in_ok-add_next.ensures.next list (place + 1) alive one.held one.knows in (
       more.list,
       more.hold,
       from_there members decl matrix settles list place visited c.loop-at.machine c.loop-at.invariant.component c.loop-at.invariant.matrix_is kept here c.add_next.new.machine alive home refl
           (λ s. AreVisited c.args.members.now s more.list (c.loop-at.at + 1))
           (visited_next members decl matrix settles list place visited c.loop-at.machine c.loop-at.invariant.component c.loop-at.invariant.matrix_is kept here
-          c.stand_at.new.self alive c.stand_at.ensures refl more.list more.grown),
+          c.stand_at.new.self alive stood refl more.list more.grown),
     )
 
 pub returns-then-not-branch : goal.returns-then-not-branch
@@ -177,17 +163,18 @@ returns-then-not-branch c =
     let searched = c.loop-at.invariant.known.3 in
     let place = c.loop-at.at in
     let many = hold.many in
-    let kept = c.in-Some.kept in
     let popped : Nodes = record c.loop-at.nodes { waiting = c.pop_front.new.self } in
-    let here = stands_next c.loop-at.nodes list place hold popped kept refl refl c.in-Some.ensures.items in
+    let one = next_there members c.loop-at.nodes list place hold popped c.in-Some.kept refl refl c.in-Some.ensures.items in
+    let kept = one.kept in
+    let here = one.there in
     let can = can_stand members decl matrix settles list place visited c.loop-at.machine c.loop-at.invariant.component c.loop-at.invariant.matrix_is kept here in
-    let home : c.add_next.new.machine ≡ at_position c.loop-at.machine kept.position = c.in_ok-add_next.ensures.home ∙ c.stand_at.ensures in
-    let alive = kept.alive.items in
-    let more = c.in_ok-add_next.ensures.next list (place + 1) (hold_popped c.loop-at.nodes list place hold popped kept refl refl c.in-Some.ensures.items)
-    (knows_kept c.loop-at.nodes list place hold popped kept refl refl c.in-Some.ensures.items alive refl) in
+    let stood : c.stand_at.new.self ≡ at_position c.loop-at.machine kept.position = c.stand_at.ensures ∙ ap (at_position c.loop-at.machine) (sym one.position) in
+    let home : c.add_next.new.machine ≡ at_position c.loop-at.machine kept.position = c.in_ok-add_next.ensures.home ∙ stood in
+    let alive = kept.alive in
+    let more = c.in_ok-add_next.ensures.next list (place + 1) alive one.held one.knows in
     let other : c.in_ok-are_few.field-0 ≡ false = search rules in
     let said = from_here members decl matrix settles list place visited c.loop-at.machine c.loop-at.invariant.component c.loop-at.invariant.matrix_is kept here c.add_next.new.machine alive home refl
-    (λ s. HasFewNodes (IsOneOf c.args.members.now) s 262144 → c.in_ok-are_few.field-0 ≡ true) (λ s is. (c.in_ok-are_few.ensures s is).1) in
+    (λ s. HasFewNodes (IsOneOf c.args.members.now) s c.args.most → c.in_ok-are_few.field-0 ≡ true) (λ s is. (c.in_ok-are_few.ensures s is).1) in
     λ s is few. absurd (differ c.in_ok-are_few.field-0 other (said s is few))
 
 pub returns-then-not-is_good : goal.returns-then-not-is_good
@@ -202,25 +189,26 @@ returns-then-not-is_good c =
     let searched = c.loop-at.invariant.known.3 in
     let place = c.loop-at.at in
     let many = hold.many in
-    let kept = c.in-Some.kept in
     let popped : Nodes = record c.loop-at.nodes { waiting = c.pop_front.new.self } in
-    let here = stands_next c.loop-at.nodes list place hold popped kept refl refl c.in-Some.ensures.items in
+    let one = next_there members c.loop-at.nodes list place hold popped c.in-Some.kept refl refl c.in-Some.ensures.items in
+    let kept = one.kept in
+    let here = one.there in
     let can = can_stand members decl matrix settles list place visited c.loop-at.machine c.loop-at.invariant.component c.loop-at.invariant.matrix_is kept here in
-    let home : c.add_next.new.machine ≡ at_position c.loop-at.machine kept.position = c.in_ok-add_next.ensures.home ∙ c.stand_at.ensures in
-    let alive = kept.alive.items in
-    let more = c.in_ok-add_next.ensures.next list (place + 1) (hold_popped c.loop-at.nodes list place hold popped kept refl refl c.in-Some.ensures.items)
-    (knows_kept c.loop-at.nodes list place hold popped kept refl refl c.in-Some.ensures.items alive refl) in
+    let stood : c.stand_at.new.self ≡ at_position c.loop-at.machine kept.position = c.stand_at.ensures ∙ ap (at_position c.loop-at.machine) (sym one.position) in
+    let home : c.add_next.new.machine ≡ at_position c.loop-at.machine kept.position = c.in_ok-add_next.ensures.home ∙ stood in
+    let alive = kept.alive in
+    let more = c.in_ok-add_next.ensures.next list (place + 1) alive one.held one.knows in
     let other : c.is_good-is_good.result ≡ false = search rules in
-    let judged = subst (λ bits. JudgesGood members c.stand_at.new.self bits c.is_good-is_good.result) c.deref.ensures.value c.is_good-is_good.ensures in
+    let judged = subst (λ bits. JudgesGood members c.stand_at.new.self bits c.is_good-is_good.result) (c.list.ensures alive one.knows) c.is_good-is_good.ensures in
     let level = searched_at members decl matrix settles list place visited c.loop-at.level c.at-level.result c.len-known.result (c.len-known.ensures.len ∙ many) searched c.loop-at.invariant.moves kept (sym here) c.at-level.ensures in
     λ s is. (
-      badly members decl matrix settles list place visited c.loop-at.machine c.loop-at.invariant.component c.loop-at.invariant.matrix_is kept here c.stand_at.new.self alive c.stand_at.ensures refl
+      badly members decl matrix settles list place visited c.loop-at.machine c.loop-at.invariant.component c.loop-at.invariant.matrix_is kept here c.stand_at.new.self alive stood refl
           c.at-level.result.moves c.at-level.result.end level.2 level.0 c.is_good-is_good.result other judged s is,
-      (λ far. elim c.else-is_far.branch as (λ _. HasFewNodes (IsOneOf c.args.members.now) s 262144) [
+      (λ far. elim c.else-is_far.branch as (λ _. HasFewNodes (IsOneOf c.args.members.now) s c.args.most) [
         | else-is_far-via-then-is_far+in_ok-are_few+else-not-branch w ↦
             (let few : w.in_ok-are_few.field-0 ≡ true = search rules in
             from_here members decl matrix settles list place visited c.loop-at.machine c.loop-at.invariant.component c.loop-at.invariant.matrix_is kept here c.add_next.new.machine alive home refl
-            (λ s. w.in_ok-are_few.field-0 ≡ true → HasFewNodes (IsOneOf c.args.members.now) s 262144) (λ s is. (w.in_ok-are_few.ensures s is).0) s is few)
+            (λ s. w.in_ok-are_few.field-0 ≡ true → HasFewNodes (IsOneOf c.args.members.now) s c.args.most) (λ s is. (w.in_ok-are_few.ensures s is).0) s is few)
         | else-is_far-via-else-is_far w ↦ absurd (let near = w.if-is_far.false in omega (arith, near, far, c.from.ensures))
       ]),
     )
@@ -237,15 +225,16 @@ loop-at-preserved c =
     let searched = c.loop-at.invariant.known.3 in
     let place = c.loop-at.at in
     let many = hold.many in
-    let kept = c.in-Some.kept in
     let popped : Nodes = record c.loop-at.nodes { waiting = c.pop_front.new.self } in
-    let here = stands_next c.loop-at.nodes list place hold popped kept refl refl c.in-Some.ensures.items in
+    let one = next_there members c.loop-at.nodes list place hold popped c.in-Some.kept refl refl c.in-Some.ensures.items in
+    let kept = one.kept in
+    let here = one.there in
     let can = can_stand members decl matrix settles list place visited c.loop-at.machine c.loop-at.invariant.component c.loop-at.invariant.matrix_is kept here in
-    let home : c.add_next.new.machine ≡ at_position c.loop-at.machine kept.position = c.in_ok-add_next.ensures.home ∙ c.stand_at.ensures in
-    let alive = kept.alive.items in
-    let more = c.in_ok-add_next.ensures.next list (place + 1) (hold_popped c.loop-at.nodes list place hold popped kept refl refl c.in-Some.ensures.items)
-    (knows_kept c.loop-at.nodes list place hold popped kept refl refl c.in-Some.ensures.items alive refl) in
-    let judged = subst (λ bits. JudgesGood members c.stand_at.new.self bits c.is_good-is_good.result) c.deref.ensures.value c.is_good-is_good.ensures in
+    let stood : c.stand_at.new.self ≡ at_position c.loop-at.machine kept.position = c.stand_at.ensures ∙ ap (at_position c.loop-at.machine) (sym one.position) in
+    let home : c.add_next.new.machine ≡ at_position c.loop-at.machine kept.position = c.in_ok-add_next.ensures.home ∙ stood in
+    let alive = kept.alive in
+    let more = c.in_ok-add_next.ensures.next list (place + 1) alive one.held one.knows in
+    let judged = subst (λ bits. JudgesGood members c.stand_at.new.self bits c.is_good-is_good.result) (c.list.ensures alive one.knows) c.is_good-is_good.ensures in
     let level = searched_at members decl matrix settles list place visited c.loop-at.level c.at-level.result c.len-known.result (c.len-known.ensures.len ∙ many) searched c.loop-at.invariant.moves kept (sym here) c.at-level.ensures in
     record {
       component = ap (λ (s : State). s.component) home ∙ c.loop-at.invariant.component;
@@ -254,15 +243,15 @@ loop-at-preserved c =
         more.list,
         more.hold,
         visited_next members decl matrix settles list place visited c.loop-at.machine c.loop-at.invariant.component c.loop-at.invariant.matrix_is kept here
-            c.stand_at.new.self alive c.stand_at.ensures refl more.list more.grown,
-        searched_next members decl matrix settles list place visited c.loop-at.machine c.loop-at.invariant.component c.loop-at.invariant.matrix_is kept here c.stand_at.new.self alive c.stand_at.ensures refl more.list more.grown
+            c.stand_at.new.self alive stood refl more.list more.grown,
+        searched_next members decl matrix settles list place visited c.loop-at.machine c.loop-at.invariant.component c.loop-at.invariant.matrix_is kept here c.stand_at.new.self alive stood refl more.list more.grown
             c.at-level.result.moves c.at-level.result.end level.2 level.0 c.is_good-is_good.result (search rules) judged,
       );
       moves = level.1;
     }
 
-pub returns-then-len-gt-MOST_NODES : goal.returns-then-len-gt-MOST_NODES
-returns-then-len-gt-MOST_NODES c =
+pub returns-then-len-most : goal.returns-then-len-most
+returns-then-len-most c =
     let members = c.args.members.now in
     let decl = c.args.machine.now.component in
     let matrix = c.args.machine.now.matrix in
@@ -273,7 +262,7 @@ returns-then-len-gt-MOST_NODES c =
     let searched = c.loop-at.invariant.known.3 in
     let place = c.loop-at.at in
     let many = hold.many in
-    too_many members decl matrix settles list place visited (all_differ c.loop-at.nodes list place hold c.len-2.ensures.unique) (omega (arith, many, c.len-2.ensures.len))
+    too_many members decl matrix settles list place visited c.args.most (all_differ members c.loop-at.nodes list place hold c.len-2.ensures.unique) (omega (arith, many, c.len-2.ensures.len))
 
 pub returns : goal.returns
 returns c =
@@ -287,4 +276,4 @@ returns c =
     let searched = c.loop-at.invariant.known.3 in
     let place = c.loop-at.at in
     let many = hold.many in
-    ends_well_there members decl matrix settles list place visited (omega (arith, many, c.len-2.ensures.len)) (omega (arith, many, c.len-2.ensures.len)) c.loop-at.level.moves c.loop-at.level.end searched
+    ends_well_there members decl matrix settles list place visited c.args.most (omega (arith, many, c.len-2.ensures.len)) (omega (arith, many, c.len-2.ensures.len)) c.loop-at.level.moves c.loop-at.level.end searched

@@ -1,5 +1,5 @@
 use Rattle.std.proofs.Common.{◌≡◌, ◌<◌, List}
-use Rattle.lu_graph.specs.declared.kept.Kept.{Kept}
+use Rattle.lu_graph.specs.Kept.{Kept}
 use Rattle.lu_graph.specs.Holding.{Hold}
 use Rattle.lu_graph.specs.Visiting.{AreVisitedFrom}
 use Rattle.lu_graph.proofs.Visiting.{AreSearchedFrom}
@@ -9,7 +9,7 @@ abbrev pub invariant-loop-at : goal.invariant-loop-at
 invariant-loop-at l = record {
   component : l.machine.component ≡ l.fn.machine.component;
   matrix_is : l.machine.matrix ≡ l.fn.machine.matrix;
-  known : (list : List Kept) × Hold l.nodes list l.at
+  known : (list : List Kept) × Hold l.members l.nodes list l.at
       × AreVisitedFrom l.members l.fn.machine.component l.fn.machine.matrix list l.at
       × AreSearchedFrom l.members l.fn.machine.component l.fn.machine.matrix list l.at l.level.moves l.level.end;
   moves : l.level.moves < l.level.end;

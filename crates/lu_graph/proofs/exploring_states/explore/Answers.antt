@@ -17,15 +17,15 @@ loop-at-init c = record {
   charts = charts_none c.args.component.now c.args.matrix.now c.requires.settles c.in_ok-machine.machine c.in_ok-machine.ensures.starts c.in_ok-found.found c.in_ok-found.ensures c.new-ended.result.items c.new-ended.ensures.items;
 }
 
-pub returns-then-len-gt-MOST_STATES : goal.returns-then-len-gt-MOST_STATES
-returns-then-len-gt-MOST_STATES c = λ s is.
-    (let more : 262144 < length c.loop-at.found.positions.keys = omega (arith, c.len.ensures.len) in
-    many_states c.args.component.now c.args.matrix.now c.requires.settles c.loop-at.found c.loop-at.at c.loop-at.ended.items c.loop-at.invariant.charts c.len.ensures.unique more s is)
+pub returns-then-len-most : goal.returns-then-len-most
+returns-then-len-most c = λ s is.
+    (let more : c.args.most < length c.loop-at.found.positions.keys = omega (arith, c.len.ensures.len) in
+    many_states c.args.component.now c.args.matrix.now c.requires.settles c.loop-at.found c.loop-at.at c.loop-at.ended.items c.loop-at.invariant.charts c.args.most c.len.ensures.unique more s is)
 
-pub returns-then-len-gt-MOST_STATES-2 : goal.returns-then-len-gt-MOST_STATES-2
-returns-then-len-gt-MOST_STATES-2 c = λ s is.
-    (let more : 262144 < length c.loop-at.found.positions.keys = omega (arith, c.len-2.ensures.len) in
-    many_states c.args.component.now c.args.matrix.now c.requires.settles c.loop-at.found c.loop-at.at c.loop-at.ended.items c.loop-at.invariant.charts c.len-2.ensures.unique more s is)
+pub returns-then-len-most-2 : goal.returns-then-len-most-2
+returns-then-len-most-2 c = λ s is.
+    (let more : c.args.most < length c.loop-at.found.positions.keys = omega (arith, c.len-2.ensures.len) in
+    many_states c.args.component.now c.args.matrix.now c.requires.settles c.loop-at.found c.loop-at.at c.loop-at.ended.items c.loop-at.invariant.charts c.args.most c.len-2.ensures.unique more s is)
 
 pub returns-in-None : goal.returns-in-None
 returns-in-None c = λ s is.
@@ -33,15 +33,15 @@ returns-in-None c = λ s is.
       | inl lt ↦ absurd (apart (c.in-None.ensures.found.1 lt))
       | inr le ↦ le
     ] in
-    let few : length c.loop-at.found.positions.keys ≤ 262144 = omega (arith, c.len.ensures.len) in
-    explored c.args.component.now c.args.matrix.now c.requires.settles c.loop-at.found c.loop-at.at c.loop-at.ended.items c.loop-at.invariant.charts
+    let few : length c.loop-at.found.positions.keys ≤ c.args.most = omega (arith, c.len.ensures.len) in
+    explored c.args.component.now c.args.matrix.now c.requires.settles c.loop-at.found c.loop-at.at c.loop-at.ended.items c.loop-at.invariant.charts c.args.most
     (record { found = c.loop-at.found; ended = c.loop-at.ended }) refl refl past few s is)
 
 pub returns : goal.returns
 returns c = λ s is.
-    (let few : length c.loop-at.found.positions.keys ≤ 262144 = omega (arith, c.len-2.ensures.len) in
+    (let few : length c.loop-at.found.positions.keys ≤ c.args.most = omega (arith, c.len-2.ensures.len) in
     let past : length c.loop-at.found.positions.keys ≤ c.loop-at.at = omega (arith, few) in
-    explored c.args.component.now c.args.matrix.now c.requires.settles c.loop-at.found c.loop-at.at c.loop-at.ended.items c.loop-at.invariant.charts
+    explored c.args.component.now c.args.matrix.now c.requires.settles c.loop-at.found c.loop-at.at c.loop-at.ended.items c.loop-at.invariant.charts c.args.most
     (record { found = c.loop-at.found; ended = c.loop-at.ended }) refl refl past few s is)
 
 pub stand_at-requires : goal.stand_at-requires

@@ -5,11 +5,11 @@ use Rattle.lu_graph.proofs.Found.{edges_within, found_by_path, none_found, place
 use Rattle.lu_graph.proofs.losing.first_lost.Goals as goal
 
 pub returns-in-None : goal.returns-in-None
-returns-in-None c = λ s is few u moves lost. (let none = subst (IsExplored s) c.in-None.is (c.in_ok-explore.ensures s is) in absurd (none few))
+returns-in-None c = λ s is few u moves lost. (let none = subst (IsExplored c.args.most s) c.in-None.is (c.in_ok-explore.ensures s is) in absurd (none few))
 
 pub mark_back-requires : goal.mark_back-requires
 mark_back-requires c =
-    edges_within c.args.component.now c.args.matrix.now c.requires.settles c.in-Some.graph (λ s is. subst (IsExplored s) c.in-Some.is (c.in_ok-explore.ensures s is))
+    edges_within c.args.component.now c.args.matrix.now c.requires.settles c.args.most c.in-Some.graph (λ s is. subst (IsExplored c.args.most s) c.in-Some.is (c.in_ok-explore.ensures s is))
     c.deref.result.now c.deref_mut.result.now c.deref.ensures.value c.deref_mut.ensures.value
 
 pub returns-in-None-first_unmarked : goal.returns-in-None-first_unmarked
@@ -18,7 +18,7 @@ returns-in-None-first_unmarked c =
     let whole : length c.in-Some.graph.ended.items ≡ c.in-Some.graph.ended.len = omega (arith, c.in-Some.graph.ended.ok.0) in
     let same : length c.mark_back.new.marks ≡ length c.in-Some.graph.ended.items = omega arith in
     let now = written c.in-Some.graph.ended.len c.deref-2.result.now c.mark_back.new.marks c.in-Some.graph.ended.items whole same c.deref-2.ensures.value in
-    none_found c.args.component.now c.args.matrix.now c.requires.settles c.in-Some.graph (λ s is. subst (IsExplored s) c.in-Some.is (c.in_ok-explore.ensures s is))
+    none_found c.args.component.now c.args.matrix.now c.requires.settles c.args.most c.in-Some.graph (λ s is. subst (IsExplored c.args.most s) c.in-Some.is (c.in_ok-explore.ensures s is))
     c.deref.result.now c.deref_mut.result.now c.mark_back.new.marks c.deref.ensures.value c.deref_mut.ensures.value size c.mark_back.ensures
     (subst (λ xs. None ≡ position not xs) now c.in-None-first_unmarked.ensures)
 
@@ -28,19 +28,19 @@ schedule_to-requires-clause-there c =
     let whole : length c.in-Some.graph.ended.items ≡ c.in-Some.graph.ended.len = omega (arith, c.in-Some.graph.ended.ok.0) in
     let same : length c.mark_back.new.marks ≡ length c.in-Some.graph.ended.items = omega arith in
     let now = written c.in-Some.graph.ended.len c.deref-2.result.now c.mark_back.new.marks c.in-Some.graph.ended.items whole same c.deref-2.ensures.value in
-    place_within c.args.component.now c.args.matrix.now c.requires.settles c.in-Some.graph (λ s is. subst (IsExplored s) c.in-Some.is (c.in_ok-explore.ensures s is))
+    place_within c.args.component.now c.args.matrix.now c.requires.settles c.args.most c.in-Some.graph (λ s is. subst (IsExplored c.args.most s) c.in-Some.is (c.in_ok-explore.ensures s is))
     c.deref.result.now c.deref_mut.result.now c.mark_back.new.marks c.deref.ensures.value c.deref_mut.ensures.value size c.mark_back.ensures
     c.in-Some-first_unmarked.place (subst (λ xs. Some c.in-Some-first_unmarked.place ≡ position not xs) now c.in-Some-first_unmarked.ensures)
     c.deref-in-Some-first_unmarked.result.now c.deref-in-Some-first_unmarked.ensures.value
 
 pub schedule_to-requires-clause-order : goal.schedule_to-requires-clause-order
 schedule_to-requires-clause-order c =
-    ways_ordered c.args.component.now c.args.matrix.now c.requires.settles c.in-Some.graph (λ s is. subst (IsExplored s) c.in-Some.is (c.in_ok-explore.ensures s is))
+    ways_ordered c.args.component.now c.args.matrix.now c.requires.settles c.args.most c.in-Some.graph (λ s is. subst (IsExplored c.args.most s) c.in-Some.is (c.in_ok-explore.ensures s is))
     c.deref-in-Some-first_unmarked.result.now c.deref-in-Some-first_unmarked.ensures.value
 
 pub schedule_to-requires-clause-moves : goal.schedule_to-requires-clause-moves
 schedule_to-requires-clause-moves c =
-    ways_move c.args.component.now c.args.matrix.now c.requires.settles c.in-Some.graph (λ s is. subst (IsExplored s) c.in-Some.is (c.in_ok-explore.ensures s is))
+    ways_move c.args.component.now c.args.matrix.now c.requires.settles c.args.most c.in-Some.graph (λ s is. subst (IsExplored c.args.most s) c.in-Some.is (c.in_ok-explore.ensures s is))
     c.deref-in-Some-first_unmarked.result.now c.deref-in-Some-first_unmarked.ensures.value
 
 pub returns : goal.returns
@@ -49,7 +49,7 @@ returns c =
     let whole : length c.in-Some.graph.ended.items ≡ c.in-Some.graph.ended.len = omega (arith, c.in-Some.graph.ended.ok.0) in
     let same : length c.mark_back.new.marks ≡ length c.in-Some.graph.ended.items = omega arith in
     let now = written c.in-Some.graph.ended.len c.deref-2.result.now c.mark_back.new.marks c.in-Some.graph.ended.items whole same c.deref-2.ensures.value in
-    found_by_path c.args.component.now c.args.matrix.now c.requires.settles c.in-Some.graph (λ s is. subst (IsExplored s) c.in-Some.is (c.in_ok-explore.ensures s is))
+    found_by_path c.args.component.now c.args.matrix.now c.requires.settles c.args.most c.in-Some.graph (λ s is. subst (IsExplored c.args.most s) c.in-Some.is (c.in_ok-explore.ensures s is))
     c.deref.result.now c.deref_mut.result.now c.mark_back.new.marks c.deref.ensures.value c.deref_mut.ensures.value size c.mark_back.ensures
     c.in-Some-first_unmarked.place (subst (λ xs. Some c.in-Some-first_unmarked.place ≡ position not xs) now c.in-Some-first_unmarked.ensures)
     c.deref-in-Some-first_unmarked.result.now c.deref-in-Some-first_unmarked.ensures.value c.schedule_to.result c.schedule_to.ensures

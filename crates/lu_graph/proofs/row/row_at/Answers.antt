@@ -1,7 +1,7 @@
 use Rattle.std.proofs.Common.{refl, ◌∙◌, subst}
 use Rattle.std.specs.Prelude.{nat_eq}
 use Rattle.std.specs.Option.{option_eq}
-use Rattle.lu_graph.specs.Rows.{IsNumber, is_list}
+use Rattle.lu_graph.specs.Numbered.{IsNumber, is_list}
 use Rattle.lu_graph.proofs.Numbers.{extends_none}
 use Rattle.lu_graph.proofs.row.row_at.Goals as goal
 
@@ -17,6 +17,7 @@ returns c = record {
     cells = c.in_ok-number_of_list.ensures.grows;
     locks = c.in_ok-number_of_list-2.ensures.grows;
     threads = c.in_ok-number_threads.ensures.grows;
-    alive = extends_none c.args.parts.now.alive.keys;
+    alive = extends_none c.args.parts.now.alive.lists.keys;
   };
+  same = refl;
 }

@@ -1,7 +1,7 @@
 use Rattle.std.proofs.Common.{arith, ◌≡◌, ◌+◌, Some, slice_get, length, sym, ◌∙◌, ap, subst}
 use Rattle.std.proofs.lemmas.Bool.{ltb-true}
 use Rattle.std.proofs.lemmas.Option.{slice_get-get_or}
-use Rattle.lu_graph.specs.Rows.{IsNumber}
+use Rattle.lu_graph.specs.Numbered.{IsNumber}
 use Rattle.lu_graph.proofs.Numbers.{number_there}
 use Rattle.lu_graph.proofs.tables.has_number.Goals as goal
 

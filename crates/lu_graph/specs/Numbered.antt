@@ -1,0 +1,18 @@
+-- Values with numbers, in tables that have each different one once.
+use Rattle.std.specs.Prelude.{◌≡◌, ℕ, ◌+◌, Bool, List, position, Some}
+use Rattle.std.specs.Global.{Vec}
+use lib.Pointwise.{pointwise}
+use Rattle.lu_graph.specs.Discovering.{Extends}
+
+-- n is the number of the first of the table that passes the test, from 1
+abbrev pub IsNumber : {A : Type 0} → (A → Bool) → List A → ℕ → Type 0
+IsNumber test table n = (place : ℕ) × (position test table ≡ Some place) × (n ≡ place + 1)
+
+-- so it is of the table as it has become, the old one with more behind it or nothing
+pub record IsNumbered {A : Type 0} (test : A → Bool) (old new : List A) (n : ℕ) : Type 0 where
+  pub number : IsNumber test new n
+  pub grows : Extends old new
+
+-- whether it is this list
+abbrev pub is_list : {A : Type 0} → (A → A → Bool) → List A → Vec A → Bool
+is_list eq xs v = pointwise eq xs v.items

@@ -1,0 +1,68 @@
+-- Which members are possible, as numbered lists; and what returns leave of them.
+use Rattle.std.specs.Prelude.{◌≡◌, ℕ, Bool, List, All, Option}
+use Rattle.std.specs.Bool.{beq}
+use Rattle.std.specs.Global.{Vec}
+use Rattle.std.specs.List.{slice_index}
+use Rattle.lu_machine.specs.declared.event.Event.{Event}
+use Rattle.lu_machine.specs.declared.event.Outcome.{Outcome}
+use Rattle.lu_machine.specs.States.{State}
+use Rattle.lu_history.specs.declared.operation.OpId.{OpId}
+use Rattle.lu_history.specs.declared.serial.SerialOp.{SerialOp}
+use Rattle.lu_graph.specs.declared.possibilities.Possibilities.{Possibilities}
+use Rattle.lu_graph.specs.declared.possibilities.ReturnAt.{ReturnAt}
+use Rattle.lu_graph.specs.Discovering.{Extends}
+use Rattle.lu_graph.specs.Judging.{Follows, StayTold, called}
+use Rattle.lu_graph.specs.Numbered.{IsNumber, is_list}
+
+-- n is the number of this list
+abbrev pub IsNumberOf : Possibilities → List Bool → ℕ → Type 0
+IsNumberOf possible alive n = IsNumber (is_list beq alive) possible.lists.keys n
+
+-- it is the list with this number, if there is one
+abbrev pub Gives : Possibilities → ℕ → List Bool → Type 0
+Gives possible n result = (alive : List Bool) → IsNumberOf possible alive n → result ≡ alive
+
+-- so many operations of each thread are called
+abbrev pub HaveCalls : State → List ℕ → Type 0
+HaveCalls s calls = (u : ℕ) → slice_index calls u ≡ called s u
+
+-- this is the number of what stays possible behind the return, wherever as many are called
+pub record IsLeft (members : List (Vec SerialOp)) (possible : Possibilities) (at : ReturnAt)
+    (n : ℕ) : Type 0 where
+  pub old : List Bool
+  pub new : List Bool
+  pub was : IsNumberOf possible old at.alive
+  pub is : IsNumberOf possible new n
+  pub stays : (s : State) → HaveCalls s at.calls
+      → StayTold s members at.operation at.outcome old new
+
+-- so it is of each return that is remembered
+abbrev pub AreLeft : List (Vec SerialOp) → Possibilities → Type 0
+AreLeft members possible =
+    All (λ entry. IsLeft members possible entry.0 entry.1) possible.returns.entries
+
+-- n is the number of such a list; more lists may have become known, and more returns
+pub record NumbersOne (Such : List Bool → Type 0) (members : List (Vec SerialOp))
+    (old new : Possibilities) (n : ℕ) : Type 0 where
+  pub list : List Bool
+  pub such : Such list
+  pub number : IsNumberOf new list n
+  pub grows : Extends old.lists.keys new.lists.keys
+  pub left : AreLeft members new
+
+-- so it is where `was` was the number of a list, and what was remembered is so
+abbrev pub Numbers : (List Bool → List Bool → Type 0) → List (Vec SerialOp) → ℕ → Possibilities
+    → Possibilities → ℕ → Type 0
+Numbers Such members was old new n =
+    (alive : List Bool) → IsNumberOf old alive was → AreLeft members old
+    → NumbersOne (Such alive) members old new n
+
+-- the number of what stays possible where a returns with this outcome
+abbrev pub NumbersStay : List (Vec SerialOp) → State → OpId → Outcome → ℕ → Possibilities
+    → Possibilities → ℕ → Type 0
+NumbersStay members s a outcome = Numbers (StayTold s members a outcome) members
+
+-- the number of what is possible behind the event, if there is one, that led to s
+abbrev pub NumbersAfter : List (Vec SerialOp) → State → Option Event → ℕ → Possibilities
+    → Possibilities → ℕ → Type 0
+NumbersAfter members s event = Numbers (λ alive. Follows members s alive event) members

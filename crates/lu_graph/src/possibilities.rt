@@ -1,0 +1,121 @@
+//! Which members are possible: each different list once, with what returns leave of it.
+
+ghost use Rattle.std.specs.Prelude.{◌≡◌, [], IfOk};
+ghost use Rattle.lu_graph.specs.Possibilities.{Gives, HaveCalls, NumbersAfter, NumbersStay};
+
+use crate::alive::still_alive;
+use crate::standing::called;
+use crate::tables::number_of_list;
+use indexmap::{IndexMap, IndexSet};
+use lu_history::{OpId, SerialOp};
+use lu_machine::{Event, Machine, Outcome};
+use std::alloc::{AllocError, Global};
+
+/// What tells which members stay possible behind a return: the number of the list of those that
+/// were, how many operations of each thread are called, which operation returns, and how.
+#[derive(Clone, Copy, PartialEq, Eq, Hash)]
+pub(crate) struct ReturnAt {
+    pub(crate) alive: u32,
+    pub(crate) calls: [u16; 8],
+    pub(crate) operation: OpId,
+    pub(crate) outcome: Outcome,
+}
+
+/// The lists of members that were possible, each different one once, with its number; and the
+/// numbers of what stayed possible behind the returns that were met.
+#[derive(Drop)]
+pub(crate) struct Possibilities {
+    pub(crate) lists: IndexSet<Vec<bool>>,
+    pub(crate) returns: IndexMap<ReturnAt, u32>,
+}
+
+impl Possibilities {
+    /// No lists, and no returns.
+    pub(crate) fn new(alloc: Global) -> Possibilities
+        ensures { result.returns.entries ≡ [] }
+    {
+        Possibilities {
+            lists: IndexSet::new(alloc),
+            returns: IndexMap::new(alloc),
+        }
+    }
+
+    /// The list with this number. What is no number has an empty one.
+    pub(crate) fn list(&self, number: u32) -> &[bool]
+        ensures { Gives self.now number result.now }
+    {
+        let Some(place) = number.checked_sub(1) else {
+            return &[];
+        };
+        match self.lists.as_slice().get(place as usize) {
+            None => &[],
+            Some(list) => list,
+        }
+    }
+}
+
+/// How many operations of each thread are called.
+fn calls_of(machine: &Machine<'_>) -> [u16; 8]
+    ensures { HaveCalls machine.now result }
+{
+    let mut calls = [0; 8];
+    for thread in 0..machine.threads() {
+        calls[usize::from(thread)] = called(machine, thread) as u16;
+    }
+    calls
+}
+
+/// The number of what stays possible where the operation returns with this outcome, and what has
+/// the number `was` was possible. It is looked up, and remembered where it was not there.
+fn number_behind(
+    alloc: Global,
+    machine: &Machine<'_>,
+    members: &[Vec<SerialOp>],
+    was: u32,
+    operation: OpId,
+    outcome: Outcome,
+    possible: &mut Possibilities,
+) -> Result<u32, AllocError>
+    ensures { IfOk result
+        (NumbersStay members.now machine.now operation outcome was possible.old possible.new) }
+{
+    let at = ReturnAt {
+        alive: was,
+        calls: calls_of(machine),
+        operation,
+        outcome,
+    };
+    if let Some(number) = possible.returns.get(&at) {
+        return Ok(*number);
+    }
+    let old = possible.list(was);
+    let now = still_alive(alloc, machine, members, old, operation, outcome)?;
+    let number = number_of_list(alloc, &mut possible.lists, &now, was)?;
+    possible.returns.insert(at, number)?;
+    Ok(number)
+}
+
+/// The number of what is possible behind the event, if there is one, by which the machine came
+/// where it stands, where before it what has the number `was` was possible.
+pub(crate) fn number_after(
+    alloc: Global,
+    machine: &Machine<'_>,
+    members: &[Vec<SerialOp>],
+    was: u32,
+    event: Option<Event>,
+    possible: &mut Possibilities,
+) -> Result<u32, AllocError>
+    ensures { IfOk result
+        (NumbersAfter members.now machine.now event was possible.old possible.new) }
+{
+    match event {
+        None => Ok(was),
+        Some(event) => match event {
+            Event::Call { .. } => Ok(was),
+            Event::Return { t, k, outcome } => {
+                let operation = OpId { t, k };
+                number_behind(alloc, machine, members, was, operation, outcome, possible)
+            }
+        },
+    }
+}
