@@ -104,7 +104,8 @@ jump_of (word ∷ words) = label_named (keyword_in word) words
 -- the label that a line jumps to, behind its own label or without one
 abbrev pub jump_on : List Word → Option Word
 jump_on [] = None
-jump_on (first ∷ words) = if is_some (label_in first) then jump_of words else jump_of (first ∷ words)
+jump_on (first ∷ words) =
+    if is_some (label_in first) then jump_of words else jump_of (first ∷ words)
 
 -- the labels to which the lines of a text's operations jump
 abbrev pub jumps_of : List ℕ → List (List (Option Word))
