@@ -13,27 +13,30 @@ use Rattle.lu_trace.specs.declared.wording.Wording.TheVariants as wording
 use Rattle.lu_cli.specs.declared.refusal.Refusal.{Refusal}
 use Rattle.lu_cli.specs.declared.texts.Fault.{Fault as TextsFault}
 use Rattle.lu_cli.specs.declared.texts.Fault.TheVariants as variant
-use Rattle.lu_cli.specs.declared.told.SourceWords.{SourceWords}
+use Rattle.lu_cli.specs.declared.told.Words.{Words}
+use Rattle.lu_cli.specs.declared.told.Words.TheVariants as told_by
 use Rattle.lu_cli.specs.declared.told.Told.{Told}
 use Rattle.lu_cli.specs.Compiling.{IsSourceRefusal}
 use Rattle.lu_cli.specs.Refusals.{Answered, refusal_answer, texts_answer}
 use Rattle.lu_cli.specs.Replies.{Answer, ToMatrix, ToSettled, ToTexts, ToTold}
-use Rattle.lu_cli.specs.Telling.{AreWordsIfAny, IsComponentOf, IsToldOf, IsToldRefusal, IsToldRefusalOfSource, IsTextsRefusal, IsWordingOf, TellsBy}
+use Rattle.lu_cli.specs.Telling.{AreTextWords, IsComponentOf, IsToldOf, IsToldRefusal, IsToldRefusalOfSource, IsTextsRefusal, IsWordingOf, TellsBy}
 use Rattle.lu_cli.specs.Texts.{AreSettled, IsFaultOfMatrix, IsSettledMatrix}
 use Rattle.lu_cli.proofs.Refuted.{answered_more, texts_refused}
 
 -- the words are those of the text
-wording_is : (text : List ℕ) (words : Option SourceWords) (how : Wording) → AreWordsIfAny text words → TellsBy words how → IsWordingOf text how
-wording_is text None wording.Component are by = are
-wording_is text None (wording.Source lines origins) are by = absurd by
-wording_is text (Some words) wording.Component are by = absurd by
-wording_is text (Some words) (wording.Source lines origins) are by =
+wording_is : (text : List ℕ) (told : Words) (how : Wording) → AreTextWords text told → TellsBy told how → IsWordingOf text how
+wording_is text (told_by.Labels labels) wording.Component are by = absurd by
+wording_is text (told_by.Labels labels) (wording.Labelled shown) are by = (are.0, by ∙ are.1)
+wording_is text (told_by.Labels labels) (wording.Source lines origins) are by = absurd by
+wording_is text (told_by.Source source) wording.Component are by = absurd by
+wording_is text (told_by.Source source) (wording.Labelled shown) are by = absurd by
+wording_is text (told_by.Source source) (wording.Source lines origins) are by =
     (are.0, ap texts by.0 ∙ are.1.0, subst (AreOrigins (lines_of text)) (sym by.1) are.1.1)
 
 -- what is said of the answer to a component, a matrix and the words in which it is told is said of that to their texts
-pub told_answered : (text matrix : List ℕ) (told : Told) (how : Wording) (IsAnswer : Wording → Declarations → Matrix → Answer → Type 0) → IsToldOf text matrix told → TellsBy told.source how → (result : Result Answer Refusal) → Answered (IsAnswer how told.component told.matrix) result → Answered (ToTold text matrix IsAnswer) result
+pub told_answered : (text matrix : List ℕ) (told : Told) (how : Wording) (IsAnswer : Wording → Declarations → Matrix → Answer → Type 0) → IsToldOf text matrix told → TellsBy told.words how → (result : Result Answer Refusal) → Answered (IsAnswer how told.component told.matrix) result → Answered (ToTold text matrix IsAnswer) result
 told_answered text matrix told how IsAnswer is by result answered =
-    let worded = wording_is text told.source how is.1 by in
+    let worded = wording_is text told.words how is.1 by in
     answered_more (IsAnswer how told.component told.matrix) (ToTold text matrix IsAnswer) (λ a h. go (is_source text) refl a (how, worded, h)) result answered
   where
     go : (b : Bool) → is_source text ≡ b → (a : Answer) → ((w : Wording) × IsWordingOf text w × IsAnswer w told.component told.matrix a) → ToTold text matrix IsAnswer a

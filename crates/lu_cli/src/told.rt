@@ -8,6 +8,7 @@ use crate::compiling::read_source;
 use crate::refusal::Refusal;
 use crate::texts::{matrix_of, read_texts};
 use lu_component::Component;
+use lu_lang::{Labels, labels_of};
 use lu_source::Origins;
 use lu_source_text::{is_source, source_origins};
 use lu_test::Matrix;
@@ -22,22 +23,32 @@ pub(crate) struct SourceWords<'a> {
     origins: Origins,
 }
 
-/// A component and a matrix of it, and the source of the component, where it has one.
+/// What a component is told by.
+#[derive(Drop)]
+pub(crate) enum Words<'a> {
+    /// The labels of its text.
+    Labels(Labels),
+
+    /// The source that it was compiled from.
+    Source(SourceWords<'a>),
+}
+
+/// A component and a matrix of it, and what the component is told by.
 #[derive(Drop)]
 pub(crate) struct Told<'a> {
     pub(crate) component: Component,
     pub(crate) matrix: Matrix,
-    source: Option<SourceWords<'a>>,
+    words: Words<'a>,
 }
 
 impl<'a> Told<'a> {
     /// How instructions of the component are told.
     pub(crate) fn wording(&self) -> Wording<'_>
-        ensures { TellsBy self.now.source result }
+        ensures { TellsBy self.now.words result }
     {
-        match &self.source {
-            None => Wording::Component,
-            Some(words) => Wording::Source {
+        match &self.words {
+            Words::Labels(labels) => Wording::Labelled(labels),
+            Words::Source(words) => Wording::Source {
                 lines: &words.lines,
                 origins: &words.origins,
             },
@@ -69,7 +80,7 @@ fn read_told_source<'a>(alloc: Global, source: &'a [u8], matrix: &[u8]) -> Resul
     Ok(Told {
         component,
         matrix,
-        source: Some(words),
+        words: Words::Source(words),
     })
 }
 
@@ -87,9 +98,10 @@ pub(crate) fn read_told<'a>(
         return read_told_source(alloc, component, matrix);
     }
     let case = read_texts(alloc, component, matrix)?;
+    let labels = labels_of(alloc, component)?;
     Ok(Told {
         component: case.component,
         matrix: case.matrix,
-        source: None,
+        words: Words::Labels(labels),
     })
 }
