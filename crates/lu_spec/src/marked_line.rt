@@ -14,7 +14,7 @@ use std::alloc::{AllocError, Global};
 
 /// A serial operation, and whether it has the mark, which leaves its outcome free.
 #[derive(Clone, Copy, Drop)]
-pub(crate) struct MarkedOp {
+pub struct MarkedOp {
     pub op: SerialOp,
     pub marked: bool,
 }
