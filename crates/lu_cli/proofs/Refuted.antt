@@ -16,13 +16,14 @@ use Rattle.lu_report.specs.Codes.{report_code_of}
 use Rattle.lu_report.specs.Forms.{IsFault}
 use Rattle.lu_spec.specs.declared.fault.SpecFaultKind.{SpecFaultKind}
 use Rattle.lu_spec.specs.Codes.{spec_code_of}
+use Rattle.lu_spec.specs.FreeSpecs.{IsGivenFault}
 use Rattle.lu_spec.specs.SpecText.{IsSpecFault}
 use Rattle.lu_refute.specs.Linearizable.{IsCounterexample}
 use Rattle.lu_cli.specs.declared.refusal.Refusal.{Refusal}
 use Rattle.lu_cli.specs.declared.texts.Fault.{Fault as TextsFault}
 use Rattle.lu_cli.specs.declared.texts.Fault.TheVariants as variant
 use Rattle.lu_cli.specs.Refusals.{Answered, SaysResult, line_answer, refusal_answer, texts_answer}
-use Rattle.lu_cli.specs.Replies.{Answer, ToReport, ToSpec, ToTexts}
+use Rattle.lu_cli.specs.Replies.{Answer, ToGiven, ToReport, ToSpec, ToTexts}
 use Rattle.lu_cli.specs.Texts.{AreSettled, IsFaultOfTexts}
 
 -- the calls of a cut are the component's
@@ -58,6 +59,10 @@ report_refused text Memory IsAnswer is = tt
 pub spec_refused : (matrix : Matrix) (text : List ℕ) (fault : Fault SpecFaultKind) (IsAnswer : List (List SerialOp) → Answer → Type 0) → IsSpecFault matrix text fault → IfSome (line_answer spec_code_of fault) (ToSpec matrix text IsAnswer)
 spec_refused matrix text (At kind n) IsAnswer is = inr (kind, n, is, refl)
 spec_refused matrix text Memory IsAnswer is = tt
+
+pub given_refused : (matrix : Matrix) (text : List ℕ) (fault : Fault SpecFaultKind) (IsAnswer : List (List SerialOp) → Answer → Type 0) → IsGivenFault matrix text fault → IfSome (line_answer spec_code_of fault) (ToGiven matrix text IsAnswer)
+given_refused matrix text (At kind n) IsAnswer is = inr (kind, n, is, refl)
+given_refused matrix text Memory IsAnswer is = tt
 
 -- what is said of the answer to a component and a matrix is said of that to their texts
 pub texts_answered : (component matrix : List ℕ) (c : Declarations) (m : Matrix) (IsAnswer : Declarations → Matrix → Answer → Type 0) → AreSettled component matrix c m → (result : Result Answer Refusal) → Answered (IsAnswer c m) result → Answered (ToTexts component matrix IsAnswer) result

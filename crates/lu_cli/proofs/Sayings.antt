@@ -87,7 +87,7 @@ use Rattle.lu_cli.specs.declared.order.Showing.{Showing}
 use Rattle.lu_cli.specs.declared.order.Showing.TheVariants.{Count as CountAlone, Schedules}
 use Rattle.lu_cli.specs.Bundle.{bundle_parts}
 use Rattle.lu_report.specs.Limits.{Limits}
-use Rattle.lu_cli.specs.Replies.{AloneOr, Answer, Answers, IsAnswerFrom, IsAnswerIn, IsAnswerOf, IsAnswerToAlike, IsAnswerToOrder, IsAnswerToPart, IsAnswerToTrial, IsByThreadAnswer, IsCampaignAgainstOf, IsCampaignAlike, IsCampaignBy, IsCampaignFrom, IsCertified, IsCertifiedPart, IsCertifiedReply, IsCheckAgainstFrom, IsCheckAgainstOf, IsChecked, IsCheckedAgainst, IsCollected, IsComparedAlike, IsComparedBy, IsComparedFrom, IsComparedPart, IsComparisonReply, IsCompileOf, IsConformOf, IsCountAnswer, IsDrawBehind, IsDrawn, IsExplainAgainstOf, IsExplainBehind, IsExplainOf, IsExplainedAgainst, IsExplainedText, IsJudgeAgainstOf, IsJudgeOf, IsJudgedAgainstTexts, IsJudgedSerially, IsJudgedTexts, IsRefuteOf, IsRefuted, IsRefutedBy, IsReplayed, IsRunSerially, IsShrinkAnswer, IsSliceReply, IsSpecOf, IsSurveyReply, IsSurveyedPart, IsTraceBehind, IsTraceFromSetupBehind, IsTraced, IsTracedFromSetup, IsTriedAll, IsTriedPart, ShowsCertificate, ShowsCertified, Tells, ToComponent, ToMatrix, ToParts, ToReport, ToSchedule, ToSettled, ToShown, ToSpec, ToTarget, ToTexts, ToTold, ToTrusted, ToValue, comparison_answer, found_answer, lists_of, no_command, no_device, no_memory, or_schedule, refused, reported, status_of, survey_status, two_texts, view_of, with_matrix, with_schedule}
+use Rattle.lu_cli.specs.Replies.{AloneOr, Answer, Answers, IsAnswerFrom, IsAnswerIn, IsAnswerOf, IsAnswerToAlike, IsAnswerToOrder, IsAnswerToPart, IsAnswerToTrial, IsByThreadAnswer, IsCampaignAgainstOf, IsCampaignAlike, IsCampaignBy, IsCampaignFrom, IsCertified, IsCertifiedPart, IsCertifiedReply, IsCheckAgainstFrom, IsCheckAgainstOf, IsChecked, IsCheckedAgainst, IsCollected, IsComparedAlike, IsComparedBy, IsComparedFrom, IsComparedPart, IsComparisonReply, IsCompileOf, IsConformOf, IsCountAnswer, IsDrawBehind, IsDrawn, IsExplainAgainstOf, IsExplainBehind, IsExplainOf, IsExplainedAgainst, IsExplainedText, IsJudgeAgainstOf, IsJudgeOf, IsJudgedAgainstTexts, IsJudgedSerially, IsJudgedTexts, IsRefuteOf, IsRefuted, IsRefutedBy, IsReplayed, IsRunSerially, IsShrinkAnswer, IsSliceReply, IsSpecOf, IsSurveyReply, IsSurveyedPart, IsTraceBehind, IsTraceFromSetupBehind, IsTraced, IsTracedFromSetup, IsTriedAll, IsTriedPart, ShowsCertificate, ShowsCertified, Tells, ToComponent, ToGiven, ToMatrix, ToParts, ToReport, ToSchedule, ToSettled, ToShown, ToSpec, ToTarget, ToTexts, ToTold, ToTrusted, ToValue, comparison_answer, found_answer, lists_of, no_command, no_device, no_memory, or_schedule, refused, reported, status_of, survey_status, two_texts, view_of, with_matrix, with_schedule}
 
 -- an answer that was made and said
 pub said : (IsAnswer : Answer → Type 0) (answer : Answer) (text : List ℕ) (old new : Option (List ℕ)) (status : ℕ) → IsAnswer answer → text ≡ answer.text → Appends old new text × (status ≡ answer.status) → Answers IsAnswer old new status
@@ -296,6 +296,10 @@ spec_else : (m : Matrix) (text : List ℕ) (IsAnswer : List (List SerialOp) → 
 spec_else m text IsAnswer answer h (inl is) = h is.0 is.2
 spec_else m text IsAnswer answer h (inr is) = refused_else (spec_code_of is.0 ++ codes " line " ++ decimal is.1) answer is.3
 
+given_else : (m : Matrix) (text : List ℕ) (IsAnswer : List (List SerialOp) → Answer → Type 0) (answer : Answer) → ((members : List (List SerialOp)) → IsAnswer members answer → IsElse answer) → ToGiven m text IsAnswer answer → IsElse answer
+given_else m text IsAnswer answer h (inl is) = h is.0 is.2
+given_else m text IsAnswer answer h (inr is) = refused_else (spec_code_of is.0 ++ codes " line " ++ decimal is.1) answer is.3
+
 refute_else : (c : Declarations) (m : Matrix) (report spec : List ℕ) (answer : Answer) → IsRefutedBy c m report spec answer → IsElse answer
 refute_else c m report spec answer is =
     report_else report (λ r. ToSpec m spec (IsRefuted c m r)) answer
@@ -305,7 +309,7 @@ spec_parts_else : (choice : Choice) (parts : List (List ℕ)) (answer : Answer) 
 spec_parts_else choice parts answer is =
     parts_else (exactly_three parts) (λ p. ToTexts p.0 p.1 (λ c m. IsCheckAgainstFrom c m choice p.2)) answer
     (λ p more. texts_else p.0 p.1 (λ c m. IsCheckAgainstFrom c m choice p.2) answer
-    (λ c m from. spec_else m p.2 (IsCheckedAgainst c m choice) answer (λ members last. against_else c m choice members answer last) from) more) is
+    (λ c m from. given_else m p.2 (IsCheckedAgainst c m choice) answer (λ members last. against_else c m choice members answer last) from) more) is
 
 four_else : (parts : List (List ℕ)) (answer : Answer) → IsRefuteOf parts answer → IsElse answer
 four_else parts answer is =
@@ -376,8 +380,8 @@ explain_against_else : (parts : List (List ℕ)) (answer : Answer) → IsExplain
 explain_against_else parts answer is =
     parts_else (exactly_four parts) (λ p. ToTold p.0 p.1 (λ how c m. IsExplainedAgainst how c m p.2 p.3)) answer
     (λ p more. told_else p.0 p.1 (λ how c m. IsExplainedAgainst how c m p.2 p.3) answer
-    (λ how c m from. target_else p.2 (λ t. ToSpec m p.3 (λ members. IsExplained (in_words Words how) members c m t)) answer
-    (λ t read. spec_else m p.3 (λ members. IsExplained (in_words Words how) members c m t) answer (λ members last. explanation_else (in_words Words how) members c m t answer last) read) from) more) is
+    (λ how c m from. target_else p.2 (λ t. ToGiven m p.3 (λ members. IsExplained (in_words Words how) members c m t)) answer
+    (λ t read. given_else m p.3 (λ members. IsExplained (in_words Words how) members c m t) answer (λ members last. explanation_else (in_words Words how) members c m t answer last) read) from) more) is
 
 found_else : (c : Declarations) (found : Campaign) (answer : Answer) → answer ≡ found_answer c found → IsElse answer
 found_else c (AllPass count) answer is = status_else answer 0 (ap (λ (a : Answer). a.status) is) (λ e. omega arith)
@@ -517,7 +521,7 @@ judge_against_else : (parts : List (List ℕ)) (answer : Answer) → IsJudgeAgai
 judge_against_else parts answer is =
     parts_else (four_parts parts) (λ p. ToTexts p.0 p.1 (λ c m. IsJudgedAgainstTexts c m p.2 p.3)) answer
     (λ p more. texts_else p.0 p.1 (λ c m. IsJudgedAgainstTexts c m p.2 p.3) answer
-    (λ c m from. spec_else m p.2 (λ members. ToRecorded m p.3 (IsJudgedBy members c m)) answer
+    (λ c m from. given_else m p.2 (λ members. ToRecorded m p.3 (IsJudgedBy members c m)) answer
     (λ members read. recorded_else m p.3 (IsJudgedBy members c m) answer (λ all last. judged_else members c m all answer last) read) from) more) is
 
 conformed_else : (c : Declarations) (m : Matrix) (showing : Showing) (all : List Recorded) (answer : Answer) → IsConformed c m showing all answer → IsElse answer

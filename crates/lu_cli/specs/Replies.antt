@@ -66,6 +66,7 @@ use Rattle.lu_spec.specs.declared.fault.SpecFaultKind.{SpecFaultKind}
 use Rattle.lu_spec.specs.Beginnings.{Has, IsClosureOf}
 use Rattle.lu_spec.specs.Codes.{spec_code_of}
 use Rattle.lu_spec.specs.Collecting.{IsCollectFault, IsCollectedAs}
+use Rattle.lu_spec.specs.FreeSpecs.{IsGivenAs, IsGivenFault}
 use Rattle.lu_spec.specs.Listed.{IsListing}
 use Rattle.lu_spec.specs.SpecText.{IsReadAs, IsSpecFault, spec_text}
 use Rattle.lu_refute.specs.Answers.{IsAnswer as IsRefutation, IsConfirmedFailure}
@@ -242,6 +243,13 @@ ToSpec matrix text IsAnswer answer =
     ⊎ ((kind : SpecFaultKind) × (n : ℕ) × IsSpecFault matrix text (At kind n)
     × (answer ≡ refused_on_line (spec_code_of kind) n))
 
+-- the answer to the text of a specification to be judged by, with marks or without
+abbrev pub ToGiven : Matrix → List ℕ → (List (List SerialOp) → Answer → Type 0) → Answer → Type 0
+ToGiven matrix text IsAnswer answer =
+    ((members : List (List SerialOp)) × IsGivenAs matrix text members × IsAnswer members answer)
+    ⊎ ((kind : SpecFaultKind) × (n : ℕ) × IsGivenFault matrix text (At kind n)
+    × (answer ≡ refused_on_line (spec_code_of kind) n))
+
 -- the specification that a person wrote, in its one spelling, or its fault with its line
 abbrev pub IsCollected : Matrix → List ℕ → Answer → Type 0
 IsCollected matrix text answer =
@@ -251,7 +259,7 @@ IsCollected matrix text answer =
 
 -- the specification is read, and then the matrix is checked against it
 abbrev pub IsCheckAgainstFrom : Declarations → Matrix → Choice → List ℕ → Answer → Type 0
-IsCheckAgainstFrom c matrix choice spec = ToSpec matrix spec (IsCheckedAgainst c matrix choice)
+IsCheckAgainstFrom c matrix choice spec = ToGiven matrix spec (IsCheckedAgainst c matrix choice)
 
 -- the report is read first, and then the specification
 abbrev pub IsRefutedBy : Declarations → Matrix → List ℕ → List ℕ → Answer → Type 0
@@ -264,7 +272,7 @@ IsJudgedTexts c matrix limits texts = ToRecorded matrix texts (IsJudgedSerially 
 -- the specification is read first, and then the recorded histories, which are judged by it
 abbrev pub IsJudgedAgainstTexts : Declarations → Matrix → List ℕ → List (List ℕ) → Answer → Type 0
 IsJudgedAgainstTexts c matrix spec texts =
-    ToSpec matrix spec (λ members. ToRecorded matrix texts (IsJudgedBy members c matrix))
+    ToGiven matrix spec (λ members. ToRecorded matrix texts (IsJudgedBy members c matrix))
 
 -- that is answered, or a refusal that is
 abbrev pub JudgesTexts : Declarations → Matrix → Limits → List (List ℕ) → Result Answer Refusal
@@ -348,7 +356,7 @@ IsExplainedText by limits c m text =
 -- the schedule or the report is read first, and then the specification
 abbrev pub IsExplainedAgainst : Wording → Declarations → Matrix → List ℕ → List ℕ → Answer → Type 0
 IsExplainedAgainst how c m text spec =
-    ToTarget text (λ t. ToSpec m spec (λ members. IsExplained (in_words Words how) members c m t))
+    ToTarget text (λ t. ToGiven m spec (λ members. IsExplained (in_words Words how) members c m t))
 
 -- ---- `campaign`
 

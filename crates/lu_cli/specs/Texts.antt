@@ -13,7 +13,7 @@ use Rattle.lu_replay.specs.Reports.{IsReport, IsReportAgainst}
 use Rattle.lu_report.specs.Text.{report_text}
 use Rattle.lu_parallel.specs.Ranges.{Choice}
 use Rattle.lu_parallel.specs.declared.fault.CheckFault.TheVariants.{Memory}
-use Rattle.lu_spec.specs.SpecText.{IsReadAs, IsSpecFault}
+use Rattle.lu_spec.specs.FreeSpecs.{IsGivenAs, IsGivenFault}
 use Rattle.lu_cli.specs.declared.texts.Fault.{Fault as TextsFault}
 use Rattle.lu_cli.specs.declared.texts.Fault.TheVariants.{Component, Matrix, Setup, Spec, Check}
 
@@ -80,7 +80,7 @@ IsCheckFault component matrix choice (Check fault) =
 -- the text lists histories of the matrix, and r is the one report against their set
 abbrev pub IsReportRead : Declarations → AMatrix → List ℕ → Choice → Parts → Type 0
 IsReportRead c m spec choice r =
-    (members : List (List SerialOp)) × IsReadAs m spec members
+    (members : List (List SerialOp)) × IsGivenAs m spec members
     × IsReportAgainst (IsMember members) c m choice.bound r
 
 -- the fault of the specification's text; of the check, want of memory, or a thread that could not
@@ -89,9 +89,9 @@ abbrev pub IsFaultAgainst : Declarations → AMatrix → List ℕ → Choice →
 IsFaultAgainst c m spec choice (Component fault) = ⊥
 IsFaultAgainst c m spec choice (Matrix fault) = ⊥
 IsFaultAgainst c m spec choice (Setup k) = ⊥
-IsFaultAgainst c m spec choice (Spec fault) = IsSpecFault m spec fault
+IsFaultAgainst c m spec choice (Spec fault) = IsGivenFault m spec fault
 IsFaultAgainst c m spec choice (Check fault) =
-    (members : List (List SerialOp)) × IsReadAs m spec members
+    (members : List (List SerialOp)) × IsGivenAs m spec members
     × (choice.workers ≡ 1 → fault ≡ Memory)
 
 -- the text of the one report of the component and the matrix of two texts against the specification

@@ -35,7 +35,7 @@ use lu_refute::refute;
 use lu_replay::{ReplayFault, replay, set_or_offence, write_replay};
 use lu_report::{Bounds, Finding, Report, read_report};
 use lu_serial::learn;
-use lu_spec::{Spec, collect_spec, read_spec};
+use lu_spec::{Spec, collect_spec, read_given_spec, read_spec};
 use lu_test::{Matrix, Schedule, read_schedule};
 use lu_text::{exactly_four, exactly_three, exactly_two};
 use lu_trace::{TraceFault, Wording, write_worded_trace, write_worded_trace_from_setup};
@@ -303,7 +303,7 @@ fn answer_check_against<X: AllocGlobal + Threads + Wait>(
     let (component, matrix, specification) = exactly_three(parts).ok_or(Refusal::Parts)?;
     let case = read_texts(rt.alloc(), component, matrix)?;
     let (component, matrix) = (&case.component, &case.matrix);
-    let specification = read_spec(rt.alloc(), matrix, specification)?;
+    let specification = read_given_spec(rt.alloc(), matrix, specification)?;
     let tree = specification.tree();
     let report = check_against(rt, rt.alloc(), &OpenGate, component, matrix, &tree, options)?;
     Ok(show_report(rt.alloc(), &report)?)
@@ -459,7 +459,7 @@ fn answer_check_against_alone(
     let (component, matrix, specification) = exactly_three(parts).ok_or(Refusal::Parts)?;
     let case = read_texts(alloc, component, matrix)?;
     let (component, matrix) = (&case.component, &case.matrix);
-    let specification = read_spec(alloc, matrix, specification)?;
+    let specification = read_given_spec(alloc, matrix, specification)?;
     let tree = specification.tree();
     let report = check_one_against(alloc, component, matrix, &tree, options.bound())?;
     Ok(show_report(alloc, &report)?)

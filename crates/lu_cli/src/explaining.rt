@@ -23,7 +23,7 @@ use lu_machine::Status;
 use lu_replay::{Replay, ReplayFault, replay, set_or_offence};
 use lu_report::{Bounds, Finding, MOST_MOVES, Report, read_report};
 use lu_serial::learn;
-use lu_spec::read_spec;
+use lu_spec::read_given_spec;
 use lu_test::{Matrix, Schedule, read_schedule, write_schedule};
 use lu_text::{exactly_four, exactly_two};
 use lu_trace::Wording;
@@ -413,7 +413,7 @@ fn explain_against(
     ensures { Answered (IsExplainedAgainst how.entry component.now matrix.now target.now spec.now) result }
 {
     let target = read_target(alloc, target)?;
-    let specification = read_spec(alloc, matrix, spec)?;
+    let specification = read_given_spec(alloc, matrix, spec)?;
     let tree = &specification.tree();
     let by = Presenting {
         by: Presentation::Words,

@@ -18,7 +18,7 @@ use lu_recorded::{Recorded, first_unwitnessed, read_all, write_reason_of, write_
 use lu_replay::set_or_offence;
 use lu_report::{Bounds, Finding, Report};
 use lu_serial::learn;
-use lu_spec::{Spec, read_spec};
+use lu_spec::{Spec, read_given_spec};
 use lu_test::Matrix;
 use lu_trie::SerialTree;
 use std::alloc::{AllocError, Global};
@@ -175,7 +175,7 @@ fn judge_texts_against(
     requires { CanRun component.now matrix.now }
     ensures { JudgesTextsAgainst component.now matrix.now spec.now (texts histories.now) result }
 {
-    let specification = read_spec(alloc, matrix, spec)?;
+    let specification = read_given_spec(alloc, matrix, spec)?;
     let all = read_all(alloc, matrix, histories)?;
     Ok(judge_by(alloc, component, matrix, &specification.tree(), &all)?)
 }

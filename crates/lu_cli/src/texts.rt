@@ -10,7 +10,7 @@ use lu_lang::{Component, LangFault, read_component};
 use lu_machine::settles;
 use lu_parallel::{CheckFault, OpenGate, Options, check, check_against};
 use lu_report::{Report, write_report};
-use lu_spec::{SpecFault, read_spec};
+use lu_spec::{SpecFault, read_given_spec};
 use lu_test::{Matrix, MatrixFault, read_matrix};
 use std::alloc::{AllocError, Global};
 use std::sync::Wait;
@@ -185,7 +185,7 @@ fn report_against<X: Threads + Wait>(
     ensures report { IfOk result (IsReportRead component.now matrix.now spec.now options) }
     ensures fault { IfErr result (IsFaultAgainst component.now matrix.now spec.now options) }
 {
-    let specification = read_spec(alloc, matrix, spec)?;
+    let specification = read_given_spec(alloc, matrix, spec)?;
     let tree = specification.tree();
     let report = check_against(rt, alloc, &OpenGate, component, matrix, &tree, options)?;
     Ok(report)

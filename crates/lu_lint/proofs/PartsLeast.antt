@@ -1,6 +1,6 @@
 -- Whatever is said of a bundle, of each of its parts the least fault is the reader's.
 use Rattle.std.proofs.Common.{◌≡◌, ℕ, ◌+◌, ◌<◌, ◌≤◌, inl, inr, true, false, Bool, cond, List, [], ◌∷◌, ◌++◌, append-nil, map, Option, Some, None, Result, Ok, Err, refl, sym, ap, subst, ◌∙◌, arith}
-use Rattle.std.specs.Prelude.{All, IsPermutation}
+use Rattle.std.specs.Prelude.{All, IsPermutation, MatchBool}
 use Rattle.std.specs.List.{filter_map}
 use Rattle.std.specs.List.Sorted.{IsStableByKey}
 use Rattle.std.specs.Ordering.{nat_cmp}
@@ -10,7 +10,7 @@ use Rattle.std.proofs.lemmas.List.Sorted.{All-permutation}
 use Rattle.lu_text.specs.declared.fault.Fault.{Fault as Refused}
 use Rattle.lu_text.specs.declared.fault.Fault.TheVariants.{At, Memory}
 use Rattle.lu_text.specs.Faults.{meaning_of}
-use Rattle.lu_text.specs.Lines.{kept_lines, lines_of}
+use Rattle.lu_text.specs.Lines.{kept_lines, lines_of, words_of}
 use Rattle.lu_component.specs.Component.{Declarations}
 use Rattle.lu_lang.proofs.Understood.{faulty_meaning}
 use Rattle.lu_lang.specs.declared.fault.LangFaultKind.{LangFaultKind}
@@ -30,8 +30,11 @@ use Rattle.lu_report.specs.Laws as reports
 use Rattle.lu_report.proofs.FormLines as form_lines
 use Rattle.lu_spec.specs.declared.fault.SpecLineFault.{SpecLineFault}
 use Rattle.lu_spec.specs.EveryFault as specification
-use Rattle.lu_spec.specs.Laws as specifications
-use Rattle.lu_spec.proofs.FaultLines as fault_lines
+use Rattle.lu_spec.specs.Collecting.{has_begun, listing_from, lists}
+use Rattle.lu_spec.specs.EveryFreeFault as free
+use Rattle.lu_spec.specs.FreeSpecs.{has_free_entries}
+use Rattle.lu_spec.specs.declared.marked_line.MarkedOp.{MarkedOp}
+use Rattle.lu_spec.proofs.FreeFaultLines.{given_told}
 use Rattle.lu_recorded.specs.declared.fault.RecordedFaultKind.{RecordedFaultKind}
 use Rattle.lu_recorded.specs.RecordedText.{recorded_grammar}
 use Rattle.lu_lint.specs.declared.remark.Said.{Said}
@@ -238,6 +241,26 @@ specs_rise m (first ∷ lines) faults h = subst (λ (fs : List SpecLineFault). R
         let one : f.line ≡ 1 = ap (λ (x : SpecLineFault). x.line) judged.1 in
         (omega arith, subst (λ (k : ℕ). Rise (k + 1) (map (λ f. f.line) h.1)) (sym one) later)
 
+-- of a text with marks
+free_rises : (m : Matrix) (begun : Bool) (n : ℕ) (gathered : List (List MarkedOp)) (lines : List (List ℕ)) (faults : List SpecLineFault) → free.AreFreeFaultsFrom m gathered (listing_from begun n lines) faults → Rise n (map (λ f. f.line) faults)
+free_rises m begun n gathered [] faults h = subst (λ (fs : List SpecLineFault). Rise n (map (λ f. f.line) fs)) (sym h) tt
+free_rises m begun n gathered (line ∷ lines) faults h = go (lists begun (words_of line)) (λ g fs told. free_rises m (has_begun begun (words_of line)) (n + 1) g lines fs told) h
+  where
+    one : (fault : Option SpecLineFault) (after : List (List MarkedOp)) (others : List SpecLineFault) → free.IsFreelyJudged m gathered (n, words_of line) fault after → Rise (n + 1) (map (λ f. f.line) others) → Rise n (map (λ f. f.line) (option_to_list fault ++ others))
+    one None after others judged later = rise_sooner n (n + 1) _ (omega arith) later
+    one (Some f) after others judged later = (omega (arith, judged.0), subst (λ (k : ℕ). Rise (k + 1) (map (λ f. f.line) others)) (sym judged.0) later)
+
+    go : (b : Bool) → ((g : List (List MarkedOp)) (fs : List SpecLineFault) → free.AreFreeFaultsFrom m g (listing_from (has_begun begun (words_of line)) (n + 1) lines) fs → Rise (n + 1) (map (λ f. f.line) fs)) → free.AreFreeFaultsFrom m gathered ((cond b ((n, words_of line) ∷ []) []) ++ listing_from (has_begun begun (words_of line)) (n + 1) lines) faults → Rise n (map (λ f. f.line) faults)
+    go false later told = rise_sooner n (n + 1) _ (omega arith) (later gathered faults told)
+    go true later told = subst (λ (fs : List SpecLineFault). Rise n (map (λ f. f.line) fs)) (sym told.5) (one told.0 told.1 told.2 told.3 (later told.1 told.2 told.4))
+
+given_rise : (m : Matrix) (text : List ℕ) (faults : List SpecLineFault) → free.AreGivenFaults m text faults → Rise 1 (map (λ f. f.line) faults)
+given_rise m text faults are = go (has_free_entries text) are
+  where
+    go : (b : Bool) → MatchBool b (free.AreFreeFaults m text faults) (specification.AreSpecFaults m text faults) → Rise 1 (map (λ f. f.line) faults)
+    go true told = free_rises m false 1 [] (lines_of text) faults told
+    go false told = specs_rise m (kept_lines text) faults told
+
 missing_rises : (n : ℕ) (wanted : Option LineForm) → Rise n (map (λ (f : ReportLineFault). f.line) (report.missing n wanted))
 missing_rises n None = tt
 missing_rises n (Some form.End) = tt
@@ -286,9 +309,9 @@ matrix_here c above text =
     (λ kind n e. all_behind (matrix_lint c None) Same (matrix_beside c) [] 1 (matrix_lint c None).grammar.nothing (lines_of text) kind n e)
 
 specification_here : (m : Matrix) (above : ℕ) (text : List ℕ) (said : List Said) → SpecificationSaid m above text said → SpecificationLeast (Some m) text said
-specification_here m above text said h = subst (SpecificationLeast (Some m) text) (sym h.2) (go h.0 (fault_lines.told_as_read m text h.0 h.1) (specs_rise m (kept_lines text) h.0 h.1))
+specification_here m above text said h = subst (SpecificationLeast (Some m) text) (sym h.2) (go h.0 (given_told m text h.0 h.1) (given_rise m text h.0 h.1))
   where
-    go : (faults : List SpecLineFault) → specifications.IsToldAsRead m text faults → Rise 1 (map (λ f. f.line) faults) → SpecificationLeast (Some m) text (map (specification_said above) faults)
+    go : (faults : List SpecLineFault) → free.IsGivenToldAsRead m text faults → Rise 1 (map (λ f. f.line) faults) → SpecificationLeast (Some m) text (map (specification_said above) faults)
     go [] told rise = inl (told, All-nil (λ s. specification_fault s.cause ≡ None))
     go (first ∷ others) told rise = inr (first.kind, first.line, told, least_of_rising (λ (f : SpecLineFault). f.line) (λ (f : SpecLineFault). f.kind) specification_fault part.Specification (λ k n. refl) above 1 first others rise)
 

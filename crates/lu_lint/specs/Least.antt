@@ -15,12 +15,12 @@ use Rattle.lu_test.specs.declared.schedule_fault.ScheduleFault.{ScheduleFault}
 use Rattle.lu_test.specs.Matrix.{Matrix}
 use Rattle.lu_test.specs.MatrixText.{matrix_grammar}
 use Rattle.lu_test.specs.ScheduleText.{schedule_of}
-use Rattle.lu_history.specs.declared.serial.SerialOp.{SerialOp}
 use Rattle.lu_report.specs.declared.fault.ReportFaultKind.{ReportFaultKind}
 use Rattle.lu_report.specs.declared.report.Report.{Report as Reported}
 use Rattle.lu_report.specs.Forms.{IsFault, Spells}
 use Rattle.lu_spec.specs.declared.fault.SpecFaultKind.{SpecFaultKind}
-use Rattle.lu_spec.specs.SpecText.{AreListed, IsSpecFault, spec_text}
+use Rattle.lu_spec.specs.EveryFreeFault.{ListsGiven}
+use Rattle.lu_spec.specs.FreeSpecs.{IsGivenFault}
 use Rattle.lu_lint.specs.declared.remark.Said.{Said}
 use Rattle.lu_lint.specs.declared.remark.Cause.{Cause}
 use Rattle.lu_lint.specs.declared.remark.Cause.TheVariants.{Fault}
@@ -114,17 +114,12 @@ MatrixLeast None text said = Unit {0}
 MatrixLeast (Some c) text said =
     LeastIsReaders matrix_fault Same (meaning_of (matrix_grammar c) text) said
 
--- the text lists histories of the matrix
-abbrev pub IsSpecification : Matrix → List ℕ → Type 0
-IsSpecification matrix text =
-    (listed : List (List SerialOp)) × AreListed matrix listed × (text ≡ spec_text listed)
-
 -- where the matrix is read
 abbrev pub SpecificationLeast : Option Matrix → List ℕ → List Said → Type 0
 SpecificationLeast None text said = Unit {0}
 SpecificationLeast (Some matrix) text said =
-    ReadsOrLeast specification_fault (IsSpecification matrix text)
-    (λ kind n. IsSpecFault matrix text (At kind n)) said
+    ReadsOrLeast specification_fault (ListsGiven matrix text)
+    (λ kind n. IsGivenFault matrix text (At kind n)) said
 
 abbrev pub ReportLeast : List ℕ → List Said → Type 0
 ReportLeast text said =

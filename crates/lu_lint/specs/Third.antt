@@ -13,7 +13,7 @@ use Rattle.lu_report.specs.declared.fault.ReportFaultKind.TheVariants.{Form}
 use Rattle.lu_report.specs.declared.faults.ReportLineFault.{ReportLineFault}
 use Rattle.lu_report.specs.EveryLine.{AreReportFaults}
 use Rattle.lu_spec.specs.declared.fault.SpecLineFault.{SpecLineFault}
-use Rattle.lu_spec.specs.EveryFault.{AreSpecFaults}
+use Rattle.lu_spec.specs.EveryFreeFault.{AreGivenFaults}
 use Rattle.lu_recorded.specs.declared.fault.RecordedFaultKind.{RecordedFaultKind}
 use Rattle.lu_recorded.specs.RecordedText.{recorded_grammar}
 use Rattle.lu_lint.specs.declared.remark.Said.{Said}
@@ -63,7 +63,7 @@ specification_said above fault =
 -- what is said of a specification of a matrix: each of its faults
 abbrev pub SpecificationSaid : Matrix → ℕ → List ℕ → List Said → Type 0
 SpecificationSaid matrix above text said =
-    (faults : List SpecLineFault) × AreSpecFaults matrix text faults
+    (faults : List SpecLineFault) × AreGivenFaults matrix text faults
     × (said ≡ map (specification_said above) faults)
 
 -- where there is no matrix, nothing is said

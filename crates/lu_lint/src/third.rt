@@ -14,7 +14,7 @@ use crate::remark::{Cause, FaultKind, Remark, Said, line_below, with_remark};
 use crate::schedule::with_schedule;
 use crate::third_wording::{report_wording, specification_wording};
 use lu_report::{ReportFaultKind, ReportLineFault, report_faults};
-use lu_spec::{SpecLineFault, spec_faults};
+use lu_spec::{SpecLineFault, given_spec_faults, has_free_entries};
 use lu_test::Matrix;
 use lu_text::{lines_of, words_of};
 use std::alloc::{AllocError, Global};
@@ -143,19 +143,21 @@ fn specification_said(above: usize, fault: &SpecLineFault) -> Said
     }
 }
 
-/// The remarks with those on these faults of a specification of this matrix, of these lines.
+/// The remarks with those on these faults of a specification of this matrix, of these lines, which
+/// leaves outcomes free or not.
 fn with_specification_faults(
     alloc: Global,
     mut all: Vec<Remark>,
     matrix: &Matrix,
     above: usize,
+    free: bool,
     lines: &[&[u8]],
     faults: &[SpecLineFault],
 ) -> Result<Vec<Remark>, AllocError>
     ensures { SaysAlso result all (map (spec.specification_said above) faults.now) }
 {
     for fault in faults {
-        let words = specification_wording(alloc, matrix, fault, line_of(lines, fault.line))?;
+        let words = specification_wording(alloc, matrix, free, fault, line_of(lines, fault.line))?;
         all = with_remark(all, specification_said(above, fault), words)?;
     }
     Ok(all)
@@ -172,8 +174,9 @@ fn with_specification(
     ensures { SaysSuch result all (SpecificationSaid matrix.now above text.now) }
 {
     let lines = kept_in(alloc, text)?;
-    let faults = spec_faults(alloc, matrix, text)?;
-    let all = with_specification_faults(alloc, all, matrix, above, &lines, &faults)?;
+    let free = has_free_entries(alloc, text)?;
+    let faults = given_spec_faults(alloc, matrix, text)?;
+    let all = with_specification_faults(alloc, all, matrix, above, free, &lines, &faults)?;
     Ok(all)
 }
 

@@ -4,7 +4,7 @@ use crate::wording::shown;
 use lu_report::{LineForm, ReportLineFault};
 use lu_spec::{SpecFaultKind, SpecLineFault};
 use lu_test::{Matrix, ScheduleFault};
-use lu_text::{is_number, number_up_to, place_of};
+use lu_text::{is_number, number_up_to, place_of, words_of};
 use std::alloc::{AllocError, Global};
 
 /// A word as text where that is short and can be printed, and else this.
@@ -242,13 +242,82 @@ fn history_wording(alloc: Global, line: &[u8]) -> Result<String, AllocError> {
     }
 }
 
-/// The words for a fault of a specification of this matrix, on this line.
+/// Whether this is an entry of a history, with a mark or without.
+fn is_marked_entry(entry: &[u8]) -> bool {
+    match entry.strip_suffix(b"?") {
+        Some(entry) => is_entry(entry),
+        None => is_entry(entry),
+    }
+}
+
+/// The words for entries that are those of no history.
+fn marked_entries_wording(alloc: Global, entries: &[&[u8]]) -> Result<String, AllocError> {
+    for entry in entries {
+        if !is_marked_entry(entry) {
+            let entry = printed(entry, "this");
+            return format!(in alloc;
+                "{entry} is no entry; one is t=n, t=trap or t=stuck, with `?` behind it or without, t a thread from 0 to 7, n at most 4294967295"
+            );
+        }
+    }
+    let count = entries.len();
+    if count > 16 {
+        return format!(in alloc; "a history has at most 16 entries, and here are {count}");
+    }
+    String::from_str(alloc, "a history has an entry, and stuck stands last alone")
+}
+
+/// The words for a line that lists no history, where entries may have marks.
+fn marked_history_wording(alloc: Global, line: &[u8]) -> Result<String, AllocError> {
+    let words = words_of(alloc, line.strip_suffix(b"\n").unwrap_or(line))?;
+    match words.split_first() {
+        Some((first, entries)) if *first == b"history".as_slice() => {
+            marked_entries_wording(alloc, entries)
+        }
+        _ => String::from_str(
+            alloc,
+            "a line of a specification is `history`, and its entries",
+        ),
+    }
+}
+
+/// The words for a fault of a specification of this matrix that leaves outcomes free, on this line.
+fn free_wording(
+    alloc: Global,
+    matrix: &Matrix,
+    kind: SpecFaultKind,
+    line: &[u8],
+) -> Result<String, AllocError> {
+    match kind {
+        SpecFaultKind::Form => marked_history_wording(alloc, line),
+        SpecFaultKind::Foreign => foreign_wording(alloc, matrix),
+        SpecFaultKind::Nondeterministic => String::from_str(
+            alloc,
+            "as a line before up to some entry, and there the same thread ends otherwise, and neither entry has the mark `?`",
+        ),
+    }
+}
+
+/// The words for a history that the matrix does not have.
+fn foreign_wording(alloc: Global, matrix: &Matrix) -> Result<String, AllocError> {
+    let threads = matrix.threads();
+    format!(in alloc;
+        "an entry of a thread that has no such call; the matrix has {threads} threads, numbered from 0, and a thread has as many entries as calls at most"
+    )
+}
+
+/// The words for a fault of a specification of this matrix, on this line, where it leaves outcomes
+/// free or not.
 pub(crate) fn specification_wording(
     alloc: Global,
     matrix: &Matrix,
+    free: bool,
     fault: &SpecLineFault,
     line: Option<&[u8]>,
 ) -> Result<String, AllocError> {
+    if free {
+        return free_wording(alloc, matrix, fault.kind, line.unwrap_or(b""));
+    }
     match fault.kind {
         SpecFaultKind::Form => {
             if fault.line == 1 {
@@ -259,12 +328,7 @@ pub(crate) fn specification_wording(
                 Some(line) => history_wording(alloc, line),
             }
         }
-        SpecFaultKind::Foreign => {
-            let threads = matrix.threads();
-            format!(in alloc;
-                "an entry of a thread that has no such call; the matrix has {threads} threads, numbered from 0, and a thread has as many entries as calls at most"
-            )
-        }
+        SpecFaultKind::Foreign => foreign_wording(alloc, matrix),
         SpecFaultKind::Nondeterministic => String::from_str(
             alloc,
             "as a line before up to some entry, and there the same thread ends otherwise",

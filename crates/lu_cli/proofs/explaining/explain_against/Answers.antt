@@ -6,15 +6,15 @@ use Rattle.lu_cli.specs.declared.explaining.Presentation.TheVariants.{Words}
 use Rattle.lu_cli.specs.Explaining.{IsExplained}
 use Rattle.lu_cli.specs.Failing.{in_words}
 use Rattle.lu_cli.specs.Refusals.{line_answer}
-use Rattle.lu_cli.specs.Replies.{IsExplainedAgainst, ToSpec}
+use Rattle.lu_cli.specs.Replies.{IsExplainedAgainst, ToGiven}
 use Rattle.lu_cli.proofs.Explained.{target_answered, target_refused}
-use Rattle.lu_cli.proofs.Refuted.{spec_refused}
+use Rattle.lu_cli.proofs.Refuted.{given_refused}
 use Rattle.lu_cli.proofs.explaining.explain_against.Goals as goal
 
 pub returns-in_err-target : goal.returns-in_err-target
 returns-in_err-target c =
     let p = err_from_is_err_and c.from_residual.result c.from_residual.ensures.1 in
-    rw (p.1, p.2) (target_refused c.args.target.now (λ t. ToSpec c.args.matrix.now c.args.spec.now (λ members. IsExplained (in_words Words c.args.how) members c.args.component.now c.args.matrix.now t)) c.in_err-target.field-0.0 c.in_err-target.ensures.refused)
+    rw (p.1, p.2) (target_refused c.args.target.now (λ t. ToGiven c.args.matrix.now c.args.spec.now (λ members. IsExplained (in_words Words c.args.how) members c.args.component.now c.args.matrix.now t)) c.in_err-target.field-0.0 c.in_err-target.ensures.refused)
 
 pub returns-in_err-specification : goal.returns-in_err-specification
 returns-in_err-specification c =
@@ -24,10 +24,10 @@ returns-in_err-specification c =
     let text = c.args.spec.now in
     let fault = c.in_err-specification.field-0.0 in
     let t = c.in_ok-target.target in
-    let refused = spec_refused matrix text fault (λ members. IsExplained (in_words Words c.args.how) members component matrix t) c.in_err-specification.ensures.fault in
+    let refused = given_refused matrix text fault (λ members. IsExplained (in_words Words c.args.how) members component matrix t) c.in_err-specification.ensures.fault in
     rw (p.1, p.2)
     (IfSome_then (line_answer spec_code_of fault) {Q = IsExplainedAgainst c.args.how component matrix c.args.target.now text} refused
-    (λ a is. target_answered c.args.target.now (λ x. ToSpec matrix text (λ members. IsExplained (in_words Words c.args.how) members component matrix x)) t c.in_ok-target.ensures.read a is))
+    (λ a is. target_answered c.args.target.now (λ x. ToGiven matrix text (λ members. IsExplained (in_words Words c.args.how) members component matrix x)) t c.in_ok-target.ensures.read a is))
 
 pub returns : goal.returns
 returns c =
@@ -35,5 +35,5 @@ returns c =
     let matrix = c.args.matrix.now in
     let text = c.args.spec.now in
     let t = c.in_ok-target.target in
-    target_answered c.args.target.now (λ x. ToSpec matrix text (λ members. IsExplained (in_words Words c.args.how) members component matrix x)) t c.in_ok-target.ensures.read c.in_ok-explain.field-0
+    target_answered c.args.target.now (λ x. ToGiven matrix text (λ members. IsExplained (in_words Words c.args.how) members component matrix x)) t c.in_ok-target.ensures.read c.in_ok-explain.field-0
     (inl (c.in_ok-specification.specification, c.in_ok-specification.ensures.read, subst (λ members. IsExplained (in_words Words c.args.how) members component matrix t c.in_ok-explain.field-0) c.tree.ensures.set c.in_ok-explain.ensures))

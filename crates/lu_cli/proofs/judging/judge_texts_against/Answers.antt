@@ -8,14 +8,14 @@ use Rattle.lu_cli.specs.Judging.{IsJudgedBy, ToRecorded}
 use Rattle.lu_cli.specs.Refusals.{history_answer}
 use Rattle.lu_cli.specs.Replies.{IsJudgedAgainstTexts}
 use Rattle.lu_cli.proofs.Judged.{recorded_refused}
-use Rattle.lu_cli.proofs.Refuted.{spec_refused}
+use Rattle.lu_cli.proofs.Refuted.{given_refused}
 use Rattle.lu_cli.proofs.judging.judge_texts_against.Goals as goal
 
 pub returns-in_err-specification : goal.returns-in_err-specification
 returns-in_err-specification c =
     let p = err_from_is_err_and c.from_residual.result c.from_residual.ensures.1 in
     rw (p.1, p.2)
-    (spec_refused c.args.matrix.now c.args.spec.now c.in_err-specification.field-0.0
+    (given_refused c.args.matrix.now c.args.spec.now c.in_err-specification.field-0.0
     (λ members. ToRecorded c.args.matrix.now (texts c.args.histories.now) (IsJudgedBy members c.args.component.now c.args.matrix.now)) c.in_err-specification.ensures.fault)
 
 pub returns-in_err-all : goal.returns-in_err-all
