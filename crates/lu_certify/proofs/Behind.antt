@@ -16,6 +16,7 @@ use Rattle.lu_report.specs.declared.report.Finding.TheVariants.{SerialCut, Nonde
 use Rattle.lu_report.specs.declared.report.Report.{Report}
 use Rattle.lu_replay.specs.Reports.{IsFinding, IsReport}
 use Rattle.lu_replay.proofs.Determined.{one_report}
+use Rattle.lu_certify.specs.declared.limits.Limits.{Limits}
 use Rattle.lu_certify.specs.Certificates.{Fails, FailsBehind, IsClear, IsFailingReport, IsFailure, IsFullPass}
 use Rattle.lu_certify.specs.Places.{IsLeftOpen}
 use Rattle.lu_certify.proofs.Linear.{clear_at, clear_not_failing, never_bad, never_good}
@@ -62,63 +63,63 @@ passes_before s moves bound serial less none x (Pass counts) is failure = failur
 
 -- ---- a cut
 
-module _ (c : Declarations) (matrix : Matrix) (bound serial : ℕ) (settles : Settles c matrix) where
-  pub behind_fails : (moves : ℕ) → FailsBehind c bound serial matrix moves → (r : Report) → IsReport c matrix moves serial r → IsFailure r.finding
+module _ (c : Declarations) (matrix : Matrix) (limits : Limits) (settles : Settles c matrix) where
+  pub behind_fails : (moves : ℕ) → FailsBehind c limits matrix moves → (r : Report) → IsReport c matrix moves limits.serial r → IsFailure r.finding
   behind_fails moves behind r report =
       let there = start_there c matrix settles in
       let s = there.0 in
       let here = behind.2 s there.1 in
-      fails_there s moves serial here.0 here.2 r.finding (report.3 s there.1)
+      fails_there s moves limits.serial here.0 here.2 r.finding (report.3 s there.1)
 
-  behind_passes : (moves : ℕ) → FailsBehind c bound serial matrix moves → (r : Report) → IsReport c matrix bound serial r → IsFailure r.finding → ⊥
+  behind_passes : (moves : ℕ) → FailsBehind c limits matrix moves → (r : Report) → IsReport c matrix limits.bound limits.serial r → IsFailure r.finding → ⊥
   behind_passes moves behind r report =
       let there = start_there c matrix settles in
       let s = there.0 in
       let here = behind.2 s there.1 in
-      passes_before s moves bound serial behind.0 here.0 here.2 r.finding (report.3 s there.1)
+      passes_before s moves limits.bound limits.serial behind.0 here.0 here.2 r.finding (report.3 s there.1)
 
-  one_behind : (m n : ℕ) → FailsBehind c bound serial matrix m → FailsBehind c bound serial matrix n → m ≡ n
+  one_behind : (m n : ℕ) → FailsBehind c limits matrix m → FailsBehind c limits matrix n → m ≡ n
   one_behind m n x y =
       let there = start_there c matrix settles in
       let s = there.0 in
       one_length (IsSerialHistory s) s m n (x.2 s there.1).2 (y.2 s there.1).2
 
   -- a failing report is one at some bound, and a failure
-  pub failing_is : (r : Report) → IsFailingReport c bound serial matrix r → (n : ℕ) × IsReport c matrix n serial r × IsFailure r.finding
-  failing_is r (inl at) = (bound, at.0, at.1)
+  pub failing_is : (r : Report) → IsFailingReport c limits matrix r → (n : ℕ) × IsReport c matrix n limits.serial r × IsFailure r.finding
+  failing_is r (inl at) = (limits.bound, at.0, at.1)
   failing_is r (inr behind) = (behind.0, behind.2, behind_fails behind.0 behind.1 r behind.2)
 
-  pub one_failing : (r q : Report) → IsFailingReport c bound serial matrix r → IsFailingReport c bound serial matrix q → r ≡ q
-  one_failing r q (inl x) (inl y) = one_report c matrix bound serial r q settles x.0 y.0
+  pub one_failing : (r q : Report) → IsFailingReport c limits matrix r → IsFailingReport c limits matrix q → r ≡ q
+  one_failing r q (inl x) (inl y) = one_report c matrix limits.bound limits.serial r q settles x.0 y.0
   one_failing r q (inl x) (inr y) = absurd (behind_passes y.0 y.1 r x.0 x.1)
   one_failing r q (inr x) (inl y) = absurd (behind_passes x.0 x.1 q y.0 y.1)
   one_failing r q (inr x) (inr y) =
       let same : x.0 ≡ y.0 = one_behind x.0 y.0 x.1 y.1 in
-      one_report c matrix y.0 serial r q settles (subst (λ (n : ℕ). IsReport c matrix n serial r) same x.2) y.2
+      one_report c matrix y.0 limits.serial r q settles (subst (λ (n : ℕ). IsReport c matrix n limits.serial r) same x.2) y.2
 
   -- a clear cut does not fail
-  pub clear_never_fails : IsClear c bound serial matrix → Fails c bound serial matrix → ⊥
+  pub clear_never_fails : IsClear c limits matrix → Fails c limits matrix → ⊥
   clear_never_fails clear fails =
       elim fails.1 as (λ _. ⊥) [
-        | inl at ↦ clear_not_failing c matrix bound serial settles clear (fails.0, at.0, at.1)
+        | inl at ↦ clear_not_failing c matrix limits settles clear (fails.0, at.0, at.1)
         | inr behind ↦
             (let there = start_there c matrix settles in
             let s = there.0 in
             let here = behind.1.2 s there.1 in
-            never_bad (IsSerialHistory s) s (clear_at c matrix bound serial clear s there.1).well here.2.schedule here.2.bad)
+            never_bad (IsSerialHistory s) s (clear_at c matrix limits clear s there.1).well here.2.schedule here.2.bad)
       ]
 
   -- nor does one whose report at the bounds is no failure and that is left open
-  pub open_never_fails : (r : Report) → IsReport c matrix bound serial r → (IsFailure r.finding → ⊥) → IsLeftOpen c bound serial matrix → Fails c bound serial matrix → ⊥
+  pub open_never_fails : (r : Report) → IsReport c matrix limits.bound limits.serial r → (IsFailure r.finding → ⊥) → IsLeftOpen c limits matrix → Fails c limits matrix → ⊥
   open_never_fails r report passes left fails =
       elim fails.1 as (λ _. ⊥) [
-        | inl at ↦ passes (subst (λ (x : Report). IsFailure x.finding) (one_report c matrix bound serial fails.0 r settles at.0 report) at.1)
+        | inl at ↦ passes (subst (λ (x : Report). IsFailure x.finding) (one_report c matrix limits.bound limits.serial fails.0 r settles at.0 report) at.1)
         | inr behind ↦ left.unfailing behind.0 behind.1
       ]
 
   -- nor is it clear, where its report is no full pass
-  pub open_never_clear : (r : Report) → IsReport c matrix bound serial r → (IsFullPass r.finding → ⊥) → IsLeftOpen c bound serial matrix → IsClear c bound serial matrix → ⊥
-  open_never_clear r report less left (inl has) = less (subst (λ (x : Report). IsFullPass x.finding) (one_report c matrix bound serial has.0 r settles has.1 report) has.2)
+  pub open_never_clear : (r : Report) → IsReport c matrix limits.bound limits.serial r → (IsFullPass r.finding → ⊥) → IsLeftOpen c limits matrix → IsClear c limits matrix → ⊥
+  open_never_clear r report less left (inl has) = less (subst (λ (x : Report). IsFullPass x.finding) (one_report c matrix limits.bound limits.serial has.0 r settles has.1 report) has.2)
   open_never_clear r report less left (inr proved) = left.unproved proved
 
 -- it was tried first, or it is tried then

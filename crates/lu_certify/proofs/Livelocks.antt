@@ -25,6 +25,7 @@ use Rattle.lu_report.specs.declared.report.Finding.{Finding}
 use Rattle.lu_report.specs.declared.report.Finding.TheVariants.{SerialCut}
 use Rattle.lu_report.specs.declared.report.Report.{Report}
 use Rattle.lu_replay.specs.Reports.{IsFinding}
+use Rattle.lu_certify.specs.declared.limits.Limits.{Limits}
 use Rattle.lu_certify.specs.declared.judged.Standing.{Standing}
 use Rattle.lu_certify.specs.declared.judged.Standing.TheVariants.{FullPass, Open, Proved}
 use Rattle.lu_certify.specs.declared.so_far.SoFar.{SoFar}
@@ -87,15 +88,15 @@ never_lost s bound uncut u r =
 
 -- ---- what is known of a cut
 
-module _ (c : Declarations) (matrix : Matrix) (bound serial : ℕ) (settles : Settles c matrix) where
-  pub none_in_full_pass : HasReport IsFullPass c bound serial matrix → HasNoLivelock c serial matrix
+module _ (c : Declarations) (matrix : Matrix) (limits : Limits) (settles : Settles c matrix) where
+  pub none_in_full_pass : HasReport IsFullPass c limits.bound limits.serial matrix → HasNoLivelock c limits matrix
   none_in_full_pass has u livelock =
       let there = start_there c matrix settles in
       let s = there.0 in
-      let full = full_at c matrix bound serial has s there.1 in
-      never_lost s bound (λ v cut. none_of (λ w. Any w × IsCutAt s bound w) full.counts.cut full.good.numbers.cut full.uncut v (tt, cut)) u (livelock s there.1).2.lost
+      let full = full_at c matrix limits.bound limits.serial has s there.1 in
+      never_lost s limits.bound (λ v cut. none_of (λ w. Any w × IsCutAt s limits.bound w) full.counts.cut full.good.numbers.cut full.uncut v (tt, cut)) u (livelock s there.1).2.lost
 
-  pub livelock_where : {E : Type 0} (result : Result (Option (List Move)) E) → FromEachStart c matrix (λ s. NoOffence s serial) → FromEachStart c matrix (λ s. IfOk result (IsFirstLostIfAny s)) → IfOk result (IsLivelockIfAny c serial matrix)
+  pub livelock_where : {E : Type 0} (result : Result (Option (List Move)) E) → FromEachStart c matrix (λ s. NoOffence s limits.serial) → FromEachStart c matrix (λ s. IfOk result (IsFirstLostIfAny limits.nodes s)) → IfOk result (IsLivelockIfAny c limits matrix)
   livelock_where (Ok None) none lost = λ u livelock.
       (let there = start_there c matrix settles in
       let x = livelock there.0 there.1 in
@@ -104,30 +105,30 @@ module _ (c : Declarations) (matrix : Matrix) (bound serial : ℕ) (settles : Se
   livelock_where (Err e) none lost = tt
 
   -- it is left open, with this report at the bounds
-  module _ (r : Report) (stands : IsStanding c bound serial matrix (Open r)) where
-    pub finds_as : (f : Finding) → r.finding ≡ f → FromEachStart c matrix (λ s. IsFinding s bound serial f)
-    finds_as f is s at = subst (IsFinding s bound serial) is (stands.0.3 s at)
+  module _ (r : Report) (stands : IsStanding c limits matrix (Open r)) where
+    pub finds_as : (f : Finding) → r.finding ≡ f → FromEachStart c matrix (λ s. IsFinding s limits.bound limits.serial f)
+    finds_as f is s at = subst (IsFinding s limits.bound limits.serial) is (stands.0.3 s at)
 
-    pub none_in_serial_cut : (v : List Move) → r.finding ≡ SerialCut v → HasNoLivelock c serial matrix
+    pub none_in_serial_cut : (v : List Move) → r.finding ≡ SerialCut v → HasNoLivelock c limits matrix
     none_in_serial_cut v is u livelock =
         let there = start_there c matrix settles in
         (livelock there.0 there.1).0 v (finds_as (SerialCut v) is there.0 there.1).0.kind
 
 -- ---- what is known behind it
 
-pub next_lost : (c : Declarations) (bound serial : ℕ) (matrix : Matrix) (old : SoFar) → IsLost old → IsNext c bound serial old matrix old
-next_lost c bound serial matrix Clear lost = absurd lost
-next_lost c bound serial matrix (Unclear smaller r) lost = absurd lost
-next_lost c bound serial matrix (Lost smaller u) lost = refl
+pub next_lost : (c : Declarations) (limits : Limits) (matrix : Matrix) (old : SoFar) → IsLost old → IsNext c limits old matrix old
+next_lost c limits matrix Clear lost = absurd lost
+next_lost c limits matrix (Unclear smaller r) lost = absurd lost
+next_lost c limits matrix (Lost smaller u) lost = refl
 
-pub next_cut : (c : Declarations) (bound serial : ℕ) (matrix : Matrix) (old : SoFar) (livelock : Option (List Move)) (standing : Standing) → IsLivelockIfAny c serial matrix livelock → IsStanding c bound serial matrix standing → IsNext c bound serial old matrix (so_far_after old matrix livelock standing)
-next_cut c bound serial matrix (Lost smaller u) livelock standing has stands = refl
-next_cut c bound serial matrix (Unclear smaller q) None standing has stands = (refl, has)
-next_cut c bound serial matrix (Unclear smaller q) (Some u) standing has stands = (refl, has)
-next_cut c bound serial matrix Clear None FullPass has stands = (has, inl stands)
-next_cut c bound serial matrix Clear None Proved has stands = (has, inr stands)
-next_cut c bound serial matrix Clear None (Open r) has stands = (refl, has, stands.0, stands.1)
-next_cut c bound serial matrix Clear (Some u) standing has stands = (refl, has)
+pub next_cut : (c : Declarations) (limits : Limits) (matrix : Matrix) (old : SoFar) (livelock : Option (List Move)) (standing : Standing) → IsLivelockIfAny c limits matrix livelock → IsStanding c limits matrix standing → IsNext c limits old matrix (so_far_after old matrix livelock standing)
+next_cut c limits matrix (Lost smaller u) livelock standing has stands = refl
+next_cut c limits matrix (Unclear smaller q) None standing has stands = (refl, has)
+next_cut c limits matrix (Unclear smaller q) (Some u) standing has stands = (refl, has)
+next_cut c limits matrix Clear None FullPass has stands = (has, inl stands)
+next_cut c limits matrix Clear None Proved has stands = (has, inr stands)
+next_cut c limits matrix Clear None (Open r) has stands = (refl, has, stands.0, stands.1)
+next_cut c limits matrix Clear (Some u) standing has stands = (refl, has)
 
-pub proved_none : (c : Declarations) (matrix : Matrix) (serial : ℕ) → IsProved c matrix serial → FromEachStart c matrix (λ s. NoOffence s serial)
-proved_none c matrix serial proved s at = (proved s at).0
+pub proved_none : (c : Declarations) (matrix : Matrix) (limits : Limits) → IsProved c matrix limits → FromEachStart c matrix (λ s. NoOffence s limits.serial)
+proved_none c matrix limits proved s at = (proved s at).0

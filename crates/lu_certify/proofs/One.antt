@@ -10,6 +10,7 @@ use Rattle.lu_report.specs.declared.report.Report.{Report}
 use Rattle.lu_replay.specs.Reports.{IsReport}
 use Rattle.lu_replay.proofs.Determined.{one_report}
 use Rattle.lu_refute.proofs.Outside.{whole_cut}
+use Rattle.lu_certify.specs.declared.limits.Limits.{Limits}
 use Rattle.lu_certify.specs.declared.certificate.Certificate.{Certificate}
 use Rattle.lu_certify.specs.declared.certificate.Certificate.TheVariants.{Linearizable, Livelock, NotLinearizable, Undecided}
 use Rattle.lu_certify.specs.Certificates.{AllClear, AreSame, Fails, IsCertificate, IsClear, IsFailingReport, IsFirstFailing, IsFirstLivelock, IsFirstUnclear, IsLivelock, NoLivelocks}
@@ -20,30 +21,30 @@ use Rattle.lu_certify.proofs.Livelocks.{one_lost}
 use Rattle.lu_certify.proofs.Ordered.{lengths_compare}
 use Rattle.lu_certify.proofs.Refuted.{none_serves}
 
-module _ (c : Declarations) (matrix : Matrix) (bound serial : ℕ) (settles : Settles c matrix) where
+module _ (c : Declarations) (matrix : Matrix) (limits : Limits) (settles : Settles c matrix) where
   cut_settles : (lengths : List ℕ) → Settles c (cut matrix lengths)
   cut_settles lengths = settles_too c matrix (cut matrix lengths) settles refl
 
   -- the first cut that fails
-  module _ (smaller : Matrix) (r : Report) (first : IsFirstFailing c matrix bound serial smaller r) where
-    its : IsFailingReport c bound serial (cut matrix first.lengths) r
-    its = subst (λ x. IsFailingReport c bound serial x r) first.is first.fails
+  module _ (smaller : Matrix) (r : Report) (first : IsFirstFailing c matrix limits smaller r) where
+    its : IsFailingReport c limits (cut matrix first.lengths) r
+    its = subst (λ x. IsFailingReport c limits x r) first.is first.fails
 
-    has_it : Fails c bound serial (cut matrix first.lengths)
+    has_it : Fails c limits (cut matrix first.lengths)
     has_it = (r, its)
 
   -- where each cut is clear, none fails
-  none_fails : AllClear c matrix bound serial → (smaller : Matrix) (r : Report) → IsFirstFailing c matrix bound serial smaller r → ⊥
+  none_fails : AllClear c matrix limits → (smaller : Matrix) (r : Report) → IsFirstFailing c matrix limits smaller r → ⊥
   none_fails all smaller r first =
-      clear_never_fails c (cut matrix first.lengths) bound serial (cut_settles first.lengths) (all first.lengths first.are) (has_it smaller r first)
+      clear_never_fails c (cut matrix first.lengths) limits (cut_settles first.lengths) (all first.lengths first.are) (has_it smaller r first)
 
-  here_unclear : (smaller : Matrix) (r : Report) (first : IsFirstUnclear c matrix bound serial smaller r) → IsClear c bound serial (cut matrix first.lengths) → ⊥
-  here_unclear smaller r first clear = first.unclear (subst (IsClear c bound serial) (sym first.is) clear)
+  here_unclear : (smaller : Matrix) (r : Report) (first : IsFirstUnclear c matrix limits smaller r) → IsClear c limits (cut matrix first.lengths) → ⊥
+  here_unclear smaller r first clear = first.unclear (subst (IsClear c limits) (sym first.is) clear)
 
-  none_unclear : AllClear c matrix bound serial → (smaller : Matrix) (r : Report) → IsFirstUnclear c matrix bound serial smaller r → ⊥
+  none_unclear : AllClear c matrix limits → (smaller : Matrix) (r : Report) → IsFirstUnclear c matrix limits smaller r → ⊥
   none_unclear all smaller r first = here_unclear smaller r first (all first.lengths first.are)
 
-  unclear_same : (a b : Matrix) (r q : Report) → IsFirstUnclear c matrix bound serial a r → IsFirstUnclear c matrix bound serial b q → (a ≡ b) × (r ≡ q)
+  unclear_same : (a b : Matrix) (r q : Report) → IsFirstUnclear c matrix limits a r → IsFirstUnclear c matrix limits b q → (a ≡ b) × (r ≡ q)
   unclear_same a b r q x y =
       elim (lengths_compare matrix x.lengths y.lengths x.are y.are) as (λ _. (a ≡ b) × (r ≡ q)) [
         | inl z ↦ elim z as (λ _. (a ≡ b) × (r ≡ q)) [
@@ -53,27 +54,27 @@ module _ (c : Declarations) (matrix : Matrix) (bound serial : ℕ) (settles : Se
         | inr same ↦
             (let one_cut : a ≡ b = x.is ∙ (ap (λ (l : List ℕ). cut matrix l) same ∙ sym y.is) in
             let settled : Settles c b = subst (Settles c) (sym y.is) (cut_settles y.lengths) in
-            (one_cut, one_report c b bound serial r q settled (subst (λ m. IsReport c m bound serial r) one_cut x.report) y.report))
+            (one_cut, one_report c b limits.bound limits.serial r q settled (subst (λ m. IsReport c m limits.bound limits.serial r) one_cut x.report) y.report))
       ]
 
-  none_lost : NoLivelocks c matrix serial → (smaller : Matrix) (u : List Move) → IsFirstLivelock c matrix serial smaller u → ⊥
-  none_lost none smaller u first = none first.lengths first.are u (subst (λ m. IsLivelock c serial m u) first.is first.livelock)
+  none_lost : NoLivelocks c matrix limits → (smaller : Matrix) (u : List Move) → IsFirstLivelock c matrix limits smaller u → ⊥
+  none_lost none smaller u first = none first.lengths first.are u (subst (λ m. IsLivelock c limits m u) first.is first.livelock)
 
-  livelock_same : (a b : Matrix) (u v : List Move) → IsFirstLivelock c matrix serial a u → IsFirstLivelock c matrix serial b v → (a ≡ b) × (u ≡ v)
+  livelock_same : (a b : Matrix) (u v : List Move) → IsFirstLivelock c matrix limits a u → IsFirstLivelock c matrix limits b v → (a ≡ b) × (u ≡ v)
   livelock_same a b u v x y =
       elim (lengths_compare matrix x.lengths y.lengths x.are y.are) as (λ _. (a ≡ b) × (u ≡ v)) [
         | inl z ↦ elim z as (λ _. (a ≡ b) × (u ≡ v)) [
-          | inl less ↦ absurd (y.before x.lengths x.are less u (subst (λ m. IsLivelock c serial m u) x.is x.livelock))
-          | inr more ↦ absurd (x.before y.lengths y.are more v (subst (λ m. IsLivelock c serial m v) y.is y.livelock))
+          | inl less ↦ absurd (y.before x.lengths x.are less u (subst (λ m. IsLivelock c limits m u) x.is x.livelock))
+          | inr more ↦ absurd (x.before y.lengths y.are more v (subst (λ m. IsLivelock c limits m v) y.is y.livelock))
         ]
         | inr same ↦
             (let one_cut : a ≡ b = x.is ∙ (ap (λ (l : List ℕ). cut matrix l) same ∙ sym y.is) in
             let there = start_there c b (subst (Settles c) (sym y.is) (cut_settles y.lengths)) in
-            let here : IsLivelock c serial b u = subst (λ m. IsLivelock c serial m u) one_cut x.livelock in
+            let here : IsLivelock c limits b u = subst (λ m. IsLivelock c limits m u) one_cut x.livelock in
             (one_cut, one_lost there.0 u v (here there.0 there.1).2 (y.livelock there.0 there.1).2))
       ]
 
-  first_same : (a b : Matrix) (r q : Report) → IsFirstFailing c matrix bound serial a r → IsFirstFailing c matrix bound serial b q → (a ≡ b) × (r ≡ q)
+  first_same : (a b : Matrix) (r q : Report) → IsFirstFailing c matrix limits a r → IsFirstFailing c matrix limits b q → (a ≡ b) × (r ≡ q)
   first_same a b r q x y =
       elim (lengths_compare matrix x.lengths y.lengths x.are y.are) as (λ _. (a ≡ b) × (r ≡ q)) [
         | inl z ↦ elim z as (λ _. (a ≡ b) × (r ≡ q)) [
@@ -81,13 +82,13 @@ module _ (c : Declarations) (matrix : Matrix) (bound serial : ℕ) (settles : Se
           | inr more ↦ absurd (x.before y.lengths y.are more (has_it b q y))
         ]
         | inr same ↦
-            (let here : IsFailingReport c bound serial (cut matrix y.lengths) r = subst (λ (l : List ℕ). IsFailingReport c bound serial (cut matrix l) r) same (its a r x) in (
+            (let here : IsFailingReport c limits (cut matrix y.lengths) r = subst (λ (l : List ℕ). IsFailingReport c limits (cut matrix l) r) same (its a r x) in (
               x.is ∙ (ap (λ (l : List ℕ). cut matrix l) same ∙ sym y.is),
-              one_failing c (cut matrix y.lengths) bound serial (cut_settles y.lengths) r q here (its b q y),
+              one_failing c (cut matrix y.lengths) limits (cut_settles y.lengths) r q here (its b q y),
             ))
       ]
 
-  one : (a b : Certificate) → IsCertificate c matrix bound serial a → IsCertificate c matrix bound serial b → AreSame a b
+  one : (a b : Certificate) → IsCertificate c matrix limits a → IsCertificate c matrix limits b → AreSame a b
   one (Linearizable members) (Linearizable others) x y =
       let there = start_there c matrix settles in
       λ q. (
@@ -116,25 +117,25 @@ module _ (c : Declarations) (matrix : Matrix) (bound serial : ℕ) (settles : Se
       let same = unclear_same a b r q x.2 y.2 in
       ap (λ (m : Matrix). Undecided m r) same.0 ∙ ap (λ (p : Report). Undecided b p) same.1
 
-  pub decided : (certificate : Certificate) → IsCertificate c matrix bound serial certificate → Decides c matrix certificate
+  pub decided : (certificate : Certificate) → IsCertificate c matrix limits certificate → Decides c matrix certificate
   decided (Linearizable members) x =
       let there = start_there c matrix settles in
-      let whole = clear_at c matrix bound serial (clear_cut c matrix bound serial x.0 matrix (whole_cut matrix)) there.0 there.1 in (
-        begun_deterministic c matrix there.0 serial members there.1 whole.none (x.2 there.0 there.1),
-        clear_linearizes c matrix bound serial members settles x.0 x.2,
+      let whole = clear_at c matrix limits (clear_cut c matrix limits x.0 matrix (whole_cut matrix)) there.0 there.1 in (
+        begun_deterministic c matrix there.0 limits.serial members there.1 whole.none (x.2 there.0 there.1),
+        clear_linearizes c matrix limits members settles x.0 x.2,
       )
   decided (NotLinearizable smaller r) x =
       let there : Settles c smaller = subst (Settles c) (sym x.is) (cut_settles x.lengths) in
-      let at = failing_is c smaller bound serial there r x.fails in
-      none_serves c matrix smaller at.0 serial r settles (x.lengths, x.are, x.is) at.1 at.2
+      let at = failing_is c smaller limits there r x.fails in
+      none_serves c matrix smaller at.0 limits.serial r settles (x.lengths, x.are, x.is) at.1 at.2
   decided (Livelock smaller u) x = ((x.1.lengths, x.1.are, x.1.is), (λ s at. (x.1.livelock s at).2.lost))
   decided (Undecided smaller r) x = tt
 
 pub certificate_decides : CertificateDecides
-certificate_decides c matrix bound serial certificate settles is =
-    (decided c matrix bound serial settles certificate is, (λ other at. one c matrix bound serial settles certificate other is at))
+certificate_decides c matrix limits certificate settles is =
+    (decided c matrix limits settles certificate is, (λ other at. one c matrix limits settles certificate other is at))
 
 -- where there is a certificate, it decides
-pub decides_where : {E : Type 0} (c : Declarations) (matrix : Matrix) (bound serial : ℕ) → Settles c matrix → (result : Result Certificate E) → IfOk result (IsCertificate c matrix bound serial) → IfOk result (Decides c matrix)
-decides_where c matrix bound serial settles (Ok certificate) is = decided c matrix bound serial settles certificate is
-decides_where c matrix bound serial settles (Err e) is = tt
+pub decides_where : {E : Type 0} (c : Declarations) (matrix : Matrix) (limits : Limits) → Settles c matrix → (result : Result Certificate E) → IfOk result (IsCertificate c matrix limits) → IfOk result (Decides c matrix)
+decides_where c matrix limits settles (Ok certificate) is = decided c matrix limits settles certificate is
+decides_where c matrix limits settles (Err e) is = tt

@@ -14,6 +14,7 @@ use Rattle.lu_witness.specs.Witnesses.{IsMember}
 use Rattle.lu_graph.specs.declared.ending.Ending.{Ending}
 use Rattle.lu_graph.specs.declared.ending.Ending.TheVariants.{Badly, TooMany, Well}
 use Rattle.lu_graph.specs.Nodes.{EndsBadly, EndsWellOnFewNodes, HasFewNodes, IsEnding, IsShortestBad}
+use Rattle.lu_certify.specs.declared.limits.Limits.{Limits}
 use Rattle.lu_certify.specs.declared.told.Told.{Told}
 use Rattle.lu_certify.specs.declared.told.Told.TheVariants.{AllGood, BadBehind, Nothing}
 use Rattle.lu_certify.specs.Certificates.{FailsBehind, IsProved}
@@ -34,8 +35,8 @@ module _ (Set Other : List SerialOp → Type 0) (more : (q : List SerialOp) → 
     few.2,
   )
 
-  well_more : (s : State) → EndsWellOnFewNodes Set s → EndsWellOnFewNodes Other s
-  well_more s is = (few_more s 262144 is.0, λ u ended. reaches_more Set Other more s u (is.1 u ended))
+  well_more : (s : State) (most : ℕ) → EndsWellOnFewNodes Set s most → EndsWellOnFewNodes Other s most
+  well_more s most is = (few_more s most is.0, λ u ended. reaches_more Set Other more s u (is.1 u ended))
 
   bad_more : (s : State) (u : List Move) → EndsBadly Set s u → EndsBadly Other s u
   bad_more s u bad = record { end = bad.end; history = bad.history; leads = bad.leads; holds = (bad.holds.0, λ good. bad.holds.1 (good_more Other Set fewer bad.end bad.history good)) }
@@ -50,9 +51,9 @@ shortest_more Set Other more fewer s moves x = record {
 
 -- ---- what is told
 
-module _ (c : Declarations) (matrix : Matrix) (bound serial : ℕ) (settles : Settles c matrix) where
+module _ (c : Declarations) (matrix : Matrix) (limits : Limits) (settles : Settles c matrix) where
   -- where a serial run offends, nothing is
-  pub none_told : ((s : State) → IsStart c matrix s → (v : List Move) × IsOffence s serial v) → IsLeftOpen c bound serial matrix
+  pub none_told : ((s : State) → IsStart c matrix s → (v : List Move) × IsOffence s limits.serial v) → IsLeftOpen c limits matrix
   none_told offends =
       let there = start_there c matrix settles in
       let offence = offends there.0 there.1 in
@@ -62,31 +63,31 @@ module _ (c : Declarations) (matrix : Matrix) (bound serial : ℕ) (settles : Se
       }
 
   -- over the set of the serial histories
-  module _ (members : List (List SerialOp)) (set : (s : State) → IsStart c matrix s → IsSetOf s serial members) where
-    few_at : (s : State) → IsStart c matrix s → HasFewNodes (IsMember members) s 262144 → HasFewNodes (IsSerialHistory s) s 262144
+  module _ (members : List (List SerialOp)) (set : (s : State) → IsStart c matrix s → IsSetOf s limits.serial members) where
+    few_at : (s : State) → IsStart c matrix s → HasFewNodes (IsMember members) s limits.nodes → HasFewNodes (IsSerialHistory s) s limits.nodes
     few_at s at few =
         let here = set s at in
-        few_more (IsMember members) (IsSerialHistory s) (λ q y. (here.are q).0 y) (λ q y. (here.are q).1 y) s 262144 few
+        few_more (IsMember members) (IsSerialHistory s) (λ q y. (here.are q).0 y) (λ q y. (here.are q).1 y) s limits.nodes few
 
-    few_back : (s : State) → IsStart c matrix s → HasFewNodes (IsSerialHistory s) s 262144 → HasFewNodes (IsMember members) s 262144
+    few_back : (s : State) → IsStart c matrix s → HasFewNodes (IsSerialHistory s) s limits.nodes → HasFewNodes (IsMember members) s limits.nodes
     few_back s at few =
         let here = set s at in
-        few_more (IsSerialHistory s) (IsMember members) (λ q y. (here.are q).1 y) (λ q y. (here.are q).0 y) s 262144 few
+        few_more (IsSerialHistory s) (IsMember members) (λ q y. (here.are q).1 y) (λ q y. (here.are q).0 y) s limits.nodes few
 
     shortest_at : (s : State) → IsStart c matrix s → (moves : ℕ) → IsShortestBad (IsMember members) s moves → IsShortestBad (IsSerialHistory s) s moves
     shortest_at s at moves x =
         let here = set s at in
         shortest_more (IsMember members) (IsSerialHistory s) (λ q y. (here.are q).0 y) (λ q y. (here.are q).1 y) s moves x
 
-    told_well : FromEachStart c matrix (EndsWellOnFewNodes (IsMember members)) → IsProved c matrix serial
+    told_well : FromEachStart c matrix (λ s. EndsWellOnFewNodes (IsMember members) s limits.nodes) → IsProved c matrix limits
     told_well is s at =
         let here = set s at in
-        (here.none, well_more (IsMember members) (IsSerialHistory s) (λ q y. (here.are q).0 y) (λ q y. (here.are q).1 y) s (is s at))
+        (here.none, well_more (IsMember members) (IsSerialHistory s) (λ q y. (here.are q).0 y) (λ q y. (here.are q).1 y) s limits.nodes (is s at))
 
-    told_badly : (moves : ℕ) → FromEachStart c matrix (λ s. IsEnding (IsMember members) bound s (Badly moves)) → bound < moves → moves ≤ most_moves → FailsBehind c bound serial matrix moves
+    told_badly : (moves : ℕ) → FromEachStart c matrix (λ s. IsEnding (IsMember members) limits.bound limits.nodes s (Badly moves)) → limits.bound < moves → moves ≤ most_moves → FailsBehind c limits matrix moves
     told_badly moves is more few = (more, few, λ s at. ((set s at).none, few_at s at ((is s at).1 more), shortest_at s at moves (is s at).0))
 
-    told_far : (moves : ℕ) → FromEachStart c matrix (λ s. IsEnding (IsMember members) bound s (Badly moves)) → (bound < moves → most_moves < moves) → IsLeftOpen c bound serial matrix
+    told_far : (moves : ℕ) → FromEachStart c matrix (λ s. IsEnding (IsMember members) limits.bound limits.nodes s (Badly moves)) → (limits.bound < moves → most_moves < moves) → IsLeftOpen c limits matrix
     told_far moves is far =
         let there = start_there c matrix settles in
         let s = there.0 in
@@ -95,13 +96,13 @@ module _ (c : Declarations) (matrix : Matrix) (bound serial : ℕ) (settles : Se
           unproved = λ proved. never_bad (IsSerialHistory s) s (proved s there.1).1.1 x.schedule x.bad;
           unfailing = λ n behind.
               (let same : n ≡ moves = one_length (IsSerialHistory s) s n moves (behind.2 s there.1).2 x in
-              let more : bound < moves = subst (λ (k : ℕ). bound < k) same behind.0 in
+              let more : limits.bound < moves = subst (λ (k : ℕ). limits.bound < k) same behind.0 in
               let few : moves ≤ most_moves = subst (λ (k : ℕ). k ≤ most_moves) same behind.1 in
               let over = far more in
               absurd (omega (arith, few, over)));
         }
 
-    told_many : FromEachStart c matrix (λ s. IsEnding (IsMember members) bound s TooMany) → IsLeftOpen c bound serial matrix
+    told_many : FromEachStart c matrix (λ s. IsEnding (IsMember members) limits.bound limits.nodes s TooMany) → IsLeftOpen c limits matrix
     told_many is =
         let there = start_there c matrix settles in
         let many = is there.0 there.1 in
@@ -110,9 +111,9 @@ module _ (c : Declarations) (matrix : Matrix) (bound serial : ℕ) (settles : Se
           unfailing = λ n behind. many (few_back there.0 there.1 (behind.2 there.0 there.1).1);
         }
 
-    pub told_by : (ending : Ending) (told : Told) → FromEachStart c matrix (λ s. IsEnding (IsMember members) bound s ending) → IsToldBy bound ending told → IsTold c bound serial matrix told
-    told_by Well told is by = subst (IsTold c bound serial matrix) (sym by) (told_well is)
+    pub told_by : (ending : Ending) (told : Told) → FromEachStart c matrix (λ s. IsEnding (IsMember members) limits.bound limits.nodes s ending) → IsToldBy limits.bound ending told → IsTold c limits matrix told
+    told_by Well told is by = subst (IsTold c limits matrix) (sym by) (told_well is)
     told_by (Badly moves) AllGood is by = absurd by
-    told_by (Badly moves) (BadBehind n) is by = subst (FailsBehind c bound serial matrix) (sym by.0) (told_badly moves is by.1 by.2)
+    told_by (Badly moves) (BadBehind n) is by = subst (FailsBehind c limits matrix) (sym by.0) (told_badly moves is by.1 by.2)
     told_by (Badly moves) Nothing is by = told_far moves is by
-    told_by TooMany told is by = subst (IsTold c bound serial matrix) (sym by) (told_many is)
+    told_by TooMany told is by = subst (IsTold c limits matrix) (sym by) (told_many is)

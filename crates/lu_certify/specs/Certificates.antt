@@ -20,6 +20,7 @@ use Rattle.lu_parallel.specs.Ranges.{Choice}
 use Rattle.lu_spec.specs.Beginnings.{Begins, Has}
 use Rattle.lu_refute.specs.Linearizable.{AreLengths}
 use Rattle.lu_certify.specs.declared.certificate.Certificate.{Certificate}
+use Rattle.lu_certify.specs.declared.limits.Limits.{Limits}
 use Rattle.lu_certify.specs.declared.certificate.Certificate.TheVariants.{Linearizable, Livelock, NotLinearizable, Undecided}
 
 -- ---- kinds of findings
@@ -44,61 +45,64 @@ AllCuts Kind c matrix bound serial =
     (lengths : List ℕ) → AreLengths matrix lengths
     → HasReport Kind c bound serial (cut matrix lengths)
 
--- No serial run offends, there are no more than 262,144 nodes, and each ended schedule, of any
+-- No serial run offends, there are no more nodes than the limit, and each ended schedule, of any
 -- length, is good for the serial histories.
-abbrev pub IsProved : Declarations → Matrix → ℕ → Type 0
-IsProved c matrix serial =
-    FromEachStart c matrix (λ s. NoOffence s serial × EndsWellOnFewNodes (IsSerialHistory s) s)
+abbrev pub IsProved : Declarations → Matrix → Limits → Type 0
+IsProved c matrix limits =
+    FromEachStart c matrix (λ s. NoOffence s limits.serial
+    × EndsWellOnFewNodes (IsSerialHistory s) s limits.nodes)
 
 -- its report is a pass, and no schedule was cut; or it is proved so
-abbrev pub IsClear : Declarations → ℕ → ℕ → Matrix → Type 0
-IsClear c bound serial matrix =
-    HasReport IsFullPass c bound serial matrix ⊎ IsProved c matrix serial
+abbrev pub IsClear : Declarations → Limits → Matrix → Type 0
+IsClear c limits matrix =
+    HasReport IsFullPass c limits.bound limits.serial matrix ⊎ IsProved c matrix limits
 
--- No serial run offends, there are no more than 262,144 nodes, and the shortest schedule that ends
--- badly has so many moves: more than the bound, and at most 256.
-abbrev pub FailsBehind : Declarations → ℕ → ℕ → Matrix → ℕ → Type 0
-FailsBehind c bound serial matrix moves =
-    (bound < moves) × (moves ≤ most_moves)
-    × FromEachStart c matrix (λ s. NoOffence s serial × HasFewNodes (IsSerialHistory s) s 262144
+-- No serial run offends, there are no more nodes than the limit, and the shortest schedule that
+-- ends badly has so many moves: more than the bound, and at most 256.
+abbrev pub FailsBehind : Declarations → Limits → Matrix → ℕ → Type 0
+FailsBehind c limits matrix moves =
+    (limits.bound < moves) × (moves ≤ most_moves)
+    × FromEachStart c matrix (λ s. NoOffence s limits.serial
+    × HasFewNodes (IsSerialHistory s) s limits.nodes
     × IsShortestBad (IsSerialHistory s) s moves)
 
 -- r shows that the matrix fails: it is its report at the bounds, and a failure; or it is its report
 -- at the length of the shortest schedule that ends badly, where that lies behind the bound
-abbrev pub IsFailingReport : Declarations → ℕ → ℕ → Matrix → Report → Type 0
-IsFailingReport c bound serial matrix r =
-    (IsReport c matrix bound serial r × IsFailure r.finding)
-    ⊎ ((moves : ℕ) × FailsBehind c bound serial matrix moves × IsReport c matrix moves serial r)
+abbrev pub IsFailingReport : Declarations → Limits → Matrix → Report → Type 0
+IsFailingReport c limits matrix r =
+    (IsReport c matrix limits.bound limits.serial r × IsFailure r.finding)
+    ⊎ ((moves : ℕ) × FailsBehind c limits matrix moves × IsReport c matrix moves limits.serial r)
 
 -- a report shows that the matrix fails
-abbrev pub Fails : Declarations → ℕ → ℕ → Matrix → Type 0
-Fails c bound serial matrix = (r : Report) × IsFailingReport c bound serial matrix r
+abbrev pub Fails : Declarations → Limits → Matrix → Type 0
+Fails c limits matrix = (r : Report) × IsFailingReport c limits matrix r
 
 -- no cut of the matrix fails
-abbrev pub NoneFails : Declarations → Matrix → ℕ → ℕ → Type 0
-NoneFails c matrix bound serial =
-    (lengths : List ℕ) → AreLengths matrix lengths → Fails c bound serial (cut matrix lengths) → ⊥
+abbrev pub NoneFails : Declarations → Matrix → Limits → Type 0
+NoneFails c matrix limits =
+    (lengths : List ℕ) → AreLengths matrix lengths → Fails c limits (cut matrix lengths) → ⊥
 
 -- each cut of the matrix is clear
-abbrev pub AllClear : Declarations → Matrix → ℕ → ℕ → Type 0
-AllClear c matrix bound serial =
-    (lengths : List ℕ) → AreLengths matrix lengths → IsClear c bound serial (cut matrix lengths)
+abbrev pub AllClear : Declarations → Matrix → Limits → Type 0
+AllClear c matrix limits =
+    (lengths : List ℕ) → AreLengths matrix lengths → IsClear c limits (cut matrix lengths)
 
--- No serial run offends, there are no more than 262,144 states, and u is the first schedule that
+-- No serial run offends, there are no more states than the limit, and u is the first schedule that
 -- leads to a state from which no schedule ends.
-abbrev pub IsLivelock : Declarations → ℕ → Matrix → List Move → Type 0
-IsLivelock c serial matrix u =
-    FromEachStart c matrix (λ s. NoOffence s serial × HasFewStates s 262144 × IsFirstLost s u)
+abbrev pub IsLivelock : Declarations → Limits → Matrix → List Move → Type 0
+IsLivelock c limits matrix u =
+    FromEachStart c matrix (λ s. NoOffence s limits.serial × HasFewStates s limits.nodes
+    × IsFirstLost s u)
 
 -- there is none
-abbrev pub HasNoLivelock : Declarations → ℕ → Matrix → Type 0
-HasNoLivelock c serial matrix = (u : List Move) → IsLivelock c serial matrix u → ⊥
+abbrev pub HasNoLivelock : Declarations → Limits → Matrix → Type 0
+HasNoLivelock c limits matrix = (u : List Move) → IsLivelock c limits matrix u → ⊥
 
 -- no cut of the matrix has one
-abbrev pub NoLivelocks : Declarations → Matrix → ℕ → Type 0
-NoLivelocks c matrix serial =
+abbrev pub NoLivelocks : Declarations → Matrix → Limits → Type 0
+NoLivelocks c matrix limits =
     (lengths : List ℕ) → AreLengths matrix lengths
-    → HasNoLivelock c serial (cut matrix lengths)
+    → HasNoLivelock c limits (cut matrix lengths)
 
 -- lexicographic order: the first place where they differ decides
 abbrev pub IsBefore : List ℕ → List ℕ → Type 0
@@ -108,35 +112,35 @@ IsBefore (m ∷ u) (n ∷ v) = (m < n) ⊎ (m ≡ n) × IsBefore u v
 
 -- r shows that this cut fails; none before it does, in the lexicographic order of lengths, thread
 -- 0's first
-pub record IsFirstFailing (c : Declarations) (matrix : Matrix) (bound serial : ℕ)
+pub record IsFirstFailing (c : Declarations) (matrix : Matrix) (limits : Limits)
     (smaller : Matrix) (r : Report) : Type 0 where
   pub lengths : List ℕ
   pub are : AreLengths matrix lengths
   pub is : smaller ≡ cut matrix lengths
-  pub fails : IsFailingReport c bound serial smaller r
+  pub fails : IsFailingReport c limits smaller r
   pub before : (other : List ℕ) → AreLengths matrix other → IsBefore other lengths
-      → Fails c bound serial (cut matrix other) → ⊥
+      → Fails c limits (cut matrix other) → ⊥
 
 -- r is the report of this cut at the bounds, which is not clear; each cut before it is
-pub record IsFirstUnclear (c : Declarations) (matrix : Matrix) (bound serial : ℕ)
+pub record IsFirstUnclear (c : Declarations) (matrix : Matrix) (limits : Limits)
     (smaller : Matrix) (r : Report) : Type 0 where
   pub lengths : List ℕ
   pub are : AreLengths matrix lengths
   pub is : smaller ≡ cut matrix lengths
-  pub report : IsReport c smaller bound serial r
-  pub unclear : IsClear c bound serial smaller → ⊥
+  pub report : IsReport c smaller limits.bound limits.serial r
+  pub unclear : IsClear c limits smaller → ⊥
   pub before : (other : List ℕ) → AreLengths matrix other → IsBefore other lengths
-      → IsClear c bound serial (cut matrix other)
+      → IsClear c limits (cut matrix other)
 
 -- u is the livelock of this cut; no cut before it has one
-pub record IsFirstLivelock (c : Declarations) (matrix : Matrix) (serial : ℕ)
+pub record IsFirstLivelock (c : Declarations) (matrix : Matrix) (limits : Limits)
     (smaller : Matrix) (u : List Move) : Type 0 where
   pub lengths : List ℕ
   pub are : AreLengths matrix lengths
   pub is : smaller ≡ cut matrix lengths
-  pub livelock : IsLivelock c serial smaller u
+  pub livelock : IsLivelock c limits smaller u
   pub before : (other : List ℕ) → AreLengths matrix other → IsBefore other lengths
-      → HasNoLivelock c serial (cut matrix other)
+      → HasNoLivelock c limits (cut matrix other)
 
 -- ---- the certificate
 
@@ -149,22 +153,27 @@ AreBeginnings s members =
 -- Each cut is clear, none has a livelock, and these are the beginnings of the matrix's serial
 -- histories; or this is the first cut that fails; or none fails, and this is the first that has a
 -- livelock; or none fails, none has a livelock, and this is the first that is not clear.
-abbrev pub IsCertificate : Declarations → Matrix → ℕ → ℕ → Certificate → Type 0
-IsCertificate c matrix bound serial (Linearizable members) =
-    AllClear c matrix bound serial × NoLivelocks c matrix serial
+abbrev pub IsCertificate : Declarations → Matrix → Limits → Certificate → Type 0
+IsCertificate c matrix limits (Linearizable members) =
+    AllClear c matrix limits × NoLivelocks c matrix limits
     × FromEachStart c matrix (λ s. AreBeginnings s members)
-IsCertificate c matrix bound serial (NotLinearizable smaller r) =
-    IsFirstFailing c matrix bound serial smaller r
-IsCertificate c matrix bound serial (Livelock smaller u) =
-    NoneFails c matrix bound serial × IsFirstLivelock c matrix serial smaller u
-IsCertificate c matrix bound serial (Undecided smaller r) =
-    NoneFails c matrix bound serial × NoLivelocks c matrix serial
-    × IsFirstUnclear c matrix bound serial smaller r
+IsCertificate c matrix limits (NotLinearizable smaller r) =
+    IsFirstFailing c matrix limits smaller r
+IsCertificate c matrix limits (Livelock smaller u) =
+    NoneFails c matrix limits × IsFirstLivelock c matrix limits smaller u
+IsCertificate c matrix limits (Undecided smaller r) =
+    NoneFails c matrix limits × NoLivelocks c matrix limits
+    × IsFirstUnclear c matrix limits smaller r
+
+-- the bounds of a check's options, and so many nodes
+abbrev pub limits_of : Choice → ℕ → Limits
+limits_of choice nodes =
+    record { bound = choice.bound; serial = choice.serial; nodes = nodes }
 
 -- within the bounds of a check's options
-abbrev pub IsCertificateWithin : Declarations → Matrix → Choice → Certificate → Type 0
-IsCertificateWithin c matrix choice certificate =
-    IsCertificate c matrix choice.bound choice.serial certificate
+abbrev pub IsCertificateWithin : Declarations → Matrix → Choice → ℕ → Certificate → Type 0
+IsCertificateWithin c matrix choice nodes certificate =
+    IsCertificate c matrix (limits_of choice nodes) certificate
 
 -- the cut that it names, if any, is a matrix of the component
 abbrev pub NamesCutOf : Declarations → Certificate → Type 0

@@ -15,6 +15,7 @@ use Rattle.lu_parallel.specs.Ranges.{Choice}
 use Rattle.lu_refute.specs.Linearizable.{AreLengths}
 use Rattle.lu_certify.specs.declared.certificate.Certificate.{Certificate}
 use Rattle.lu_certify.specs.declared.certificate.Certificate.TheVariants.{Linearizable, Livelock, NotLinearizable, Undecided}
+use Rattle.lu_certify.specs.declared.limits.Limits.{Limits}
 use Rattle.lu_certify.specs.declared.so_far.SoFar.{SoFar}
 use Rattle.lu_certify.specs.declared.so_far.SoFar.TheVariants.{Clear, Lost, Unclear}
 use Rattle.lu_certify.specs.declared.judged.Judged.{Judged}
@@ -23,7 +24,7 @@ use Rattle.lu_certify.specs.declared.judged.Standing.{Standing}
 use Rattle.lu_certify.specs.declared.judged.Standing.TheVariants.{FullPass, Open, Proved}
 use Rattle.lu_certify.specs.declared.told.Told.{Told}
 use Rattle.lu_certify.specs.declared.told.Told.TheVariants.{AllGood, BadBehind, Nothing}
-use Rattle.lu_certify.specs.Certificates.{AreBeginnings, Fails, FailsBehind, HasNoLivelock, HasReport, IsClear, IsFailingReport, IsFullPass, IsLivelock, IsProved}
+use Rattle.lu_certify.specs.Certificates.{AreBeginnings, Fails, FailsBehind, HasNoLivelock, HasReport, IsClear, IsFailingReport, IsFullPass, IsLivelock, IsProved, limits_of}
 
 -- how many cuts there are
 abbrev pub cut_count : List (List Call) → ℕ
@@ -50,42 +51,42 @@ IsCutAtPlace matrix place smaller =
 -- ---- one cut
 
 -- neither is it proved clear, nor does it fail behind the bound
-pub record IsLeftOpen (c : Declarations) (bound serial : ℕ) (matrix : Matrix) : Type 0 where
-  pub unproved : IsProved c matrix serial → ⊥
-  pub unfailing : (moves : ℕ) → FailsBehind c bound serial matrix moves → ⊥
+pub record IsLeftOpen (c : Declarations) (limits : Limits) (matrix : Matrix) : Type 0 where
+  pub unproved : IsProved c matrix limits → ⊥
+  pub unfailing : (moves : ℕ) → FailsBehind c limits matrix moves → ⊥
 
 -- what its nodes tell
-abbrev pub IsTold : Declarations → ℕ → ℕ → Matrix → Told → Type 0
-IsTold c bound serial matrix AllGood = IsProved c matrix serial
-IsTold c bound serial matrix (BadBehind moves) = FailsBehind c bound serial matrix moves
-IsTold c bound serial matrix Nothing = IsLeftOpen c bound serial matrix
+abbrev pub IsTold : Declarations → Limits → Matrix → Told → Type 0
+IsTold c limits matrix AllGood = IsProved c matrix limits
+IsTold c limits matrix (BadBehind moves) = FailsBehind c limits matrix moves
+IsTold c limits matrix Nothing = IsLeftOpen c limits matrix
 
 -- how it stands, where it does not fail
-abbrev pub IsStanding : Declarations → ℕ → ℕ → Matrix → Standing → Type 0
-IsStanding c bound serial matrix FullPass = HasReport IsFullPass c bound serial matrix
-IsStanding c bound serial matrix Proved = IsProved c matrix serial
-IsStanding c bound serial matrix (Open r) =
-    IsReport c matrix bound serial r × (IsClear c bound serial matrix → ⊥)
-    × (Fails c bound serial matrix → ⊥)
+abbrev pub IsStanding : Declarations → Limits → Matrix → Standing → Type 0
+IsStanding c limits matrix FullPass = HasReport IsFullPass c limits.bound limits.serial matrix
+IsStanding c limits matrix Proved = IsProved c matrix limits
+IsStanding c limits matrix (Open r) =
+    IsReport c matrix limits.bound limits.serial r × (IsClear c limits matrix → ⊥)
+    × (Fails c limits matrix → ⊥)
 
 -- the report that shows that it fails, or how it stands
-abbrev pub IsJudged : Declarations → ℕ → ℕ → Matrix → Judged → Type 0
-IsJudged c bound serial matrix (Failing r) = IsFailingReport c bound serial matrix r
-IsJudged c bound serial matrix (Stands standing) = IsStanding c bound serial matrix standing
+abbrev pub IsJudged : Declarations → Limits → Matrix → Judged → Type 0
+IsJudged c limits matrix (Failing r) = IsFailingReport c limits matrix r
+IsJudged c limits matrix (Stands standing) = IsStanding c limits matrix standing
 
 -- within the bounds of a check's options
-abbrev pub IsJudgedWithin : Declarations → Choice → Matrix → Judged → Type 0
-IsJudgedWithin c choice matrix judged = IsJudged c choice.bound choice.serial matrix judged
+abbrev pub IsJudgedWithin : Declarations → Choice → ℕ → Matrix → Judged → Type 0
+IsJudgedWithin c choice nodes matrix judged = IsJudged c (limits_of choice nodes) matrix judged
 
 -- what its nodes tell, or none where they tell nothing; where that is not tried, none
-abbrev pub IsJudgedFirst : Bool → Declarations → ℕ → ℕ → Matrix → Option Judged → Type 0
-IsJudgedFirst tried c bound serial matrix (Some judged) = IsJudged c bound serial matrix judged
-IsJudgedFirst tried c bound serial matrix None = tried ≡ true → IsLeftOpen c bound serial matrix
+abbrev pub IsJudgedFirst : Bool → Declarations → Limits → Matrix → Option Judged → Type 0
+IsJudgedFirst tried c limits matrix (Some judged) = IsJudged c limits matrix judged
+IsJudgedFirst tried c limits matrix None = tried ≡ true → IsLeftOpen c limits matrix
 
 -- its livelock, or none where there is none
-abbrev pub IsLivelockIfAny : Declarations → ℕ → Matrix → Option (List Move) → Type 0
-IsLivelockIfAny c serial matrix None = HasNoLivelock c serial matrix
-IsLivelockIfAny c serial matrix (Some u) = IsLivelock c serial matrix u
+abbrev pub IsLivelockIfAny : Declarations → Limits → Matrix → Option (List Move) → Type 0
+IsLivelockIfAny c limits matrix None = HasNoLivelock c limits matrix
+IsLivelockIfAny c limits matrix (Some u) = IsLivelock c limits matrix u
 
 -- ---- the cuts so far
 
@@ -106,20 +107,19 @@ so_far_after Clear matrix None (Open r) = Unclear matrix r
 so_far_after Clear matrix (Some u) standing = Lost matrix u
 
 -- `new` is known behind this cut, where `old` was before it
-abbrev pub IsNext : Declarations → ℕ → ℕ → SoFar → Matrix → SoFar → Type 0
-IsNext c bound serial (Lost smaller u) matrix new = new ≡ Lost smaller u
-IsNext c bound serial (Unclear smaller r) matrix Clear = ⊥
-IsNext c bound serial (Unclear smaller r) matrix (Unclear other q) =
-    (Unclear other q ≡ Unclear smaller r) × HasNoLivelock c serial matrix
-IsNext c bound serial (Unclear smaller r) matrix (Lost other u) =
-    (other ≡ matrix) × IsLivelock c serial matrix u
-IsNext c bound serial Clear matrix Clear =
-    HasNoLivelock c serial matrix × IsClear c bound serial matrix
-IsNext c bound serial Clear matrix (Unclear other r) =
-    (other ≡ matrix) × HasNoLivelock c serial matrix × IsReport c matrix bound serial r
-    × (IsClear c bound serial matrix → ⊥)
-IsNext c bound serial Clear matrix (Lost other u) =
-    (other ≡ matrix) × IsLivelock c serial matrix u
+abbrev pub IsNext : Declarations → Limits → SoFar → Matrix → SoFar → Type 0
+IsNext c limits (Lost smaller u) matrix new = new ≡ Lost smaller u
+IsNext c limits (Unclear smaller r) matrix Clear = ⊥
+IsNext c limits (Unclear smaller r) matrix (Unclear other q) =
+    (Unclear other q ≡ Unclear smaller r) × HasNoLivelock c limits matrix
+IsNext c limits (Unclear smaller r) matrix (Lost other u) =
+    (other ≡ matrix) × IsLivelock c limits matrix u
+IsNext c limits Clear matrix Clear = HasNoLivelock c limits matrix × IsClear c limits matrix
+IsNext c limits Clear matrix (Unclear other r) =
+    (other ≡ matrix) × HasNoLivelock c limits matrix
+    × IsReport c matrix limits.bound limits.serial r
+    × (IsClear c limits matrix → ⊥)
+IsNext c limits Clear matrix (Lost other u) = (other ≡ matrix) × IsLivelock c limits matrix u
 
 -- ---- what the steps of a round answer
 
@@ -133,18 +133,16 @@ IsToldBy bound (Badly moves) Nothing = bound < moves → most_moves < moves
 IsToldBy bound TooMany told = told ≡ Nothing
 
 -- the cut that stands so has this livelock, or none
-abbrev pub SeeksLivelock : {E : Type 0} → Declarations → Matrix → Standing
+abbrev pub SeeksLivelock : {E : Type 0} → Declarations → Matrix → Limits → Standing
     → Result (Option (List Move)) E → Type 0
-SeeksLivelock c matrix standing result =
-    (bound serial : ℕ) → IsStanding c bound serial matrix standing
-    → IfOk result (IsLivelockIfAny c serial matrix)
+SeeksLivelock c matrix limits standing result =
+    IsStanding c limits matrix standing → IfOk result (IsLivelockIfAny c limits matrix)
 
 -- this is known behind a cut that stands so
-abbrev pub PassesCut : {E : Type 0} → Declarations → SoFar → Matrix → Standing → Result SoFar E
-    → Type 0
-PassesCut c old matrix standing result =
-    (bound serial : ℕ) → IsStanding c bound serial matrix standing
-    → IfOk result (IsNext c bound serial old matrix)
+abbrev pub PassesCut : {E : Type 0} → Declarations → SoFar → Matrix → Limits → Standing
+    → Result SoFar E → Type 0
+PassesCut c old matrix limits standing result =
+    IsStanding c limits matrix standing → IfOk result (IsNext c limits old matrix)
 
 -- ---- at the end
 

@@ -12,6 +12,7 @@ use crate::certificate::Certificate;
 use crate::cuts::{count_cuts, cut_at};
 use crate::judged::{Judged, Standing};
 use crate::judging::{judge, may_spin};
+use crate::limits::Limits;
 use crate::so_far::SoFar;
 use lu_component::Component;
 use lu_graph::first_lost;
@@ -28,20 +29,21 @@ fn seek_livelock(
     component: &Component,
     cut: &Matrix,
     standing: &Standing,
+    limits: Limits,
 ) -> Result<Option<Schedule>, AllocError>
     requires { CanRun component.now cut.now }
-    ensures { SeeksLivelock component.now cut.now standing.now result }
+    ensures { SeeksLivelock component.now cut.now limits standing.now result }
 {
     let report = match standing {
         Standing::FullPass => return Ok(None),
-        Standing::Proved => return first_lost(alloc, component, cut),
+        Standing::Proved => return first_lost(alloc, component, cut, limits.nodes),
         Standing::Open(report) => report,
     };
     match report.finding() {
         Finding::SerialCut(_) => Ok(None),
         Finding::Nondeterministic { .. } => Ok(None),
         Finding::Fail { .. } => Ok(None),
-        Finding::Pass(_) => first_lost(alloc, component, cut),
+        Finding::Pass(_) => first_lost(alloc, component, cut, limits.nodes),
     }
 }
 
@@ -52,14 +54,15 @@ pub(crate) fn pass_cut(
     cut: Matrix,
     standing: Standing,
     so_far: SoFar,
+    limits: Limits,
 ) -> Result<SoFar, AllocError>
     requires { CanRun component.now cut }
-    ensures { PassesCut component.now so_far cut standing result }
+    ensures { PassesCut component.now so_far cut limits standing result }
 {
     if so_far.is_lost() {
         return Ok(so_far);
     }
-    let livelock = seek_livelock(alloc, component, &cut, &standing)?;
+    let livelock = seek_livelock(alloc, component, &cut, &standing, limits)?;
     Ok(so_far.after(cut, livelock, standing))
 }
 
@@ -112,11 +115,11 @@ pub(crate) fn conclude(
 /// checked, or all its states are gone through, with the serial histories that can still become
 /// witnesses, where these are few: first where threads may spin, and else where the check leaves it
 /// open. They tell too where the shortest schedule that ends badly has more moves than the bound;
-/// where it has at most 256, the cut fails by the report at that length. Where schedules are cut, a cut may have a livelock: a
-/// state from which no schedule ends. It stops at the first cut that fails, since that decides more
-/// than a livelock. Schedules have up to `bound` moves, 0 to 256, and an operation that is run
-/// serially takes up to `serial` moves after its call, 1 to 256. Asks for a matrix of the
-/// component, whose setup settles. All is done on the calling thread.
+/// where it has at most 256, the cut fails by the report at that length. Where schedules are cut, a
+/// cut may have a livelock: a state from which no schedule ends. It stops at the first cut that
+/// fails, since that decides more than a livelock. The limits say how long schedules and serial runs
+/// are, and how many states are gone through. Asks for a matrix of the component, whose setup
+/// settles. All is done on the calling thread.
 ///
 /// # Errors
 ///
@@ -125,13 +128,12 @@ pub fn certify(
     alloc: Global,
     component: &Component,
     matrix: &Matrix,
-    bound: u16,
-    serial: u16,
+    limits: Limits,
 ) -> Result<Certificate, AllocError>
     requires of { CanRun component.now matrix.now }
-    requires bound { bound ≤ most_moves }
-    requires serial { IsSerialBound serial }
-    ensures certificate { IfOk result (IsCertificate component.now matrix.now bound serial) }
+    requires bound { limits.bound ≤ most_moves }
+    requires serial { IsSerialBound limits.serial }
+    ensures certificate { IfOk result (IsCertificate component.now matrix.now limits) }
     ensures decides { IfOk result (Decides component.now matrix.now) }
     ensures of { IfOk result (NamesCutOf component.now) }
 {
@@ -140,7 +142,7 @@ pub fn certify(
     let mut so_far = SoFar::Clear;
     for place in 0..end {
         let cut = cut_at(alloc, matrix, place)?;
-        match judge(alloc, component, &cut, spins, bound, serial)? {
+        match judge(alloc, component, &cut, spins, limits)? {
             Judged::Failing(report) => {
                 return Ok(Certificate::NotLinearizable {
                     matrix: cut,
@@ -148,9 +150,9 @@ pub fn certify(
                 });
             }
             Judged::Stands(standing) => {
-                so_far = pass_cut(alloc, component, cut, standing, so_far)?;
+                so_far = pass_cut(alloc, component, cut, standing, so_far, limits)?;
             }
         }
     }
-    conclude(alloc, component, matrix, serial, so_far)
+    conclude(alloc, component, matrix, limits.serial, so_far)
 }

@@ -8,6 +8,7 @@ ghost use Rattle.lu_certify.specs.Certificates.{IsFailure, IsFullPass};
 ghost use Rattle.lu_certify.specs.Places.{IsJudged, IsJudgedFirst, IsLeftOpen, IsTold};
 
 use crate::judged::{Judged, Standing};
+use crate::limits::Limits;
 use crate::told::Told;
 use lu_component::{Component, Instr};
 use lu_graph::ends_well;
@@ -72,17 +73,16 @@ fn tell_by_nodes(
     alloc: Global,
     component: &Component,
     cut: &Matrix,
-    bound: u16,
-    serial: u16,
+    limits: Limits,
 ) -> Result<Told, AllocError>
     requires of { CanRun component.now cut.now }
-    requires serial { IsSerialBound serial }
-    ensures { IfOk result (IsTold component.now bound serial cut.now) }
+    requires serial { IsSerialBound limits.serial }
+    ensures { IfOk result (IsTold component.now limits cut.now) }
 {
-    match learn(alloc, alloc, component, cut, serial)? {
+    match learn(alloc, alloc, component, cut, limits.serial)? {
         Learnt::Set(set) => {
-            let ending = ends_well(alloc, component, cut, &&set, bound)?;
-            Ok(Told::by(ending, bound))
+            let ending = ends_well(alloc, component, cut, &&set, limits.bound, limits.nodes)?;
+            Ok(Told::by(ending, limits.bound))
         }
         Learnt::Cut(_) => Ok(Told::Nothing),
         Learnt::Conflict { .. } => Ok(Told::Nothing),
@@ -96,20 +96,19 @@ pub(crate) fn judge_first(
     is_tried: bool,
     component: &Component,
     cut: &Matrix,
-    bound: u16,
-    serial: u16,
+    limits: Limits,
 ) -> Result<Option<Judged>, AllocError>
     requires of { CanRun component.now cut.now }
-    requires serial { IsSerialBound serial }
-    ensures { IfOk result (IsJudgedFirst is_tried component.now bound serial cut.now) }
+    requires serial { IsSerialBound limits.serial }
+    ensures { IfOk result (IsJudgedFirst is_tried component.now limits cut.now) }
 {
     if !is_tried {
         return Ok(None);
     }
-    match tell_by_nodes(alloc, component, cut, bound, serial)? {
+    match tell_by_nodes(alloc, component, cut, limits)? {
         Told::AllGood => Ok(Some(Judged::Stands(Standing::Proved))),
         Told::BadBehind(moves) => {
-            let report = check_one(alloc, alloc, component, cut, moves, serial)?;
+            let report = check_one(alloc, alloc, component, cut, moves, limits.serial)?;
             Ok(Some(Judged::Failing(report)))
         }
         Told::Nothing => Ok(None),
@@ -124,14 +123,13 @@ pub(crate) fn judge_checked(
     cut: &Matrix,
     report: Report,
     was_tried: bool,
-    bound: u16,
-    serial: u16,
+    limits: Limits,
 ) -> Result<Judged, AllocError>
     requires of { CanRun component.now cut.now }
-    requires serial { IsSerialBound serial }
-    requires report { IsReport component.now cut.now bound serial report }
-    requires tried { was_tried ≡ true → IsLeftOpen component.now bound serial cut.now }
-    ensures { IfOk result (IsJudged component.now bound serial cut.now) }
+    requires serial { IsSerialBound limits.serial }
+    requires report { IsReport component.now cut.now limits.bound limits.serial report }
+    requires tried { was_tried ≡ true → IsLeftOpen component.now limits cut.now }
+    ensures { IfOk result (IsJudged component.now limits cut.now) }
 {
     if is_failure(&report) {
         return Ok(Judged::Failing(report));
@@ -139,7 +137,7 @@ pub(crate) fn judge_checked(
     if is_full_pass(&report) {
         return Ok(Judged::Stands(Standing::FullPass));
     }
-    match judge_first(alloc, !was_tried, component, cut, bound, serial)? {
+    match judge_first(alloc, !was_tried, component, cut, limits)? {
         Some(judged) => Ok(judged),
         None => Ok(Judged::Stands(Standing::Open(report))),
     }
@@ -152,19 +150,18 @@ pub(crate) fn judge(
     component: &Component,
     cut: &Matrix,
     nodes_first: bool,
-    bound: u16,
-    serial: u16,
+    limits: Limits,
 ) -> Result<Judged, AllocError>
     requires of { CanRun component.now cut.now }
-    requires bound { bound ≤ most_moves }
-    requires serial { IsSerialBound serial }
-    ensures { IfOk result (IsJudged component.now bound serial cut.now) }
+    requires bound { limits.bound ≤ most_moves }
+    requires serial { IsSerialBound limits.serial }
+    ensures { IfOk result (IsJudged component.now limits cut.now) }
 {
-    match judge_first(alloc, nodes_first, component, cut, bound, serial)? {
+    match judge_first(alloc, nodes_first, component, cut, limits)? {
         Some(judged) => Ok(judged),
         None => {
-            let report = check_one(alloc, alloc, component, cut, bound, serial)?;
-            judge_checked(alloc, component, cut, report, nodes_first, bound, serial)
+            let report = check_one(alloc, alloc, component, cut, limits.bound, limits.serial)?;
+            judge_checked(alloc, component, cut, report, nodes_first, limits)
         }
     }
 }

@@ -7,7 +7,8 @@
 //! And where a schedule leads to a state from which none ends, the component has a livelock.
 //!
 //! ```text
-//! let certificate = certify(alloc, &component, &matrix, 256, 256)?;
+//! let limits = Limits { bound: 256, serial: 256, nodes: DEFAULT_NODES };
+//! let certificate = certify(alloc, &component, &matrix, limits)?;
 //! ```
 //!
 //! [`certify`] does all on the calling thread. [`certify_by_workers`] has each cut checked by as
@@ -20,10 +21,13 @@ mod cuts;
 mod judged;
 mod judging;
 pub mod laws;
+mod limits;
 mod so_far;
 mod told;
 mod workers;
 
 pub use certificate::Certificate;
 pub use certifying::certify;
+pub use limits::Limits;
+pub use lu_graph::DEFAULT_NODES;
 pub use workers::certify_by_workers;

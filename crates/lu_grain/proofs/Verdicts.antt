@@ -124,13 +124,13 @@ decides_with c n matrix settles other (Livelock smaller u) h = loses_with c n ma
 decides_with c n matrix settles other (Undecided smaller r) h = tt
 
 pub decides_too : DecidesToo
-decides_too c n matrix bound serial certificate settles other is =
-    decides_with c n matrix settles other certificate (decided c matrix bound serial settles certificate is)
+decides_too c n matrix limits certificate settles other is =
+    decides_with c n matrix settles other certificate (decided c matrix limits settles certificate is)
 
 pub certificates_agree : CertificatesAgree
-certificates_agree c n matrix bound serial within serially a b settles other x y = by_kind a b x y
+certificates_agree c n matrix limits within a b settles other x y = by_kind a b x y
   where
-    by_kind : (a b : Certificate) → IsCertificate c matrix bound serial a → IsCertificate (with_local c n) matrix within serially b → Agree a b
+    by_kind : (a b : Certificate) → IsCertificate c matrix limits a → IsCertificate (with_local c n) matrix within b → Agree a b
     by_kind (Linearizable members) (Linearizable others) x y =
         let there = start_there c matrix settles in
         let from = start_there (with_local c n) matrix other in
@@ -139,13 +139,13 @@ certificates_agree c n matrix bound serial within serially a b settles other x y
         let two = subst (λ z. AreBeginnings z others) same (y.2 from.0 from.1) in
         λ q. ((λ has. (two q).1 ((one q).0 has)), (λ has. (one q).1 ((two q).0 has)))
     by_kind (Linearizable members) (NotLinearizable smaller r) x y =
-        decided (with_local c n) matrix within serially other (NotLinearizable smaller r) y (contains members)
-        (decides_too c n matrix bound serial (Linearizable members) settles other x)
+        decided (with_local c n) matrix within other (NotLinearizable smaller r) y (contains members)
+        (decides_too c n matrix limits (Linearizable members) settles other x)
     by_kind (Linearizable members) (Livelock smaller u) x y = tt
     by_kind (Linearizable members) (Undecided smaller r) x y = tt
     by_kind (NotLinearizable smaller r) (Linearizable others) x y =
-        decides_too c n matrix bound serial (NotLinearizable smaller r) settles other x (contains others)
-        (decided (with_local c n) matrix within serially other (Linearizable others) y)
+        decides_too c n matrix limits (NotLinearizable smaller r) settles other x (contains others)
+        (decided (with_local c n) matrix within other (Linearizable others) y)
     by_kind (NotLinearizable smaller r) (NotLinearizable at q) x y = tt
     by_kind (NotLinearizable smaller r) (Livelock at u) x y = tt
     by_kind (NotLinearizable smaller r) (Undecided at q) x y = tt

@@ -23,6 +23,7 @@ use Rattle.lu_refute.specs.Laws.{IsDeterministicOf}
 use Rattle.lu_refute.specs.Linearizable.{IsCutOf, IsLinearizable}
 use Rattle.lu_certify.specs.declared.certificate.Certificate.{Certificate}
 use Rattle.lu_certify.specs.declared.certificate.Certificate.TheVariants.{Linearizable, Livelock, NotLinearizable, Undecided}
+use Rattle.lu_certify.specs.declared.limits.Limits.{Limits}
 use Rattle.lu_certify.specs.Certificates.{AreBeginnings, IsCertificate, IsFullPass}
 use Rattle.lu_certify.specs.Laws.{Decides}
 use Rattle.lu_grain.specs.Grains.{grained, with_local}
@@ -189,9 +190,9 @@ DecidesAlike c matrix (Undecided smaller r) = Unit {0}
 -- So a certificate decides of the component with `local n`.
 abbrev pub DecidesToo : Type 0
 DecidesToo =
-    (c : Declarations) (n : ℕ) (matrix : Matrix) (bound serial : ℕ) (certificate : Certificate) →
+    (c : Declarations) (n : ℕ) (matrix : Matrix) (limits : Limits) (certificate : Certificate) →
     Settles c matrix → Settles (with_local c n) matrix →
-    IsCertificate c matrix bound serial certificate
+    IsCertificate c matrix limits certificate
     → DecidesAlike (with_local c n) matrix certificate
 
 -- Two certificates don't contradict: those of sets have the same members. A livelock goes with
@@ -209,10 +210,10 @@ Agree (NotLinearizable smaller r) (Undecided other q) = Unit {0}
 Agree (Livelock smaller u) b = Unit {0}
 Agree (Undecided smaller r) b = Unit {0}
 
--- A certificate and one with `local n` never contradict, whatever their bounds.
+-- A certificate and one with `local n` never contradict, whatever their limits.
 abbrev pub CertificatesAgree : Type 0
 CertificatesAgree =
-    (c : Declarations) (n : ℕ) (matrix : Matrix) (bound serial within serially : ℕ)
+    (c : Declarations) (n : ℕ) (matrix : Matrix) (limits others : Limits)
     (a b : Certificate) →
-    Settles c matrix → Settles (with_local c n) matrix → IsCertificate c matrix bound serial a →
-    IsCertificate (with_local c n) matrix within serially b → Agree a b
+    Settles c matrix → Settles (with_local c n) matrix → IsCertificate c matrix limits a →
+    IsCertificate (with_local c n) matrix others b → Agree a b

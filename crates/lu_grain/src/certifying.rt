@@ -8,7 +8,7 @@ ghost use Rattle.lu_grain.specs.Laws.{DecidesAlike};
 ghost use Rattle.lu_grain.specs.Longer.{IsMadeWith};
 
 use crate::copies::with_local;
-use lu_certify::{Certificate, certify};
+use lu_certify::{Certificate, Limits, certify};
 use lu_component::Component;
 use lu_test::Matrix;
 use std::alloc::{AllocError, Global};
@@ -27,18 +27,17 @@ pub fn certify_longer(
     component: &Component,
     matrix: &Matrix,
     local: u8,
-    bound: u16,
-    serial: u16,
+    limits: Limits,
 ) -> Result<Certificate, AllocError>
     requires of { CanRun component.now matrix.now }
     requires longer { component.now.local ≤ local }
     requires few { local ≤ 16 }
-    requires bound { bound ≤ most_moves }
-    requires serial { IsSerialBound serial }
-    ensures certificate { IfOk result (IsMadeWith local component.now matrix.now bound serial) }
+    requires bound { limits.bound ≤ most_moves }
+    requires serial { IsSerialBound limits.serial }
+    ensures certificate { IfOk result (IsMadeWith local component.now matrix.now limits) }
     ensures decides { IfOk result (DecidesAlike component.now matrix.now) }
     ensures of { IfOk result (NamesCutOf component.now) }
 {
     let longer = with_local(alloc, component, local)?;
-    certify(alloc, &longer, matrix, bound, serial)
+    certify(alloc, &longer, matrix, limits)
 }

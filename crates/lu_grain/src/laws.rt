@@ -52,7 +52,7 @@ pub fn hopeless_too()
 
 /// What a certificate of the one decides, it decides of the other, but that a livelock has a
 /// schedule of its own there; and a certificate of the one and one of the other never contradict,
-/// whatever their bounds.
+/// whatever their limits.
 pub fn certified_too()
     ensures decides { DecidesToo }
     ensures agree { CertificatesAgree }

@@ -31,15 +31,16 @@ pub fn certify_longer_by_workers<R: Threads + Wait, G: Gate>(
     matrix: &Matrix,
     local: u8,
     options: Options,
+    nodes: u32,
 ) -> Result<Certificate, CheckFault>
     requires of { CanRun component.now matrix.now }
     requires longer { component.now.local ≤ local }
     requires few { local ≤ 16 }
-    ensures certificate { IfOk result (IsMadeWithin local component.now matrix.now options) }
+    ensures certificate { IfOk result (IsMadeWithin local component.now matrix.now options nodes) }
     ensures decides { IfOk result (DecidesAlike component.now matrix.now) }
     ensures of { IfOk result (NamesCutOf component.now) }
     ensures alone { IfErr result (λ fault. options.workers ≡ 1 → fault ≡ Memory) }
 {
     let longer = with_local(alloc, component, local)?;
-    certify_by_workers(rt, alloc, gate, &longer, matrix, options)
+    certify_by_workers(rt, alloc, gate, &longer, matrix, options, nodes)
 }

@@ -45,6 +45,10 @@ HasAllNodes Set s nodes =
 abbrev pub HasFewNodes : (List SerialOp → Type 0) → State → ℕ → Type 0
 HasFewNodes Set s most = (nodes : List Node) × HasAllNodes Set s nodes × (length nodes ≤ most)
 
+-- as many as are mostly kept
+abbrev pub default_nodes : ℕ
+default_nodes = 8388608
+
 -- it is good, if it has ended
 abbrev pub IsGoodIfEnded : (List SerialOp → Type 0) → State → List Event → Type 0
 IsGoodIfEnded Set s h = IsEnded s → IsGoodAt Set s h

@@ -4,7 +4,8 @@
 /// tells it.
 #[derive(Clone, Copy)]
 pub enum Ending {
-    /// There are no more nodes than were to be kept, no two alike, and each schedule that ends is good.
+    /// There are no more nodes than were to be kept, no two alike, and each schedule that ends is
+    /// good.
     Well,
     /// The shortest schedule that ends and is not good has so many moves. Where these are more
     /// than the bound, there are no more nodes than were to be kept.

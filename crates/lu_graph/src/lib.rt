@@ -21,8 +21,8 @@
 //! ```
 #![tactic(auto)]
 
-/// As many nodes as are mostly kept, and as many states where histories play no part: where there
-/// are so many, they take about 1 GiB.
+/// How many nodes are mostly kept: where there are so many, they take about 1 GiB. So it is of
+/// states, where histories play no part: each takes more, but there are fewer.
 pub const DEFAULT_NODES: u32 = 8_388_608;
 
 mod alive;

@@ -25,10 +25,10 @@ use Rattle.lu_survey.specs.Surveys.{AreCertifiedFrom, AreShownOf, AreSliceCertif
 
 -- ---- lists
 
-certified_append : (asked : Asked) (number : ℕ) (list others : List CertifiedMatrix) → AreCertifiedFrom asked number list → AreCertifiedFrom asked (number + length list) others → AreCertifiedFrom asked number (list ++ others)
-certified_append asked number [] others are then = subst (λ (n : ℕ). AreCertifiedFrom asked n others) (omega arith) then
-certified_append asked number (one ∷ list) others are then =
-    (are.0, certified_append asked (number + 1) list others are.1 (subst (λ (n : ℕ). AreCertifiedFrom asked n others) (omega arith) then))
+certified_append : (asked : Asked) (nodes number : ℕ) (list others : List CertifiedMatrix) → AreCertifiedFrom asked nodes number list → AreCertifiedFrom asked nodes (number + length list) others → AreCertifiedFrom asked nodes number (list ++ others)
+certified_append asked nodes number [] others are then = subst (λ (n : ℕ). AreCertifiedFrom asked nodes n others) (omega arith) then
+certified_append asked nodes number (one ∷ list) others are then =
+    (are.0, certified_append asked nodes (number + 1) list others are.1 (subst (λ (n : ℕ). AreCertifiedFrom asked nodes n others) (omega arith) then))
 
 -- ---- tallies
 
@@ -96,37 +96,37 @@ survey_more list one survey (Undecided smaller r) is of = record {
 -- ---- the survey so far
 
 -- of the matrices with these numbers
-pub record IsSurveyedTo (asked : Asked) (start number : ℕ) (survey : Survey) : Type 0 where
+pub record IsSurveyedTo (asked : Asked) (nodes start number : ℕ) (survey : Survey) : Type 0 where
   pub list : List CertifiedMatrix
   pub size : start + length list ≡ number
-  pub each : AreCertifiedFrom asked start list
+  pub each : AreCertifiedFrom asked nodes start list
   pub of : IsSurveyOf list survey
 
-pub surveyed_none : (asked : Asked) (start : ℕ) (survey : Survey) → IsSurveyOf [] survey → IsSurveyedTo asked start start survey
-surveyed_none asked start survey of = record { list = []; size = omega arith; each = tt; of = of }
+pub surveyed_none : (asked : Asked) (nodes start : ℕ) (survey : Survey) → IsSurveyOf [] survey → IsSurveyedTo asked nodes start start survey
+surveyed_none asked nodes start survey of = record { list = []; size = omega arith; each = tt; of = of }
 
-pub surveyed_more : (asked : Asked) (start number : ℕ) (survey : Survey) (one : CertifiedMatrix) → (at : IsMatrixAt asked number one.matrix) → IsRoleCertificate asked at.choice one.certificate → IsSurveyedTo asked start number survey → IsSurveyedTo asked start (number + 1) (survey_by one.certificate survey one)
-surveyed_more asked start number survey one at certified so_far =
-    let here : IsCertifiedAt asked number one = record { choice = at.choice; chosen = at.chosen; is_at = at.is_at; fills = at.fills; certified = certified } in
+pub surveyed_more : (asked : Asked) (nodes start number : ℕ) (survey : Survey) (one : CertifiedMatrix) → (at : IsMatrixAt asked number one.matrix) → IsRoleCertificate asked nodes at.choice one.certificate → IsSurveyedTo asked nodes start number survey → IsSurveyedTo asked nodes start (number + 1) (survey_by one.certificate survey one)
+surveyed_more asked nodes start number survey one at certified so_far =
+    let here : IsCertifiedAt asked nodes number one = record { choice = at.choice; chosen = at.chosen; is_at = at.is_at; fills = at.fills; certified = certified } in
     let longer = length-append so_far.list (one ∷ []) in
     record {
       list = so_far.list ++ one ∷ [];
       size = omega (arith, so_far.size, longer);
-      each = certified_append asked start so_far.list (one ∷ []) so_far.each (subst (λ (n : ℕ). IsCertifiedAt asked n one) (sym so_far.size) here, tt);
+      each = certified_append asked nodes start so_far.list (one ∷ []) so_far.each (subst (λ (n : ℕ). IsCertifiedAt asked nodes n one) (sym so_far.size) here, tt);
       of = survey_more so_far.list one survey one.certificate refl so_far.of;
     }
 
 -- no tally counts more than there are
-pub has_room : (asked : Asked) (start number : ℕ) (survey : Survey) → number < 2 ^ 64 - 1 → IsSurveyedTo asked start number survey → HasRoom survey
-has_room asked start number survey less so_far = record {
+pub has_room : (asked : Asked) (nodes start number : ℕ) (survey : Survey) → number < 2 ^ 64 - 1 → IsSurveyedTo asked nodes start number survey → HasRoom survey
+has_room asked nodes start number survey less so_far = record {
   linearizable = omega (arith, less, so_far.size, so_far.of.linearizable.count, count_by-le-length (λ (x : CertifiedMatrix). is_linearizable x.certificate) so_far.list);
   not_linearizable = omega (arith, less, so_far.size, so_far.of.not_linearizable.count, count_by-le-length (λ (x : CertifiedMatrix). is_not_linearizable x.certificate) so_far.list);
   livelock = omega (arith, less, so_far.size, so_far.of.livelock.count, count_by-le-length (λ (x : CertifiedMatrix). is_livelock x.certificate) so_far.list);
   undecided = omega (arith, less, so_far.size, so_far.of.undecided.count, count_by-le-length (λ (x : CertifiedMatrix). is_undecided x.certificate) so_far.list);
 }
 
-pub surveyed_all : (asked : Asked) (from to start end number : ℕ) (survey : Survey) → end ≡ min to (matrix_count asked) → start ≡ min from end → number ≡ end → IsSurveyedTo asked start number survey → IsSurveyed asked from to survey
-surveyed_all asked from to start end number survey end_is start_is past so_far = elim (cases_lt end from) as (λ _. IsSurveyed asked from to survey) [
+pub surveyed_all : (asked : Asked) (nodes from to start end number : ℕ) (survey : Survey) → end ≡ min to (matrix_count asked) → start ≡ min from end → number ≡ end → IsSurveyedTo asked nodes start number survey → IsSurveyed asked nodes from to survey
+surveyed_all asked nodes from to start end number survey end_is start_is past so_far = elim (cases_lt end from) as (λ _. IsSurveyed asked nodes from to survey) [
   | inl none ↦
       (let empty : so_far.list ≡ [] = nil_from_length so_far.list (omega (arith, so_far.size, start_is, past, none)) in (
         [],
@@ -136,7 +136,7 @@ surveyed_all asked from to start end number survey end_is start_is past so_far =
   | inr some ↦
       (let here : start ≡ from = omega (arith, start_is, some) in (
         so_far.list,
-        record { size = omega (arith, so_far.size, here, end_is, past); each = subst (λ (n : ℕ). AreCertifiedFrom asked n so_far.list) here so_far.each },
+        record { size = omega (arith, so_far.size, here, end_is, past); each = subst (λ (n : ℕ). AreCertifiedFrom asked nodes n so_far.list) here so_far.each },
         so_far.of,
       ))
 ]
@@ -178,25 +178,25 @@ module _ (is_kind : Certificate → Bool) where
       }
 
 -- the later slice goes on where the earlier one ends, or is empty
-goes_on : (asked : Asked) (from middle to : ℕ) (list others : List CertifiedMatrix) → from ≤ middle → AreSliceCertified asked from middle list → AreSliceCertified asked middle to others → AreCertifiedFrom asked (from + length list) others
-goes_on asked from middle to list others low x y = elim (cases_lt (matrix_count asked) middle) as (λ _. AreCertifiedFrom asked (from + length list) others) [
+goes_on : (asked : Asked) (nodes from middle to : ℕ) (list others : List CertifiedMatrix) → from ≤ middle → AreSliceCertified asked nodes from middle list → AreSliceCertified asked nodes middle to others → AreCertifiedFrom asked nodes (from + length list) others
+goes_on asked nodes from middle to list others low x y = elim (cases_lt (matrix_count asked) middle) as (λ _. AreCertifiedFrom asked nodes (from + length list) others) [
   | inl past ↦
       (let empty : others ≡ [] = nil_from_length others (omega (arith, y.size, past)) in
-      subst (λ (rest : List CertifiedMatrix). AreCertifiedFrom asked (from + length list) rest) (sym empty) tt)
+      subst (λ (rest : List CertifiedMatrix). AreCertifiedFrom asked nodes (from + length list) rest) (sym empty) tt)
   | inr within ↦
       (let there : middle ≡ from + length list = omega (arith, x.size, within, low) in
-      subst (λ (n : ℕ). AreCertifiedFrom asked n others) there y.each)
+      subst (λ (n : ℕ). AreCertifiedFrom asked nodes n others) there y.each)
 ]
 
 pub surveys_join : SurveysJoin
-surveys_join asked from middle to earlier later low high x y =
+surveys_join asked nodes from middle to earlier later low high x y =
     let list = x.0 in
     let others = y.0 in
     let longer = length-append list others in
     let first = x.1.size in
     let second = y.1.size in (
       list ++ others,
-      record { size = omega (arith, longer, first, second, low, high); each = certified_append asked from list others x.1.each (goes_on asked from middle to list others low x.1 y.1) },
+      record { size = omega (arith, longer, first, second, low, high); each = certified_append asked nodes from list others x.1.each (goes_on asked nodes from middle to list others low x.1 y.1) },
       record {
         linearizable = tallies_join is_linearizable list others earlier.linearizable later.linearizable x.2.linearizable y.2.linearizable;
         not_linearizable = tallies_join is_not_linearizable list others earlier.not_linearizable later.not_linearizable x.2.not_linearizable y.2.not_linearizable;
@@ -236,7 +236,7 @@ all_counted (one ∷ list) =
     omega (arith, once, rest, a, b, d, e)
 
 pub counts_all : SurveyCountsAll
-counts_all asked from to survey is =
+counts_all asked nodes from to survey is =
     let all = all_counted is.0 in
     omega (arith, all, is.1.size, is.2.linearizable.count, is.2.not_linearizable.count, is.2.livelock.count, is.2.undecided.count)
 
@@ -248,19 +248,19 @@ one_if b = cond b 1 0
 abbrev Alike : CertifiedMatrix → CertifiedMatrix → Type 0
 Alike x y = (x.matrix ≡ y.matrix) × AreSame x.certificate y.certificate
 
-alike_at : (asked : Asked) (number : ℕ) (x y : CertifiedMatrix) → AllEnd asked.component asked.setup → IsCertifiedAt asked number x → IsCertifiedAt asked number y → Alike x y
-alike_at asked number x y ends a b =
+alike_at : (asked : Asked) (nodes number : ℕ) (x y : CertifiedMatrix) → AllEnd asked.component asked.setup → IsCertifiedAt asked nodes number x → IsCertifiedAt asked nodes number y → Alike x y
+alike_at asked nodes number x y ends a b =
     let same : a.choice ≡ b.choice = place_same (bases_of asked) a.choice b.choice a.chosen b.chosen (a.is_at ∙ sym b.is_at) in (
       a.fills ∙ (ap (role_matrix asked) same ∙ sym b.fills),
-      one_certificate asked b.choice x.certificate y.certificate ends (subst (λ (choice : List ℕ). IsRoleCertificate asked choice x.certificate) same a.certified) b.certified,
+      one_certificate asked nodes b.choice x.certificate y.certificate ends (subst (λ (choice : List ℕ). IsRoleCertificate asked nodes choice x.certificate) same a.certified) b.certified,
     )
 
-lists_alike : (asked : Asked) (number : ℕ) (xs ys : List CertifiedMatrix) → AllEnd asked.component asked.setup → length xs ≡ length ys → AreCertifiedFrom asked number xs → AreCertifiedFrom asked number ys → AllZip Alike xs ys
-lists_alike asked number [] [] ends long a b = tt
-lists_alike asked number [] (y ∷ ys) ends long a b = absurd (omega arith)
-lists_alike asked number (x ∷ xs) [] ends long a b = absurd (omega arith)
-lists_alike asked number (x ∷ xs) (y ∷ ys) ends long a b =
-    (alike_at asked number x y ends a.0 b.0, lists_alike asked (number + 1) xs ys ends (omega arith) a.1 b.1)
+lists_alike : (asked : Asked) (nodes number : ℕ) (xs ys : List CertifiedMatrix) → AllEnd asked.component asked.setup → length xs ≡ length ys → AreCertifiedFrom asked nodes number xs → AreCertifiedFrom asked nodes number ys → AllZip Alike xs ys
+lists_alike asked nodes number [] [] ends long a b = tt
+lists_alike asked nodes number [] (y ∷ ys) ends long a b = absurd (omega arith)
+lists_alike asked nodes number (x ∷ xs) [] ends long a b = absurd (omega arith)
+lists_alike asked nodes number (x ∷ xs) (y ∷ ys) ends long a b =
+    (alike_at asked nodes number x y ends a.0 b.0, lists_alike asked nodes (number + 1) xs ys ends (omega arith) a.1 b.1)
 
 first_same : (x y : CertifiedMatrix) (b d : Bool) → b ≡ d → Alike x y → (r q : Option CertifiedMatrix) → AreSameFirst r q → AreSameFirst (cond b (Some x) r) (cond d (Some y) q)
 first_same x y true true e alike r q same = alike
@@ -306,8 +306,8 @@ module _ (is_kind : Certificate → Bool) (sets : (members others : List (List S
       )
 
 pub one_survey : OneSurvey
-one_survey asked from to survey other ends x y =
-    let all = lists_alike asked from x.0 y.0 ends (x.1.size ∙ sym y.1.size) x.1.each y.1.each in
+one_survey asked nodes from to survey other ends x y =
+    let all = lists_alike asked nodes from x.0 y.0 ends (x.1.size ∙ sym y.1.size) x.1.each y.1.each in
     record {
       linearizable = tallies_same is_linearizable (λ members others. refl) x.0 y.0 survey.linearizable other.linearizable all x.2.linearizable y.2.linearizable;
       not_linearizable = tallies_same is_not_linearizable (λ members others. refl) x.0 y.0 survey.not_linearizable other.not_linearizable all x.2.not_linearizable y.2.not_linearizable;

@@ -4,6 +4,7 @@ use Rattle.lu_component.specs.Component.{Declarations}
 use Rattle.lu_test.specs.Matrix.{IsOf}
 use Rattle.lu_certify.specs.declared.certificate.Certificate.{Certificate}
 use Rattle.lu_certify.specs.declared.certificate.Certificate.TheVariants.{Linearizable, Livelock, NotLinearizable, Undecided}
+use Rattle.lu_certify.specs.declared.limits.Limits.{Limits}
 use Rattle.lu_certify.specs.Certificates.{IsCertificate, NamesCutOf}
 use Rattle.lu_refine.specs.ByThread.{Asked, role_matrix}
 use Rattle.lu_refine.specs.Roles.{AreWithinLimits}
@@ -11,10 +12,15 @@ use Rattle.lu_survey.specs.declared.certified_campaign.CertifiedCampaign.{Certif
 use Rattle.lu_survey.specs.declared.certified_campaign.CertifiedCampaign.TheVariants.{AllLinearizable, First}
 use Rattle.lu_survey.specs.Slices.{AreAllSo, IsFirstOther}
 
--- this is the certificate of the matrix that the choice fills, at the bounds that are asked for
-abbrev pub IsRoleCertificate : Asked → List ℕ → Certificate → Type 0
-IsRoleCertificate asked choice certificate =
-    IsCertificate asked.component (role_matrix asked choice) asked.bound asked.serial certificate
+-- the bounds that are asked for, and so many nodes
+abbrev pub limits_for : Asked → ℕ → Limits
+limits_for asked nodes =
+    record { bound = asked.bound; serial = asked.serial; nodes = nodes }
+
+-- this is the certificate of the matrix that the choice fills, within those limits
+abbrev pub IsRoleCertificate : Asked → ℕ → List ℕ → Certificate → Type 0
+IsRoleCertificate asked nodes choice certificate =
+    IsCertificate asked.component (role_matrix asked choice) (limits_for asked nodes) certificate
 
 -- a certificate that the component is linearizable
 abbrev pub SaysLinearizable : Certificate → Type 0
@@ -24,28 +30,29 @@ SaysLinearizable (Livelock smaller u) = ⊥
 SaysLinearizable (Undecided smaller r) = ⊥
 
 -- on the matrix that the choice fills the component is certified to be linearizable
-abbrev pub IsCertified : Asked → List ℕ → Type 0
-IsCertified asked choice =
-    (certificate : Certificate) × IsRoleCertificate asked choice certificate
+abbrev pub IsCertified : Asked → ℕ → List ℕ → Type 0
+IsCertified asked nodes choice =
+    (certificate : Certificate) × IsRoleCertificate asked nodes choice certificate
     × SaysLinearizable certificate
 
 -- it has this certificate, which says otherwise
-abbrev pub IsCertifiedOther : Asked → Certificate → List ℕ → Type 0
-IsCertifiedOther asked certificate choice =
-    IsRoleCertificate asked choice certificate × (SaysLinearizable certificate → ⊥)
+abbrev pub IsCertifiedOther : Asked → ℕ → Certificate → List ℕ → Type 0
+IsCertifiedOther asked nodes certificate choice =
+    IsRoleCertificate asked nodes choice certificate × (SaysLinearizable certificate → ⊥)
 
 -- on each matrix of the slice the component is certified to be linearizable, and this is their
 -- number; or the first on which it is not, with its certificate
-abbrev pub IsCertifiedSlice : Asked → ℕ → ℕ → CertifiedCampaign → Type 0
-IsCertifiedSlice asked from to (AllLinearizable count) =
-    AreAllSo asked from to (IsCertified asked) count
-IsCertifiedSlice asked from to (First matrix certificate) =
-    IsFirstOther asked from to (IsCertified asked) (IsCertifiedOther asked certificate) matrix
+abbrev pub IsCertifiedSlice : Asked → ℕ → ℕ → ℕ → CertifiedCampaign → Type 0
+IsCertifiedSlice asked nodes from to (AllLinearizable count) =
+    AreAllSo asked from to (IsCertified asked nodes) count
+IsCertifiedSlice asked nodes from to (First matrix certificate) =
+    IsFirstOther asked from to (IsCertified asked nodes) (IsCertifiedOther asked nodes certificate)
+    matrix
 
 -- the limits hold, and this is found
-abbrev pub IsCertifiedAnswer : Asked → ℕ → ℕ → CertifiedCampaign → Type 0
-IsCertifiedAnswer asked from to found =
-    AreWithinLimits asked.calls asked.candidates × IsCertifiedSlice asked from to found
+abbrev pub IsCertifiedAnswer : Asked → ℕ → ℕ → ℕ → CertifiedCampaign → Type 0
+IsCertifiedAnswer asked nodes from to found =
+    AreWithinLimits asked.calls asked.candidates × IsCertifiedSlice asked nodes from to found
 
 -- the matrix that is found is one of the component, and so is the cut that its certificate names,
 -- if any

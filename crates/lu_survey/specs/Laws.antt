@@ -38,10 +38,10 @@ joined (AllLinearizable count) (AllLinearizable others) = AllLinearizable (count
 -- Two slices that follow one another answer together what one slice does.
 abbrev pub CertifiedJoin : Type 0
 CertifiedJoin =
-    (asked : Asked) (from middle to : ℕ) (earlier later : CertifiedCampaign) →
+    (asked : Asked) (nodes from middle to : ℕ) (earlier later : CertifiedCampaign) →
     from ≤ middle → middle ≤ to →
-    IsCertifiedSlice asked from middle earlier → IsCertifiedSlice asked middle to later
-    → IsCertifiedSlice asked from to (joined earlier later)
+    IsCertifiedSlice asked nodes from middle earlier → IsCertifiedSlice asked nodes middle to later
+    → IsCertifiedSlice asked nodes from to (joined earlier later)
 
 -- two answers say the same: the same count, or the same matrix with the same certificate
 abbrev pub SayTheSame : CertifiedCampaign → CertifiedCampaign → Type 0
@@ -54,9 +54,9 @@ SayTheSame (First matrix certificate) (First other its) =
 -- A slice has one answer, where the calls of the setup end.
 abbrev pub OneCertifiedAnswer : Type 0
 OneCertifiedAnswer =
-    (asked : Asked) (from to : ℕ) (found other : CertifiedCampaign) →
-    AllEnd asked.component asked.setup → IsCertifiedSlice asked from to found →
-    IsCertifiedSlice asked from to other → SayTheSame found other
+    (asked : Asked) (nodes from to : ℕ) (found other : CertifiedCampaign) →
+    AllEnd asked.component asked.setup → IsCertifiedSlice asked nodes from to found →
+    IsCertifiedSlice asked nodes from to other → SayTheSame found other
 
 -- ---- surveys
 
@@ -78,14 +78,15 @@ joined_surveys earlier later = record {
 -- The surveys of two slices that follow one another say together what that of one slice does.
 abbrev pub SurveysJoin : Type 0
 SurveysJoin =
-    (asked : Asked) (from middle to : ℕ) (earlier later : Survey) →
-    from ≤ middle → middle ≤ to → IsSurveyed asked from middle earlier →
-    IsSurveyed asked middle to later → IsSurveyed asked from to (joined_surveys earlier later)
+    (asked : Asked) (nodes from middle to : ℕ) (earlier later : Survey) →
+    from ≤ middle → middle ≤ to → IsSurveyed asked nodes from middle earlier →
+    IsSurveyed asked nodes middle to later
+    → IsSurveyed asked nodes from to (joined_surveys earlier later)
 
 -- A survey counts each matrix of the slice, with one kind.
 abbrev pub SurveyCountsAll : Type 0
 SurveyCountsAll =
-    (asked : Asked) (from to : ℕ) (survey : Survey) → IsSurveyed asked from to survey →
+    (asked : Asked) (nodes from to : ℕ) (survey : Survey) → IsSurveyed asked nodes from to survey →
     survey.linearizable.count + survey.not_linearizable.count
     + (survey.livelock.count + survey.undecided.count) ≡ slice_size asked from to
 
@@ -109,8 +110,9 @@ pub record AreSameSurveys (survey other : Survey) : Type 0 where
 -- A slice has one survey, where the calls of the setup end.
 abbrev pub OneSurvey : Type 0
 OneSurvey =
-    (asked : Asked) (from to : ℕ) (survey other : Survey) → AllEnd asked.component asked.setup →
-    IsSurveyed asked from to survey → IsSurveyed asked from to other
+    (asked : Asked) (nodes from to : ℕ) (survey other : Survey) →
+    AllEnd asked.component asked.setup →
+    IsSurveyed asked nodes from to survey → IsSurveyed asked nodes from to other
     → AreSameSurveys survey other
 
 -- ---- comparisons

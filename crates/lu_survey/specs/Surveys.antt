@@ -17,24 +17,24 @@ use Rattle.lu_survey.specs.Slices.{slice_size}
 -- ---- the certificates of a slice
 
 -- the matrix that the choice with this number fills, with its certificate
-pub record IsCertifiedAt (asked : Asked) (number : ℕ) (one : CertifiedMatrix) : Type 0 where
+pub record IsCertifiedAt (asked : Asked) (nodes number : ℕ) (one : CertifiedMatrix) : Type 0 where
   pub choice : List ℕ
   pub chosen : IsRoleChoice asked choice
   pub is_at : choice_number asked choice ≡ number
   pub fills : one.matrix ≡ role_matrix asked choice
-  pub certified : IsRoleCertificate asked choice one.certificate
+  pub certified : IsRoleCertificate asked nodes choice one.certificate
 
 -- the matrices from this number on, in order, each with its certificate
-abbrev pub AreCertifiedFrom : Asked → ℕ → List CertifiedMatrix → Type 0
-AreCertifiedFrom asked number [] = Unit {0}
-AreCertifiedFrom asked number (one ∷ others) =
-    IsCertifiedAt asked number one × AreCertifiedFrom asked (number + 1) others
+abbrev pub AreCertifiedFrom : Asked → ℕ → ℕ → List CertifiedMatrix → Type 0
+AreCertifiedFrom asked nodes number [] = Unit {0}
+AreCertifiedFrom asked nodes number (one ∷ others) =
+    IsCertifiedAt asked nodes number one × AreCertifiedFrom asked nodes (number + 1) others
 
 -- all matrices of the slice, in order, each with its certificate
-pub record AreSliceCertified (asked : Asked) (from to : ℕ) (list : List CertifiedMatrix)
+pub record AreSliceCertified (asked : Asked) (nodes from to : ℕ) (list : List CertifiedMatrix)
     : Type 0 where
   pub size : length list ≡ slice_size asked from to
-  pub each : AreCertifiedFrom asked from list
+  pub each : AreCertifiedFrom asked nodes from list
 
 -- ---- kinds of certificates
 
@@ -78,14 +78,15 @@ pub record IsSurveyOf (list : List CertifiedMatrix) (survey : Survey) : Type 0 w
   pub undecided : IsTally is_undecided list survey.undecided
 
 -- it is the survey of all matrices of the slice
-abbrev pub IsSurveyed : Asked → ℕ → ℕ → Survey → Type 0
-IsSurveyed asked from to survey =
-    (list : List CertifiedMatrix) × AreSliceCertified asked from to list × IsSurveyOf list survey
+abbrev pub IsSurveyed : Asked → ℕ → ℕ → ℕ → Survey → Type 0
+IsSurveyed asked nodes from to survey =
+    (list : List CertifiedMatrix) × AreSliceCertified asked nodes from to list
+    × IsSurveyOf list survey
 
 -- the limits hold, and this is found
-abbrev pub IsSurveyAnswer : Asked → ℕ → ℕ → Survey → Type 0
-IsSurveyAnswer asked from to survey =
-    AreWithinLimits asked.calls asked.candidates × IsSurveyed asked from to survey
+abbrev pub IsSurveyAnswer : Asked → ℕ → ℕ → ℕ → Survey → Type 0
+IsSurveyAnswer asked nodes from to survey =
+    AreWithinLimits asked.calls asked.candidates × IsSurveyed asked nodes from to survey
 
 -- ---- one matrix more
 

@@ -5,7 +5,7 @@ ghost use Rattle.lu_refine.specs.ByThread.{CanAsk, IsRolesFault, asked_of};
 ghost use Rattle.lu_survey.specs.Certified.{IsCertifiedAnswer, IsCertifiedOf, SaysLinearizable};
 
 use crate::certified_campaign::CertifiedCampaign;
-use lu_certify::{Certificate, certify};
+use lu_certify::{Certificate, Limits, certify};
 use lu_refine::{CampaignFault, Roles, count_matrices, matrix_at};
 use std::alloc::Global;
 
@@ -22,11 +22,12 @@ fn says_linearizable(certificate: &Certificate) -> bool
 }
 
 /// Certifies some of the matrices of [`campaign_by_thread`](lu_refine::campaign_by_thread), within
-/// the bounds of the roles: those with the numbers `from` to `to - 1` in its order, counted from 0;
-/// a `to` past the last matrix is the end. Returns the first of them whose certificate says
-/// anything but that the component is linearizable, with that certificate, or how many they are: 0
-/// where `from` is not below `to` or not below the number of matrices. Slices that follow one
-/// another say together what one slice says ([`certified_join`](crate::laws::certified_join)).
+/// the bounds of the roles and with at most so many nodes of each cut: those with the numbers
+/// `from` to `to - 1` in its order, counted from 0; a `to` past the last matrix is the end. Returns
+/// the first of them whose certificate says anything but that the component is linearizable, with
+/// that certificate, or how many they are: 0 where `from` is not below `to` or not below the number
+/// of matrices. Slices that follow one another say together what one slice says
+/// ([`certified_join`](crate::laws::certified_join)).
 ///
 /// # Errors
 ///
@@ -34,20 +35,26 @@ fn says_linearizable(certificate: &Certificate) -> bool
 pub fn certify_slice(
     alloc: Global,
     roles: Roles<'_>,
+    nodes: u32,
     from: u64,
     to: u64,
 ) -> Result<CertifiedCampaign, CampaignFault>
     requires { CanAsk (asked_of roles) }
-    ensures answer { IfOk result (IsCertifiedAnswer (asked_of roles.entry) from to) }
+    ensures answer { IfOk result (IsCertifiedAnswer (asked_of roles.entry) nodes from to) }
     ensures of { IfOk result (IsCertifiedOf roles.entry.component.now) }
     ensures fault { IfErr result (IsRolesFault roles.entry.candidates.now roles.entry.calls) }
 {
     let count = count_matrices(alloc, roles.candidates, roles.calls)?;
     let end = to.min(count);
     let start = from.min(end);
+    let limits = Limits {
+        bound: roles.bound,
+        serial: roles.serial,
+        nodes,
+    };
     for number in start..end {
         let matrix = matrix_at(alloc, roles, number)?;
-        let certificate = certify(alloc, roles.component, &matrix, roles.bound, roles.serial)?;
+        let certificate = certify(alloc, roles.component, &matrix, limits)?;
         if !says_linearizable(&certificate) {
             return Ok(CertifiedCampaign::First {
                 matrix,

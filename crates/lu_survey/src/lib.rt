@@ -8,7 +8,7 @@
 //! what its serial histories are to be.
 //!
 //! ```text
-//! match certify_slice(alloc, roles, 0, u64::MAX)? {
+//! match certify_slice(alloc, roles, DEFAULT_NODES, 0, u64::MAX)? {
 //!     CertifiedCampaign::AllLinearizable(count) => ..,
 //!     CertifiedCampaign::First { matrix, certificate } => ..,
 //! }

@@ -5,7 +5,7 @@ ghost use Rattle.lu_refine.specs.ByThread.{CanAsk, IsRolesFault, asked_of};
 ghost use Rattle.lu_survey.specs.Surveys.{AreShownOf, IsSurveyAnswer};
 
 use crate::survey::{CertifiedMatrix, Survey};
-use lu_certify::certify;
+use lu_certify::{Limits, certify};
 use lu_refine::{CampaignFault, Roles, count_matrices, matrix_at};
 use std::alloc::Global;
 
@@ -20,11 +20,12 @@ use std::alloc::Global;
 pub fn survey_slice(
     alloc: Global,
     roles: Roles<'_>,
+    nodes: u32,
     from: u64,
     to: u64,
 ) -> Result<Survey, CampaignFault>
     requires { CanAsk (asked_of roles) }
-    ensures answer { IfOk result (IsSurveyAnswer (asked_of roles.entry) from to) }
+    ensures answer { IfOk result (IsSurveyAnswer (asked_of roles.entry) nodes from to) }
     ensures of { IfOk result (AreShownOf roles.entry.component.now) }
     ensures fault { IfErr result (IsRolesFault roles.entry.candidates.now roles.entry.calls) }
 {
@@ -32,9 +33,14 @@ pub fn survey_slice(
     let end = to.min(count);
     let start = from.min(end);
     let mut survey = Survey::none();
+    let limits = Limits {
+        bound: roles.bound,
+        serial: roles.serial,
+        nodes,
+    };
     for number in start..end {
         let matrix = matrix_at(alloc, roles, number)?;
-        let certificate = certify(alloc, roles.component, &matrix, roles.bound, roles.serial)?;
+        let certificate = certify(alloc, roles.component, &matrix, limits)?;
         survey = survey.with(CertifiedMatrix {
             matrix,
             certificate,

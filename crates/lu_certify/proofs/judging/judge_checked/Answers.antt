@@ -9,10 +9,10 @@ pub returns-in-None : goal.returns-in-None
 returns-in-None c =
     let passes : IsFailure c.args.report.finding → ⊥ = search rules in
     let less : IsFullPass c.args.report.finding → ⊥ = search rules in
-    let then : not c.args.was_tried ≡ true → IsLeftOpen c.args.component.now c.args.bound c.args.serial c.args.cut.now =
-    subst (λ (o : Option Judged). IsJudgedFirst (not c.args.was_tried) c.args.component.now c.args.bound c.args.serial c.args.cut.now o) c.in-None.is c.in_ok-judged.ensures in
-    let left = tried_either (IsLeftOpen c.args.component.now c.args.bound c.args.serial c.args.cut.now) c.args.was_tried c.requires.tried then in (
+    let then : not c.args.was_tried ≡ true → IsLeftOpen c.args.component.now c.args.limits c.args.cut.now =
+    subst (λ (o : Option Judged). IsJudgedFirst (not c.args.was_tried) c.args.component.now c.args.limits c.args.cut.now o) c.in-None.is c.in_ok-judged.ensures in
+    let left = tried_either (IsLeftOpen c.args.component.now c.args.limits c.args.cut.now) c.args.was_tried c.requires.tried then in (
       c.requires.report,
-      open_never_clear c.args.component.now c.args.cut.now c.args.bound c.args.serial c.requires.of.settles c.args.report c.requires.report less left,
-      open_never_fails c.args.component.now c.args.cut.now c.args.bound c.args.serial c.requires.of.settles c.args.report c.requires.report passes left,
+      open_never_clear c.args.component.now c.args.cut.now c.args.limits c.requires.of.settles c.args.report c.requires.report less left,
+      open_never_fails c.args.component.now c.args.cut.now c.args.limits c.requires.of.settles c.args.report c.requires.report passes left,
     )

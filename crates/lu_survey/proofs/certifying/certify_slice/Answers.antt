@@ -21,8 +21,8 @@ returns-then-not-says_linearizable-clause-answer c =
     let end : c.min-end.result ≡ min c.args.to (matrix_count asked) = c.min-end.ensures ∙ ap (min c.args.to) c.in_ok-count.ensures.count in
     let other : SaysLinearizable c.in_ok-certificate.certificate → ⊥ = search rules in (
       c.in_ok-count.ensures.within refl,
-      other_here asked (IsCertified asked) (IsCertifiedOther asked c.in_ok-certificate.certificate) c.args.from c.args.to c.min-start.result c.min-end.result c.loop-number.number c.in_ok-matrix.matrix end c.min-start.ensures (omega arith) (omega arith) c.in_ok-matrix.ensures c.loop-number.invariant
-          (certificate_at asked c.loop-number.number c.in_ok-matrix.matrix c.in_ok-certificate.certificate c.in_ok-matrix.ensures c.in_ok-certificate.ensures.certificate, other),
+      other_here asked (IsCertified asked c.args.nodes) (IsCertifiedOther asked c.args.nodes c.in_ok-certificate.certificate) c.args.from c.args.to c.min-start.result c.min-end.result c.loop-number.number c.in_ok-matrix.matrix end c.min-start.ensures (omega arith) (omega arith) c.in_ok-matrix.ensures c.loop-number.invariant
+          (certificate_at asked c.args.nodes c.loop-number.number c.in_ok-matrix.matrix c.in_ok-certificate.certificate c.in_ok-matrix.ensures c.in_ok-certificate.ensures.certificate, other),
     )
 
 pub returns-then-not-says_linearizable-clause-of : goal.returns-then-not-says_linearizable-clause-of
@@ -32,11 +32,11 @@ pub loop-number-preserved : goal.loop-number-preserved
 loop-number-preserved c =
     let asked = asked_of c.args.roles in
     let says : SaysLinearizable c.in_ok-certificate.certificate = search rules in
-    so_more asked (IsCertified asked) c.min-start.result c.loop-number.number c.in_ok-matrix.matrix c.in_ok-matrix.ensures c.loop-number.invariant
-    (c.in_ok-certificate.certificate, certificate_at asked c.loop-number.number c.in_ok-matrix.matrix c.in_ok-certificate.certificate c.in_ok-matrix.ensures c.in_ok-certificate.ensures.certificate, says)
+    so_more asked (IsCertified asked c.args.nodes) c.min-start.result c.loop-number.number c.in_ok-matrix.matrix c.in_ok-matrix.ensures c.loop-number.invariant
+    (c.in_ok-certificate.certificate, certificate_at asked c.args.nodes c.loop-number.number c.in_ok-matrix.matrix c.in_ok-certificate.certificate c.in_ok-matrix.ensures c.in_ok-certificate.ensures.certificate, says)
 
 pub returns-clause-answer : goal.returns-clause-answer
 returns-clause-answer c =
     let asked = asked_of c.args.roles in
     let end : c.min-end.result ≡ min c.args.to (matrix_count asked) = c.min-end.ensures ∙ ap (min c.args.to) c.in_ok-count.ensures.count in
-    (c.in_ok-count.ensures.within refl, so_all asked (IsCertified asked) c.args.from c.args.to c.min-start.result c.min-end.result c.loop-number.number end c.min-start.ensures (omega arith) c.loop-number.invariant)
+    (c.in_ok-count.ensures.within refl, so_all asked (IsCertified asked c.args.nodes) c.args.from c.args.to c.min-start.result c.min-end.result c.loop-number.number end c.min-start.ensures (omega arith) c.loop-number.invariant)

@@ -4,4 +4,4 @@ use Rattle.lu_survey.proofs.InSlices.{SoWithin}
 use Rattle.lu_survey.proofs.certifying.certify_slice.Given as goal
 
 abbrev pub invariant-loop-number : goal.invariant-loop-number
-invariant-loop-number l = SoWithin (asked_of l.roles) (IsCertified (asked_of l.roles)) l.start l.number
+invariant-loop-number l = SoWithin (asked_of l.roles) (IsCertified (asked_of l.roles) l.nodes) l.start l.number

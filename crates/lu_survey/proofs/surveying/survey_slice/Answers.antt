@@ -19,22 +19,22 @@ certify-requires-clause-of c = at_runs (asked_of c.args.roles) c.loop-number.num
 
 pub loop-number-init : goal.loop-number-init
 loop-number-init c = record {
-  surveyed = surveyed_none (asked_of c.args.roles) c.min-start.result c.none-survey.result c.none-survey.ensures;
+  surveyed = surveyed_none (asked_of c.args.roles) c.args.nodes c.min-start.result c.none-survey.result c.none-survey.ensures;
   shown = none_shown c.args.roles.component.now c.none-survey.result c.none-survey.ensures;
 }
 
 pub with-survey-requires : goal.with-survey-requires
-with-survey-requires c = has_room (asked_of c.args.roles) c.min-start.result c.loop-number.number c.loop-number.survey (omega arith) c.loop-number.invariant.surveyed
+with-survey-requires c = has_room (asked_of c.args.roles) c.args.nodes c.min-start.result c.loop-number.number c.loop-number.survey (omega arith) c.loop-number.invariant.surveyed
 
 pub loop-number-preserved : goal.loop-number-preserved
 loop-number-preserved c =
     let asked = asked_of c.args.roles in
     let one : CertifiedMatrix = record { matrix = c.in_ok-matrix.matrix; certificate = c.in_ok-certificate.certificate } in
-    let certified = certificate_at asked c.loop-number.number c.in_ok-matrix.matrix c.in_ok-certificate.certificate c.in_ok-matrix.ensures c.in_ok-certificate.ensures.certificate in
+    let certified = certificate_at asked c.args.nodes c.loop-number.number c.in_ok-matrix.matrix c.in_ok-certificate.certificate c.in_ok-matrix.ensures c.in_ok-certificate.ensures.certificate in
     let shown : IsShownOf c.args.roles.component.now one = (at_of asked c.loop-number.number c.in_ok-matrix.matrix c.requires c.in_ok-matrix.ensures, c.in_ok-certificate.ensures.of) in
     record {
-      surveyed = subst (IsSurveyedTo asked c.min-start.result (c.loop-number.number + 1)) (sym c.with-survey.ensures)
-          (surveyed_more asked c.min-start.result c.loop-number.number c.loop-number.survey one c.in_ok-matrix.ensures certified c.loop-number.invariant.surveyed);
+      surveyed = subst (IsSurveyedTo asked c.args.nodes c.min-start.result (c.loop-number.number + 1)) (sym c.with-survey.ensures)
+          (surveyed_more asked c.args.nodes c.min-start.result c.loop-number.number c.loop-number.survey one c.in_ok-matrix.ensures certified c.loop-number.invariant.surveyed);
       shown = subst (AreShownOf c.args.roles.component.now) (sym c.with-survey.ensures)
           (shown_more c.args.roles.component.now c.loop-number.survey one c.in_ok-certificate.certificate shown c.loop-number.invariant.shown);
     }
@@ -44,7 +44,7 @@ returns-clause-answer c =
     let asked = asked_of c.args.roles in
     let end : c.min-end.result ≡ min c.args.to (matrix_count asked) = c.min-end.ensures ∙ ap (min c.args.to) c.in_ok-count.ensures.count in (
       c.in_ok-count.ensures.within refl,
-      surveyed_all asked c.args.from c.args.to c.min-start.result c.min-end.result c.loop-number.number c.loop-number.survey end c.min-start.ensures (omega arith) c.loop-number.invariant.surveyed,
+      surveyed_all asked c.args.nodes c.args.from c.args.to c.min-start.result c.min-end.result c.loop-number.number c.loop-number.survey end c.min-start.ensures (omega arith) c.loop-number.invariant.surveyed,
     )
 
 pub returns-clause-of : goal.returns-clause-of

@@ -5,6 +5,6 @@ use Rattle.lu_survey.proofs.surveying.survey_slice.Given as goal
 
 abbrev pub invariant-loop-number : goal.invariant-loop-number
 invariant-loop-number l = record {
-  surveyed : IsSurveyedTo (asked_of l.roles) l.start l.number l.survey;
+  surveyed : IsSurveyedTo (asked_of l.roles) l.nodes l.start l.number l.survey;
   shown : AreShownOf l.roles.component.now l.survey;
 }
