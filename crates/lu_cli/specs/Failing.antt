@@ -11,6 +11,8 @@ use Rattle.lu_report.specs.Limits.{most_moves}
 use Rattle.lu_report.specs.Parts.{Parts, shown_schedule}
 use Rattle.lu_certify.specs.declared.certificate.Certificate.{Certificate}
 use Rattle.lu_certify.specs.declared.certificate.Certificate.TheVariants.{Linearizable, NotLinearizable, Livelock, Undecided}
+use Rattle.lu_graph.specs.Nodes.{default_nodes}
+use Rattle.lu_certify.specs.declared.limits.Limits.{Limits}
 use Rattle.lu_certify.specs.Certificates.{IsCertificate}
 use Rattle.lu_trace.specs.declared.wording.Wording.{Wording}
 use Rattle.lu_cli.specs.declared.explaining.Presentation.{Presentation}
@@ -119,8 +121,12 @@ CanRunCut c (NotLinearizable cut r) = CanRun c cut
 CanRunCut c (Livelock cut u) = CanRun c cut
 CanRunCut c (Undecided cut r) = Unit {0}
 
--- what is shown of the certificate, which has the bounds of `certify`
+-- the limits of `certify`, where none are given
+abbrev pub widest : Limits
+widest = record { bound = most_moves; serial = most_moves; nodes = default_nodes }
+
+-- what is shown of the certificate, which has the limits of `certify`
 abbrev pub IsShownAlone : View → Wording → Declarations → Matrix → Answer → Type 0
 IsShownAlone view how c m answer =
-    (certificate : Certificate) × IsCertificate c m most_moves most_moves certificate
+    (certificate : Certificate) × IsCertificate c m widest certificate
     × ShowsByView view how c certificate answer

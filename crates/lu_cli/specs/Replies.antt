@@ -53,6 +53,7 @@ use Rattle.lu_refine.specs.Codes.{campaign_code_of}
 use Rattle.lu_refine.specs.Removals.{IsShrunk}
 use Rattle.lu_survey.specs.declared.certified_campaign.CertifiedCampaign.{CertifiedCampaign}
 use Rattle.lu_survey.specs.declared.certified_campaign.CertifiedCampaign.TheVariants.{AllLinearizable, First as NotAll}
+use Rattle.lu_graph.specs.Nodes.{default_nodes}
 use Rattle.lu_survey.specs.Certified.{IsCertifiedAnswer}
 use Rattle.lu_survey.specs.declared.comparison.Comparison.{Comparison}
 use Rattle.lu_survey.specs.declared.comparison.Comparison.TheVariants.{AllAgree, First as Differs}
@@ -489,7 +490,8 @@ ShowsSurvey c s answer =
 -- what the survey of the matrices with these numbers says, or why there is no campaign
 abbrev pub IsSurveyReply : Asked → ℕ → ℕ → Answer → Type 0
 IsSurveyReply asked from upto answer =
-    ((s : Survey) × IsSurveyAnswer asked from upto s × ShowsSurvey asked.component s answer)
+    ((s : Survey) × IsSurveyAnswer asked default_nodes from upto s
+    × ShowsSurvey asked.component s answer)
     ⊎ IsListsRefusal asked.candidates asked.calls answer
 
 -- on all matrices the component agrees with the trusted one, and there are so many
@@ -526,7 +528,7 @@ IsComparisonReply trusted asked from upto answer =
 -- what the certificates of the matrices with these numbers say, or why there is no campaign
 abbrev pub IsCertifiedReply : Asked → ℕ → ℕ → Answer → Type 0
 IsCertifiedReply asked from upto answer =
-    ((found : CertifiedCampaign) × IsCertifiedAnswer asked from upto found
+    ((found : CertifiedCampaign) × IsCertifiedAnswer asked default_nodes from upto found
     × ShowsCertified asked.component found answer)
     ⊎ IsListsRefusal asked.candidates asked.calls answer
 

@@ -23,6 +23,7 @@ use crate::answer::{
 use crate::order::{CampaignOptions, CampaignPart, CampaignThreads, CampaignTrial};
 use crate::refusal::Refusal;
 use crate::texts::{Fault, read_texts};
+use lu_certify::DEFAULT_NODES;
 use lu_component::Component;
 use lu_lang::read_component;
 use lu_machine::settles;
@@ -120,7 +121,7 @@ fn certify_numbers(alloc: Global, roles: Roles<'_>, from: u64, upto: u64) -> Res
     requires { CanAsk (asked_of roles) }
     ensures { Answered (spec.IsCertifiedReply (asked_of roles.entry) from upto) result }
 {
-    let found = certify_slice(alloc, roles, from, upto)?;
+    let found = certify_slice(alloc, roles, DEFAULT_NODES, from, upto)?;
     Ok(show_certificates(alloc, roles.component, &found)?)
 }
 
@@ -161,7 +162,7 @@ fn survey_numbers(alloc: Global, roles: Roles<'_>, from: u64, upto: u64) -> Resu
     requires { CanAsk (asked_of roles) }
     ensures { Answered (spec.IsSurveyReply (asked_of roles.entry) from upto) result }
 {
-    let survey = survey_slice(alloc, roles, from, upto)?;
+    let survey = survey_slice(alloc, roles, DEFAULT_NODES, from, upto)?;
     Ok(show_survey(alloc, roles.component, &survey)?)
 }
 

@@ -27,6 +27,7 @@ use crate::refusal::Refusal;
 use crate::shown::{read_shown, shown_parts};
 use crate::texts::read_texts;
 use crate::told::read_told;
+use lu_certify::{DEFAULT_NODES, Limits};
 use lu_grain::{certify_longer, certify_longer_by_workers};
 use lu_lang::Component;
 use lu_parallel::{OpenGate, Options, check, check_against, check_one, check_one_against};
@@ -331,7 +332,14 @@ fn certify_matrix<X: AllocGlobal + Threads + Wait>(
     let local = certified_local(asked, component);
     let (alloc, options) = (rt.alloc(), asked.options);
     let certificate = certify_longer_by_workers(
-        rt, alloc, &OpenGate, component, matrix, local, options,
+        rt,
+        alloc,
+        &OpenGate,
+        component,
+        matrix,
+        local,
+        options,
+        DEFAULT_NODES,
     )?;
     Ok(show_certificate(alloc, component, &certificate)?)
 }
@@ -476,8 +484,8 @@ fn certify_matrix_alone(
     ensures { IfOk result (spec.IsCertified component.now matrix.now asked) }
 {
     let local = certified_local(asked, component);
-    let (bound, serial) = (asked.options.bound(), asked.options.serial());
-    let certificate = certify_longer(alloc, component, matrix, local, bound, serial)?;
+    let limits = Limits::of(asked.options, DEFAULT_NODES);
+    let certificate = certify_longer(alloc, component, matrix, local, limits)?;
     show_certificate(alloc, component, &certificate)
 }
 

@@ -17,7 +17,7 @@ use crate::drawing::draw;
 use crate::explaining::{Presentation, Presenting, explain_finding_serially};
 use crate::refusal::Refusal;
 use crate::told::read_told;
-use lu_certify::{Certificate, certify};
+use lu_certify::{Certificate, DEFAULT_NODES, Limits, certify};
 use lu_component::Component;
 use lu_report::{Finding, MOST_MOVES, Report};
 use lu_test::{Matrix, Schedule};
@@ -185,7 +185,12 @@ fn show_alone(
     requires { CanRun component.now matrix.now }
     ensures { IfOk result (spec.IsShownAlone view how.entry component.now matrix.now) }
 {
-    let certificate = certify(alloc, component, matrix, MOST_MOVES, MOST_MOVES)?;
+    let limits = Limits {
+        bound: MOST_MOVES,
+        serial: MOST_MOVES,
+        nodes: DEFAULT_NODES,
+    };
+    let certificate = certify(alloc, component, matrix, limits)?;
     show_by_view(alloc, how, component, &certificate, view)
 }
 
