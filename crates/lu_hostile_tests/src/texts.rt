@@ -236,8 +236,8 @@ fn sources_are_compiled_or_refused(rt: HostRuntime) -> Result<(), Fail> {
     assert_eq!(rt;
         all,
         ReadCounts {
-            read: 0,
-            refused: 0
+            read: 838,
+            refused: 8147
         }
     );
     Ok(())
