@@ -483,8 +483,9 @@ fn certify_matrix_alone(
     requires { CanRun component.now matrix.now }
     ensures { IfOk result (spec.IsCertified component.now matrix.now asked) }
 {
+    let options = asked.options;
     let local = certified_local(asked, component);
-    let limits = Limits::of(asked.options, DEFAULT_NODES);
+    let limits = Limits::of(options, DEFAULT_NODES);
     let certificate = certify_longer(alloc, component, matrix, local, limits)?;
     show_certificate(alloc, component, &certificate)
 }

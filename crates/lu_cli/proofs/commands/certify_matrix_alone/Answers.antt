@@ -12,4 +12,4 @@ returns c =
     let certificate = c.in_ok-certificate.certificate in
     let at = subst (λ (n : ℕ). IsMadeWith n component c.args.matrix.now c.of-limits.result certificate) c.certified_local-local.ensures.local c.in_ok-certificate.ensures.certificate in
     IfOk-weaker c.show_certificate.result (ShowsCertificate component certificate) (IsCertified component c.args.matrix.now c.args.asked)
-    (λ answer is. inl (certificate, subst (λ (l : Limits). IsMadeWith (certified_local c.args.asked component) component c.args.matrix.now l certificate) c.of-limits.ensures at, is)) c.show_certificate.ensures
+    (λ answer is. inl (certificate, subst (λ (l : Limits). IsMadeWith (certified_local c.args.asked component) component c.args.matrix.now l certificate) c.of-limits.ensures.limits at, is)) c.show_certificate.ensures
