@@ -13,13 +13,14 @@ _lineup() {
         --workers) options="$(seq 16)" ;;
         --depth) options="$(seq 0 8)" ;;
         --local) options="$(seq 0 16)" ;;
+        --nodes) options='8388608 16777216' ;;            # 1 to 4294967295
         --threads | --calls) options="$(seq 8)" ;;
         --from | --upto) return ;;                        # numbers of matrices
         --install) compopt -o dirnames; return ;;
         *)
             case "${COMP_WORDS[1]}" in
                 check) options='--bound --serial --workers --depth --spec' ;;
-                certify) options='--bound --serial --workers --depth --local' ;;
+                certify) options='--bound --serial --workers --depth --local --nodes' ;;
                 serial | shrink) options='--bound --serial' ;;
                 judge) options='--bound --serial --spec' ;;
                 conform) options='--show' ;;

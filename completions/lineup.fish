@@ -28,6 +28,7 @@ complete -c lineup -n '__lineup_says check certify serial judge shrink campaign 
 complete -c lineup -n '__lineup_says check certify' -l workers -x -a '(seq 16)' -d 'threads that search'
 complete -c lineup -n '__lineup_says check certify' -l depth -x -a '(seq 0 8)' -d 'most moves of a piece'
 complete -c lineup -n '__lineup_says certify' -l local -x -a '(seq 0 16)' -d 'local instructions that run with a move'
+complete -c lineup -n '__lineup_says certify' -l nodes -x -a '8388608 16777216' -d 'the most nodes that are kept'
 complete -c lineup -n '__lineup_says check judge explain' -l spec -d 'the bundle has a specification'
 complete -c lineup -n '__lineup_says conform' -l show -d 'shows a schedule of each history'
 complete -c lineup -n '__lineup_says draw' -l explain -d 'with the explanation'

@@ -77,6 +77,18 @@ long_option name default = record (new_rule name) {
   defaults = default ∷ [];
 }
 
+-- the greatest number of nodes that can be asked for
+abbrev pub most_nodes : ℕ
+most_nodes = 4294967295
+
+-- the option `--nodes N`
+abbrev pub nodes_option : Rule
+nodes_option = record (new_rule (codes "nodes")) {
+  long = Some (codes "nodes");
+  parser = Some (vp.Signed (pos 1) (pos most_nodes));
+  defaults = codes "8388608" ∷ [];
+}
+
 -- an option `--NAME` without a word
 abbrev pub flag : Text → Rule
 flag name = record (new_rule name) { long = Some name; action = Some SetTrue }
@@ -137,8 +149,10 @@ conform_command = with_rule (new_app (codes "conform")) (flag (codes "show"))
 
 abbrev pub certify_command : App
 certify_command =
-    with_rule (shared_out (codes "certify") (codes "256"))
-    (number_option (codes "local") 0 16 (codes "0"))
+    with_rule
+    (with_rule (shared_out (codes "certify") (codes "256"))
+    (number_option (codes "local") 0 16 (codes "0")))
+    nodes_option
 
 abbrev pub refute_command : App
 refute_command = new_app (codes "refute")
@@ -230,6 +244,9 @@ number_said bits word =
 abbrev pub number_named : Text → List Row → Option ℕ
 number_named name rows = number_said 16 (one_of name rows)
 
+abbrev pub nodes_in : List Row → Option ℕ
+nodes_in rows = number_said 32 (one_of (codes "nodes") rows)
+
 abbrev pub long_number_in : Text → List Row → Option ℕ
 long_number_in name rows = number_said 64 (one_of name rows)
 
@@ -277,12 +294,14 @@ check_order against choice = if against then CheckAgainst choice else Check choi
 abbrev pub check_in : List Row → Option BundleCommand
 check_in rows = option_map (check_order (flag_in (codes "spec") rows)) (choice_in rows)
 
-abbrev pub certify_with : Option Choice → Option ℕ → Option CertifyOptions
-certify_with (Some choice) (Some local) = Some (record { options = choice; local = local })
-certify_with _ _ = None
+abbrev pub certify_with : Option Choice → Option ℕ → Option ℕ → Option CertifyOptions
+certify_with (Some choice) (Some local) (Some nodes) =
+    Some (record { options = choice; local = local; nodes = nodes })
+certify_with _ _ _ = None
 
 abbrev pub certify_in : List Row → Option CertifyOptions
-certify_in rows = certify_with (choice_in rows) (number_named (codes "local") rows)
+certify_in rows =
+    certify_with (choice_in rows) (number_named (codes "local") rows) (nodes_in rows)
 
 -- a judgement by the serial runs, or one by a specification
 abbrev pub judge_order : Bool → Limits → BundleCommand

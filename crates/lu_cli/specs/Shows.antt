@@ -18,7 +18,6 @@ use Rattle.lu_spec.specs.Listed.{IsListing}
 use Rattle.lu_spec.specs.SpecText.{spec_text}
 use Rattle.lu_certify.specs.declared.certificate.Certificate.{Certificate}
 use Rattle.lu_certify.specs.declared.certificate.Certificate.TheVariants.{Linearizable, NotLinearizable, Livelock, Undecided}
-use Rattle.lu_graph.specs.Nodes.{default_nodes}
 use Rattle.lu_grain.specs.Longer.{IsMadeWithin}
 use Rattle.lu_cli.specs.declared.order.CertifyOptions.{CertifyOptions}
 use Rattle.lu_cli.specs.Drawing.{IsDrawnWith}
@@ -102,6 +101,6 @@ certified_local asked c = max (min asked.local 16) c.local
 abbrev pub IsCertified : Declarations → Matrix → CertifyOptions → Answer → Type 0
 IsCertified c matrix asked answer =
     ((certificate : Certificate)
-    × IsMadeWithin (certified_local asked c) c matrix asked.options default_nodes certificate
+    × IsMadeWithin (certified_local asked c) c matrix asked.options asked.nodes certificate
     × ShowsCertificate c certificate answer)
     ⊎ ((asked.options.workers ≢ 1) × (answer ≡ no_worker))

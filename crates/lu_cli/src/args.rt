@@ -72,6 +72,17 @@ fn long_option<'a>(alloc: Global, name: &'a str, default: &'a str) -> Arg<'a>
         .default_value(default)
 }
 
+/// The option `--nodes N`, of a number from 1 to 4,294,967,295.
+fn nodes_option<'a>(alloc: Global) -> Arg<'a>
+    ensures rule { rule_of result ≡ spec.nodes_option }
+    ensures local { result.global ≡ false }
+{
+    Arg::new(alloc, "nodes")
+        .long("nodes")
+        .value_parser(clap::value_parser!(u32).range(1..=u32::MAX as i64))
+        .default_value("8388608")
+}
+
 /// An option `--NAME` without a word.
 fn flag<'a>(alloc: Global, name: &'a str) -> Arg<'a>
     ensures rule { rule_of result ≡ spec.flag name.entry.now }
@@ -171,10 +182,11 @@ fn check_command<'a>(alloc: Global) -> Result<Command<'a>, AllocError>
 fn certify_command<'a>(alloc: Global) -> Result<Command<'a>, AllocError>
     ensures { IfOk result (IsApp spec.certify_command) }
 {
-    with_option(
+    let command = with_option(
         with_workers(alloc, "certify", "256"),
         number_option(alloc, "local", 0, 16, "0"),
-    )
+    );
+    with_option(command, nodes_option(alloc))
 }
 
 fn judge_command<'a>(alloc: Global) -> Result<Command<'a>, AllocError>
@@ -266,6 +278,12 @@ fn number_named(given: &ArgMatches<'_>, name: &str) -> Option<u16>
     ensures { result ≡ spec.number_named name.now (rows_of (found_of given.now)) }
 {
     given.get_one::<u16>(name)
+}
+
+fn nodes_in(given: &ArgMatches<'_>) -> Option<u32>
+    ensures { result ≡ spec.nodes_in (rows_of (found_of given.now)) }
+{
+    given.get_one::<u32>("nodes")
 }
 
 fn long_number_in(given: &ArgMatches<'_>, name: &str) -> Option<u64>
@@ -466,7 +484,12 @@ fn certify_in(given: &ArgMatches<'_>) -> Option<CertifyOptions>
 {
     let options = options_in(given)?;
     let local = number_named(given, "local")?;
-    Some(CertifyOptions { options, local })
+    let nodes = nodes_in(given)?;
+    Some(CertifyOptions {
+        options,
+        local,
+        nodes,
+    })
 }
 
 /// A judgement by the serial runs, or one by a specification.

@@ -27,7 +27,7 @@ use crate::refusal::Refusal;
 use crate::shown::{read_shown, shown_parts};
 use crate::texts::read_texts;
 use crate::told::read_told;
-use lu_certify::{DEFAULT_NODES, Limits};
+use lu_certify::Limits;
 use lu_grain::{certify_longer, certify_longer_by_workers};
 use lu_lang::Component;
 use lu_parallel::{OpenGate, Options, check, check_against, check_one, check_one_against};
@@ -339,7 +339,7 @@ fn certify_matrix<X: AllocGlobal + Threads + Wait>(
         matrix,
         local,
         options,
-        DEFAULT_NODES,
+        asked.nodes,
     )?;
     Ok(show_certificate(alloc, component, &certificate)?)
 }
@@ -485,7 +485,7 @@ fn certify_matrix_alone(
 {
     let options = asked.options;
     let local = certified_local(asked, component);
-    let limits = Limits::of(options, DEFAULT_NODES);
+    let limits = Limits::of(options, asked.nodes);
     let certificate = certify_longer(alloc, component, matrix, local, limits)?;
     show_certificate(alloc, component, &certificate)
 }

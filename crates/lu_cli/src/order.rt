@@ -62,6 +62,9 @@ pub struct CertifyOptions {
 
     /// How many local instructions run with a move, up to 16, where the component says fewer.
     pub local: u16,
+
+    /// How many nodes of a cut are kept at most.
+    pub nodes: u32,
 }
 
 /// What is printed of recorded histories that a component shows.

@@ -7,14 +7,17 @@ use Rattle.std.proofs.lemmas.Option.{same_Some, slice_get_past, slice_get_within
 use Rattle.lu_machine.specs.declared.event.Event.{Event}
 use Rattle.lu_machine.specs.States.{State}
 use Rattle.lu_history.specs.declared.serial.SerialOp.{SerialOp}
+use Rattle.lu_horizon.specs.Dead.{DeadTable}
 use Rattle.lu_graph.specs.Kept.{Kept}
 use Rattle.lu_graph.specs.Alive.{AreTold, IsPossible}
 use Rattle.lu_graph.specs.Judging.{IsOneOf}
-use Rattle.lu_graph.specs.Nodes.{AreAlike, Node, node_of}
+use Rattle.lu_graph.specs.Nodes.{AreAlike, AreStatesAlike, Node, node_of}
+use Rattle.lu_graph.specs.Rows.{KnowsDead}
 use Rattle.lu_graph.specs.Visiting.{IsFor, its}
 use Rattle.lu_graph.proofs.Many.{some_at}
 use Rattle.lu_graph.proofs.Possible.{same_list}
-use Rattle.lu_graph.proofs.Same.{AreSame, positions_same}
+use Rattle.lu_graph.proofs.Same.{AreSame, same_kept}
+use Rattle.lu_graph.proofs.StatesAlike.{by_table, states_back, states_on}
 
 module _ (members : List (Vec SerialOp)) where
   -- the same is told of two histories, so the same members are possible
@@ -52,18 +55,28 @@ module _ (members : List (Vec SerialOp)) where
 
   -- it is kept for a node like this one
   pub record IsLike (s : State) (kept : Kept) (node : Node) : Type 0 where
+    pub end : State
     pub history : List Event
-    pub is : IsFor s members (its s kept) history kept
-    pub alike : AreAlike (IsOneOf members) node (node_of (its s kept) history)
+    pub is : IsFor s members end history kept
+    pub alike : AreAlike (IsOneOf members) node (node_of end history)
 
-  pub one_kept : (s : State) (a b : Kept) (node : Node) → IsLike s a node → IsLike s b node → AreSame a b
-  one_kept s a b node x y =
-      let states : its s a ≡ its s b = sym x.alike.0 ∙ y.alike.0 in
+  -- the node's state is like that of what is kept
+  node_like : (s : State) (dead : DeadTable) (known : KnowsDead s.component dead) (a : Kept) (node : Node) → IsLike s a node → (node.state.component ≡ s.component) × AreStatesAlike node.state (its s a)
+  node_like s dead known a node x =
+      let component : node.state.component ≡ s.component = sym x.alike.0.component ∙ sym x.is.state.component in
+      (component, states_on s.component dead known node.state x.end (its s a) component x.alike.0 x.is.state)
+
+  pub one_kept : (s : State) (dead : DeadTable) (known : KnowsDead s.component dead) (a b : Kept) (node : Node) → IsLike s a node → IsLike s b node → AreSame dead a b
+  one_kept s dead known a b node x y =
+      let first = node_like s dead known a node x in
+      let second = node_like s dead known b node y in
+      let back = states_back s.component dead known node.state (its s a) first.0 first.1 in
+      let states = states_on s.component dead known (its s a) node.state (its s b) refl back second.1 in
       let both : (q : List SerialOp) → IsOneOf members q → IsPossible q x.history ↔ IsPossible q y.history = λ q of.
       (let first = x.alike.1 q of in
       let second = y.alike.1 q of in
       ((λ z. second.0 (first.1 z)), (λ z. first.0 (second.1 z)))) in
-      (positions_same s.component s.matrix a b states, same_told x.history y.history a.alive b.alive x.is.told y.is.told both)
+      same_kept dead s.component s.matrix a b (by_table s.component dead known (its s a) (its s b) refl states) (same_told x.history y.history a.alive b.alive x.is.told y.is.told both)
 
 -- for each of the list there is one of another
 pub list_of : {A B : Type 0} (P : A → B → Type 0) (xs : List A) → ((i : ℕ) (x : A) → slice_get xs i ≡ Some x → (y : B) × P x y) → (ys : List B) × (length ys ≡ length xs) × ((i : ℕ) (x : A) → slice_get xs i ≡ Some x → (y : B) × (slice_get ys i ≡ Some y) × P x y)

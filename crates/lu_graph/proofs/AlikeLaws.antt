@@ -17,6 +17,7 @@ use Rattle.lu_witness.specs.Goodness.{IsGoodAt}
 use Rattle.lu_witness.specs.Witnesses.{HasWitness, IsMember, entries}
 use Rattle.lu_graph.specs.Alive.{IsPossible}
 use Rattle.lu_graph.specs.Laws.{AlikeEndAlike, AlikeGoOn}
+use Rattle.lu_graph.proofs.StatesAlike.{progress_alike, states_good, states_step}
 use Rattle.lu_graph.specs.Nodes.{longer}
 use Rattle.lu_graph.proofs.Possible.{EndsAs, alive_kept, kept_formed, others_calls, own_calls, possible_goes_on, possible_witness, witness_possible}
 
@@ -96,17 +97,23 @@ module _ (s : State) (h k : List Event) (agree : Agree (progress s) h) (too : Ag
     )
 
 pub alike_go_on : AlikeGoOn
-alike_go_on members a b m next event fits too alike step = (
-  refl,
-  λ q of.
-      (let agree = subst (λ s. Agree (progress s) a.history) alike.0 fits.agree in (
-        stays_possible b.state a.history b.history agree too.agree q event (alike.1 q of).0,
-        stays_possible b.state b.history a.history too.agree agree q event (alike.1 q of).1,
-      )),
-)
+alike_go_on members dead a b m next event known fits too alike step =
+    let there = states_step a.state.component dead known a.state b.state refl alike.0 m next event step in
+    let agree = subst (λ p. Agree p a.history) (sym (progress_alike a.state b.state alike.0)) fits.agree in
+    record {
+      other = there.0;
+      step = there.1;
+      alike = (
+        there.2,
+        λ q of. (
+          stays_possible b.state a.history b.history agree too.agree q event (alike.1 q of).0,
+          stays_possible b.state b.history a.history too.agree agree q event (alike.1 q of).1,
+        ),
+      );
+    }
 
 pub alike_end_alike : AlikeEndAlike
-alike_end_alike members a b fits too alike good =
-    let agree = subst (λ s. Agree (progress s) a.history) alike.0 fits.agree in
+alike_end_alike members dead a b known fits too alike good =
+    let agree = subst (λ p. Agree p a.history) (sym (progress_alike a.state b.state alike.0)) fits.agree in
     good_same b.state a.history b.history agree too.agree fits.well_formed too.well_formed (IsMember members) (λ q of. (alike.1 q of).0)
-    (subst (λ s. IsGoodAt (IsMember members) s a.history) alike.0 good)
+    (states_good a.state.component dead known (IsMember members) a.state b.state a.history refl alike.0 good)

@@ -7,24 +7,26 @@ use Rattle.std.proofs.lemmas.List.{append-nil, map-append}
 use Rattle.std.proofs.lemmas.List.Elements.{All-cons, All-nil}
 use Rattle.std.proofs.lemmas.Option.{slice_get_within}
 use Rattle.indexmap.specs.IndexSet.{insert_key}
-use Rattle.lu_machine.specs.declared.thread.Thread.{Thread}
 use Rattle.lu_machine.specs.Positions.{CanStandAt}
 use Rattle.lu_machine.specs.States.{State}
 use Rattle.lu_graph.specs.declared.holding.Nodes.{Nodes}
 use Rattle.lu_graph.specs.Kept.{Kept, unvisited}
 use Rattle.lu_graph.specs.declared.row.Parts.{Parts}
 use Rattle.lu_graph.specs.declared.row.Row.{Row}
-use Rattle.lu_graph.specs.Growing.{AddsOne}
+use Rattle.lu_horizon.specs.Dead.{DeadTable}
+use Rattle.lu_graph.specs.Growing.{AddsOne, state_of}
 use Rattle.lu_graph.specs.Holding.{Hold, HoldMore, Knows, StandsFor}
 use Rattle.std.specs.Global.{Vec}
 use Rattle.lu_history.specs.declared.serial.SerialOp.{SerialOp}
 use Rattle.lu_graph.specs.Numbered.{IsNumber, is_list}
 use Rattle.lu_graph.specs.Possibilities.{AreLeft, IsNumberOf}
-use Rattle.lu_graph.specs.Rows.{Grow, IsRow, IsRowAt, IsRowOf}
+use Rattle.lu_graph.specs.Nodes.{AreStatesAlike}
+use Rattle.lu_graph.specs.Rows.{Grow, IsRow, IsRowAt, IsRowOf, KnowsDead}
 use Rattle.lu_graph.proofs.Among.{at_either, at_last, only_one}
 use Rattle.lu_graph.proofs.Many.{some_at}
 use Rattle.lu_graph.proofs.Numbers.{number_stays}
 use Rattle.lu_graph.proofs.Recalled.{left_none}
+use Rattle.lu_graph.proofs.StatesAlike.{from_table, states_itself}
 use Rattle.lu_graph.proofs.Same.{one_alive, one_row, row_eq, row_of_stays, same_row}
 
 -- where one passes a test, it stands somewhere
@@ -63,9 +65,16 @@ put_nowhere row rows new added not_so is keys =
     is_so true h = refl
     is_so false h = absurd (cc)
 
+-- it stands for the state s with all its registers
+abbrev pub StandsAt : State → List Bool → Kept → Type 0
+StandsAt s alive kept = (state_of s.component s.matrix kept ≡ s) × (kept.alive ≡ alive)
+
+pub stands_so : (s : State) (alive : List Bool) (dead : DeadTable) → KnowsDead s.component dead → (kept : Kept) → StandsAt s alive kept → StandsFor s alive kept
+stands_so s alive dead known kept is = (subst (AreStatesAlike s) (sym is.0) (states_itself s.component dead known s refl), is.1)
+
 module _ (s : State) (alive : List Bool) (number : ℕ) (before parts : Parts) (row : Row) (at : IsRowAt s number before parts row) (knows : IsNumberOf before.alive alive number) where
-  -- what stands for the state has its row
-  row_of_it : (kept : Kept) → StandsFor s alive kept → kept.row.alive ≡ number → IsRowOf parts kept row
+  -- what stands for the state, with all registers, has its row
+  row_of_it : (kept : Kept) → StandsAt s alive kept → kept.row.alive ≡ number → IsRowOf parts kept row
   row_of_it kept stands is = record {
     is = subst (λ (x : State). IsRow parts x.cells x.locks x.threads row) (sym stands.0) at.is;
     alive = subst (λ xs. IsNumber (is_list beq xs) parts.alive.lists.keys row.alive) (sym stands.1)
@@ -74,16 +83,16 @@ module _ (s : State) (alive : List Bool) (number : ℕ) (before parts : Parts) (
   }
 
   -- and what has its row stands for it
-  stands_for : (kept : Kept) → IsRowOf parts kept row → StandsFor s alive kept
-  stands_for kept is =
-      let same = one_row parts kept.position.cells.items s.cells kept.position.locks.items s.locks kept.position.threads.items s.threads row is.is at.is in
-      let make : List ℕ → List (Option ℕ) → List Thread → State = λ cells locks threads. record { component = s.component; matrix = s.matrix; cells = cells; locks = locks; threads = threads } in (
-        ap (λ x. make x kept.position.locks.items kept.position.threads.items) same.0 ∙ (ap (λ x. make s.cells x kept.position.threads.items) same.1 ∙ ap (λ x. make s.cells s.locks x) same.2),
+  stands_for : KnowsDead s.component before.dead → (kept : Kept) → IsRowOf parts kept row → StandsFor s alive kept
+  stands_for known kept is =
+      let same = one_row parts s.cells kept.position.cells.items s.locks kept.position.locks.items s.threads kept.position.threads.items row at.is is.is in
+      let there : KnowsDead s.component parts.dead = subst (KnowsDead s.component) (sym at.grows.dead) known in (
+        from_table s.component parts.dead there s (state_of s.component s.matrix kept) refl (record { component = refl; matrix_is = refl; cells = sym same.0; locks = sym same.1; threads = same.2 }),
         one_alive parts.alive number kept.alive alive (subst (IsNumber (is_list beq kept.alive) parts.alive.lists.keys) at.alive is.alive) (number_stays (is_list beq alive) before.alive.lists.keys parts.alive.lists.keys number at.grows.alive knows),
       )
 
   -- the first
-  pub held_first : (members : List (Vec SerialOp)) (kept : Kept) (rows : List Row) (new : Nodes) → rows ≡ [] → before.alive.returns.entries ≡ [] → new.parts ≡ parts → new.rows.keys ≡ insert_key row_eq rows row → new.waiting.items ≡ unvisited kept ∷ [] → StandsFor s alive kept → kept.row.alive ≡ number → Hold members new (kept ∷ []) 0
+  pub held_first : (members : List (Vec SerialOp)) (kept : Kept) (rows : List Row) (new : Nodes) → rows ≡ [] → before.alive.returns.entries ≡ [] → new.parts ≡ parts → new.rows.keys ≡ insert_key row_eq rows row → new.waiting.items ≡ unvisited kept ∷ [] → StandsAt s alive kept → kept.row.alive ≡ number → Hold members new (kept ∷ []) 0
   held_first members kept rows new none fresh same_parts keys waiting stands is =
       let its = row_of_it kept stands is in
       let one : new.rows.keys ≡ row ∷ [] = keys ∙ ap (λ xs. insert_key row_eq xs row) none in
@@ -99,7 +108,7 @@ module _ (s : State) (alive : List Bool) (number : ℕ) (before parts : Parts) (
       }
 
 module _ (members : List (Vec SerialOp)) (s : State) (alive : List Bool) (number : ℕ) (old : Nodes) (parts : Parts) (row : Row) (at : IsRowAt s number old.parts parts row) where
-  module _ (list : List Kept) (place : ℕ) (hold : Hold members old list place) (knows : Knows old alive number) (new : Nodes) (same_parts : new.parts ≡ parts) where
+  module _ (list : List Kept) (place : ℕ) (hold : Hold members old list place) (knows : Knows old alive number) (known : KnowsDead s.component old.parts.dead) (new : Nodes) (same_parts : new.parts ≡ parts) where
     more_rows : (i : ℕ) (r : Row) (kept : Kept) → slice_get old.rows.keys i ≡ Some r → slice_get list i ≡ Some kept → IsRowOf parts kept r
     more_rows i r kept p q = row_of_stays old.parts parts kept r at.grows (hold.rows i r kept p q)
 
@@ -120,6 +129,7 @@ module _ (members : List (Vec SerialOp)) (s : State) (alive : List Bool) (number
         let same : row ≡ one.1 = (same_row row one.1).0 one.3 in
         let its = subst (IsRowOf parts kept.0) (sym same) (more_rows one.0 one.1 kept.0 one.2 kept.1) in
         record {
+          dead = (grown_parts new.parts same_parts).dead;
           list = list;
           hold = record {
             many = ap length rows ∙ hold.many;
@@ -129,19 +139,20 @@ module _ (members : List (Vec SerialOp)) (s : State) (alive : List Bool) (number
             left = left_still;
           };
           grown = record {
-            there = (one.0, kept.0, kept.1, stands_for s alive number old.parts parts row at knows kept.0 its);
+            there = (one.0, kept.0, kept.1, stands_for s alive number old.parts parts row at knows known kept.0 its);
             grows = ([], sym (append-nil list), All-nil (λ (k : Kept). CanStandAt s.component s.matrix k.position × StandsFor s alive k));
           };
           known = (grown_parts new.parts same_parts).alive;
         }
 
     -- it is new
-    pub held_more : (kept : Kept) (added : Bool) → added ≡ true → added ≡ not (list_any (row_eq row) old.rows.keys) → new.rows.keys ≡ insert_key row_eq old.rows.keys row → new.waiting.items ≡ old.waiting.items ++ unvisited kept ∷ [] → CanStandAt s.component s.matrix kept.position → StandsFor s alive kept → kept.row.alive ≡ number → HoldMore members (AddsOne s.component s.matrix (StandsFor s alive) list) place old new
+    pub held_more : (kept : Kept) (added : Bool) → added ≡ true → added ≡ not (list_any (row_eq row) old.rows.keys) → new.rows.keys ≡ insert_key row_eq old.rows.keys row → new.waiting.items ≡ old.waiting.items ++ unvisited kept ∷ [] → CanStandAt s.component s.matrix kept.position → StandsAt s alive kept → kept.row.alive ≡ number → HoldMore members (AddsOne s.component s.matrix (StandsFor s alive) list) place old new
     held_more kept added so fresh keys waiting can stands is =
         let rows = put_last row old.rows.keys new.rows.keys added so fresh keys in
         let many = hold.many in
         let its = row_of_it s alive number old.parts parts row at knows kept stands is in
         record {
+          dead = (grown_parts new.parts same_parts).dead;
           list = list ++ kept ∷ [];
           hold = record {
             many = ap length rows ∙ (length_push old.rows.keys row ∙ (ap (λ n. n + 1) many ∙ sym (length_push list kept)));
@@ -166,8 +177,8 @@ module _ (members : List (Vec SerialOp)) (s : State) (alive : List Bool) (number
             left = left_still;
           };
           grown = record {
-            there = (length list, kept, at_last list kept, stands);
-            grows = (kept ∷ [], refl, All-cons (λ (k : Kept). CanStandAt s.component s.matrix k.position × StandsFor s alive k) kept [] (can, stands) (All-nil (λ (k : Kept). CanStandAt s.component s.matrix k.position × StandsFor s alive k)));
+            there = (length list, kept, at_last list kept, stands_so s alive old.parts.dead known kept stands);
+            grows = (kept ∷ [], refl, All-cons (λ (k : Kept). CanStandAt s.component s.matrix k.position × StandsFor s alive k) kept [] (can, stands_so s alive old.parts.dead known kept stands) (All-nil (λ (k : Kept). CanStandAt s.component s.matrix k.position × StandsFor s alive k)));
           };
           known = (grown_parts new.parts same_parts).alive;
         }

@@ -13,13 +13,15 @@ use Rattle.lu_machine.specs.Steps.{Step}
 use Rattle.lu_machine.proofs.Paths.{child_leads, leads_split}
 use Rattle.lu_history.specs.declared.serial.SerialOp.{SerialOp}
 use Rattle.lu_history.specs.Standing.{Agree}
+use Rattle.lu_horizon.specs.Dead.{DeadTable}
 use Rattle.lu_graph.specs.Kept.{Kept}
+use Rattle.lu_graph.specs.Rows.{KnowsDead}
 use Rattle.lu_graph.specs.Growing.{AddsNext, ComesBy, HasStart, IsNext}
 use Rattle.lu_graph.specs.Judging.{IsOneOf}
 use Rattle.lu_graph.specs.Nodes.{IsBadAt, IsGoodIfEnded, IsShortestBad, longer}
 use Rattle.lu_graph.specs.Visiting.{AreVisited, IsFor, IsReached, its}
 use Rattle.lu_graph.proofs.Among.{all_at, at_either, at_first, at_left}
-use Rattle.lu_graph.proofs.Closing.{for_its, for_next}
+use Rattle.lu_graph.proofs.Closing.{for_next, step_for, step_of}
 use Rattle.lu_graph.proofs.Explored.{AreGoodBefore, start_is}
 
 -- the last move of a schedule
@@ -67,7 +69,7 @@ pub record AreSearched (members : List (Vec SerialOp)) (s : State) (list : List 
   pub now : (i : ℕ) (kept : Kept) → place ≤ i → i < end → slice_get list i ≡ Some kept → IsReachedIn s members moves kept
   pub next : (i : ℕ) (kept : Kept) → end ≤ i → slice_get list i ≡ Some kept → IsReachedIn s members (moves + 1) kept
 
-module _ (s : State) (members : List (Vec SerialOp)) where
+module _ (s : State) (members : List (Vec SerialOp)) (dead : DeadTable) (dead_known : KnowsDead s.component dead) where
   pub searched_none : (list : List Kept) → Agree (progress s) [] → HasStart members s list → AreSearched members s list 0 0 (length list)
   searched_none list agree start = record {
     good = λ i kept lt. absurd (omega arith);
@@ -78,7 +80,7 @@ module _ (s : State) (members : List (Vec SerialOp)) where
         (let adds = start.2 in
         let one = all_at (λ (k : Kept). CanStandAt s.component s.matrix k.position × ComesBy s.component s.matrix members s start.0 None k) adds.grows.0 adds.grows.2 i kept (subst (λ (x : List Kept). slice_get x i ≡ Some kept) adds.grows.1 is) in
         record {
-          way = record { schedule = []; history = []; leads = (one.1.state, refl); is = for_its s members kept s [] (start_is s members agree list start kept one.1) };
+          way = record { schedule = []; end = s; history = []; leads = (refl, refl); is = start_is s members dead dead_known agree list start kept one.1 };
           long = refl;
         });
     next = λ i kept le is. (let lt = slice_get_within list i kept is in absurd (omega (arith, lt, le)));
@@ -87,7 +89,7 @@ module _ (s : State) (members : List (Vec SerialOp)) where
       first : LeadBefore s members list (0 + 1) (length list)
       first [] end h lt leads =
           let there = start.2.there in
-          let here = start_is s members agree list start there.1 there.3 in (
+          let here = start_is s members dead dead_known agree list start there.1 there.3 in (
             there.0,
             there.1,
             slice_get_within list there.0 there.1 there.2,
@@ -102,8 +104,9 @@ module _ (s : State) (members : List (Vec SerialOp)) where
       -- one move behind a node of the level
       move_on : (i : ℕ) (one : Kept) → i < end → slice_get list i ≡ Some one → (mid last : State) (first : List Event) → IsFor s members mid first one → (m : Move) (event : Option Event) → Step mid m last event → IsKeptBefore s members list (length list) last (longer first event)
       move_on i one lt at mid last first is m event step =
-          let there = visited.closed i one (omega (arith, lt, ended)) at m last event (subst (λ x. Step x m last event) (sym is.state) step) in
-          (there.0, there.1, slice_get_within list there.0 there.1 there.2, there.2, for_next s members one there.1 mid first is m last event step there.3)
+          let other = step_of s members dead dead_known one mid first is m last event step in
+          let there = visited.closed i one (omega (arith, lt, ended)) at m other.0 event other.1 in
+          (there.0, there.1, slice_get_within list there.0 there.1 there.2, there.2, for_next s members dead dead_known one there.1 mid first is m last other.0 event step other.2 there.3)
 
       behind : (u : List Move) (last : State) (h : List Event) → length u ≡ moves + 1 → Leads s u last h → IsKeptBefore s members list (length list) last h
       behind u last h long leads =
@@ -142,16 +145,17 @@ module _ (s : State) (members : List (Vec SerialOp)) where
         next_reached one (stands, (m, next, event, step, by)) =
             let u = reached.way.schedule in
             let h = reached.way.history in
-            let way = child_leads s u (its s kept) h reached.way.leads m next event step in
-            let made = for_next s members kept one (its s kept) h reached.way.is m next event step by in
+            let end = reached.way.end in
+            let other = step_for s members dead dead_known kept end h reached.way.is m next event step in
             let long = length_push u m in
             let before = reached.long in
             record {
               way = record {
                 schedule = u ++ m ∷ [];
+                end = other.0;
                 history = longer h event;
-                leads = subst (λ x. Leads s (u ++ m ∷ []) x (longer h event)) (sym made.state) way;
-                is = for_its s members one next (longer h event) made;
+                leads = child_leads s u end h reached.way.leads m other.0 event other.1;
+                is = for_next s members dead dead_known kept one end h reached.way.is m other.0 next event other.1 other.2 by;
               };
               long = omega (arith, long, before);
             }
@@ -176,13 +180,13 @@ module _ (s : State) (members : List (Vec SerialOp)) where
         }
 
       -- it is bad, and none before it is
-      pub shortest_bad : ((h : List Event) → IsFor s members (its s kept) h kept → IsBadAt (IsOneOf members) (its s kept) h) → IsShortestBad (IsOneOf members) s moves
+      pub shortest_bad : ((end : State) (h : List Event) → IsFor s members end h kept → IsBadAt (IsOneOf members) end h) → IsShortestBad (IsOneOf members) s moves
       shortest_bad bad =
           let way = reached.way in
           record {
             schedule = way.schedule;
             long = reached.long;
-            bad = record { end = its s kept; history = way.history; leads = way.leads; holds = bad way.history way.is };
+            bad = record { end = way.end; history = way.history; leads = way.leads; holds = bad way.end way.history way.is };
             shortest = λ v lt ends.
                 (let x = known.past v ends.end ends.history lt ends.leads in
                 ends.holds.1 (known.good x.0 x.1 x.2 x.3 ends.end ends.history x.4 ends.holds.0));

@@ -1,3 +1,4 @@
+mod StatesAlike
 mod Closing
 mod ForEver
 mod StayAlive

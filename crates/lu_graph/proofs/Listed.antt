@@ -127,7 +127,7 @@ true_more alive new grown all i b at = elim (at_push alive true b i (subst (λ x
 
 -- the start alone
 pub holds_start : (s : State) (members : List (Vec SerialOp)) (alive bits : List Bool) (nodes : Nodes) → bits ≡ alive → AreTold members [] alive → HoldsOne s bits nodes → HoldsStart members s nodes
-holds_start s members alive bits nodes same told (kept, hold, can, is) =
+holds_start s members alive bits nodes same told (kept, hold, can, is, known) =
     let comes : ComesBy s.component s.matrix members s bits None kept = record { state = is.0; follows = subst (Follows members s bits None) (sym is.1) (follows_none members s bits bits refl) } in
     let Such : Kept → Type 0 = λ k. CanStandAt s.component s.matrix k.position × ComesBy s.component s.matrix members s bits None k in (
       kept ∷ [],
@@ -137,6 +137,7 @@ holds_start s members alive bits nodes same told (kept, hold, can, is) =
         subst (AreTold members []) (sym same) told,
         record { there = (zero, kept, refl, comes); grows = (kept ∷ [], refl, All-cons Such kept [] (can, comes) (All-nil Such)) },
       ),
+      known,
     )
 
 -- what is searched with the members of a tree is told of its set

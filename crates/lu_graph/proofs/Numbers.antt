@@ -8,6 +8,10 @@ use Rattle.std.proofs.lemmas.List.Sums.{passes_at_first, position_or_len_is}
 use Rattle.std.proofs.lemmas.Map.Keys.{apart_from_distinct}
 use Rattle.std.proofs.lemmas.Option.{get_or_from_slice_get, same_Some, slice_get_past, slice_get_within}
 use Rattle.lu_machine.specs.declared.thread.Thread.{Thread}
+use Rattle.lu_machine.specs.States.{State}
+use Rattle.lu_horizon.specs.declared.live_thread.LiveThread.{LiveThread}
+use Rattle.lu_horizon.specs.Dead.{DeadTable}
+use Rattle.lu_horizon.specs.Live.{IsLiveThread}
 use Rattle.lu_graph.specs.Discovering.{Extends}
 use Rattle.lu_graph.specs.Numbered.{IsNumber, IsNumbered}
 use Rattle.lu_graph.specs.Rows.{AreNumbers, IsNumberOrNone, NumbersThreads, same_standing}
@@ -100,65 +104,66 @@ same_number one other test alike table n first second =
 
 -- ---- threads
 
-pub number_or_none_stays : (old new : List Thread) (o : Option Thread) (n : ℕ) → Extends old new → IsNumberOrNone old o n → IsNumberOrNone new o n
-number_or_none_stays old new None n grown is = is
-number_or_none_stays old new (Some thread) n grown is = number_stays (same_standing thread) old new n grown is
+module _ (dead : DeadTable) where
+  pub number_or_none_stays : (old new : List LiveThread) (o : Option Thread) (n : ℕ) → Extends old new → IsNumberOrNone dead old o n → IsNumberOrNone dead new o n
+  number_or_none_stays old new None n grown is = is
+  number_or_none_stays old new (Some thread) n grown (live, of, is) = (live, of, number_stays (same_standing live) old new n grown is)
 
-pub numbers_stay : (threads old new : List Thread) (numbers : List ℕ) → Extends old new → AreNumbers threads old numbers → AreNumbers threads new numbers
-numbers_stay threads old new numbers grown are = record {
-  eight = are.eight;
-  each = λ t. number_or_none_stays old new (slice_get threads t) (slice_index numbers t) grown (are.each t);
-}
+  pub numbers_stay : (threads : List Thread) (old new : List LiveThread) (numbers : List ℕ) → Extends old new → AreNumbers dead threads old numbers → AreNumbers dead threads new numbers
+  numbers_stay threads old new numbers grown are = record {
+    eight = are.eight;
+    each = λ t. number_or_none_stays old new (slice_get threads t) (slice_index numbers t) grown (are.each t);
+  }
 
--- of the first threads
-pub record AreNumbersSoFar (threads old table : List Thread) (done : ℕ) (numbers : List ℕ) : Type 0 where
-  pub eight : length numbers ≡ 8
-  pub before : (t : ℕ) → t < done → IsNumberOrNone table (slice_get threads t) (slice_index numbers t)
-  pub behind : (t : ℕ) → done ≤ t → slice_index numbers t ≡ 0
-  pub grows : Extends old table
+  -- of the first threads
+  pub record AreNumbersSoFar (threads : List Thread) (old table : List LiveThread) (done : ℕ) (numbers : List ℕ) : Type 0 where
+    pub eight : length numbers ≡ 8
+    pub before : (t : ℕ) → t < done → IsNumberOrNone dead table (slice_get threads t) (slice_index numbers t)
+    pub behind : (t : ℕ) → done ≤ t → slice_index numbers t ≡ 0
+    pub grows : Extends old table
 
-pub so_far_more : (threads old table new : List Thread) (done n : ℕ) (numbers now : List ℕ) (thread : Thread) → AreNumbersSoFar threads old table done numbers → done < 8 → slice_get threads done ≡ Some thread → IsNumbered (same_standing thread) table new n → now ≡ set numbers done n → AreNumbersSoFar threads old new (done + 1) now
-so_far_more threads old table new done n numbers now thread known few at is set_so =
-    let eight = known.eight in
-    let within : done < length numbers = omega (arith, eight, few) in
-    record {
-      eight = ap length set_so ∙ (length-set numbers done n ∙ eight);
-      before = λ t lt. elim (cases_lt t done) as (λ _. IsNumberOrNone new (slice_get threads t) (slice_index now t)) [
-        | inl less ↦
-            (let same : slice_index now t ≡ slice_index numbers t = ap (λ xs. slice_index xs t) set_so ∙ get_or-set_other numbers done t n 0 (λ e. omega (arith, e, less)) in
-            subst (IsNumberOrNone new (slice_get threads t)) (sym same) (number_or_none_stays table new (slice_get threads t) (slice_index numbers t) is.grows (known.before t less)))
-        | inr ge ↦
-            (let here : done ≡ t = omega (arith, ge, lt) in
-            let one : slice_index now done ≡ n = ap (λ xs. slice_index xs done) set_so ∙ get_or-set_same numbers done n 0 within in
-            subst (λ k. IsNumberOrNone new (slice_get threads k) (slice_index now k)) here
-            (subst (λ o. IsNumberOrNone new o (slice_index now done)) (sym at) (subst (IsNumber (same_standing thread) new) (sym one) is.number)))
-      ];
-      behind = λ t past. ap (λ xs. slice_index xs t) set_so ∙ (get_or-set_other numbers done t n 0 (λ e. omega (arith, e, past)) ∙ known.behind t (omega (arith, past)));
-      grows = extends_on old table new known.grows is.grows;
-    }
+  pub so_far_more : (threads : List Thread) (old table new : List LiveThread) (done n : ℕ) (numbers now : List ℕ) (thread : Thread) (live : LiveThread) → AreNumbersSoFar threads old table done numbers → done < 8 → slice_get threads done ≡ Some thread → IsLiveThread dead thread live → IsNumbered (same_standing live) table new n → now ≡ set numbers done n → AreNumbersSoFar threads old new (done + 1) now
+  so_far_more threads old table new done n numbers now thread live known few at of is set_so =
+      let eight = known.eight in
+      let within : done < length numbers = omega (arith, eight, few) in
+      record {
+        eight = ap length set_so ∙ (length-set numbers done n ∙ eight);
+        before = λ t lt. elim (cases_lt t done) as (λ _. IsNumberOrNone dead new (slice_get threads t) (slice_index now t)) [
+          | inl less ↦
+              (let same : slice_index now t ≡ slice_index numbers t = ap (λ xs. slice_index xs t) set_so ∙ get_or-set_other numbers done t n 0 (λ e. omega (arith, e, less)) in
+              subst (IsNumberOrNone dead new (slice_get threads t)) (sym same) (number_or_none_stays table new (slice_get threads t) (slice_index numbers t) is.grows (known.before t less)))
+          | inr ge ↦
+              (let here : done ≡ t = omega (arith, ge, lt) in
+              let one : slice_index now done ≡ n = ap (λ xs. slice_index xs done) set_so ∙ get_or-set_same numbers done n 0 within in
+              subst (λ k. IsNumberOrNone dead new (slice_get threads k) (slice_index now k)) here
+              (subst (λ o. IsNumberOrNone dead new o (slice_index now done)) (sym at) (live, of, subst (IsNumber (same_standing live) new) (sym one) is.number)))
+        ];
+        behind = λ t past. ap (λ xs. slice_index xs t) set_so ∙ (get_or-set_other numbers done t n 0 (λ e. omega (arith, e, past)) ∙ known.behind t (omega (arith, past)));
+        grows = extends_on old table new known.grows is.grows;
+      }
 
-pub so_far_none : (threads old table : List Thread) (done : ℕ) (numbers : List ℕ) → AreNumbersSoFar threads old table done numbers → slice_get threads done ≡ None → AreNumbersSoFar threads old table (done + 1) numbers
-so_far_none threads old table done numbers known at = record {
-  eight = known.eight;
-  before = λ t lt. elim (cases_lt t done) as (λ _. IsNumberOrNone table (slice_get threads t) (slice_index numbers t)) [
-    | inl less ↦ known.before t less
-    | inr ge ↦
-        (let here : done ≡ t = omega (arith, ge, lt) in
-        subst (λ k. IsNumberOrNone table (slice_get threads k) (slice_index numbers k)) here
-        (subst (λ o. IsNumberOrNone table o (slice_index numbers done)) (sym at) (known.behind done (omega arith))))
-  ];
-  behind = λ t past. known.behind t (omega (arith, past));
-  grows = known.grows;
-}
-
-pub so_far_all : (threads old table : List Thread) (done : ℕ) (numbers : List ℕ) → AreNumbersSoFar threads old table done numbers → length threads ≤ done → NumbersThreads threads old table numbers
-so_far_all threads old table done numbers known past = record {
-  are = record {
+  pub so_far_none : (threads : List Thread) (old table : List LiveThread) (done : ℕ) (numbers : List ℕ) → AreNumbersSoFar threads old table done numbers → slice_get threads done ≡ None → AreNumbersSoFar threads old table (done + 1) numbers
+  so_far_none threads old table done numbers known at = record {
     eight = known.eight;
-    each = λ t. elim (cases_lt t done) as (λ _. IsNumberOrNone table (slice_get threads t) (slice_index numbers t)) [
+    before = λ t lt. elim (cases_lt t done) as (λ _. IsNumberOrNone dead table (slice_get threads t) (slice_index numbers t)) [
       | inl less ↦ known.before t less
-      | inr ge ↦ subst (λ o. IsNumberOrNone table o (slice_index numbers t)) (sym (slice_get_past threads t (omega (arith, past, ge)))) (known.behind t ge)
+      | inr ge ↦
+          (let here : done ≡ t = omega (arith, ge, lt) in
+          subst (λ k. IsNumberOrNone dead table (slice_get threads k) (slice_index numbers k)) here
+          (subst (λ o. IsNumberOrNone dead table o (slice_index numbers done)) (sym at) (known.behind done (omega arith))))
     ];
-  };
-  grows = known.grows;
-}
+    behind = λ t past. known.behind t (omega (arith, past));
+    grows = known.grows;
+  }
+
+  pub so_far_all : (s : State) (old table : List LiveThread) (done : ℕ) (numbers : List ℕ) → AreNumbersSoFar s.threads old table done numbers → length s.threads ≤ done → NumbersThreads dead s old table numbers
+  so_far_all s old table done numbers known past = record {
+    are = record {
+      eight = known.eight;
+      each = λ t. elim (cases_lt t done) as (λ _. IsNumberOrNone dead table (slice_get s.threads t) (slice_index numbers t)) [
+        | inl less ↦ known.before t less
+        | inr ge ↦ subst (λ o. IsNumberOrNone dead table o (slice_index numbers t)) (sym (slice_get_past s.threads t (omega (arith, past, ge)))) (known.behind t ge)
+      ];
+    };
+    grows = known.grows;
+  }

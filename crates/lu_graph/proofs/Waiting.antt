@@ -44,7 +44,7 @@ module _ (members : List (Vec SerialOp)) (nodes : Nodes) (list : List Kept) (pla
       omega (arith, none, long, same)
 
   -- no two nodes are the same
-  pub all_differ : IsDistinct row_eq nodes.rows.keys → AreDifferent list
+  pub all_differ : IsDistinct row_eq nodes.rows.keys → AreDifferent nodes.parts.dead list
   all_differ distinct i j a b lt at there same =
       let many = hold.many in
       let first = slice_get_within list i a at in

@@ -13,6 +13,7 @@ use Rattle.lu_history.specs.declared.serial.SerialOp.{SerialOp}
 use Rattle.lu_graph.specs.Alive.{AreTold}
 use Rattle.lu_graph.specs.Judging.{Follows}
 use Rattle.lu_graph.specs.Kept.{Kept}
+use Rattle.lu_graph.specs.Nodes.{AreStatesAlike}
 
 -- the state for which it stands, of a run of the component and the matrix
 abbrev pub state_of : Declarations → Matrix → Kept → State
@@ -27,7 +28,7 @@ state_of c matrix kept = record {
 -- it stands for the state s, to which this event led, or none, where these members were possible
 pub record ComesBy (c : Declarations) (matrix : Matrix) (members : List (Vec SerialOp)) (s : State)
     (alive : List Bool) (event : Option Event) (kept : Kept) : Type 0 where
-  pub state : state_of c matrix kept ≡ s
+  pub state : AreStatesAlike s (state_of c matrix kept)
   pub follows : Follows members s alive event kept.alive
 
 -- one of the list is such

@@ -1,6 +1,7 @@
 -- The nodes that were found.
 use Rattle.std.specs.Prelude.{◌≡◌, ℕ, ◌≤◌, Bool, List, [], ◌∷◌, length, drop, map, IfOk, Option, Result, Some, slice_get}
 use Rattle.std.specs.Global.{Vec}
+use Rattle.lu_component.specs.Component.{Declarations}
 use Rattle.lu_machine.specs.declared.event.Event.{Event}
 use Rattle.lu_machine.specs.Positions.{CanStandAt}
 use Rattle.lu_machine.specs.Starts.{FromEachStart}
@@ -13,10 +14,10 @@ use Rattle.lu_graph.specs.Discovering.{Extends}
 use Rattle.lu_graph.specs.Growing.{AddsHere, AddsNext, AddsOne, HasStart, state_of}
 use Rattle.lu_graph.specs.Judging.{IsOneOf}
 use Rattle.lu_graph.specs.Kept.{Kept, unvisited}
-use Rattle.lu_graph.specs.Nodes.{IsEnding, TellsFewNodes}
+use Rattle.lu_graph.specs.Nodes.{AreStatesAlike, IsEnding, TellsFewNodes}
 use Rattle.lu_graph.specs.Visiting.{AreVisitedFrom}
 use Rattle.lu_graph.specs.Possibilities.{AreLeft, IsNumberOf}
-use Rattle.lu_graph.specs.Rows.{IsRowOf}
+use Rattle.lu_graph.specs.Rows.{IsRowOf, KnowsDead}
 
 -- The nodes are those of the list, each with its row; those from the place on are waiting. What is
 -- remembered of returns is so, for these members.
@@ -35,13 +36,15 @@ HoldsNone nodes =
 
 -- it stands for the state s, where these members are possible
 abbrev pub StandsFor : State → List Bool → Kept → Type 0
-StandsFor s alive kept = (state_of s.component s.matrix kept ≡ s) × (kept.alive ≡ alive)
+StandsFor s alive kept =
+    AreStatesAlike s (state_of s.component s.matrix kept) × (kept.alive ≡ alive)
 
 -- the node of s, where these members are possible, and no other
 abbrev pub HoldsOne : State → List Bool → Nodes → Type 0
 HoldsOne s alive nodes =
     (kept : Kept) × ((members : List (Vec SerialOp)) → Hold members nodes (kept ∷ []) 0)
     × CanStandAt s.component s.matrix kept.position × StandsFor s alive kept
+    × KnowsDead s.component nodes.parts.dead
 
 -- it is the number of these members, as the nodes know them
 abbrev pub Knows : Nodes → List Bool → ℕ → Type 0
@@ -50,39 +53,43 @@ Knows nodes alive number = IsNumberOf nodes.parts.alive alive number
 -- the nodes are those of a list that has grown so, and more may be known that is possible
 pub record HoldMore (members : List (Vec SerialOp)) (Grown : List Kept → Type 0) (place : ℕ)
     (old new : Nodes) : Type 0 where
+  pub dead : new.parts.dead ≡ old.parts.dead
   pub list : List Kept
   pub hold : Hold members new list place
   pub grown : Grown list
   pub known : Extends old.parts.alive.lists.keys new.parts.alive.lists.keys
 
--- so it is where the nodes were those of an old list, and what was possible had this number
-abbrev pub HoldsMore : List (Vec SerialOp) → (List Bool → List Kept → List Kept → Type 0) → ℕ
-    → Nodes → Nodes → Type 0
-HoldsMore members Grows number old new =
+-- so it is where the nodes were those of an old list, what was possible had this number, and the
+-- dead registers of the component were known
+abbrev pub HoldsMore : Declarations → List (Vec SerialOp)
+    → (List Bool → List Kept → List Kept → Type 0) → ℕ → Nodes → Nodes → Type 0
+HoldsMore c members Grows number old new =
     (list : List Kept) (place : ℕ) (alive : List Bool)
-    → Hold members old list place → Knows old alive number
+    → Hold members old list place → Knows old alive number → KnowsDead c old.parts.dead
     → HoldMore members (Grows alive list) place old new
 
 -- with the node of s, where what has the number in the row is possible
 abbrev pub HoldsOneMore : State → Row → Nodes → Nodes → Type 0
 HoldsOneMore s row old new =
     (members : List (Vec SerialOp))
-    → HoldsMore members (λ alive. AddsOne s.component s.matrix (StandsFor s alive)) row.alive
-    old new
+    → HoldsMore s.component members
+    (λ alive. AddsOne s.component s.matrix (StandsFor s alive)) row.alive old new
 
 -- with the node of s, to which this event led from the node of the row, or none
 abbrev pub HoldsHere : List (Vec SerialOp) → State → Row → Option Event → Nodes → Nodes → Type 0
 HoldsHere members s from event old new =
-    HoldsMore members (λ alive. AddsHere members s alive event) from.alive old new
+    HoldsMore s.component members (λ alive. AddsHere members s alive event) from.alive old new
 
 -- with all nodes to which moves of s lead, the state of the node of the row
 abbrev pub HoldsNext : List (Vec SerialOp) → State → Row → Nodes → Nodes → Type 0
-HoldsNext members s from old new = HoldsMore members (AddsNext members s) from.alive old new
+HoldsNext members s from old new =
+    HoldsMore s.component members (AddsNext members s) from.alive old new
 
 -- the nodes are the start alone
 abbrev pub HoldsStart : List (Vec SerialOp) → State → Nodes → Type 0
 HoldsStart members s nodes =
     (list : List Kept) × Hold members nodes list 0 × HasStart members s list
+    × KnowsDead s.component nodes.parts.dead
 
 -- the nodes are those of a list, of which those before the place were gone through, in runs of the
 -- component and the matrix of s
@@ -90,6 +97,7 @@ abbrev pub AreVisitedBy : List (Vec SerialOp) → State → Nodes → ℕ → Ty
 AreVisitedBy members s nodes place =
     (list : List Kept) × Hold members nodes list place
     × AreVisitedFrom members s.component s.matrix list place
+    × KnowsDead s.component nodes.parts.dead
 
 -- ---- what is told of all nodes
 

@@ -1,11 +1,17 @@
 -- Nodes: states, with the histories of schedules that lead there; and how all schedules end.
 use Rattle.std.specs.Prelude.{◌≡◌, ◌↔◌, ℕ, ◌<◌, ◌≤◌, Bool, IfOk, IsTrue, MatchBool, Result, List, [], ◌++◌, length, Option, Some, slice_get}
+use Rattle.lu_component.specs.Component.{Declarations}
 use Rattle.lu_test.specs.declared.schedule.Move.{Move}
+use Rattle.lu_test.specs.Matrix.{Matrix}
 use Rattle.lu_machine.specs.declared.event.Event.{Event}
 use Rattle.lu_machine.specs.Ends.{IsEnded}
 use Rattle.lu_machine.specs.Runs.{Leads, with_event}
 use Rattle.lu_machine.specs.Schedules.{Reaches}
+use Rattle.lu_machine.specs.Starts.{FromEachStart}
 use Rattle.lu_machine.specs.States.{State}
+use Rattle.lu_horizon.specs.Alike as alike
+use Rattle.lu_horizon.specs.Alike.{Liveness}
+use Rattle.lu_horizon.specs.Dead.{IsDead}
 use Rattle.lu_graph.specs.declared.ending.Ending.{Ending}
 use Rattle.lu_graph.specs.declared.ending.Ending.TheVariants.{Well, Badly, TooMany}
 use Rattle.lu_history.specs.declared.serial.SerialOp.{SerialOp}
@@ -28,11 +34,19 @@ longer h event = h ++ with_event event []
 abbrev pub IsAmong : {A : Type 0} → List A → A → Type 0
 IsAmong list x = (i : ℕ) × (slice_get list i ≡ Some x)
 
--- Two nodes are alike for a set of serial histories: they have one state, and the same histories of
+-- a register that is not dead
+abbrev pub NotDead : Declarations → Liveness
+NotDead c op place r = IsDead c op place r → ⊥
+
+-- two states differ in dead registers alone
+abbrev pub AreStatesAlike : State → State → Type 0
+AreStatesAlike a b = alike.AreAlike (NotDead a.component) a b
+
+-- Two nodes are alike for a set of serial histories: their states are, and the same histories of
 -- the set can still become witnesses of theirs.
 abbrev pub AreAlike : (List SerialOp → Type 0) → Node → Node → Type 0
 AreAlike Set a b =
-    (a.state ≡ b.state)
+    AreStatesAlike a.state b.state
     × ((q : List SerialOp) → Set q → IsPossible q a.history ↔ IsPossible q b.history)
 
 -- each schedule from s, of any length, leads to a node that is like one of the list
@@ -94,6 +108,12 @@ IsEnding Set bound most s TooMany = HasFewNodes Set s most → ⊥
 abbrev pub TellsEnding : {E : Type 0} → List (List SerialOp) → ℕ → ℕ → Result Ending E → State
     → Type 0
 TellsEnding members bound most result s = IfOk result (IsEnding (IsMember members) bound most s)
+
+-- so it is from each start
+abbrev pub TellsEndings : {E : Type 0} → Declarations → Matrix → List (List SerialOp) → ℕ → ℕ
+    → Result Ending E → Type 0
+TellsEndings c matrix members bound most result =
+    FromEachStart c matrix (TellsEnding members bound most result)
 
 -- the answer, if there is one, is whether this holds
 abbrev pub Tells : {E : Type 0} → Type 0 → Result Bool E → Type 0

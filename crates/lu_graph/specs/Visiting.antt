@@ -17,6 +17,7 @@ use Rattle.lu_graph.specs.declared.level.Level.{Level}
 use Rattle.lu_graph.specs.Alive.{AreTold}
 use Rattle.lu_graph.specs.Growing.{IsNextBy, Keeps, state_of}
 use Rattle.lu_graph.specs.Kept.{Kept}
+use Rattle.lu_graph.specs.Nodes.{AreStatesAlike}
 
 -- the state of what is kept, in runs that start in s
 abbrev pub its : State → Kept → State
@@ -25,17 +26,18 @@ its s kept = state_of s.component s.matrix kept
 -- it stands for the state `end` behind the history h, which may have led there
 pub record IsFor (s : State) (members : List (Vec SerialOp)) (end : State) (h : List Event)
     (kept : Kept) : Type 0 where
-  pub state : its s kept ≡ end
+  pub state : AreStatesAlike end (its s kept)
   pub well_formed : IsWellFormed h
   pub agree : Agree (progress end) h
   pub told : AreTold members h kept.alive
 
--- a schedule leads from s to it
+-- a schedule leads from s to a state for which it stands
 pub record IsReached (s : State) (members : List (Vec SerialOp)) (kept : Kept) : Type 0 where
   pub schedule : List Move
+  pub end : State
   pub history : List Event
-  pub leads : Leads s schedule (its s kept) history
-  pub is : IsFor s members (its s kept) history kept
+  pub leads : Leads s schedule end history
+  pub is : IsFor s members end history kept
 
 abbrev pub IsReachedAndSound : State → List (Vec SerialOp) → Kept → Type 0
 IsReachedAndSound s members kept =

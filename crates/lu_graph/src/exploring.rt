@@ -1,10 +1,11 @@
 //! How all schedules end, of any length.
 
 ghost use Rattle.std.specs.Prelude.{[]};
-ghost use Rattle.lu_machine.specs.Starts.{CanRun, FromEachStart, IsStart, Settles};
+ghost use Rattle.lu_machine.specs.Starts.{CanRun, IsStart, Settles};
 ghost use Rattle.lu_graph.specs.Alive.{AreTold};
 ghost use Rattle.lu_graph.specs.Holding.{AreFewAsTold, AreVisitedBy, EndsSo, HoldsNone, HoldsStart};
-ghost use Rattle.lu_graph.specs.Nodes.{TellsEnding};
+ghost use Rattle.lu_graph.specs.Nodes.{TellsEndings};
+ghost use Rattle.lu_graph.specs.Rows.{KnowsDead};
 
 use crate::ending::Ending;
 use crate::growing::add_next;
@@ -14,6 +15,7 @@ use crate::level::Level;
 use crate::listing::{all_possible, list_members};
 use lu_component::Component;
 use lu_history::SerialOp;
+use lu_horizon::DeadRegisters;
 use lu_machine::Machine;
 use lu_test::Matrix;
 use lu_trie::SerialTree;
@@ -106,6 +108,7 @@ fn search_from(
     requires starts { IsStart machine.old.component machine.old.matrix machine.old }
     requires told { AreTold members.now [] alive.now }
     requires none { HoldsNone nodes.old }
+    requires dead { KnowsDead machine.old.component nodes.old.parts.dead }
     ensures { EndsSo members.now bound most machine.old result }
 {
     add_first(alloc, machine, alive, nodes)?;
@@ -124,16 +127,17 @@ fn search_all(
     ensures { EndsSo members.now bound most machine.old result }
 {
     let alive = all_possible(alloc, members)?;
-    let mut nodes = Nodes::new(alloc);
+    let dead = DeadRegisters::new(alloc, machine.component())?;
+    let mut nodes = Nodes::new(alloc, dead);
     search_from(alloc, machine, members, &alive, &mut nodes, bound, most)
 }
 
 /// How all schedules of the component on the matrix end, of any length, for the set of the tree. A
-/// node is a state, with the history of a schedule that leads there; those of one state where the
-/// same members of the set can still become witnesses are alike, and count as one. At most `most`
-/// are kept, each of some 50 bytes, with the parts that they share. Where a schedule of no more
-/// moves than the bound ends badly, the nodes behind it are not counted. Asks for a matrix of the
-/// component, whose setup settles.
+/// node is a state, with the history of a schedule that leads there; those of states that differ in
+/// dead registers alone, where the same members of the set can still become witnesses, are alike,
+/// and count as one. At most `most` are kept, each of some 50 bytes, with the parts that they share.
+/// Where a schedule of no more moves than the bound ends badly, the nodes behind it are not counted.
+/// Asks for a matrix of the component, whose setup settles.
 ///
 /// # Errors
 ///
@@ -147,8 +151,7 @@ pub fn ends_well<T: SerialTree>(
     most: u32,
 ) -> Result<Ending, AllocError>
     requires { CanRun component.now matrix.now }
-    ensures { FromEachStart component.now matrix.now
-        (TellsEnding (T.members tree.now) bound most result) }
+    ensures { TellsEndings component.now matrix.now (T.members tree.now) bound most result }
 {
     let members = list_members(alloc, tree)?;
     let mut machine = Machine::start(alloc, component, matrix)?;

@@ -1,13 +1,14 @@
 //! The nodes that were found.
 
-ghost use Rattle.std.specs.Prelude.{OnOk};
+ghost use Rattle.std.specs.Prelude.{◌≡◌, OnOk};
 ghost use Rattle.lu_graph.specs.Holding.{HoldsNone, HoldsOne, HoldsOneMore};
-ghost use Rattle.lu_graph.specs.Rows.{IsSized};
+ghost use Rattle.lu_graph.specs.Rows.{IsSized, KnowsDead};
 
 use crate::row::{Parts, Row, row_at};
 use crate::tables::number_of_list;
 use crate::unvisited::Unvisited;
 use indexmap::IndexSet;
+use lu_horizon::DeadRegisters;
 use lu_machine::Machine;
 use std::alloc::{AllocError, Global};
 use std::collections::VecDeque;
@@ -24,14 +25,15 @@ pub(crate) struct Nodes {
 }
 
 impl Nodes {
-    /// No nodes.
-    pub(crate) fn new(alloc: Global) -> Nodes
-        ensures { HoldsNone result }
+    /// No nodes, of a component with these dead registers.
+    pub(crate) fn new(alloc: Global, dead: DeadRegisters) -> Nodes
+        ensures none { HoldsNone result }
+        ensures dead { result.parts.dead ≡ dead }
     {
         Nodes {
             rows: IndexSet::new(alloc),
             waiting: VecDeque::new(alloc),
-            parts: Parts::new(alloc),
+            parts: Parts::new(alloc, dead),
         }
     }
 }
@@ -43,7 +45,8 @@ pub(crate) fn add_first(
     alive: &[bool],
     nodes: &mut Nodes,
 ) -> Result<(), AllocError>
-    requires { HoldsNone nodes.old }
+    requires none { HoldsNone nodes.old }
+    requires dead { KnowsDead machine.now.component nodes.old.parts.dead }
     ensures { OnOk result (HoldsOne machine.now alive.now nodes.new) }
 {
     let position = machine.position(alloc)?;

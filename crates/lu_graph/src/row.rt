@@ -8,7 +8,8 @@ use crate::possibilities::Possibilities;
 use crate::tables::{number_of, number_of_list};
 use indexmap::IndexSet;
 use lu_component::Component;
-use lu_machine::{Machine, Thread};
+use lu_horizon::{DeadRegisters, LiveThread};
+use lu_machine::Machine;
 use std::alloc::{AllocError, Global};
 
 /// A node as it is looked up: the number of each of its parts, from 1. 0 stands for none.
@@ -29,8 +30,11 @@ pub(crate) struct Row {
 pub(crate) struct Parts {
     pub(crate) cells: IndexSet<Vec<u32>>,
     pub(crate) locks: IndexSet<Vec<Option<u8>>>,
-    pub(crate) threads: IndexSet<Thread>,
+    pub(crate) threads: IndexSet<LiveThread>,
     pub(crate) alive: Possibilities,
+
+    /// The registers that are dead tell no two nodes apart.
+    pub(crate) dead: DeadRegisters,
 
     /// The cells and the locks that are looked up.
     cells_now: Vec<u32>,
@@ -52,15 +56,17 @@ impl Row {
 }
 
 impl Parts {
-    /// No parts.
-    pub(crate) fn new(alloc: Global) -> Parts
-        ensures { result.alive.returns.entries ≡ [] }
+    /// No parts, of a component with these dead registers.
+    pub(crate) fn new(alloc: Global, dead: DeadRegisters) -> Parts
+        ensures returns { result.alive.returns.entries ≡ [] }
+        ensures dead { result.dead ≡ dead }
     {
         Parts {
             cells: IndexSet::new(alloc),
             locks: IndexSet::new(alloc),
             threads: IndexSet::new(alloc),
             alive: Possibilities::new(alloc),
+            dead,
             cells_now: Vec::new(alloc),
             locks_now: Vec::new(alloc),
         }
@@ -102,20 +108,21 @@ fn read_locks(machine: &Machine<'_>, locks: &mut Vec<Option<u8>>) -> Result<(), 
     Ok(())
 }
 
-/// The number of where each thread stands, and 0 for each that is not there. The likely ones are
-/// looked at first.
+/// The number of where each thread stands, without its dead registers, and 0 for each that is not
+/// there. The likely ones are looked at first.
 fn number_threads(
     machine: &Machine<'_>,
-    table: &mut IndexSet<Thread>,
+    dead: &DeadRegisters,
+    table: &mut IndexSet<LiveThread>,
     likely: &[u32; 8],
 ) -> Result<[u32; 8], AllocError>
-    ensures { IfOk result (NumbersThreads machine.now.threads table.old.keys table.new.keys) }
+    ensures { IfOk result (NumbersThreads dead.now machine.now table.old.keys table.new.keys) }
 {
     let mut numbers = [0; 8];
     for thread in 0..machine.threads() {
         if let Some(standing) = machine.standing(thread) {
             let place = usize::from(thread);
-            numbers[place] = number_of(table, *standing, likely[place])?;
+            numbers[place] = number_of(table, dead.live(standing), likely[place])?;
         }
     }
     Ok(numbers)
@@ -138,7 +145,7 @@ pub(crate) fn row_at(
     Ok(Row {
         cells: number_of_list(alloc, &mut parts.cells, &parts.cells_now, likely.cells)?,
         locks: number_of_list(alloc, &mut parts.locks, &parts.locks_now, likely.locks)?,
-        threads: number_threads(machine, &mut parts.threads, &likely.threads)?,
+        threads: number_threads(machine, &parts.dead, &mut parts.threads, &likely.threads)?,
         alive: likely.alive,
     })
 }

@@ -1,11 +1,9 @@
 -- What is said to be dead is so.
-use Rattle.std.proofs.Common.{◌≡◌, ℕ, zero, suc, ◌<◌, ◌≤◌, ◌⊎◌, inl, inr, Bool, true, List, [], ◌∷◌, ◌++◌, Some, get_or, length, slice_get, refl, sym, ◌∙◌, ap, subst, arith}
-use Rattle.std.proofs.lemmas.Bool.{cases_lt}
-use Rattle.std.proofs.lemmas.Option.{slice_get_within}
+use Rattle.std.proofs.Common.{◌≡◌, ℕ, zero, suc, ◌⊎◌, inl, inr, Bool, true, List, [], ◌∷◌, ◌++◌, Some, get_or, length, slice_get, refl, sym, ◌∙◌, ap, subst}
 use Rattle.lu_component.specs.Component.{Declarations}
 use Rattle.lu_component.specs.declared.instr.Instr.{Instr}
 use Rattle.lu_machine.specs.States.{instr_at}
-use Rattle.lu_horizon.specs.Dead.{AreDead, AreDeadAt, IsDeadTable, dead_at, dead_before}
+use Rattle.lu_horizon.specs.Dead.{AreDead, IsDeadTable, dead_at, dead_before}
 
 -- an operation more, whose code is this
 get_push : (table : List (List (List Bool))) (places : List (List Bool)) (op : ℕ) → (get_or (table ++ places ∷ []) op [] ≡ get_or table op []) ⊎ ((op ≡ length table) × (get_or (table ++ places ∷ []) op [] ≡ places))
@@ -32,19 +30,3 @@ dead_push c table op code places many of dead old = λ o place instr r at is.
 
 pub dead_none : (c : Declarations) → IsDeadTable c []
 dead_none c = λ op place instr r at is. absurd (cc)
-
-pub places_none : (code : List Instr) → AreDead code []
-places_none code = λ place instr r at is. absurd (cc)
-
--- one place more, and all of them
-pub dead_more : (code : List Instr) (places : List (List Bool)) (i : ℕ) → ((place : ℕ) → place < i → AreDeadAt code places place) → AreDeadAt code places i → (place : ℕ) → place < suc i → AreDeadAt code places place
-dead_more code places i before here place less =
-    elim (cases_lt place i) [
-      | inl lt ↦ before place lt
-      | inr ge ↦ (let same : place ≡ i = omega arith in subst (λ x. AreDeadAt code places x) (sym same) here)
-    ]
-
-pub dead_all : (code : List Instr) (places : List (List Bool)) (i : ℕ) → length code ≤ i → ((place : ℕ) → place < i → AreDeadAt code places place) → AreDead code places
-dead_all code places i all before place instr r at is =
-    let within = slice_get_within code place instr at in
-    before place (omega arith) instr r at is

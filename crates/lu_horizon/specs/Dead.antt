@@ -1,6 +1,6 @@
 -- Registers that don't matter any more: whichever way an operation goes on, they are written before
 -- they are read again, or not read again.
-use Rattle.std.specs.Prelude.{◌≡◌, ℕ, ◌+◌, ◌==◌, ◌&&◌, ◌||◌, not, Bool, true, false, List, [], Some, slice_get, get_or}
+use Rattle.std.specs.Prelude.{◌≡◌, ◌↔◌, ℕ, ◌+◌, ◌<◌, ◌==◌, ◌&&◌, ◌||◌, ◌⊎◌, not, Bool, true, false, List, [], ◌∷◌, Some, slice_get, get_or}
 use Rattle.lu_component.specs.Component.{Declarations}
 use Rattle.lu_component.specs.declared.instr.Instr.{Instr}
 use Rattle.lu_component.specs.declared.instr.Instr.TheVariants.{Set, Compute, Load, Store, Cas, Await, AwaitNot, Pick, Jump, JumpIfZero, Return}
@@ -36,6 +36,38 @@ writes (Cas to w i expected desired) r = to == r
 writes (Pick to count) r = to == r
 writes _ r = false
 
+-- ---- live and dead
+
+-- the operation may go on from the instruction at this place to that place
+abbrev pub GoesTo : ℕ → Instr → ℕ → Type 0
+GoesTo place (Jump target) next = next ≡ target
+GoesTo place (JumpIfZero v target) next = (next ≡ target) ⊎ (next ≡ place + 1)
+GoesTo place (Return v) next = ⊥
+GoesTo place _ next = next ≡ place + 1
+
+-- Register r is read at the last place of this way through the code of an operation, which begins
+-- at the first, and is written at no place before it.
+abbrev pub IsReadAlong : Declarations → ℕ → ℕ → ℕ → List ℕ → Type 0
+IsReadAlong c op r place [] =
+    (instr : Instr) × (instr_at c op place ≡ Some instr) × (reads instr r ≡ true)
+IsReadAlong c op r place (next ∷ way) =
+    (instr : Instr) × (instr_at c op place ≡ Some instr) × (writes instr r ≡ false)
+    × GoesTo place instr next × IsReadAlong c op r next way
+
+-- Register r is live at the place: along some way from there it is read before it is written (Aho,
+-- Sethi and Ullman, 1986).
+abbrev pub IsLive : Declarations → ℕ → ℕ → ℕ → Type 0
+IsLive c op place r = (way : List ℕ) × IsReadAlong c op r place way
+
+-- It is dead at a place in the operation's code, where it is one of the eight registers, and not
+-- live.
+pub record IsDead (c : Declarations) (op place r : ℕ) : Type 0 where
+  pub there : (instr : Instr) × (instr_at c op place ≡ Some instr)
+  pub register : r < 8
+  pub unread : IsLive c op place r → ⊥
+
+-- ---- tables
+
 -- whether register r is dead wherever the operation may go from the instruction at this place,
 -- where `dead` tells so of each place
 abbrev pub dead_behind : (ℕ → ℕ → Bool) → ℕ → Instr → ℕ → Bool
@@ -57,11 +89,6 @@ DeadTable = List (List (List Bool))
 abbrev pub dead_at : List (List Bool) → ℕ → ℕ → Bool
 dead_at places place r = get_or (get_or places place []) r false
 
--- each of these registers is not read there, and is written, or dead behind, as the places tell
-abbrev pub StayDead : List Bool → List (List Bool) → ℕ → Instr → Type 0
-StayDead dead places place instr =
-    (r : ℕ) → get_or dead r false ≡ true → dead_before (dead_at places) place instr r ≡ true
-
 -- what is said to be dead at this place of the code is not read before it is written
 abbrev pub AreDeadAt : List Instr → List (List Bool) → ℕ → Type 0
 AreDeadAt code places place =
@@ -80,3 +107,8 @@ abbrev pub IsDeadTable : Declarations → DeadTable → Type 0
 IsDeadTable c table =
     (op place : ℕ) (instr : Instr) (r : ℕ) → instr_at c op place ≡ Some instr
     → is_dead table op place r ≡ true → dead_before (is_dead table op) place instr r ≡ true
+
+-- the table says of each register at each place whether it is dead
+abbrev pub TellsDead : Declarations → DeadTable → Type 0
+TellsDead c table =
+    (op place r : ℕ) → is_dead table op place r ≡ true ↔ IsDead c op place r

@@ -5,3 +5,6 @@ pub mod Own
 pub mod Code
 pub mod Tables
 pub mod Dead
+pub mod Alike
+pub mod Live
+pub mod Rounds

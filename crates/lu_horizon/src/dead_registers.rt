@@ -3,9 +3,10 @@
 //! A register is dead at a place of an operation where it is written before it is read again, or
 //! not read again, whichever way the operation goes on from there.
 
-ghost use Rattle.std.specs.Prelude.{◌≡◌, ◌<◌, ◌≤◌, true, false, IfOk, length};
+ghost use Rattle.std.specs.Prelude.{◌≡◌, ◌<◌, ◌≤◌, true, false, IfOk, [], get_or, length};
 ghost use Rattle.lu_horizon.specs.Dead as spec;
-ghost use Rattle.lu_horizon.specs.Dead.{AreDead, AreDeadAt, IsDeadTable, StayDead, is_dead};
+ghost use Rattle.lu_horizon.specs.Dead.{AreDead, AreDeadAt, IsDeadTable, TellsDead, is_dead};
+ghost use Rattle.lu_horizon.specs.Rounds.{AreLiveIn, AreWithin, IsRound, IsSettledAt, with_live};
 
 use crate::horizon::code_of;
 use lu_component::{Component, Instr, Operand};
@@ -13,10 +14,7 @@ use std::alloc::{AllocError, Global};
 use std::marker::Model;
 
 /// How many registers an operation has.
-const REGISTERS: u8 = 8;
-
-/// How often the code is gone through: each time one register is dead at one place less, at least.
-const MOST_ROUNDS: usize = 64 * 8 + 1;
+pub(crate) const REGISTERS: u8 = 8;
 
 /// Whether each of the registers `r0` to `r7` is dead.
 type Dead = [bool; 8];
@@ -78,7 +76,8 @@ fn writes(instr: &Instr, register: u8) -> bool
 
 /// Whether the register is said to be dead at the place.
 fn dead_at(known: &[Dead], place: usize, register: u8) -> bool
-    ensures { result ≡ spec.dead_at known.now place register }
+    ensures value { result ≡ spec.dead_at known.now place register }
+    ensures eight { length (get_or known.now place []) ≤ 8 }
 {
     match known.get(place) {
         None => false,
@@ -110,73 +109,55 @@ fn dead_before(instr: &Instr, place: usize, register: u8, known: &[Dead]) -> boo
         && (writes(instr, register) || dead_behind(instr, place, register, known))
 }
 
-/// Which registers are dead at the place of the instruction, by what is said of those that may come
-/// next. No clause says so: [`are_dead`] looks at what comes of it.
-fn dead_by(instr: &Instr, place: usize, known: &[Dead]) -> Dead
-    requires { place < 64 }
+/// Says no more that the register is dead at the place.
+fn say_live(known: &mut Vec<Dead>, place: usize, register: u8)
+    requires { spec.dead_at known.old.items place register ≡ true }
+    ensures { known.new.items ≡ with_live known.old.items place register }
 {
-    let mut dead = [false; 8];
-    for register in 0..REGISTERS {
-        if let Some(is_dead) = dead.get_mut(usize::from(register)) {
-            *is_dead = dead_before(instr, place, register, known);
-        }
+    known[place][usize::from(register)] = false;
+}
+
+/// Says no more that the register is dead at the place, where it is not by what is said of the
+/// places that may come next. Says whether that was so.
+fn look_at(code: &[Instr], place: usize, register: u8, known: &mut Vec<Dead>) -> bool
+    requires within { place < length code.now }
+    requires few { length code.now ≤ 64 }
+    ensures round { IsRound code.now known.old.items known.new.items result }
+    ensures settled { result ≡ false → IsSettledAt code.now known.new.items place register }
+    ensures eight { length (get_or known.new.items place []) ≤ 8 }
+{
+    if dead_at(known, place, register) && !dead_before(&code[place], place, register, known) {
+        say_live(known, place, register);
+        return true;
     }
-    dead
+    false
+}
+
+/// Looks at each register at the place, and says whether less is dead there than was said.
+fn look_at_place(code: &[Instr], place: usize, known: &mut Vec<Dead>) -> bool
+    requires within { place < length code.now }
+    requires few { length code.now ≤ 64 }
+    ensures round { IsRound code.now known.old.items known.new.items result }
+    ensures settled { result ≡ false → AreDeadAt code.now known.new.items place }
+{
+    let mut less = false;
+    for register in 0..REGISTERS {
+        less |= look_at(code, place, register, known);
+    }
+    less
 }
 
 /// Goes through the code from its end, and says whether less is dead than was said.
 fn go_through(code: &[Instr], known: &mut Vec<Dead>) -> bool
     requires { length code.now ≤ 64 }
+    ensures round { IsRound code.now known.old.items known.new.items result }
+    ensures settled { result ≡ false → AreDead code.now known.new.items }
 {
     let mut less = false;
     for behind in 0..code.len() {
-        let place = code.len() - 1 - behind;
-        let dead = dead_by(&code[place], place, known);
-        if let Some(old) = known.get_mut(place) {
-            less |= *old != dead;
-            *old = dead;
-        }
+        less |= look_at_place(code, code.len() - 1 - behind, known);
     }
     less
-}
-
-/// Whether none of these registers, which are said to be dead at the place of the instruction, is
-/// read before it is written.
-fn stay_dead(dead: Dead, instr: &Instr, place: usize, known: &[Dead]) -> bool
-    requires { place < 64 }
-    ensures { result ≡ true → StayDead dead known.now place instr.now }
-{
-    for register in 0..REGISTERS {
-        if dead[usize::from(register)] && !dead_before(instr, place, register, known) {
-            return false;
-        }
-    }
-    true
-}
-
-/// Whether nothing that is said to be dead at the place is read before it is written.
-fn stay_dead_at(code: &[Instr], place: usize, known: &[Dead]) -> bool
-    requires within { place < length code.now }
-    requires few { length code.now ≤ 64 }
-    ensures { result ≡ true → AreDeadAt code.now known.now place }
-{
-    match known.get(place) {
-        None => true,
-        Some(dead) => stay_dead(*dead, &code[place], place, known),
-    }
-}
-
-/// Whether nothing that is said to be dead in the code is read before it is written.
-fn are_dead(code: &[Instr], known: &[Dead]) -> bool
-    requires { length code.now ≤ 64 }
-    ensures { result ≡ true → AreDead code.now known.now }
-{
-    for place in 0..code.len() {
-        if !stay_dead_at(code, place, known) {
-            return false;
-        }
-    }
-    true
 }
 
 /// The dead registers at each place of one operation.
@@ -202,24 +183,17 @@ impl Places {
     }
 }
 
-/// The dead registers at each place of the code.
+/// The dead registers at each place of the code: all at first, and less with each round, until one
+/// finds all to be so.
 fn dead_in(alloc: Global, code: &[Instr]) -> Result<Places, AllocError>
     requires { length code.now ≤ 64 }
-    ensures { IfOk result (AreDead code.now) }
+    ensures sound { IfOk result (AreDead code.now) }
+    ensures exact { IfOk result (AreLiveIn code.now) }
+    ensures within { IfOk result (AreWithin code.now) }
 {
     let mut dead = vec![in alloc; [true; 8]; code.len()]?;
-    for _round in 0..MOST_ROUNDS {
-        if !go_through(code, &mut dead) {
-            break;
-        }
-    }
-    if are_dead(code, &dead) {
-        Ok(Places { dead })
-    } else {
-        Ok(Places {
-            dead: Vec::new(alloc),
-        })
-    }
+    while go_through(code, &mut dead) {}
+    Ok(Places { dead })
 }
 
 /// Of each operation of a component and each place of its code, the registers that are dead there:
@@ -239,13 +213,15 @@ impl Model for DeadRegisters {
 }
 
 impl DeadRegisters {
-    /// The dead registers of a component's operations.
+    /// The dead registers of a component's operations: at each place all that are dead, and no
+    /// others.
     ///
     /// # Errors
     ///
     /// `AllocError` where memory was refused.
     pub fn new(alloc: Global, component: &Component) -> Result<DeadRegisters, AllocError>
-        ensures { IfOk result (IsDeadTable component.now) }
+        ensures sound { IfOk result (IsDeadTable component.now) }
+        ensures exact { IfOk result (TellsDead component.now) }
     {
         let mut operations = Vec::new(alloc);
         for op in 0..component.operations().len() as u8 {

@@ -12,11 +12,13 @@
 mod certain;
 mod dead_registers;
 mod horizon;
+mod live_thread;
 mod outlook;
 mod sharers;
 mod stand;
 
 pub use dead_registers::DeadRegisters;
 pub use horizon::Horizon;
+pub use live_thread::{LiveFrame, LiveThread};
 pub use sharers::Sharers;
 pub use stand::{CallPlace, is_unseen_at, only_reads_at, stand_at};

@@ -237,7 +237,7 @@ module _ (table : DeadTable) where
   move_alike : (s r : State) → IsDeadTable s.component table → AreAlike table s r → HasMove s → HasMove r
   move_alike s r dead alike some = (some.0, (let same = picks_alike s r dead alike some.0 in let there : 0 < picks_of s some.0 = some.1 in omega arith))
 
-  stuck_alike : (s r : State) → IsDeadTable s.component table → AreAlike table s r → IsStuck s → IsStuck r
+  pub stuck_alike : (s r : State) → IsDeadTable s.component table → AreAlike table s r → IsStuck s → IsStuck r
   stuck_alike s r dead alike stuck = (λ complete. stuck.0 (complete_alike r s (alike_back s r alike) complete), none_alike s r dead alike stuck.1)
 
   -- where a schedule leads to from the one
@@ -256,7 +256,7 @@ module _ (table : DeadTable) where
   ended_alike s r dead alike left u (inr k) = inr (k.0, reaches_alike s r dead alike (λ end _. IsStuck end) (λ end _. IsStuck end) (λ end there h d a is. stuck_alike end there d a is) u k.1)
 
   module _ (Set : List SerialOp → Type 0) where
-    good_alike : (end there : State) (h : List Event) → IsDeadTable end.component table → AreAlike table end there → IsGoodAt Set end h → IsGoodAt Set there h
+    pub good_alike : (end there : State) (h : List Event) → IsDeadTable end.component table → AreAlike table end there → IsGoodAt Set end h → IsGoodAt Set there h
     good_alike end there h dead alike (inl good) = inl (complete_alike end there alike good.0, good.1)
     good_alike end there h dead alike (inr good) = inr (stuck_alike end there dead alike good.0, good.1)
 

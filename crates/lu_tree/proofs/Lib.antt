@@ -18,7 +18,7 @@ mod KnownLaws
 mod Leaving
 mod Accessing
 mod SameHeld
-mod Alike
+pub mod Alike
 mod AlikeLaws
-mod AlikeRuns
+pub mod AlikeRuns
 mod LeftAlike

@@ -1,6 +1,5 @@
 use Rattle.std.proofs.Common.{ℕ, inl, subst}
 use Rattle.std.proofs.lemmas.Result.{err_from_is_err_and}
-use Rattle.lu_graph.specs.Nodes.{default_nodes}
 use Rattle.lu_grain.specs.Longer.{IsMadeWithin}
 use Rattle.lu_cli.proofs.Certified.{certified_refused}
 use Rattle.lu_cli.proofs.commands.certify_matrix.Goals as goal
@@ -12,5 +11,5 @@ returns-in_err-certificate g c =
 
 pub returns : goal.returns
 returns g c =
-    let made = subst (λ (n : ℕ). IsMadeWithin n c.args.component.now c.args.matrix.now c.args.asked.options default_nodes c.in_ok-certificate.certificate) c.certified_local-local.ensures.local c.in_ok-certificate.ensures.certificate in
+    let made = subst (λ (n : ℕ). IsMadeWithin n c.args.component.now c.args.matrix.now c.args.asked.options c.args.asked.nodes c.in_ok-certificate.certificate) c.certified_local-local.ensures.local c.in_ok-certificate.ensures.certificate in
     inl (c.in_ok-certificate.certificate, made, c.in_ok-show_certificate.ensures)

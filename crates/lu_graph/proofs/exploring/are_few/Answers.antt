@@ -2,6 +2,7 @@ use Rattle.std.proofs.Common.{arith, ◌≡◌, ◌≤◌, ◌+◌, length, refl
 use Rattle.lu_machine.specs.Positions.{CanStandAt, at_position}
 use Rattle.lu_machine.specs.States.{State}
 use Rattle.lu_graph.specs.declared.holding.Nodes.{Nodes}
+use Rattle.lu_graph.specs.Rows.{KnowsDead}
 use Rattle.lu_graph.proofs.Visiting.{can_stand, few_nodes, many_or_few, too_many, visited_next}
 use Rattle.lu_graph.proofs.Waiting.{all_differ, next_there, none_waits, sized_there}
 use Rattle.lu_graph.proofs.exploring.are_few.Goals as goal
@@ -11,7 +12,7 @@ returns-then-len-most c = λ s is.
     (let v = c.loop-at.invariant.visited in
     let many = v.1.many in (
       (λ x. absurd (cc)),
-      (λ few. absurd (too_many c.args.members.now c.args.machine.now.component c.args.machine.now.matrix c.requires.settles v.0 c.loop-at.at v.2 c.args.most (all_differ c.args.members.now c.loop-at.nodes v.0 c.loop-at.at v.1 c.len.ensures.unique) (omega (arith, many, c.len.ensures.len)) s is few)),
+      (λ few. absurd (too_many c.args.members.now c.args.machine.now.component c.args.machine.now.matrix c.requires.settles c.loop-at.nodes.parts.dead c.loop-at.invariant.visited.3 v.0 c.loop-at.at v.2 c.args.most (all_differ c.args.members.now c.loop-at.nodes v.0 c.loop-at.at v.1 c.len.ensures.unique) (omega (arith, many, c.len.ensures.len)) s is few)),
     ))
 
 pub returns-in-None : goal.returns-in-None
@@ -20,7 +21,7 @@ returns-in-None c = λ s is.
     let many = v.1.many in
     let past : length v.0 ≤ c.loop-at.at = none_waits c.args.members.now c.loop-at.nodes v.0 c.loop-at.at v.1 (sym c.loop-at.nodes.waiting.ok.0 ∙ c.in-None.ensures.cases.0) in
     let few : length v.0 ≤ c.args.most = omega (arith, many, c.len.ensures.len) in (
-      (λ x. few_nodes c.args.members.now c.args.machine.now.component c.args.machine.now.matrix c.requires.settles v.0 c.loop-at.at v.2 c.args.most past few s is),
+      (λ x. few_nodes c.args.members.now c.args.machine.now.component c.args.machine.now.matrix c.requires.settles c.loop-at.nodes.parts.dead c.loop-at.invariant.visited.3 v.0 c.loop-at.at v.2 c.args.most past few s is),
       (λ x. refl),
     ))
 
@@ -30,7 +31,7 @@ stand_at-requires c =
     let popped : Nodes = record c.loop-at.nodes { waiting = c.pop_front.new.self } in
     let one = next_there c.args.members.now c.loop-at.nodes v.0 c.loop-at.at v.1 popped c.in-Some.kept refl refl c.in-Some.ensures.items in
     subst (CanStandAt c.loop-at.machine.component c.loop-at.machine.matrix) one.position
-    (can_stand c.args.members.now c.args.machine.now.component c.args.machine.now.matrix c.requires.settles v.0 c.loop-at.at v.2
+    (can_stand c.args.members.now c.args.machine.now.component c.args.machine.now.matrix c.requires.settles c.loop-at.nodes.parts.dead c.loop-at.invariant.visited.3 v.0 c.loop-at.at v.2
     c.loop-at.machine c.loop-at.invariant.component c.loop-at.invariant.matrix_is one.kept one.there)
 
 pub add_next-requires : goal.add_next-requires
@@ -39,7 +40,7 @@ add_next-requires c =
     let popped : Nodes = record c.loop-at.nodes { waiting = c.pop_front.new.self } in
     let one = next_there c.args.members.now c.loop-at.nodes v.0 c.loop-at.at v.1 popped c.in-Some.kept refl refl c.in-Some.ensures.items in
     sized_there c.loop-at.machine c.stand_at.new.self one.kept
-    (can_stand c.args.members.now c.args.machine.now.component c.args.machine.now.matrix c.requires.settles v.0 c.loop-at.at v.2
+    (can_stand c.args.members.now c.args.machine.now.component c.args.machine.now.matrix c.requires.settles c.loop-at.nodes.parts.dead c.loop-at.invariant.visited.3 v.0 c.loop-at.at v.2
     c.loop-at.machine c.loop-at.invariant.component c.loop-at.invariant.matrix_is one.kept one.there)
     (c.stand_at.ensures ∙ ap (at_position c.loop-at.machine) (sym one.position))
 
@@ -51,21 +52,23 @@ loop-at-preserved c =
     let kept = one.kept in
     let stood : c.stand_at.new.self ≡ at_position c.loop-at.machine kept.position = c.stand_at.ensures ∙ ap (at_position c.loop-at.machine) (sym one.position) in
     let home : c.add_next.new.machine ≡ at_position c.loop-at.machine kept.position = c.in_ok-add_next.ensures.home ∙ stood in
-    let more = c.in_ok-add_next.ensures.next v.0 (c.loop-at.at + 1) kept.alive one.held one.knows in
+    let there : KnowsDead c.stand_at.new.self.component c.loop-at.nodes.parts.dead = subst (λ x. KnowsDead x c.loop-at.nodes.parts.dead) (sym (ap (λ (s : State). s.component) stood ∙ c.loop-at.invariant.component)) v.3 in
+    let more = c.in_ok-add_next.ensures.next v.0 (c.loop-at.at + 1) kept.alive one.held one.knows there in
     record {
       component = ap (λ (s : State). s.component) home ∙ c.loop-at.invariant.component;
       matrix_is = ap (λ (s : State). s.matrix) home ∙ c.loop-at.invariant.matrix_is;
       visited = (
         more.list,
         more.hold,
-        visited_next c.args.members.now c.args.machine.now.component c.args.machine.now.matrix c.requires.settles v.0 c.loop-at.at v.2
+        visited_next c.args.members.now c.args.machine.now.component c.args.machine.now.matrix c.requires.settles c.loop-at.nodes.parts.dead c.loop-at.invariant.visited.3 v.0 c.loop-at.at v.2
             c.loop-at.machine c.loop-at.invariant.component c.loop-at.invariant.matrix_is kept one.there
             c.stand_at.new.self kept.alive stood refl more.list more.grown,
+        subst (KnowsDead c.args.machine.now.component) (sym more.dead) v.3,
       );
     }
 
 pub returns : goal.returns
 returns c = λ s is.
     (let v = c.loop-at.invariant.visited in
-    many_or_few c.args.members.now c.args.machine.now.component c.args.machine.now.matrix c.requires.settles v.0 c.loop-at.at v.2 c.args.most
+    many_or_few c.args.members.now c.args.machine.now.component c.args.machine.now.matrix c.requires.settles c.loop-at.nodes.parts.dead c.loop-at.invariant.visited.3 v.0 c.loop-at.at v.2 c.args.most
     (all_differ c.args.members.now c.loop-at.nodes v.0 c.loop-at.at v.1 c.len-2.ensures.unique) c.len-2.result (c.len-2.ensures.len ∙ v.1.many) (omega arith) s is)

@@ -1,15 +1,23 @@
 use Rattle.std.proofs.Common.{arith, rules, ◌≡◌, ◌+◌, ◌≤◌, Bool, true, false, length, refl, sym, ◌∙◌, ap, subst}
+use Rattle.lu_component.specs.Component.{Declarations}
 use Rattle.lu_machine.specs.Positions.{CanStandAt, at_position}
 use Rattle.lu_machine.specs.States.{State}
 use Rattle.lu_machine.proofs.Starting.{settled_start}
+use Rattle.lu_horizon.specs.Dead.{DeadTable}
 use Rattle.lu_graph.specs.declared.holding.Nodes.{Nodes}
 use Rattle.lu_graph.specs.Judging.{IsOneOf, JudgesGood}
 use Rattle.lu_graph.specs.Nodes.{HasFewNodes}
+use Rattle.lu_graph.specs.Rows.{KnowsDead}
 use Rattle.lu_graph.specs.Visiting.{AreVisited}
+use Rattle.lu_graph.proofs.Same.{AreDifferent}
 use Rattle.lu_graph.proofs.Visiting.{as_many, badly, can_stand, ends_well_there, from_here, from_there, one_there, searched_at, searched_first, searched_next, too_many, visited_first, visited_next}
 use Rattle.lu_graph.proofs.Waiting.{all_differ, next_there, none_waits, sized_there}
 use Rattle.lu_graph.proofs.exploring.search.Goals.{else-is_far-via-then-is_far+in_ok-are_few+else-not-branch, else-is_far-via-else-is_far}
 use Rattle.lu_graph.proofs.exploring.search.Goals as goal
+
+-- what is known of dead registers is known of the same component and the same table
+known_there : (c : Declarations) (dead : DeadTable) → KnowsDead c dead → (d : Declarations) (table : DeadTable) → d ≡ c → table ≡ dead → KnowsDead d table
+known_there c dead known d table one two = subst (λ x. KnowsDead x table) (sym one) (subst (KnowsDead c) (sym two) known)
 
 pub loop-at-init : goal.loop-at-init
 loop-at-init c =
@@ -17,6 +25,8 @@ loop-at-init c =
     let decl = c.args.machine.now.component in
     let matrix = c.args.machine.now.matrix in
     let settles = settled_start decl matrix c.args.machine.now c.requires.starts in
+    let dead = c.args.nodes.now.parts.dead in
+    let dead_known : KnowsDead decl dead = c.requires.first.3 in
     let list = c.requires.first.0 in
     let hold = c.requires.first.1 in
     let start = c.requires.first.2 in
@@ -24,13 +34,14 @@ loop-at-init c =
     record {
       component = refl;
       matrix_is = refl;
+      dead = refl;
       known = (
         list,
         hold,
-        visited_first members decl matrix settles c.args.machine.now c.requires.starts list start,
-        searched_first members decl matrix settles c.args.machine.now c.requires.starts list start c.len.result many,
+        visited_first members decl matrix settles dead dead_known c.args.machine.now c.requires.starts list start,
+        searched_first members decl matrix settles dead dead_known c.args.machine.now c.requires.starts list start c.len.result many,
       );
-      moves = one_there members decl matrix settles c.args.machine.now c.requires.starts list start c.len.result many;
+      moves = one_there members decl matrix settles dead dead_known c.args.machine.now c.requires.starts list start c.len.result many;
     }
 
 pub returns-then-known-most : goal.returns-then-known-most
@@ -39,13 +50,15 @@ returns-then-known-most c =
     let decl = c.args.machine.now.component in
     let matrix = c.args.machine.now.matrix in
     let settles = settled_start decl matrix c.args.machine.now c.requires.starts in
+    let dead = c.args.nodes.now.parts.dead in
+    let dead_known : KnowsDead decl dead = c.requires.first.3 in
     let list = c.loop-at.invariant.known.0 in
     let hold = c.loop-at.invariant.known.1 in
     let visited = c.loop-at.invariant.known.2 in
     let searched = c.loop-at.invariant.known.3 in
     let place = c.loop-at.at in
     let many = hold.many in
-    too_many members decl matrix settles list place visited c.args.most (all_differ members c.loop-at.nodes list place hold c.len-known.ensures.unique) (omega (arith, many, c.len-known.ensures.len))
+    too_many members decl matrix settles dead dead_known list place visited c.args.most (subst (λ d. AreDifferent d list) c.loop-at.invariant.dead (all_differ members c.loop-at.nodes list place hold c.len-known.ensures.unique)) (omega (arith, many, c.len-known.ensures.len))
 
 differ : (b : Bool) → b ≡ false → b ≡ true → ⊥
 differ b p q = cc
@@ -56,6 +69,8 @@ returns-in-None c =
     let decl = c.args.machine.now.component in
     let matrix = c.args.machine.now.matrix in
     let settles = settled_start decl matrix c.args.machine.now c.requires.starts in
+    let dead = c.args.nodes.now.parts.dead in
+    let dead_known : KnowsDead decl dead = c.requires.first.3 in
     let list = c.loop-at.invariant.known.0 in
     let hold = c.loop-at.invariant.known.1 in
     let visited = c.loop-at.invariant.known.2 in
@@ -63,7 +78,7 @@ returns-in-None c =
     let place = c.loop-at.at in
     let many = hold.many in
     let past : length list ≤ place = none_waits members c.loop-at.nodes list place hold (sym c.loop-at.nodes.waiting.ok.0 ∙ c.in-None.ensures.cases.0) in
-    ends_well_there members decl matrix settles list place visited c.args.most past (omega (arith, many, c.len-known.ensures.len)) c.loop-at.level.moves c.loop-at.level.end searched
+    ends_well_there members decl matrix settles dead dead_known list place visited c.args.most past (omega (arith, many, c.len-known.ensures.len)) c.loop-at.level.moves c.loop-at.level.end searched
 
 pub stand_at-requires : goal.stand_at-requires
 stand_at-requires c =
@@ -71,6 +86,8 @@ stand_at-requires c =
     let decl = c.args.machine.now.component in
     let matrix = c.args.machine.now.matrix in
     let settles = settled_start decl matrix c.args.machine.now c.requires.starts in
+    let dead = c.args.nodes.now.parts.dead in
+    let dead_known : KnowsDead decl dead = c.requires.first.3 in
     let list = c.loop-at.invariant.known.0 in
     let hold = c.loop-at.invariant.known.1 in
     let visited = c.loop-at.invariant.known.2 in
@@ -81,7 +98,7 @@ stand_at-requires c =
     let one = next_there members c.loop-at.nodes list place hold popped c.in-Some.kept refl refl c.in-Some.ensures.items in
     let kept = one.kept in
     let here = one.there in
-    let can = can_stand members decl matrix settles list place visited c.loop-at.machine c.loop-at.invariant.component c.loop-at.invariant.matrix_is kept here in
+    let can = can_stand members decl matrix settles dead dead_known list place visited c.loop-at.machine c.loop-at.invariant.component c.loop-at.invariant.matrix_is kept here in
     subst (CanStandAt c.loop-at.machine.component c.loop-at.machine.matrix) one.position can
 
 pub is_good-is_good-requires : goal.is_good-is_good-requires
@@ -90,6 +107,8 @@ is_good-is_good-requires c =
     let decl = c.args.machine.now.component in
     let matrix = c.args.machine.now.matrix in
     let settles = settled_start decl matrix c.args.machine.now c.requires.starts in
+    let dead = c.args.nodes.now.parts.dead in
+    let dead_known : KnowsDead decl dead = c.requires.first.3 in
     let list = c.loop-at.invariant.known.0 in
     let hold = c.loop-at.invariant.known.1 in
     let visited = c.loop-at.invariant.known.2 in
@@ -100,8 +119,8 @@ is_good-is_good-requires c =
     let one = next_there members c.loop-at.nodes list place hold popped c.in-Some.kept refl refl c.in-Some.ensures.items in
     let kept = one.kept in
     let here = one.there in
-    let can = can_stand members decl matrix settles list place visited c.loop-at.machine c.loop-at.invariant.component c.loop-at.invariant.matrix_is kept here in
-    as_many members decl matrix settles list place visited c.loop-at.machine c.loop-at.invariant.component c.loop-at.invariant.matrix_is kept here c.list.result.now (c.list.ensures kept.alive one.knows)
+    let can = can_stand members decl matrix settles dead dead_known list place visited c.loop-at.machine c.loop-at.invariant.component c.loop-at.invariant.matrix_is kept here in
+    as_many members decl matrix settles dead dead_known list place visited c.loop-at.machine c.loop-at.invariant.component c.loop-at.invariant.matrix_is kept here c.list.result.now (c.list.ensures kept.alive one.knows)
 
 pub add_next-requires : goal.add_next-requires
 add_next-requires c =
@@ -109,6 +128,8 @@ add_next-requires c =
     let decl = c.args.machine.now.component in
     let matrix = c.args.machine.now.matrix in
     let settles = settled_start decl matrix c.args.machine.now c.requires.starts in
+    let dead = c.args.nodes.now.parts.dead in
+    let dead_known : KnowsDead decl dead = c.requires.first.3 in
     let list = c.loop-at.invariant.known.0 in
     let hold = c.loop-at.invariant.known.1 in
     let visited = c.loop-at.invariant.known.2 in
@@ -119,7 +140,7 @@ add_next-requires c =
     let one = next_there members c.loop-at.nodes list place hold popped c.in-Some.kept refl refl c.in-Some.ensures.items in
     let kept = one.kept in
     let here = one.there in
-    let can = can_stand members decl matrix settles list place visited c.loop-at.machine c.loop-at.invariant.component c.loop-at.invariant.matrix_is kept here in
+    let can = can_stand members decl matrix settles dead dead_known list place visited c.loop-at.machine c.loop-at.invariant.component c.loop-at.invariant.matrix_is kept here in
     sized_there c.loop-at.machine c.stand_at.new.self kept can (c.stand_at.ensures ∙ ap (at_position c.loop-at.machine) (sym one.position))
 
 pub are_few-requires-clause-visited : goal.are_few-requires-clause-visited
@@ -128,6 +149,8 @@ are_few-requires-clause-visited c =
     let decl = c.args.machine.now.component in
     let matrix = c.args.machine.now.matrix in
     let settles = settled_start decl matrix c.args.machine.now c.requires.starts in
+    let dead = c.args.nodes.now.parts.dead in
+    let dead_known : KnowsDead decl dead = c.requires.first.3 in
     let list = c.loop-at.invariant.known.0 in
     let hold = c.loop-at.invariant.known.1 in
     let visited = c.loop-at.invariant.known.2 in
@@ -138,17 +161,19 @@ are_few-requires-clause-visited c =
     let one = next_there members c.loop-at.nodes list place hold popped c.in-Some.kept refl refl c.in-Some.ensures.items in
     let kept = one.kept in
     let here = one.there in
-    let can = can_stand members decl matrix settles list place visited c.loop-at.machine c.loop-at.invariant.component c.loop-at.invariant.matrix_is kept here in
+    let can = can_stand members decl matrix settles dead dead_known list place visited c.loop-at.machine c.loop-at.invariant.component c.loop-at.invariant.matrix_is kept here in
     let stood : c.stand_at.new.self ≡ at_position c.loop-at.machine kept.position = c.stand_at.ensures ∙ ap (at_position c.loop-at.machine) (sym one.position) in
     let home : c.add_next.new.machine ≡ at_position c.loop-at.machine kept.position = c.in_ok-add_next.ensures.home ∙ stood in
     let alive = kept.alive in
-    let more = c.in_ok-add_next.ensures.next list (place + 1) alive one.held one.knows in (
+    let there : KnowsDead c.stand_at.new.self.component c.loop-at.nodes.parts.dead = known_there decl dead dead_known c.stand_at.new.self.component c.loop-at.nodes.parts.dead (ap (λ (s : State). s.component) stood ∙ c.loop-at.invariant.component) c.loop-at.invariant.dead in
+    let more = c.in_ok-add_next.ensures.next list (place + 1) alive one.held one.knows there in (
       more.list,
       more.hold,
-      from_there members decl matrix settles list place visited c.loop-at.machine c.loop-at.invariant.component c.loop-at.invariant.matrix_is kept here c.add_next.new.machine alive home refl
+      from_there members decl matrix settles dead dead_known list place visited c.loop-at.machine c.loop-at.invariant.component c.loop-at.invariant.matrix_is kept here c.add_next.new.machine alive home refl
           (λ s. AreVisited c.args.members.now s more.list (c.loop-at.at + 1))
-          (visited_next members decl matrix settles list place visited c.loop-at.machine c.loop-at.invariant.component c.loop-at.invariant.matrix_is kept here
+          (visited_next members decl matrix settles dead dead_known list place visited c.loop-at.machine c.loop-at.invariant.component c.loop-at.invariant.matrix_is kept here
           c.stand_at.new.self alive stood refl more.list more.grown),
+      known_there decl dead dead_known c.add_next.new.machine.component c.add_next.new.nodes.parts.dead (ap (λ (s : State). s.component) home ∙ c.loop-at.invariant.component) (more.dead ∙ c.loop-at.invariant.dead),
     )
 
 pub returns-then-not-branch : goal.returns-then-not-branch
@@ -157,6 +182,8 @@ returns-then-not-branch c =
     let decl = c.args.machine.now.component in
     let matrix = c.args.machine.now.matrix in
     let settles = settled_start decl matrix c.args.machine.now c.requires.starts in
+    let dead = c.args.nodes.now.parts.dead in
+    let dead_known : KnowsDead decl dead = c.requires.first.3 in
     let list = c.loop-at.invariant.known.0 in
     let hold = c.loop-at.invariant.known.1 in
     let visited = c.loop-at.invariant.known.2 in
@@ -167,13 +194,14 @@ returns-then-not-branch c =
     let one = next_there members c.loop-at.nodes list place hold popped c.in-Some.kept refl refl c.in-Some.ensures.items in
     let kept = one.kept in
     let here = one.there in
-    let can = can_stand members decl matrix settles list place visited c.loop-at.machine c.loop-at.invariant.component c.loop-at.invariant.matrix_is kept here in
+    let can = can_stand members decl matrix settles dead dead_known list place visited c.loop-at.machine c.loop-at.invariant.component c.loop-at.invariant.matrix_is kept here in
     let stood : c.stand_at.new.self ≡ at_position c.loop-at.machine kept.position = c.stand_at.ensures ∙ ap (at_position c.loop-at.machine) (sym one.position) in
     let home : c.add_next.new.machine ≡ at_position c.loop-at.machine kept.position = c.in_ok-add_next.ensures.home ∙ stood in
     let alive = kept.alive in
-    let more = c.in_ok-add_next.ensures.next list (place + 1) alive one.held one.knows in
+    let there : KnowsDead c.stand_at.new.self.component c.loop-at.nodes.parts.dead = known_there decl dead dead_known c.stand_at.new.self.component c.loop-at.nodes.parts.dead (ap (λ (s : State). s.component) stood ∙ c.loop-at.invariant.component) c.loop-at.invariant.dead in
+    let more = c.in_ok-add_next.ensures.next list (place + 1) alive one.held one.knows there in
     let other : c.in_ok-are_few.field-0 ≡ false = search rules in
-    let said = from_here members decl matrix settles list place visited c.loop-at.machine c.loop-at.invariant.component c.loop-at.invariant.matrix_is kept here c.add_next.new.machine alive home refl
+    let said = from_here members decl matrix settles dead dead_known list place visited c.loop-at.machine c.loop-at.invariant.component c.loop-at.invariant.matrix_is kept here c.add_next.new.machine alive home refl
     (λ s. HasFewNodes (IsOneOf c.args.members.now) s c.args.most → c.in_ok-are_few.field-0 ≡ true) (λ s is. (c.in_ok-are_few.ensures s is).1) in
     λ s is few. absurd (differ c.in_ok-are_few.field-0 other (said s is few))
 
@@ -183,6 +211,8 @@ returns-then-not-is_good c =
     let decl = c.args.machine.now.component in
     let matrix = c.args.machine.now.matrix in
     let settles = settled_start decl matrix c.args.machine.now c.requires.starts in
+    let dead = c.args.nodes.now.parts.dead in
+    let dead_known : KnowsDead decl dead = c.requires.first.3 in
     let list = c.loop-at.invariant.known.0 in
     let hold = c.loop-at.invariant.known.1 in
     let visited = c.loop-at.invariant.known.2 in
@@ -193,21 +223,22 @@ returns-then-not-is_good c =
     let one = next_there members c.loop-at.nodes list place hold popped c.in-Some.kept refl refl c.in-Some.ensures.items in
     let kept = one.kept in
     let here = one.there in
-    let can = can_stand members decl matrix settles list place visited c.loop-at.machine c.loop-at.invariant.component c.loop-at.invariant.matrix_is kept here in
+    let can = can_stand members decl matrix settles dead dead_known list place visited c.loop-at.machine c.loop-at.invariant.component c.loop-at.invariant.matrix_is kept here in
     let stood : c.stand_at.new.self ≡ at_position c.loop-at.machine kept.position = c.stand_at.ensures ∙ ap (at_position c.loop-at.machine) (sym one.position) in
     let home : c.add_next.new.machine ≡ at_position c.loop-at.machine kept.position = c.in_ok-add_next.ensures.home ∙ stood in
     let alive = kept.alive in
-    let more = c.in_ok-add_next.ensures.next list (place + 1) alive one.held one.knows in
+    let there : KnowsDead c.stand_at.new.self.component c.loop-at.nodes.parts.dead = known_there decl dead dead_known c.stand_at.new.self.component c.loop-at.nodes.parts.dead (ap (λ (s : State). s.component) stood ∙ c.loop-at.invariant.component) c.loop-at.invariant.dead in
+    let more = c.in_ok-add_next.ensures.next list (place + 1) alive one.held one.knows there in
     let other : c.is_good-is_good.result ≡ false = search rules in
     let judged = subst (λ bits. JudgesGood members c.stand_at.new.self bits c.is_good-is_good.result) (c.list.ensures alive one.knows) c.is_good-is_good.ensures in
-    let level = searched_at members decl matrix settles list place visited c.loop-at.level c.at-level.result c.len-known.result (c.len-known.ensures.len ∙ many) searched c.loop-at.invariant.moves kept (sym here) c.at-level.ensures in
+    let level = searched_at members decl matrix settles dead dead_known list place visited c.loop-at.level c.at-level.result c.len-known.result (c.len-known.ensures.len ∙ many) searched c.loop-at.invariant.moves kept (sym here) c.at-level.ensures in
     λ s is. (
-      badly members decl matrix settles list place visited c.loop-at.machine c.loop-at.invariant.component c.loop-at.invariant.matrix_is kept here c.stand_at.new.self alive stood refl
+      badly members decl matrix settles dead dead_known list place visited c.loop-at.machine c.loop-at.invariant.component c.loop-at.invariant.matrix_is kept here c.stand_at.new.self alive stood refl
           c.at-level.result.moves c.at-level.result.end level.2 level.0 c.is_good-is_good.result other judged s is,
       (λ far. elim c.else-is_far.branch as (λ _. HasFewNodes (IsOneOf c.args.members.now) s c.args.most) [
         | else-is_far-via-then-is_far+in_ok-are_few+else-not-branch w ↦
             (let few : w.in_ok-are_few.field-0 ≡ true = search rules in
-            from_here members decl matrix settles list place visited c.loop-at.machine c.loop-at.invariant.component c.loop-at.invariant.matrix_is kept here c.add_next.new.machine alive home refl
+            from_here members decl matrix settles dead dead_known list place visited c.loop-at.machine c.loop-at.invariant.component c.loop-at.invariant.matrix_is kept here c.add_next.new.machine alive home refl
             (λ s. w.in_ok-are_few.field-0 ≡ true → HasFewNodes (IsOneOf c.args.members.now) s c.args.most) (λ s is. (w.in_ok-are_few.ensures s is).0) s is few)
         | else-is_far-via-else-is_far w ↦ absurd (let near = w.if-is_far.false in omega (arith, near, far, c.from.ensures))
       ]),
@@ -219,6 +250,8 @@ loop-at-preserved c =
     let decl = c.args.machine.now.component in
     let matrix = c.args.machine.now.matrix in
     let settles = settled_start decl matrix c.args.machine.now c.requires.starts in
+    let dead = c.args.nodes.now.parts.dead in
+    let dead_known : KnowsDead decl dead = c.requires.first.3 in
     let list = c.loop-at.invariant.known.0 in
     let hold = c.loop-at.invariant.known.1 in
     let visited = c.loop-at.invariant.known.2 in
@@ -229,22 +262,24 @@ loop-at-preserved c =
     let one = next_there members c.loop-at.nodes list place hold popped c.in-Some.kept refl refl c.in-Some.ensures.items in
     let kept = one.kept in
     let here = one.there in
-    let can = can_stand members decl matrix settles list place visited c.loop-at.machine c.loop-at.invariant.component c.loop-at.invariant.matrix_is kept here in
+    let can = can_stand members decl matrix settles dead dead_known list place visited c.loop-at.machine c.loop-at.invariant.component c.loop-at.invariant.matrix_is kept here in
     let stood : c.stand_at.new.self ≡ at_position c.loop-at.machine kept.position = c.stand_at.ensures ∙ ap (at_position c.loop-at.machine) (sym one.position) in
     let home : c.add_next.new.machine ≡ at_position c.loop-at.machine kept.position = c.in_ok-add_next.ensures.home ∙ stood in
     let alive = kept.alive in
-    let more = c.in_ok-add_next.ensures.next list (place + 1) alive one.held one.knows in
+    let there : KnowsDead c.stand_at.new.self.component c.loop-at.nodes.parts.dead = known_there decl dead dead_known c.stand_at.new.self.component c.loop-at.nodes.parts.dead (ap (λ (s : State). s.component) stood ∙ c.loop-at.invariant.component) c.loop-at.invariant.dead in
+    let more = c.in_ok-add_next.ensures.next list (place + 1) alive one.held one.knows there in
     let judged = subst (λ bits. JudgesGood members c.stand_at.new.self bits c.is_good-is_good.result) (c.list.ensures alive one.knows) c.is_good-is_good.ensures in
-    let level = searched_at members decl matrix settles list place visited c.loop-at.level c.at-level.result c.len-known.result (c.len-known.ensures.len ∙ many) searched c.loop-at.invariant.moves kept (sym here) c.at-level.ensures in
+    let level = searched_at members decl matrix settles dead dead_known list place visited c.loop-at.level c.at-level.result c.len-known.result (c.len-known.ensures.len ∙ many) searched c.loop-at.invariant.moves kept (sym here) c.at-level.ensures in
     record {
       component = ap (λ (s : State). s.component) home ∙ c.loop-at.invariant.component;
       matrix_is = ap (λ (s : State). s.matrix) home ∙ c.loop-at.invariant.matrix_is;
+      dead = more.dead ∙ c.loop-at.invariant.dead;
       known = (
         more.list,
         more.hold,
-        visited_next members decl matrix settles list place visited c.loop-at.machine c.loop-at.invariant.component c.loop-at.invariant.matrix_is kept here
+        visited_next members decl matrix settles dead dead_known list place visited c.loop-at.machine c.loop-at.invariant.component c.loop-at.invariant.matrix_is kept here
             c.stand_at.new.self alive stood refl more.list more.grown,
-        searched_next members decl matrix settles list place visited c.loop-at.machine c.loop-at.invariant.component c.loop-at.invariant.matrix_is kept here c.stand_at.new.self alive stood refl more.list more.grown
+        searched_next members decl matrix settles dead dead_known list place visited c.loop-at.machine c.loop-at.invariant.component c.loop-at.invariant.matrix_is kept here c.stand_at.new.self alive stood refl more.list more.grown
             c.at-level.result.moves c.at-level.result.end level.2 level.0 c.is_good-is_good.result (search rules) judged,
       );
       moves = level.1;
@@ -256,13 +291,15 @@ returns-then-len-most c =
     let decl = c.args.machine.now.component in
     let matrix = c.args.machine.now.matrix in
     let settles = settled_start decl matrix c.args.machine.now c.requires.starts in
+    let dead = c.args.nodes.now.parts.dead in
+    let dead_known : KnowsDead decl dead = c.requires.first.3 in
     let list = c.loop-at.invariant.known.0 in
     let hold = c.loop-at.invariant.known.1 in
     let visited = c.loop-at.invariant.known.2 in
     let searched = c.loop-at.invariant.known.3 in
     let place = c.loop-at.at in
     let many = hold.many in
-    too_many members decl matrix settles list place visited c.args.most (all_differ members c.loop-at.nodes list place hold c.len-2.ensures.unique) (omega (arith, many, c.len-2.ensures.len))
+    too_many members decl matrix settles dead dead_known list place visited c.args.most (subst (λ d. AreDifferent d list) c.loop-at.invariant.dead (all_differ members c.loop-at.nodes list place hold c.len-2.ensures.unique)) (omega (arith, many, c.len-2.ensures.len))
 
 pub returns : goal.returns
 returns c =
@@ -270,10 +307,12 @@ returns c =
     let decl = c.args.machine.now.component in
     let matrix = c.args.machine.now.matrix in
     let settles = settled_start decl matrix c.args.machine.now c.requires.starts in
+    let dead = c.args.nodes.now.parts.dead in
+    let dead_known : KnowsDead decl dead = c.requires.first.3 in
     let list = c.loop-at.invariant.known.0 in
     let hold = c.loop-at.invariant.known.1 in
     let visited = c.loop-at.invariant.known.2 in
     let searched = c.loop-at.invariant.known.3 in
     let place = c.loop-at.at in
     let many = hold.many in
-    ends_well_there members decl matrix settles list place visited c.args.most (omega (arith, many, c.len-2.ensures.len)) (omega (arith, many, c.len-2.ensures.len)) c.loop-at.level.moves c.loop-at.level.end searched
+    ends_well_there members decl matrix settles dead dead_known list place visited c.args.most (omega (arith, many, c.len-2.ensures.len)) (omega (arith, many, c.len-2.ensures.len)) c.loop-at.level.moves c.loop-at.level.end searched

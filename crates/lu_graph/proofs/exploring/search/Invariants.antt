@@ -9,6 +9,7 @@ abbrev pub invariant-loop-at : goal.invariant-loop-at
 invariant-loop-at l = record {
   component : l.machine.component ≡ l.fn.machine.component;
   matrix_is : l.machine.matrix ≡ l.fn.machine.matrix;
+  dead : l.nodes.parts.dead ≡ l.fn.nodes.parts.dead;
   known : (list : List Kept) × Hold l.members l.nodes list l.at
       × AreVisitedFrom l.members l.fn.machine.component l.fn.machine.matrix list l.at
       × AreSearchedFrom l.members l.fn.machine.component l.fn.machine.matrix list l.at l.level.moves l.level.end;

@@ -14,6 +14,7 @@ returns c = record {
   };
   alive = refl;
   grows = record {
+    dead = refl;
     cells = c.in_ok-number_of_list.ensures.grows;
     locks = c.in_ok-number_of_list-2.ensures.grows;
     threads = c.in_ok-number_threads.ensures.grows;
