@@ -33,6 +33,11 @@ abbrev pub IsPictureOf : {Z : Type 0} → Wording → Option (Bor Explained) →
 IsPictureOf how why c matrix u text =
     IsWordedPicture how c matrix u (option_copied why) (string_bytes text)
 
+-- so it is of the result, where there is one
+abbrev pub Pictures : {Z E : Type 0} → Wording → Option (Bor Explained) → Declarations → Matrix
+    → List Move → Result (String Z) E → Type 0
+Pictures how why c matrix u result = IfOk result (IsPictureOf how why c matrix u)
+
 -- the same, or where the schedule is infeasible
 abbrev pub IsDrawnOf : Wording → Option (Bor Explained) → Declarations → Matrix → List Move → Answer
     → Type 0

@@ -117,6 +117,12 @@ abbrev pub IsExplainedSerially : Presenting → Limits → Declarations → Matr
 IsExplainedSerially by limits c m explained =
     BySerialRuns c m limits.serial (λ members. IsExplained by members c m explained)
 
+-- so it is of the result, where there is one
+abbrev pub ExplainsSerially : {E : Type 0} → Presenting → Limits → Declarations → Matrix → Target
+    → Result Answer E → Type 0
+ExplainsSerially by limits c m explained result =
+    IfOk result (IsExplainedSerially by limits c m explained)
+
 -- the bound of serial runs that the report has, else the one that is asked for
 abbrev pub serial_of : Limits → Option ℕ → Limits
 serial_of limits None = limits

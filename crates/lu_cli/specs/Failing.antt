@@ -1,6 +1,8 @@
 -- What `explain`, `trace` and `draw` show of a component and a matrix alone: what fails, by their
 -- certificate.
 use Rattle.std.specs.Prelude.{◌≡◌, ℕ, List, [], ◌∷◌, ◌++◌, Bool, ◌||◌, Option, Some, None, MatchOption, Result, IfOk, String, string_bytes, codes, if◌then◌else◌}
+use denote.Ref.{Bor}
+use Rattle.std.specs.Option.{option_map}
 use Rattle.std.specs.Str.{bytes_eq}
 use Rattle.lu_component.specs.Component.{Declarations}
 use Rattle.lu_test.specs.declared.schedule.Move.{Move}
@@ -50,6 +52,12 @@ shown_parts (c ∷ m ∷ r ∷ []) = Some (c, m, r)
 shown_parts (c ∷ verdict ∷ m ∷ r ∷ []) = behind_verdict verdict (c, m, r)
 shown_parts (c ∷ whole ∷ verdict ∷ m ∷ r ∷ []) = behind_verdict verdict (c, m, r)
 shown_parts (a ∷ b ∷ c ∷ d ∷ e ∷ f ∷ parts) = None
+
+-- so it is of what is lent
+abbrev pub AreShownParts : List (List ℕ)
+    → Option (Bor (List ℕ) × Bor (List ℕ) × Bor (List ℕ)) → Type 0
+AreShownParts parts lent =
+    option_map (λ p. (p.0.now, p.1.now, p.2.now)) lent ≡ shown_parts parts
 
 -- ---- what fails
 
@@ -103,6 +111,11 @@ ShowsFailing Trace how c cut r u answer = ShowsRun Trace how c cut u (two_texts 
 ShowsFailing TraceFromSetup how c cut r u answer =
     ShowsRun TraceFromSetup how c cut u (two_texts c cut r) answer
 ShowsFailing Picture how c cut r u answer = ShowsRun Picture how c cut u (two_texts c cut r) answer
+
+-- so it is of the result, where there is one
+abbrev pub ShowsFailure : {E : Type 0} → View → Wording → Declarations → Matrix → Parts → List Move
+    → Result Answer E → Type 0
+ShowsFailure view how c cut r u result = IfOk result (ShowsFailing view how c cut r u)
 
 -- of a certificate the cut that fails or has a livelock is shown; another one as it is
 abbrev pub ShowsByView : View → Wording → Declarations → Certificate → Answer → Type 0

@@ -1,5 +1,5 @@
 -- What `lint` answers.
-use Rattle.std.specs.Prelude.{◌≡◌, ◌-◌, ℕ, nat_lt, Bool, MatchBool, MatchResult, List, [], ◌∷◌, ◌++◌, length, Option, Some, None, if◌then◌else◌, Vec, codes}
+use Rattle.std.specs.Prelude.{◌≡◌, ◌-◌, ℕ, nat_lt, Bool, MatchBool, MatchResult, List, [], ◌∷◌, ◌++◌, length, Option, Some, None, if◌then◌else◌, Vec, codes, String, string_bytes}
 use Rattle.std.specs.List.{filter_map, list_any}
 use Rattle.std.specs.List.Sorted.{IsNonDecreasingBy}
 use Rattle.std.specs.Fmt.{decimal}
@@ -130,6 +130,9 @@ IsLint limits bundle answer = IsLintedBy (bundle_parts bundle) limits bundle ans
 -- the text grows by a line for each message
 abbrev pub AddsMessages : List SourceMessage → List ℕ → List ℕ → Type 0
 AddsMessages messages old new = (said : List ℕ) × TellsEach messages said × (new ≡ old ++ said)
+
+abbrev pub WritesMessages : {Z : Type 0} → List SourceMessage → String Z → String Z → Type 0
+WritesMessages messages old new = AddsMessages messages (string_bytes old) (string_bytes new)
 
 abbrev pub AddsMessage : SourceMessage → List ℕ → List ℕ → Type 0
 AddsMessage m old new = (words : List ℕ) × (new ≡ old ++ message_line m words)

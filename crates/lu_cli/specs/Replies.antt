@@ -1,5 +1,5 @@
 -- What the program writes, and its status.
-use Rattle.std.specs.Prelude.{◌≡◌, ◌≢◌, ◌⊎◌, ◌↔◌, ◌||◌, ℕ, List, [], ◌∷◌, ◌++◌, length, replicate, Option, Some, None, Result, Ok, Err, IfOk, MatchBool, IfSome, MatchOption, codes, nat_lt, if◌then◌else◌}
+use Rattle.std.specs.Prelude.{◌≡◌, ◌≢◌, ◌⊎◌, ◌↔◌, ◌||◌, ℕ, List, [], ◌∷◌, ◌++◌, length, replicate, Option, Some, None, Result, Ok, Err, IfOk, MatchBool, IfSome, MatchOption, codes, nat_lt, if◌then◌else◌, String, string_bytes}
 use Rattle.std.specs.Fmt.{decimal}
 use Rattle.std.specs.Io.KnownBytes.{Appends}
 use Rattle.lu_text.specs.declared.fault.Fault.{Fault}
@@ -47,6 +47,8 @@ use Rattle.lu_refine.specs.declared.campaigns.CampaignFault.{CampaignFault}
 use Rattle.lu_refine.specs.declared.campaigns.CampaignFault.TheVariants.{Memory as NoMemory}
 use Rattle.lu_refine.specs.Campaigns.{Campaigned, IsCampaignAnswer as IsFound, IsLimitFault, campaigned}
 use Rattle.lu_refine.specs.Choices.{choice_count}
+use Rattle.lu_refine.specs.declared.roles.Roles.{Roles}
+use Rattle.lu_refine.specs.ByThread.{asked_of}
 use Rattle.lu_refine.specs.Roles.{AreWithinLimits, bases}
 use Rattle.lu_refine.specs.ByThread.{Asked, IsRolesFault, IsSliceAnswer as IsFoundOfSlice, IsThreadsAnswer as IsFoundOfThreads, asked_for}
 use Rattle.lu_refine.specs.Codes.{campaign_code_of}
@@ -323,6 +325,11 @@ IsTracedText how c m text = ToShown text (IsTraced how c m)
 abbrev pub IsTracedFromSetupText : Wording → Declarations → Matrix → List ℕ → Answer → Type 0
 IsTracedFromSetupText how c m text = ToShown text (IsTracedFromSetup how c m)
 
+-- the result is so
+abbrev pub TracesFromSetup : Wording → Declarations → Matrix → List ℕ → Result Answer Refusal
+    → Type 0
+TracesFromSetup how c m text = Answered (IsTracedFromSetupText how c m text)
+
 abbrev pub IsDrawnText : Wording → Declarations → Matrix → List ℕ → Answer → Type 0
 IsDrawnText how c m text = ToShown text (IsDrawn how c m)
 
@@ -358,6 +365,15 @@ IsExplainedText by limits c m text =
 abbrev pub IsExplainedAgainst : Wording → Declarations → Matrix → List ℕ → List ℕ → Answer → Type 0
 IsExplainedAgainst how c m text spec =
     ToTarget text (λ t. ToGiven m spec (λ members. IsExplained (in_words Words how) members c m t))
+
+-- the results are so
+abbrev pub ExplainsText : Presenting → Limits → Declarations → Matrix → List ℕ
+    → Result Answer Refusal → Type 0
+ExplainsText by limits c m text = Answered (IsExplainedText by limits c m text)
+
+abbrev pub ExplainsAgainst : Wording → Declarations → Matrix → List ℕ → List ℕ
+    → Result Answer Refusal → Type 0
+ExplainsAgainst how c m text spec = Answered (IsExplainedAgainst how c m text spec)
 
 -- ---- `campaign`
 
@@ -467,8 +483,10 @@ ShowsFirst c (Some one) text =
     × (text ≡ codes "---\n" ++ (below_matrix c one.matrix shown).text)
 
 -- it stands behind the old text
-abbrev pub PushesFirst : Declarations → Option CertifiedMatrix → List ℕ → List ℕ → Type 0
-PushesFirst c first old new = (text : List ℕ) × ShowsFirst c first text × (new ≡ old ++ text)
+abbrev pub PushesFirst : {Z : Type 0} → Declarations → Option CertifiedMatrix → String Z → String Z
+    → Type 0
+PushesFirst c first old new =
+    (text : List ℕ) × ShowsFirst c first text × (string_bytes new ≡ string_bytes old ++ text)
 
 -- 1 where a certificate says that something fails, else 3 where one is undecided
 abbrev pub survey_status : Survey → ℕ
@@ -525,6 +543,11 @@ IsComparisonReply trusted asked from upto answer =
     × (answer ≡ comparison_answer asked.component found))
     ⊎ IsListsRefusal asked.candidates asked.calls answer
 
+-- so it is of the result, for these roles
+abbrev pub ComparesNumbers : Declarations → Roles → ℕ → ℕ → Result Answer Refusal → Type 0
+ComparesNumbers trusted roles from upto =
+    Answered (IsComparisonReply trusted (asked_of roles) from upto)
+
 -- what the certificates of the matrices with these numbers say, or why there is no campaign
 abbrev pub IsCertifiedReply : Asked → ℕ → ℕ → Answer → Type 0
 IsCertifiedReply asked from upto answer =
@@ -554,6 +577,12 @@ abbrev pub IsComparedPart : Declarations → CampaignPart → Asked → Answer �
 IsComparedPart trusted Whole asked = IsComparisonReply trusted asked 0 most_long
 IsComparedPart trusted (Slice from upto) asked = IsComparisonReply trusted asked from upto
 IsComparedPart trusted Count asked = IsCountAnswer asked.candidates asked.calls
+
+-- so it is of the result, for these candidates
+abbrev pub ComparesLists : Declarations → Declarations → List Call → List (List Call)
+    → CampaignOptions → Result Answer Refusal → Type 0
+ComparesLists trusted c setup candidates o =
+    Answered (IsComparedPart trusted o.part (lists_of c setup candidates o))
 
 abbrev pub IsAnswerToTrial : CampaignTrial → CampaignPart → Asked → Answer → Type 0
 IsAnswerToTrial Checked = IsAnswerToPart
@@ -628,6 +657,11 @@ IsComparedBy Own trusted c o matrix =
 abbrev pub IsComparedFrom : Declarations → Declarations → CampaignOptions → Matrix → Answer
     → Type 0
 IsComparedFrom trusted c o matrix = IsComparedBy o.threads trusted c o matrix
+
+-- so it is of the result: to the calls of the one thread, and to each of the lines
+abbrev pub ComparesAlike : Declarations → Declarations → ℕ → CampaignOptions → Matrix
+    → Result Answer Refusal → Type 0
+ComparesAlike trusted c threads o matrix = Answered (IsComparedAlike trusted c threads o matrix)
 
 -- ---- texts of components and matrices
 
@@ -770,6 +804,16 @@ ToTrusted text c m IsAnswer =
     (λ trusted answer.
     (HasSameOperations c trusted × ToSettled trusted m (IsAnswer trusted) answer)
     ⊎ ((HasSameOperations c trusted → ⊥) × (answer ≡ refused (codes "G4"))))
+
+-- so it is of the result, where the trusted component is read, and of its text
+abbrev pub ComparesSettled : Declarations → Declarations → CampaignOptions → Matrix
+    → Result Answer Refusal → Type 0
+ComparesSettled trusted c o m = Answered (ToSettled trusted m (IsComparedFrom trusted c o m))
+
+abbrev pub ComparesWith : List ℕ → Declarations → CampaignOptions → Matrix → Result Answer Refusal
+    → Type 0
+ComparesWith text c o m =
+    Answered (ToTrusted text c m (λ trusted. IsComparedFrom trusted c o m))
 
 abbrev pub IsCampaignAgainstOf : CampaignOptions → List (List ℕ) → Answer → Type 0
 IsCampaignAgainstOf options parts =

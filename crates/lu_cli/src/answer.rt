@@ -3,6 +3,8 @@
 ghost use Rattle.std.specs.Prelude.{◌≡◌, ◌++◌, IfOk, IfErr, IfSome, OnOk, Some, string_bytes};
 ghost use Rattle.lu_survey.specs.Comparing.{IsComparedOf};
 ghost use Rattle.lu_survey.specs.Surveys.{AreShownOf, IsShownOf};
+ghost use Rattle.lu_text.specs.Results.{Builds};
+ghost use Rattle.lu_text.specs.Writing.{Writes};
 ghost use Rattle.lu_test.specs.Matrix.{IsOf};
 ghost use Rattle.lu_certify.specs.Certificates.{NamesCutOf};
 ghost use Rattle.lu_cli.specs.Refusals.{refusal_answer, refused_in_history};
@@ -228,8 +230,7 @@ fn push_first(
     text: &mut String,
 ) -> Result<(), AllocError>
     requires { IfSome first.now (IsShownOf component.now) }
-    ensures { OnOk result (PushesFirst component.now first.now (string_bytes text.old)
-        (string_bytes text.new)) }
+    ensures { OnOk result (PushesFirst component.now first.now text.old text.new) }
 {
     match first {
         None => Ok(()),
@@ -257,8 +258,7 @@ fn survey_status(survey: &Survey) -> u8
 
 /// How many matrices have a certificate of a kind, on a line behind the text.
 fn push_tally(text: &mut String, kind: &str, count: u64) -> Result<(), AllocError>
-    ensures { OnOk result
-        (string_bytes text.new ≡ string_bytes text.old ++ tally_line kind.now count) }
+    ensures { Writes result text.old text.new (tally_line kind.now count) }
 {
     writeln!(text, "{kind} {count}")?;
     Ok(())
@@ -315,8 +315,8 @@ fn show_run(
     status: u8,
 ) -> Result<Answer, AllocError>
     requires { IsOf matrix.now component.now }
-    ensures { IfOk result (λ answer. answer
-        ≡ run_verdict words.now component.now matrix.now schedule.now status) }
+    ensures { Builds result
+        (run_verdict words.now component.now matrix.now schedule.now status) }
 {
     let shown = show_schedule(alloc, component, matrix, schedule)?;
     verdict(alloc, words, shown.text.as_str(), status)
@@ -330,8 +330,7 @@ fn show_difference(
     difference: &Difference,
 ) -> Result<Answer, AllocError>
     requires { IsOf matrix.now component.now }
-    ensures { IfOk result (λ answer. answer
-        ≡ spec.difference_answer component.now matrix.now difference.now) }
+    ensures { Builds result (spec.difference_answer component.now matrix.now difference.now) }
 {
     match difference {
         Difference::TrustedCut(schedule) => {

@@ -14,7 +14,7 @@ ghost use Rattle.lu_survey.specs.Certified.{IsCertifiedOf};
 ghost use Rattle.lu_survey.specs.Comparing.{CanCompare, HasSameOperations};
 ghost use Rattle.lu_cli.specs.Refusals.{Answered};
 ghost use Rattle.lu_cli.specs.Replies as spec;
-ghost use Rattle.lu_cli.specs.Replies.{IsTriedAll, IsTriedPart, IsTriedSame, IsTrustedRefusal, ToSettled, ToTrusted};
+ghost use Rattle.lu_cli.specs.Replies.{ComparesAlike, ComparesLists, ComparesNumbers, ComparesSettled, ComparesWith, IsTriedAll, IsTriedPart, IsTriedSame, IsTrustedRefusal};
 
 use crate::answer::{
     Answer, show_certified, show_comparison, show_count, show_linearizable, show_matrix,
@@ -188,8 +188,7 @@ fn compare_numbers(
     upto: u64,
 ) -> Result<Answer, Refusal>
     requires { CanCompare (asked_of roles) trusted.now }
-    ensures { Answered
-        (spec.IsComparisonReply trusted.entry.now (asked_of roles.entry) from upto) result }
+    ensures { ComparesNumbers trusted.entry.now roles.entry from upto result }
 {
     let found = compare_slice(alloc, roles, trusted, from, upto)?;
     Ok(show_comparison(alloc, roles.component, &found)?)
@@ -376,8 +375,7 @@ fn compare_lists(
     requires operations { HasSameOperations component.now trusted.now }
     requires of { AllCallsOf component.now candidates.now }
     requires arguments { AllHaveArguments candidates.now }
-    ensures { Answered (spec.IsComparedPart trusted.now options.part
-        (spec.lists_of component.now setup.now candidates.now options)) result }
+    ensures { ComparesLists trusted.now component.now setup.now candidates.now options result }
 {
     let roles = Roles {
         component,
@@ -402,8 +400,7 @@ fn compare_alike(
     requires runs { CanRun component.now matrix.now }
     requires trusted_runs { CanRun trusted.now matrix.now }
     requires operations { HasSameOperations component.now trusted.now }
-    ensures { Answered
-        (spec.IsComparedAlike trusted.now component.now threads options matrix.now) result }
+    ensures { ComparesAlike trusted.now component.now threads options matrix.now result }
 {
     match matrix.as_slice() {
         [candidates] => {
@@ -450,8 +447,7 @@ fn compare_settled(
 ) -> Result<Answer, Refusal>
     requires runs { CanRun component.now matrix.now }
     requires operations { HasSameOperations component.now trusted.now }
-    ensures { Answered (ToSettled trusted.now matrix.now
-        (spec.IsComparedFrom trusted.now component.now options matrix.now)) result }
+    ensures { ComparesSettled trusted.now component.now options matrix.now result }
 {
     match settles(alloc, trusted, matrix)? {
         Some(call) => Err(Refusal::Texts(Fault::Setup(call))),
@@ -479,8 +475,7 @@ fn compare_with(
     trusted: &[u8],
 ) -> Result<Answer, Refusal>
     requires { CanRun component.now matrix.now }
-    ensures { Answered (ToTrusted trusted.now component.now matrix.now
-        (λ t. spec.IsComparedFrom t component.now options matrix.now)) result }
+    ensures { ComparesWith trusted.now component.now options matrix.now result }
 {
     let trusted = read_trusted(alloc, trusted)?;
     if !have_same_operations(component, &trusted) {

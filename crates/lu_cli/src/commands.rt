@@ -9,7 +9,7 @@ ghost use Rattle.lu_replay.specs.Reports.{IsReport};
 ghost use Rattle.lu_spec.specs.Specs.{AreOf};
 ghost use Rattle.lu_cli.specs.Refusals.{Answered, SaysResult};
 ghost use Rattle.lu_cli.specs.Replies as spec;
-ghost use Rattle.lu_cli.specs.Replies.{IsRefuted, IsRefutedBy};
+ghost use Rattle.lu_cli.specs.Replies.{IsRefuted, IsRefutedBy, TracesFromSetup};
 
 use crate::answer::{
     Answer, infeasible, show_certificate, show_matrix, show_refusal, show_report, show_schedule,
@@ -154,7 +154,7 @@ fn trace_text_from_setup(
     text: &[u8],
 ) -> Result<Answer, Refusal>
     requires { CanRun component.now matrix.now }
-    ensures { Answered (spec.IsTracedFromSetupText how.entry component.now matrix.now text.now) result }
+    ensures { TracesFromSetup how.entry component.now matrix.now text.now result }
 {
     let schedule = read_shown(alloc, text)?;
     Ok(trace_from_setup(alloc, how, component, matrix, &schedule)?)

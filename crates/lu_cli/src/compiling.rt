@@ -2,6 +2,8 @@
 
 ghost use Rattle.std.specs.Prelude.{◌≡◌, ◌++◌, IfErr, IfOk, OnOk, string_bytes};
 ghost use Rattle.lu_text.specs.Lines.{texts};
+ghost use Rattle.lu_text.specs.Results.{Builds};
+ghost use Rattle.lu_text.specs.Writing.{Writes};
 ghost use Rattle.lu_source_text.specs.Readers.{component_meant};
 ghost use Rattle.lu_cli.specs.Compiling as spec;
 ghost use Rattle.lu_cli.specs.Compiling.{AreStrings, IsCompiledBundle, IsSourceRefusal};
@@ -32,8 +34,7 @@ pub fn strings_of<'a>(alloc: Global, parts: &[&'a [u8]]) -> Result<Option<Vec<&'
 
 /// Puts a part behind the text, with the line before it.
 fn push_part(text: &mut String, part: &str) -> Result<(), AllocError>
-    ensures { OnOk result
-        (string_bytes text.new ≡ string_bytes text.old ++ spec.part_text part.now) }
+    ensures { Writes result text.old text.new (spec.part_text part.now) }
 {
     text.push_str("---\n")?;
     text.push_str(part)
@@ -41,8 +42,7 @@ fn push_part(text: &mut String, part: &str) -> Result<(), AllocError>
 
 /// Puts these parts behind the text.
 fn push_parts(text: &mut String, parts: &[&str]) -> Result<(), AllocError>
-    ensures { OnOk result
-        (string_bytes text.new ≡ string_bytes text.old ++ spec.lent_behind parts.now) }
+    ensures { Writes result text.old text.new (spec.lent_behind parts.now) }
 {
     for part in parts {
         push_part(text, part)?;
@@ -52,8 +52,7 @@ fn push_parts(text: &mut String, parts: &[&str]) -> Result<(), AllocError>
 
 /// The text of the component, and these parts behind it.
 fn write_bundle(alloc: Global, component: &Component, parts: &[&str]) -> Result<Answer, AllocError>
-    ensures { IfOk result (λ answer.
-        answer ≡ spec.compiled_bundle component.now (texts parts.now)) }
+    ensures { Builds result (spec.compiled_bundle component.now (texts parts.now)) }
 {
     let mut text = write_component(alloc, component)?;
     push_parts(&mut text, parts)?;

@@ -3,7 +3,7 @@
 ghost use Rattle.std.specs.Prelude.{IfErr, IfOk};
 ghost use Rattle.lu_machine.specs.Starts.{CanRun};
 ghost use Rattle.lu_trace.specs.Traces.{IsTraceFault};
-ghost use Rattle.lu_cli.specs.Drawing.{IsDrawnOf, IsPictureOf};
+ghost use Rattle.lu_cli.specs.Drawing.{IsDrawnOf, Pictures};
 
 use crate::answer::{Answer, infeasible};
 use lu_component::Component;
@@ -23,7 +23,7 @@ fn picture(
     why: Option<&Explanation>,
 ) -> Result<String, TraceFault>
     requires { CanRun component.now matrix.now }
-    ensures picture { IfOk result (IsPictureOf how.entry why.entry component.now matrix.now schedule.now) }
+    ensures picture { Pictures how.entry why.entry component.now matrix.now schedule.now result }
     ensures fault { IfErr result (IsTraceFault component.now matrix.now schedule.now) }
 {
     write_worded_picture(alloc, &how, component, matrix, schedule, why)

@@ -6,9 +6,9 @@ ghost use Rattle.lu_machine.specs.Starts.{CanRun};
 ghost use Rattle.lu_cli.specs.Refusals.{Answered};
 ghost use Rattle.lu_cli.specs.Drawing.{IsLeastPending, IsShownExplanation, IsShownThread};
 ghost use Rattle.lu_cli.specs.Explaining as spec;
-ghost use Rattle.lu_cli.specs.Explaining.{ExplainsFinding, ExplainsRun, ExplainsSchedule, ExplainsTarget, IsPlayed, PicturesRun, Presents};
+ghost use Rattle.lu_cli.specs.Explaining.{ExplainsFinding, ExplainsRun, ExplainsSchedule, ExplainsSerially, ExplainsTarget, IsPlayed, PicturesRun, Presents};
 ghost use Rattle.lu_cli.specs.Failing.{IsFindingExplained};
-ghost use Rattle.lu_cli.specs.Replies.{IsExplainAgainstOf, IsExplainBehind, IsExplainOf, IsExplainedAgainst, IsExplainedText, IsTarget, IsTargetRefusal, view_of as spec_of_view};
+ghost use Rattle.lu_cli.specs.Replies.{ExplainsAgainst, ExplainsText, IsExplainAgainstOf, IsExplainBehind, IsExplainOf, IsTarget, IsTargetRefusal, view_of as spec_of_view};
 
 use crate::answer::{Answer, infeasible};
 use crate::drawing::draw;
@@ -301,7 +301,7 @@ fn explain_serially(
     by: Presenting<'_>,
 ) -> Result<Answer, AllocError>
     requires { CanRun component.now matrix.now }
-    ensures { IfOk result (spec.IsExplainedSerially by.entry bounds component.now matrix.now target.now) }
+    ensures { ExplainsSerially by.entry bounds component.now matrix.now target.now result }
 {
     match set_or_offence(learn(alloc, alloc, component, matrix, bounds.serial())?) {
         Ok(set) => explain(alloc, component, matrix, &&set, target, by),
@@ -393,7 +393,7 @@ fn explain_text(
     by: Presenting<'_>,
 ) -> Result<Answer, Refusal>
     requires { CanRun component.now matrix.now }
-    ensures { Answered (IsExplainedText by.entry bounds component.now matrix.now target.now) result }
+    ensures { ExplainsText by.entry bounds component.now matrix.now target.now result }
 {
     let target = read_target(alloc, target)?;
     let bounds = bounds_for(bounds, &target);
@@ -410,7 +410,7 @@ fn explain_against(
     spec: &[u8],
 ) -> Result<Answer, Refusal>
     requires { CanRun component.now matrix.now }
-    ensures { Answered (IsExplainedAgainst how.entry component.now matrix.now target.now spec.now) result }
+    ensures { ExplainsAgainst how.entry component.now matrix.now target.now spec.now result }
 {
     let target = read_target(alloc, target)?;
     let specification = read_given_spec(alloc, matrix, spec)?;

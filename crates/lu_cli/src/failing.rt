@@ -8,7 +8,7 @@ ghost use Rattle.lu_report.specs.Parts.{shown_schedule};
 ghost use Rattle.lu_cli.specs.Refusals.{Answered};
 ghost use Rattle.lu_cli.specs.Failing as spec;
 ghost use Rattle.lu_certify.specs.Certificates.{NamesCutOf};
-ghost use Rattle.lu_cli.specs.Failing.{CanRunCut, ShowsRunBelow};
+ghost use Rattle.lu_cli.specs.Failing.{CanRunCut, ShowsFailure, ShowsRunBelow};
 ghost use Rattle.lu_cli.specs.Replies.{ToTold};
 
 use crate::answer::{Answer, show_certificate, show_schedule, write_both};
@@ -111,8 +111,7 @@ fn show_failing(
     view: View,
 ) -> Result<Answer, AllocError>
     requires { CanRun component.now cut.now }
-    ensures { IfOk result
-        (spec.ShowsFailing view how.entry component.now cut.now report.now schedule.now) }
+    ensures { ShowsFailure view how.entry component.now cut.now report.now schedule.now result }
 {
     let finding = report.finding();
     match view {

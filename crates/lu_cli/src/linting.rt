@@ -9,7 +9,7 @@ ghost use Rattle.lu_lint.specs.Messages as messages;
 ghost use Rattle.lu_lint.specs.Said.{is_fault};
 ghost use Rattle.lu_cli.specs.Compiling.{lent_behind};
 ghost use Rattle.lu_cli.specs.Linting as spec;
-ghost use Rattle.lu_cli.specs.Linting.{AddsMessage, AddsMessages, AreRemarksBehind, IsFaulted, IsLint, IsLinted, IsLintedBehind, IsSourceLinted};
+ghost use Rattle.lu_cli.specs.Linting.{AddsMessage, AreRemarksBehind, IsFaulted, IsLint, IsLinted, IsLintedBehind, IsSourceLinted, WritesMessages};
 
 use crate::answer::Answer;
 use crate::bundle::parts_in;
@@ -73,8 +73,7 @@ fn write_messages(
     messages: &[SourceMessage],
     lines: &[&[u8]],
 ) -> Result<(), AllocError>
-    ensures { OnOk result
-        (AddsMessages messages.now (string_bytes text.old) (string_bytes text.new)) }
+    ensures { OnOk result (WritesMessages messages.now text.old text.new) }
 {
     for message in messages {
         write_message(alloc, text, *message, lines)?;
@@ -197,8 +196,7 @@ fn write_remarks(text: &mut String, remarks: &[Remark]) -> Result<(), AllocError
 
 /// The component, with these parts behind it.
 fn bundle_of(alloc: Global, component: &Component, parts: &[&[u8]]) -> Result<Vec<u8>, AllocError>
-    ensures { IfOk result (λ bundle.
-        bundle.items ≡ spec.bundle_of component.now (texts parts.now)) }
+    ensures { HasItems result (spec.bundle_of component.now (texts parts.now)) }
 {
     let mut bundle = write_component(alloc, component)?.into_bytes();
     push_parts(&mut bundle, parts)?;

@@ -4,6 +4,7 @@ ghost use Rattle.std.specs.Prelude.{◌≡◌, IfErr, IfOk};
 ghost use Rattle.std.specs.Option.{option_map};
 ghost use Rattle.lu_text.specs.Lines.{texts};
 ghost use Rattle.lu_cli.specs.Failing as spec;
+ghost use Rattle.lu_cli.specs.Failing.{AreShownParts};
 ghost use Rattle.lu_cli.specs.Replies.{IsOfReport, IsTextOfSchedule, IsShownRefusal};
 
 use crate::refusal::Refusal;
@@ -49,8 +50,7 @@ fn is_verdict(text: &[u8]) -> bool
 /// The component, the matrix, and the schedule or the report. Matrix and report may stand as a
 /// certificate has them, behind its verdict, and that behind the matrix of which it is.
 pub(crate) fn shown_parts<'a>(parts: &[&'a [u8]]) -> Option<(&'a [u8], &'a [u8], &'a [u8])>
-    ensures { option_map (λ p. (p.0.now, p.1.now, p.2.now)) result
-        ≡ spec.shown_parts (texts parts.now) }
+    ensures { AreShownParts (texts parts.now) result }
 {
     match parts {
         [component, matrix, shown] => Some((component, matrix, shown)),
