@@ -50,7 +50,7 @@ use Rattle.lu_cli.specs.declared.order.CampaignTrial.TheVariants.{Checked, Certi
 use Rattle.lu_cli.specs.declared.failing.View.{View}
 use Rattle.lu_cli.specs.declared.failing.View.TheVariants as view
 use Rattle.lu_cli.specs.Args.{most_long}
-use Rattle.lu_cli.specs.Failing.{IsShownAlone, ShowsByView, ShowsFailing, ShowsRun, below, failure, in_words, shown_parts}
+use Rattle.lu_cli.specs.Failing.{IsShownAlone, ShowsByView, ShowsFailing, ShowsRun, below, failure, in_words, shown_parts, view_of_failure}
 use Rattle.lu_cli.specs.declared.order.CampaignPart.{CampaignPart}
 use Rattle.lu_cli.specs.declared.order.CampaignPart.TheVariants.{Whole, Slice, Count}
 use Rattle.lu_cli.specs.declared.order.CampaignThreads.{CampaignThreads}
@@ -87,7 +87,9 @@ use Rattle.lu_cli.specs.declared.order.Showing.{Showing}
 use Rattle.lu_cli.specs.declared.order.Showing.TheVariants.{Count as CountAlone, Schedules}
 use Rattle.lu_cli.specs.Bundle.{bundle_parts}
 use Rattle.lu_report.specs.Limits.{Limits}
-use Rattle.lu_cli.specs.Replies.{AloneOr, Answer, Answers, IsAnswerFrom, IsAnswerIn, IsAnswerOf, IsAnswerToAlike, IsAnswerToOrder, IsAnswerToPart, IsAnswerToTrial, IsByThreadAnswer, IsCampaignAgainstOf, IsCampaignAlike, IsCampaignBy, IsCampaignFrom, IsCertified, IsCertifiedPart, IsCertifiedReply, IsCheckAgainstFrom, IsCheckAgainstOf, IsChecked, IsCheckedAgainst, IsCollected, IsComparedAlike, IsComparedBy, IsComparedFrom, IsComparedPart, IsComparisonReply, IsCompileOf, IsConformOf, IsCountAnswer, IsDrawBehind, IsDrawn, IsExplainAgainstOf, IsExplainBehind, IsExplainOf, IsExplainedAgainst, IsExplainedText, IsJudgeAgainstOf, IsJudgeOf, IsJudgedAgainstTexts, IsJudgedSerially, IsJudgedTexts, IsRefuteOf, IsRefuted, IsRefutedBy, IsReplayed, IsRunSerially, IsShrinkAnswer, IsSliceReply, IsSpecOf, IsSurveyReply, IsSurveyedPart, IsTraceBehind, IsTraceFromSetupBehind, IsTraced, IsTracedFromSetup, IsTriedAll, IsTriedPart, ShowsCertificate, ShowsCertified, Tells, ToComponent, ToGiven, ToMatrix, ToParts, ToReport, ToSchedule, ToSettled, ToShown, ToSpec, ToTarget, ToTexts, ToTold, ToTrusted, ToValue, comparison_answer, found_answer, lists_of, no_command, no_device, no_memory, or_schedule, refused, reported, status_of, survey_status, two_texts, view_of, with_matrix, with_schedule}
+use Rattle.lu_cli.specs.declared.failing.RunView.{RunView}
+use Rattle.lu_cli.specs.declared.failing.RunView.TheVariants as run
+use Rattle.lu_cli.specs.Replies.{AloneOr, IsRunShown, IsShowOf, IsShownBehind, Answer, Answers, IsAnswerFrom, IsAnswerIn, IsAnswerOf, IsAnswerToAlike, IsAnswerToOrder, IsAnswerToPart, IsAnswerToTrial, IsByThreadAnswer, IsCampaignAgainstOf, IsCampaignAlike, IsCampaignBy, IsCampaignFrom, IsCertified, IsCertifiedPart, IsCertifiedReply, IsCheckAgainstFrom, IsCheckAgainstOf, IsChecked, IsCheckedAgainst, IsCollected, IsComparedAlike, IsComparedBy, IsComparedFrom, IsComparedPart, IsComparisonReply, IsCompileOf, IsConformOf, IsCountAnswer, IsDrawn, IsExplainAgainstOf, IsExplainBehind, IsExplainOf, IsExplainedAgainst, IsExplainedText, IsJudgeAgainstOf, IsJudgeOf, IsJudgedAgainstTexts, IsJudgedSerially, IsJudgedTexts, IsRefuteOf, IsRefuted, IsRefutedBy, IsReplayed, IsRunSerially, IsShrinkAnswer, IsSliceReply, IsSpecOf, IsSurveyReply, IsSurveyedPart, IsTraced, IsTracedFromSetup, IsTriedAll, IsTriedPart, ShowsCertificate, ShowsCertified, Tells, ToComponent, ToGiven, ToMatrix, ToParts, ToReport, ToSchedule, ToSettled, ToShown, ToSpec, ToTarget, ToTexts, ToTold, ToTrusted, ToValue, comparison_answer, found_answer, lists_of, no_command, no_device, no_memory, or_schedule, refused, reported, status_of, survey_status, two_texts, view_of, with_matrix, with_schedule}
 
 -- an answer that was made and said
 pub said : (IsAnswer : Answer → Type 0) (answer : Answer) (text : List ℕ) (old new : Option (List ℕ)) (status : ℕ) → IsAnswer answer → text ≡ answer.text → Appends old new text × (status ≡ answer.status) → Answers IsAnswer old new status
@@ -561,11 +563,20 @@ compile_else (source ∷ parts) answer is =
     ])
     is
 
+-- a run that is shown
+run_else : (view : RunView) (how : Wording) (c : Declarations) (m : Matrix) (u : List Move) (answer : Answer) → IsRunShown view how c m u answer → IsElse answer
+run_else run.Trace how c m u answer is = traced_else how c m u answer is
+run_else run.TraceFromSetup how c m u answer is = from_setup_else how c m u answer is
+run_else run.Picture how c m u answer is = drawn_else how None c m u answer is
+
+shown_else : (shown : RunView) (parts : List (List ℕ)) (answer : Answer) → IsShowOf shown parts answer → IsElse answer
+shown_else shown parts answer is = alone_or_else (view_of_failure shown) (IsShownBehind shown) parts answer (λ behind. behind_else parts (IsRunShown shown) answer (λ how c m u more. run_else shown how c m u answer more) behind) is
+
 pub order_else : (order : BundleCommand) (parts : List (List ℕ)) (answer : Answer) → IsAnswerToOrder order parts answer → IsElse answer
 order_else Replay parts answer is = three_else parts IsReplayed answer (λ c m u more. replayed_else c m u answer more) is
-order_else Trace parts answer is = alone_or_else view.Trace IsTraceBehind parts answer (λ behind. behind_else parts IsTraced answer (λ how c m u more. traced_else how c m u answer more) behind) is
-order_else TraceFromSetup parts answer is = alone_or_else view.TraceFromSetup IsTraceFromSetupBehind parts answer (λ behind. behind_else parts IsTracedFromSetup answer (λ how c m u more. from_setup_else how c m u answer more) behind) is
-order_else Draw parts answer is = alone_or_else view.Picture IsDrawBehind parts answer (λ behind. behind_else parts IsDrawn answer (λ how c m u more. drawn_else how None c m u answer more) behind) is
+order_else Trace parts answer is = shown_else run.Trace parts answer is
+order_else TraceFromSetup parts answer is = shown_else run.TraceFromSetup parts answer is
+order_else Draw parts answer is = shown_else run.Picture parts answer is
 order_else (DrawExplained limits) parts answer is = explain_else Picture limits parts answer is
 order_else (Explain limits) parts answer is = explain_else Words limits parts answer is
 order_else ExplainAgainst parts answer is = explain_against_else parts answer is

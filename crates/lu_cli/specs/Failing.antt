@@ -21,6 +21,8 @@ use Rattle.lu_cli.specs.declared.explaining.Presentation.{Presentation}
 use Rattle.lu_cli.specs.declared.explaining.Presenting.{Presenting}
 use Rattle.lu_cli.specs.declared.explaining.Presentation.TheVariants.{Words, Picture as Marked}
 use Rattle.lu_cli.specs.declared.failing.View.{View}
+use Rattle.lu_cli.specs.declared.failing.RunView.{RunView}
+use Rattle.lu_cli.specs.declared.failing.RunView.TheVariants as run
 use Rattle.lu_cli.specs.declared.failing.View.TheVariants.{Explanation, Trace, TraceFromSetup, Picture, ExplainedPicture}
 use Rattle.lu_cli.specs.Explaining.{BySerialRuns, IsExplainedSchedule, ToFinding}
 use Rattle.lu_cli.specs.Outcomes.{Answer}
@@ -76,6 +78,12 @@ IsFindingExplained by c m f =
 -- in these words, or by marks in a picture
 abbrev pub in_words : Presentation → Wording → Presenting
 in_words by how = record { by = by; how = how }
+
+-- how what fails is shown, where a run is shown so
+abbrev pub view_of_failure : RunView → View
+view_of_failure run.Trace = Trace
+view_of_failure run.TraceFromSetup = TraceFromSetup
+view_of_failure run.Picture = Picture
 
 -- The cut and what shows that it fails, `text`, with what each move of the schedule does below; or
 -- the picture of the schedule alone.

@@ -94,7 +94,9 @@ use Rattle.lu_cli.specs.declared.explaining.Target.TheVariants as target
 use Rattle.lu_cli.specs.Explaining.{IsExplained, IsExplainedSerially, is_report, limits_for}
 use Rattle.lu_cli.specs.declared.failing.View.{View}
 use Rattle.lu_cli.specs.declared.failing.View.TheVariants as view
-use Rattle.lu_cli.specs.Failing.{IsShownAlone, in_words, shown_parts}
+use Rattle.lu_cli.specs.declared.failing.RunView.{RunView}
+use Rattle.lu_cli.specs.declared.failing.RunView.TheVariants as run
+use Rattle.lu_cli.specs.Failing.{IsShownAlone, in_words, shown_parts, view_of_failure}
 pub use Rattle.lu_cli.specs.Shows.{IsCertified, IsDrawn, IsTraced, IsTracedFromSetup, ShowsCertificate, certified_local, reported, status_of, two_texts, verdict, with_matrix, with_schedule}
 use Rattle.lu_cli.specs.Judging.{IsJudgedBy, ToRecorded, four_parts, three_parts}
 use Rattle.lu_trace.specs.declared.wording.Wording.{Wording}
@@ -319,19 +321,23 @@ IsShownRefusal text refused =
     × IsScheduleUnlessMemory fault (or_schedule found text) × (refused ≡ refusal.Schedule fault))
     ⊎ (refused ≡ refusal.Memory)
 
-abbrev pub IsTracedText : Wording → Declarations → Matrix → List ℕ → Answer → Type 0
-IsTracedText how c m text = ToShown text (IsTraced how c m)
+-- the run of the schedule, shown so
+abbrev pub IsRunShown : RunView → Wording → Declarations → Matrix → List Move → Answer → Type 0
+IsRunShown run.Trace = IsTraced
+IsRunShown run.TraceFromSetup = IsTracedFromSetup
+IsRunShown run.Picture = IsDrawn
 
-abbrev pub IsTracedFromSetupText : Wording → Declarations → Matrix → List ℕ → Answer → Type 0
-IsTracedFromSetupText how c m text = ToShown text (IsTracedFromSetup how c m)
+abbrev pub IsTextShown : RunView → Wording → Declarations → Matrix → List ℕ → Answer → Type 0
+IsTextShown view how c m text = ToShown text (IsRunShown view how c m)
 
--- the result is so
-abbrev pub TracesFromSetup : Wording → Declarations → Matrix → List ℕ → Result Answer Refusal
+-- the results are so
+abbrev pub ShowsRunOf : {E : Type 0} → RunView → Wording → Declarations → Matrix → List Move
+    → Result Answer E → Type 0
+ShowsRunOf view how c m u result = IfOk result (IsRunShown view how c m u)
+
+abbrev pub ShowsText : RunView → Wording → Declarations → Matrix → List ℕ → Result Answer Refusal
     → Type 0
-TracesFromSetup how c m text = Answered (IsTracedFromSetupText how c m text)
-
-abbrev pub IsDrawnText : Wording → Declarations → Matrix → List ℕ → Answer → Type 0
-IsDrawnText how c m text = ToShown text (IsDrawn how c m)
+ShowsText view how c m text = Answered (IsTextShown view how c m text)
 
 -- ---- `explain`
 
@@ -712,32 +718,17 @@ AloneOr view IsShown parts answer =
     MatchOption (exactly_two parts) (IsShown parts answer)
     (λ p. ToTold p.0 p.1 (IsShownAlone view) answer)
 
-abbrev pub IsTraceBehind : List (List ℕ) → Answer → Type 0
-IsTraceBehind parts =
-    ToParts (shown_parts parts) (λ p. ToTold p.0 p.1 (λ how c m. IsTracedText how c m p.2))
-
-abbrev pub IsTraceFromSetupBehind : List (List ℕ) → Answer → Type 0
-IsTraceFromSetupBehind parts =
-    ToParts (shown_parts parts)
-    (λ p. ToTold p.0 p.1 (λ how c m. IsTracedFromSetupText how c m p.2))
-
-abbrev pub IsDrawBehind : List (List ℕ) → Answer → Type 0
-IsDrawBehind parts =
-    ToParts (shown_parts parts) (λ p. ToTold p.0 p.1 (λ how c m. IsDrawnText how c m p.2))
+abbrev pub IsShownBehind : RunView → List (List ℕ) → Answer → Type 0
+IsShownBehind view parts =
+    ToParts (shown_parts parts) (λ p. ToTold p.0 p.1 (λ how c m. IsTextShown view how c m p.2))
 
 abbrev pub IsExplainBehind : Presentation → Limits → List (List ℕ) → Answer → Type 0
 IsExplainBehind by limits parts =
     ToParts (shown_parts parts)
     (λ p. ToTold p.0 p.1 (λ how c m. IsExplainedText (in_words by how) limits c m p.2))
 
-abbrev pub IsTraceOf : List (List ℕ) → Answer → Type 0
-IsTraceOf = AloneOr view.Trace IsTraceBehind
-
-abbrev pub IsTraceFromSetupOf : List (List ℕ) → Answer → Type 0
-IsTraceFromSetupOf = AloneOr view.TraceFromSetup IsTraceFromSetupBehind
-
-abbrev pub IsDrawOf : List (List ℕ) → Answer → Type 0
-IsDrawOf = AloneOr view.Picture IsDrawBehind
+abbrev pub IsShowOf : RunView → List (List ℕ) → Answer → Type 0
+IsShowOf view = AloneOr (view_of_failure view) (IsShownBehind view)
 
 abbrev pub view_of : Presentation → View
 view_of Words = view.Explanation
@@ -837,9 +828,9 @@ IsCampaignOf options parts =
 -- the answer to an order and the parts of the bundle
 abbrev pub IsAnswerToOrder : BundleCommand → List (List ℕ) → Answer → Type 0
 IsAnswerToOrder Replay parts = IsReplayOf parts
-IsAnswerToOrder Trace parts = IsTraceOf parts
-IsAnswerToOrder TraceFromSetup parts = IsTraceFromSetupOf parts
-IsAnswerToOrder Draw parts = IsDrawOf parts
+IsAnswerToOrder Trace parts = IsShowOf run.Trace parts
+IsAnswerToOrder TraceFromSetup parts = IsShowOf run.TraceFromSetup parts
+IsAnswerToOrder Draw parts = IsShowOf run.Picture parts
 IsAnswerToOrder (DrawExplained limits) parts = IsExplainOf Picture limits parts
 IsAnswerToOrder (Explain limits) parts = IsExplainOf Words limits parts
 IsAnswerToOrder ExplainAgainst parts = IsExplainAgainstOf parts

@@ -9,7 +9,7 @@ ghost use Rattle.lu_replay.specs.Reports.{IsReport};
 ghost use Rattle.lu_spec.specs.Specs.{AreOf};
 ghost use Rattle.lu_cli.specs.Refusals.{Answered, SaysResult};
 ghost use Rattle.lu_cli.specs.Replies as spec;
-ghost use Rattle.lu_cli.specs.Replies.{IsRefuted, IsRefutedBy, TracesFromSetup};
+ghost use Rattle.lu_cli.specs.Replies.{IsRefuted, IsRefutedBy, ShowsRunOf, ShowsText};
 
 use crate::answer::{
     Answer, infeasible, show_certificate, show_matrix, show_refusal, show_report, show_schedule,
@@ -20,7 +20,7 @@ use crate::compiling::answer_compile;
 use crate::conforming::answer_conform;
 use crate::drawing::draw;
 use crate::explaining::{Presentation, answer_explain, answer_explain_against};
-use crate::failing::{View, answer_failing};
+use crate::failing::{RunView, answer_failing};
 use crate::judging::{answer_judge, answer_judge_against};
 use crate::order::{BundleCommand, CertifyOptions};
 use crate::refusal::Refusal;
@@ -92,41 +92,6 @@ pub(crate) fn trace(
     }
 }
 
-/// The trace of the schedule that a text says or a report shows.
-fn trace_text(
-    alloc: Global,
-    how: Wording<'_>,
-    component: &Component,
-    matrix: &Matrix,
-    text: &[u8],
-) -> Result<Answer, Refusal>
-    requires { CanRun component.now matrix.now }
-    ensures { Answered (spec.IsTracedText how.entry component.now matrix.now text.now) result }
-{
-    let schedule = read_shown(alloc, text)?;
-    Ok(trace(alloc, how, component, matrix, &schedule)?)
-}
-
-/// Component, matrix, and a schedule or a report.
-fn trace_behind(alloc: Global, parts: &[&[u8]]) -> Result<Answer, Refusal>
-    ensures { Answered (spec.IsTraceBehind (texts parts.now)) result }
-{
-    let (component, matrix, shown) = shown_parts(parts).ok_or(Refusal::Parts)?;
-    let told = read_told(alloc, component, matrix)?;
-    trace_text(alloc, told.wording(), &told.component, &told.matrix, shown)
-}
-
-/// `lineup trace`: component and matrix, and a schedule or a report; of component and matrix alone
-/// what fails.
-fn answer_trace(alloc: Global, parts: &[&[u8]]) -> Result<Answer, Refusal>
-    ensures { Answered (spec.IsTraceOf (texts parts.now)) result }
-{
-    match exactly_two(parts) {
-        Some((component, matrix)) => answer_failing(alloc, component, matrix, View::Trace),
-        None => trace_behind(alloc, parts),
-    }
-}
-
 /// The trace of the schedule from the setup on, or where it is infeasible.
 pub(crate) fn trace_from_setup(
     alloc: Global,
@@ -145,73 +110,65 @@ pub(crate) fn trace_from_setup(
     }
 }
 
-/// The trace from the setup on of the schedule that a text says or a report shows.
-fn trace_text_from_setup(
+/// The run of the schedule, shown so, or where it is infeasible.
+fn show_run(
     alloc: Global,
     how: Wording<'_>,
     component: &Component,
     matrix: &Matrix,
-    text: &[u8],
-) -> Result<Answer, Refusal>
+    schedule: &Schedule,
+    view: RunView,
+) -> Result<Answer, AllocError>
     requires { CanRun component.now matrix.now }
-    ensures { TracesFromSetup how.entry component.now matrix.now text.now result }
+    ensures { ShowsRunOf view how.entry component.now matrix.now schedule.now result }
 {
-    let schedule = read_shown(alloc, text)?;
-    Ok(trace_from_setup(alloc, how, component, matrix, &schedule)?)
-}
-
-/// Component, matrix, and a schedule or a report.
-fn trace_from_setup_behind(alloc: Global, parts: &[&[u8]]) -> Result<Answer, Refusal>
-    ensures { Answered (spec.IsTraceFromSetupBehind (texts parts.now)) result }
-{
-    let (component, matrix, shown) = shown_parts(parts).ok_or(Refusal::Parts)?;
-    let told = read_told(alloc, component, matrix)?;
-    trace_text_from_setup(alloc, told.wording(), &told.component, &told.matrix, shown)
-}
-
-/// `lineup trace --setup`: component and matrix, and a schedule or a report; of component and matrix alone
-/// what fails.
-fn answer_trace_from_setup(alloc: Global, parts: &[&[u8]]) -> Result<Answer, Refusal>
-    ensures { Answered (spec.IsTraceFromSetupOf (texts parts.now)) result }
-{
-    match exactly_two(parts) {
-        Some((component, matrix)) => answer_failing(alloc, component, matrix, View::TraceFromSetup),
-        None => trace_from_setup_behind(alloc, parts),
+    match view {
+        RunView::Trace => trace(alloc, how, component, matrix, schedule),
+        RunView::TraceFromSetup => trace_from_setup(alloc, how, component, matrix, schedule),
+        RunView::Picture => draw(alloc, how, component, matrix, schedule, None),
     }
 }
 
-/// The picture of the schedule that a text says or a report shows.
-fn draw_text(
+/// The run of the schedule that a text says or a report shows.
+fn show_text(
     alloc: Global,
     how: Wording<'_>,
     component: &Component,
     matrix: &Matrix,
     text: &[u8],
+    view: RunView,
 ) -> Result<Answer, Refusal>
     requires { CanRun component.now matrix.now }
-    ensures { Answered (spec.IsDrawnText how.entry component.now matrix.now text.now) result }
+    ensures { ShowsText view how.entry component.now matrix.now text.now result }
 {
     let schedule = read_shown(alloc, text)?;
-    Ok(draw(alloc, how, component, matrix, &schedule, None)?)
+    Ok(show_run(alloc, how, component, matrix, &schedule, view)?)
 }
 
 /// Component, matrix, and a schedule or a report.
-fn draw_behind(alloc: Global, parts: &[&[u8]]) -> Result<Answer, Refusal>
-    ensures { Answered (spec.IsDrawBehind (texts parts.now)) result }
+fn show_behind(alloc: Global, parts: &[&[u8]], view: RunView) -> Result<Answer, Refusal>
+    ensures { Answered (spec.IsShownBehind view (texts parts.now)) result }
 {
     let (component, matrix, shown) = shown_parts(parts).ok_or(Refusal::Parts)?;
     let told = read_told(alloc, component, matrix)?;
-    draw_text(alloc, told.wording(), &told.component, &told.matrix, shown)
+    show_text(
+        alloc,
+        told.wording(),
+        &told.component,
+        &told.matrix,
+        shown,
+        view,
+    )
 }
 
-/// `lineup draw`: component and matrix, and a schedule or a report; of component and matrix alone
-/// what fails.
-fn answer_draw(alloc: Global, parts: &[&[u8]]) -> Result<Answer, Refusal>
-    ensures { Answered (spec.IsDrawOf (texts parts.now)) result }
+/// `lineup trace`, `lineup trace --setup` and `lineup draw`: component and matrix, and a schedule
+/// or a report; of component and matrix alone what fails.
+fn answer_shown(alloc: Global, parts: &[&[u8]], view: RunView) -> Result<Answer, Refusal>
+    ensures { Answered (spec.IsShowOf view (texts parts.now)) result }
 {
     match exactly_two(parts) {
-        Some((component, matrix)) => answer_failing(alloc, component, matrix, View::Picture),
-        None => draw_behind(alloc, parts),
+        Some((component, matrix)) => answer_failing(alloc, component, matrix, view.of_failure()),
+        None => show_behind(alloc, parts, view),
     }
 }
 
@@ -514,9 +471,9 @@ pub(crate) fn carry_out_alone(
 {
     match order {
         BundleCommand::Replay => answer_replay(alloc, parts),
-        BundleCommand::Trace => answer_trace(alloc, parts),
-        BundleCommand::TraceFromSetup => answer_trace_from_setup(alloc, parts),
-        BundleCommand::Draw => answer_draw(alloc, parts),
+        BundleCommand::Trace => answer_shown(alloc, parts, RunView::Trace),
+        BundleCommand::TraceFromSetup => answer_shown(alloc, parts, RunView::TraceFromSetup),
+        BundleCommand::Draw => answer_shown(alloc, parts, RunView::Picture),
         BundleCommand::DrawExplained(bounds) => {
             answer_explain(alloc, bounds, parts, Presentation::Picture)
         }

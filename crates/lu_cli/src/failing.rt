@@ -43,6 +43,32 @@ pub(crate) enum View {
     ExplainedPicture,
 }
 
+/// How the run of a schedule is shown.
+#[derive(Clone, Copy)]
+pub(crate) enum RunView {
+    /// By what each move does.
+    Trace,
+
+    /// By what the setup and each move does.
+    TraceFromSetup,
+
+    /// By a picture.
+    Picture,
+}
+
+impl RunView {
+    /// How what fails is shown, where a run is shown so.
+    pub(crate) fn of_failure(self) -> View
+        ensures { result ≡ spec.view_of_failure self }
+    {
+        match self {
+            RunView::Trace => View::Trace,
+            RunView::TraceFromSetup => View::TraceFromSetup,
+            RunView::Picture => View::Picture,
+        }
+    }
+}
+
 /// A failure with this text.
 fn failure(text: String) -> Answer
     ensures { result ≡ spec.failure (string_bytes text) }
