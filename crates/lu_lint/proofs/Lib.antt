@@ -1,8 +1,9 @@
 pub mod Going
 pub mod MatrixSteps
+pub mod WhileSound
+pub mod Joined
 pub mod Cuts
 pub mod Moves
-pub mod Whole
 pub mod Warned
 pub mod Shown
 pub mod SettingUp

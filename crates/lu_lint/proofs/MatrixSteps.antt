@@ -36,7 +36,7 @@ alone c faulty seen n d line lines None above before = append-nil before
 alone c faulty seen n d line lines (Some kind) above before = append-nil before
 
 -- what stands behind the line says nothing of what it leaves
-left_same : (d : Drafted) (line : List ℕ) (lines : List (List ℕ)) (fault : Option MatrixFaultKind) → left_by d line fault ≡ lint.left_by matrix_mend d line lines fault
+pub left_same : (d : Drafted) (line : List ℕ) (lines : List (List ℕ)) (fault : Option MatrixFaultKind) → left_by d line fault ≡ lint.left_by matrix_mend d line lines fault
 left_same d line lines None = refl
 left_same d line lines (Some kind) = refl
 

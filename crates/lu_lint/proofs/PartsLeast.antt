@@ -1,5 +1,5 @@
 -- Whatever is said of a bundle, of each of its parts the least fault is the reader's.
-use Rattle.std.proofs.Common.{◌≡◌, ℕ, ◌+◌, ◌<◌, ◌≤◌, inl, inr, true, false, Bool, cond, List, [], ◌∷◌, ◌++◌, append-nil, map, Option, Some, None, Result, Ok, Err, refl, sym, ap, subst, ◌∙◌, arith}
+use Rattle.std.proofs.Common.{◌≡◌, ℕ, ◌+◌, ◌<◌, ◌≤◌, inl, inr, true, false, Bool, cond, List, [], ◌∷◌, ◌++◌, append-nil, append_assoc, map, Option, Some, None, Result, Ok, Err, refl, sym, ap, subst, ◌∙◌, arith}
 use Rattle.std.specs.Prelude.{All, IsPermutation, MatchBool}
 use Rattle.std.specs.List.{filter_map}
 use Rattle.std.specs.List.Sorted.{IsStableByKey}
@@ -44,15 +44,17 @@ use Rattle.lu_lint.specs.declared.remark.Cause.{Cause}
 use Rattle.lu_lint.specs.declared.remark.Cause.TheVariants.{Fault, FifthPart, Separator, Warning, Run}
 use Rattle.lu_lint.specs.declared.third.Third.{Third}
 use Rattle.lu_lint.specs.declared.third.Third.TheVariants.{Specification, Report, History, Schedule}
-use Rattle.lu_lint.specs.Bundle.{PartsSaid, RunsOfParts, behind_component, component_read, component_said, is_blurred, judged_said, matrix_read, outline_said, parts_by_meant, parts_said, separator_said, separators_from, warnings_said}
+use Rattle.lu_lint.specs.declared.component.ReadComponent.{ReadComponent}
+use Rattle.lu_lint.specs.declared.component.ReadComponent.TheVariants as read
+use Rattle.lu_lint.specs.Bundle.{PartsSaid, component_read, component_said, is_blurred, matrix_read, matrix_said, outline_said, parts_by_meant, separator_said, separators_from, warnings_said}
 use Rattle.lu_lint.specs.Component.{component_lint, jumps}
 use Rattle.lu_lint.specs.Further.{BehindMatrix, BehindThird, FourthSaid, fifth_said}
 use Rattle.lu_lint.specs.Least.{ComponentLeast, FourthLeast, FurtherLeast, LeastIsReaders, MatrixLeast, NoneSaid, PartsLeast, ReadersAreLeast, ReadsOrLeast, ReportLeast, Same, SameOrJump, ScheduleFirst, SpecificationLeast, ThirdLeast, component_fault, matrix_fault, report_fault, schedule_fault, specification_fault}
 use Rattle.lu_lint.specs.Lint.{Told, faults_in, told_here, with_words}
 use Rattle.lu_lint.specs.Matrix.{judged_line, matrix_lint}
-use Rattle.lu_lint.specs.Outline.{faulty_end}
+use Rattle.lu_lint.specs.Outline.{outline}
 use Rattle.lu_lint.specs.Runs.{RunsSaid}
-use Rattle.lu_lint.specs.Said.{above_next, line_below, said_faults, said_of_text, said_told}
+use Rattle.lu_lint.specs.Said.{SaysFurther, above_next, line_below, said_faults, said_of_text, said_told}
 use Rattle.lu_lint.specs.Schedule.{AgreeOn, schedule_faults, schedule_said, schedule_told}
 use Rattle.lu_lint.specs.Third.{ReportSaid, SaidOfSome, SpecificationSaid, ThirdSaid, histories_of, histories_said, history_said, report_said, specification_said, third_of}
 use Rattle.lu_lint.specs.Warnings.{draft_behind, line_hints, warned, warnings_after}
@@ -140,31 +142,22 @@ lines_are c seen n d (line ∷ lines) =
     of_both 0 (map (warned seen n) (line_hints c d line)) (warnings_after c (with_words seen n line) (n + 1) (draft_behind d line) lines)
     (All-map (λ s. part_of s.cause ≡ 0) (warned seen n) (line_hints c d line) (λ k d h. refl)) (lines_are c (with_words seen n line) (n + 1) (draft_behind d line) lines)
 
-warnings_are : (c : Option Declarations) (text : List ℕ) → AreOf 0 (warnings_said c text)
-warnings_are None text = All-nil (λ s. part_of s.cause ≡ 0)
-warnings_are (Some c) text = lines_are c [] 1 nothing (lines_of text)
+warnings_are : (c : ReadComponent) (lines : List (List ℕ)) → AreOf 0 (warnings_said c lines)
+warnings_are (read.Faulty f) lines = All-nil (λ s. part_of s.cause ≡ 0)
+warnings_are (read.Sound c) lines = lines_are c [] 1 nothing lines
 
 outline_are : (f : Faulty) (c : Option Declarations) (above : ℕ) (text : List ℕ) → AreOf 2 (outline_said f c above text)
 outline_are f None above text = All-nil (λ s. part_of s.cause ≡ 2)
 outline_are f (Some c) above text = faults_of part.Matrix 2 (λ k n. refl) above (faults_in (matrix_lint c (Some f)) text)
 
-judged_are : (c : Option Declarations) (component : List ℕ) (above : ℕ) (text : List ℕ) → AreOf 2 (judged_said c component above text)
-judged_are None component above text = outline_are (faulty_end component) _ above text
-judged_are (Some c) component above text = faults_of part.Matrix 2 (λ k n. refl) above (faults_in (matrix_lint c None) text)
+matrix_are : (c : ReadComponent) (above : ℕ) (text : List ℕ) → AreOf 2 (matrix_said c above text)
+matrix_are (read.Faulty f) above text = outline_are f (outline f.draft) above text
+matrix_are (read.Sound c) above text = faults_of part.Matrix 2 (λ k n. refl) above (faults_in (matrix_lint c None) text)
 
-behind_are : (component : List ℕ) (parts : List (List ℕ)) → AreOf 2 (behind_component component parts)
-behind_are component [] = All-nil (λ s. part_of s.cause ≡ 2)
-behind_are component (matrix ∷ parts) = judged_are (component_read component) component (above_next 0 component) matrix
-
-runs_said_are : (bound : ℕ) (c : Option Declarations) (m : Option Matrix) (above : ℕ) (text : List ℕ) (said : List Said) → RunsSaid bound c m above text said → AreOf 0 said
-runs_said_are bound None m above text said h = of_none 0 said h
-runs_said_are bound (Some c) None above text said h = of_none 0 said h
-runs_said_are bound (Some c) (Some m) above text said h = subst (AreOf 0) (sym h.2) (All-map (λ s. part_of s.cause ≡ 0) _ h.0 (λ k d within. refl))
-
-runs_are : (bound : ℕ) (parts : List (List ℕ)) (said : List Said) → RunsOfParts bound parts said → AreOf 0 said
-runs_are bound [] said h = of_none 0 said h
-runs_are bound (component ∷ []) said h = of_none 0 said h
-runs_are bound (component ∷ matrix ∷ parts) said h = runs_said_are bound (component_read component) _ (above_next 0 component) matrix said h
+runs_are : (bound : ℕ) (c : ReadComponent) (m : Option Matrix) (above : ℕ) (text : List ℕ) (said : List Said) → RunsSaid bound c m above text said → AreOf 0 said
+runs_are bound (read.Faulty f) m above text said h = of_none 0 said h
+runs_are bound (read.Sound c) None above text said h = of_none 0 said h
+runs_are bound (read.Sound c) (Some m) above text said h = subst (AreOf 0) (sym h.2) (All-map (λ s. part_of s.cause ≡ 0) _ h.0 (λ k d within. refl))
 
 -- ---- what is said of the parts behind the matrix
 
@@ -459,36 +452,36 @@ module _ (first third behind runs found said : List Said) (parts : found ≡ (fi
 
 -- ---- all parts
 
-lines_not : (p : ℕ) → (0 ≡ p → ⊥) → (1 ≡ p → ⊥) → (2 ≡ p → ⊥) → (n : ℕ) (lines : List (List ℕ)) (component : List ℕ) (others : List (List ℕ)) → AreNot p (separators_from n lines ++ (component_said component ++ behind_component component others))
-lines_not p zero one two n lines component others =
-    not_both p (separators_from n lines) (component_said component ++ behind_component component others) (not_other p 0 _ zero (separators_are n lines))
-    (not_both p (component_said component) (behind_component component others)
-    (not_both p (said_of_text component_lint 0 component) (warnings_said (component_read component) component) (not_other p 1 _ one (faults_of part.Component 1 (λ k n. refl) 0 (faults_in component_lint component))) (not_other p 0 _ zero (warnings_are (component_read component) component)))
-    (not_other p 2 _ two (behind_are component others)))
+lines_not : (p : ℕ) → (0 ≡ p → ⊥) → (1 ≡ p → ⊥) → (2 ≡ p → ⊥) → (n : ℕ) (lines : List (List ℕ)) (component : List ℕ) (behind : List Said) → AreOf 2 behind → AreNot p (separators_from n lines ++ (component_said component ++ behind))
+lines_not p zero one two n lines component behind are_behind =
+    let warned = warnings_said (component_read component) (lines_of component) in
+    not_both p (separators_from n lines) (component_said component ++ behind) (not_other p 0 _ zero (separators_are n lines))
+    (not_both p (component_said component) behind
+    (not_both p (said_of_text component_lint 0 component) warned (not_other p 1 _ one (faults_of part.Component 1 (λ k n. refl) 0 (faults_in component_lint component))) (not_other p 0 _ zero (warnings_are (component_read component) (lines_of component))))
+    (not_other p 2 behind two are_behind))
 
-matrix_left : (c : Option Declarations) (text : List ℕ) (xs ys : List Said) → AreNot 2 ys → MatrixLeast c text xs → MatrixLeast c text (xs ++ ys)
-matrix_left None text xs ys are h = tt
-matrix_left (Some c) text xs ys are h = readers_left matrix_fault Same (meaning_of (matrix_grammar c) text) xs ys (none_of matrix_fault 2 no_matrix ys are) h
+matrix_left : (c : ReadComponent) (text : List ℕ) (xs ys : List Said) → AreNot 2 ys → MatrixLeast c text xs → MatrixLeast c text (xs ++ ys)
+matrix_left (read.Faulty f) text xs ys are h = tt
+matrix_left (read.Sound c) text xs ys are h = readers_left matrix_fault Same (meaning_of (matrix_grammar c) text) xs ys (none_of matrix_fault 2 no_matrix ys are) h
 
-matrix_right : (c : Option Declarations) (text : List ℕ) (xs ys : List Said) → AreNot 2 xs → MatrixLeast c text ys → MatrixLeast c text (xs ++ ys)
-matrix_right None text xs ys are h = tt
-matrix_right (Some c) text xs ys are h = readers_right matrix_fault Same (meaning_of (matrix_grammar c) text) xs ys (none_of matrix_fault 2 no_matrix xs are) h
+matrix_right : (c : ReadComponent) (text : List ℕ) (xs ys : List Said) → AreNot 2 xs → MatrixLeast c text ys → MatrixLeast c text (xs ++ ys)
+matrix_right (read.Faulty f) text xs ys are h = tt
+matrix_right (read.Sound c) text xs ys are h = readers_right matrix_fault Same (meaning_of (matrix_grammar c) text) xs ys (none_of matrix_fault 2 no_matrix xs are) h
 
-matrix_moved : (c : Option Declarations) (text : List ℕ) (xs ys : List Said) → IsPermutation xs ys → MatrixLeast c text xs → MatrixLeast c text ys
-matrix_moved None text xs ys moved h = tt
-matrix_moved (Some c) text xs ys moved h = readers_moved matrix_fault Same (meaning_of (matrix_grammar c) text) xs ys moved h
+matrix_moved : (c : ReadComponent) (text : List ℕ) (xs ys : List Said) → IsPermutation xs ys → MatrixLeast c text xs → MatrixLeast c text ys
+matrix_moved (read.Faulty f) text xs ys moved h = tt
+matrix_moved (read.Sound c) text xs ys moved h = readers_moved matrix_fault Same (meaning_of (matrix_grammar c) text) xs ys moved h
 
-judged_here : (c : Option Declarations) (component : List ℕ) (above : ℕ) (text : List ℕ) → MatrixLeast c text (judged_said c component above text)
-judged_here None component above text = tt
-judged_here (Some c) component above text = matrix_here c above text
+judged_here : (c : ReadComponent) (above : ℕ) (text : List ℕ) → MatrixLeast c text (matrix_said c above text)
+judged_here (read.Faulty f) above text = tt
+judged_here (read.Sound c) above text = matrix_here c above text
 
-module _ (component : List ℕ) (others lines : List (List ℕ)) (further runs found said : List Said) (parts : found ≡ ((separators_from 1 lines ++ (component_said component ++ behind_component component others)) ++ further) ++ runs) (moved : IsPermutation found said) (are_runs : AreOf 0 runs) where
+module _ (component : List ℕ) (lines : List (List ℕ)) (behind further runs found said : List Said) (parts : found ≡ ((separators_from 1 lines ++ (component_said component ++ behind)) ++ further) ++ runs) (moved : IsPermutation found said) (are_behind : AreOf 2 behind) (are_runs : AreOf 0 runs) where
   component_least : AreNot 1 further → ComponentLeast component said
   component_least not_further =
       let r = meaning_of component_grammar component in
       let told = said_of_text component_lint 0 component in
-      let warned = warnings_said (component_read component) component in
-      let behind = behind_component component others in
+      let warned = warnings_said (component_read component) (lines_of component) in
       let separators = separators_from 1 lines in
       let none : (xs : List Said) → AreNot 1 xs → NoneSaid component_fault xs = none_of component_fault 1 no_component in
       readers_moved component_fault SameOrJump r found said moved
@@ -496,23 +489,22 @@ module _ (component : List ℕ) (others lines : List (List ℕ)) (further runs f
       (readers_left component_fault SameOrJump r ((separators ++ ((told ++ warned) ++ behind)) ++ further) runs (none runs (not_other 1 0 runs (λ e. omega arith) are_runs))
       (readers_left component_fault SameOrJump r (separators ++ ((told ++ warned) ++ behind)) further (none further not_further)
       (readers_right component_fault SameOrJump r separators ((told ++ warned) ++ behind) (none separators (not_other 1 0 separators (λ e. omega arith) (separators_are 1 lines)))
-      (readers_left component_fault SameOrJump r (told ++ warned) behind (none behind (not_other 1 2 behind (λ e. omega arith) (behind_are component others)))
-      (readers_left component_fault SameOrJump r told warned (none warned (not_other 1 0 warned (λ e. omega arith) (warnings_are (component_read component) component))) (component_here component)))))))
+      (readers_left component_fault SameOrJump r (told ++ warned) behind (none behind (not_other 1 2 behind (λ e. omega arith) are_behind))
+      (readers_left component_fault SameOrJump r told warned (none warned (not_other 1 0 warned (λ e. omega arith) (warnings_are (component_read component) (lines_of component)))) (component_here component)))))))
 
-  matrix_least : (matrix : List ℕ) (rest : List (List ℕ)) → others ≡ matrix ∷ rest → AreNot 2 further → MatrixLeast (component_read component) matrix said
-  matrix_least matrix rest is not_further =
+  matrix_least : (matrix : List ℕ) → behind ≡ matrix_said (component_read component) (above_next 0 component) matrix → AreNot 2 further → MatrixLeast (component_read component) matrix said
+  matrix_least matrix is not_further =
       let c = component_read component in
       let told = said_of_text component_lint 0 component in
-      let warned = warnings_said c component in
-      let behind = behind_component component others in
+      let warned = warnings_said c (lines_of component) in
       let separators = separators_from 1 lines in
-      let here : MatrixLeast c matrix behind = subst (λ (xs : List (List ℕ)). MatrixLeast c matrix (behind_component component xs)) (sym is) (judged_here c component (above_next 0 component) matrix) in
+      let here : MatrixLeast c matrix behind = subst (MatrixLeast c matrix) (sym is) (judged_here c (above_next 0 component) matrix) in
       matrix_moved c matrix found said moved
       (subst (MatrixLeast c matrix) (sym parts)
       (matrix_left c matrix ((separators ++ ((told ++ warned) ++ behind)) ++ further) runs (not_other 2 0 runs (λ e. omega arith) are_runs)
       (matrix_left c matrix (separators ++ ((told ++ warned) ++ behind)) further not_further
       (matrix_right c matrix separators ((told ++ warned) ++ behind) (not_other 2 0 separators (λ e. omega arith) (separators_are 1 lines))
-      (matrix_right c matrix (told ++ warned) behind (not_both 2 told warned (not_other 2 1 told (λ e. omega arith) (faults_of part.Component 1 (λ k n. refl) 0 (faults_in component_lint component))) (not_other 2 0 warned (λ e. omega arith) (warnings_are c component))) here)))))
+      (matrix_right c matrix (told ++ warned) behind (not_both 2 told warned (not_other 2 1 told (λ e. omega arith) (faults_of part.Component 1 (λ k n. refl) 0 (faults_in component_lint component))) (not_other 2 0 warned (λ e. omega arith) (warnings_are c (lines_of component)))) here)))))
 
 -- the parts behind the matrix
 further_least : (m : Option Matrix) (above : ℕ) (texts : List (List ℕ)) (first further runs found said : List Said) → found ≡ (first ++ further) ++ runs → IsPermutation found said → IsStableByKey (λ s. s.place) nat_cmp found said → ((p : ℕ) → 3 ≤ p → AreNot p first) → AreOf 0 runs → BehindMatrix m above texts further → FurtherLeast m texts said
@@ -521,24 +513,35 @@ further_least m above (text ∷ texts) first further runs found said parts moved
     let all : found ≡ (first ++ (h.0 ++ h.2.0)) ++ runs = parts ∙ ap (λ (xs : List Said). (first ++ xs) ++ runs) h.2.2 in
     third_least first h.0 h.2.0 runs found said all moved stable not_first are_runs (third_of text) m above text texts h.1 h.2.1
 
-by_parts : (bound : ℕ) (parts lines : List (List ℕ)) (found said : List Said) → PartsSaid bound parts (separators_from 1 lines ++ parts_said parts) found → IsPermutation found said → IsStableByKey (λ s. s.place) nat_cmp found said → PartsLeast parts said
+-- the same, part behind part
+in_order : (a b m f r : List Said) → a ++ (b ++ (m ++ (f ++ r))) ≡ ((a ++ (b ++ m)) ++ f) ++ r
+in_order a b m f r =
+    ap (λ (x : List Said). a ++ x) (sym (append_assoc b m (f ++ r)))
+    ∙ (sym (append_assoc a (b ++ m) (f ++ r)) ∙ sym (append_assoc (a ++ (b ++ m)) f r))
+
+by_parts : (bound : ℕ) (parts lines : List (List ℕ)) (found said : List Said) → SaysFurther (PartsSaid bound parts) (separators_from 1 lines) found → IsPermutation found said → IsStableByKey (λ s. s.place) nat_cmp found said → PartsLeast parts said
 by_parts bound [] lines found said h moved stable = tt
 by_parts bound (component ∷ []) lines found said h moved stable =
-    let further = h.1.0 in
-    let runs = h.2.0 in
-    let all : found ≡ ((separators_from 1 lines ++ (component_said component ++ [])) ++ further) ++ runs = h.2.2 ∙ ap (λ (xs : List Said). xs ++ runs) h.1.2 in
-    component_least component [] lines further runs found said all moved (runs_are bound (component ∷ []) runs h.2.1) (not_none 1 further h.1.1)
+    let none : List Said = [] in
+    let all : found ≡ ((separators_from 1 lines ++ (component_said component ++ none)) ++ none) ++ none =
+    h.2 ∙ (ap (λ (x : List Said). separators_from 1 lines ++ x) (h.1.2 ∙ ap (λ (x : List Said). component_said component ++ x) h.1.1) ∙ in_order (separators_from 1 lines) (component_said component) none none none) in
+    component_least component lines none none none found said all moved (of_none 2 none refl) (of_none 0 none refl) (not_none 1 none refl)
 by_parts bound (component ∷ matrix ∷ rest) lines found said h moved stable =
-    let further = h.1.0 in
-    let runs = h.2.0 in
-    let m = matrix_read (component_read component) matrix in
+    let c = component_read component in
+    let m = matrix_read c matrix in
     let above = above_next (above_next 0 component) matrix in
-    let first = separators_from 1 lines ++ (component_said component ++ behind_component component (matrix ∷ rest)) in
-    let all : found ≡ (first ++ further) ++ runs = h.2.2 ∙ ap (λ (xs : List Said). xs ++ runs) h.1.2 in
-    let are_runs = runs_are bound (component ∷ matrix ∷ rest) runs h.2.1 in (
-      component_least component (matrix ∷ rest) lines further runs found said all moved are_runs (further_not 1 (omega arith) (omega arith) m above rest further h.1.1),
-      matrix_least component (matrix ∷ rest) lines further runs found said all moved are_runs matrix rest refl (further_not 2 (omega arith) (omega arith) m above rest further h.1.1),
-      further_least m above rest first further runs found said all moved stable (λ p le. lines_not p (λ e. omega arith) (λ e. omega arith) (λ e. omega arith) 1 lines component (matrix ∷ rest)) are_runs h.1.1,
+    let behind = matrix_said c (above_next 0 component) matrix in
+    let told = h.1.1 in
+    let further = told.0 in
+    let runs = told.1 in
+    let first = separators_from 1 lines ++ (component_said component ++ behind) in
+    let all : found ≡ (first ++ further) ++ runs =
+    h.2 ∙ (ap (λ (x : List Said). separators_from 1 lines ++ x) (h.1.2 ∙ ap (λ (x : List Said). component_said component ++ x) told.4) ∙ in_order (separators_from 1 lines) (component_said component) behind further runs) in
+    let are_behind = matrix_are c (above_next 0 component) matrix in
+    let are_runs = runs_are bound c m (above_next 0 component) matrix runs told.3 in (
+      component_least component lines behind further runs found said all moved are_behind are_runs (further_not 1 (omega arith) (omega arith) m above rest further told.2),
+      matrix_least component lines behind further runs found said all moved are_behind are_runs matrix refl (further_not 2 (omega arith) (omega arith) m above rest further told.2),
+      further_least m above rest first further runs found said all moved stable (λ p le. lines_not p (λ e. omega arith) (λ e. omega arith) (λ e. omega arith) 1 lines component behind are_behind) are_runs told.2,
     )
 
 pub readers_are_least : ReadersAreLeast

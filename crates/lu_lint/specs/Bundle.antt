@@ -6,7 +6,7 @@ use Rattle.std.specs.Ordering.{nat_cmp}
 use Rattle.std.specs.Str.{bytes_eq}
 use Rattle.std.specs.Result.{result_ok}
 use Rattle.lu_text.specs.Faults.{meaning_of}
-use Rattle.lu_text.specs.Lines.{is_blank, kept_lines}
+use Rattle.lu_text.specs.Lines.{is_blank, kept_lines, lines_of}
 use Rattle.lu_component.specs.Component.{Declarations}
 use Rattle.lu_lang.specs.Grammar.{component_grammar}
 use Rattle.lu_lint.specs.declared.remark.Said.{Said}
@@ -14,12 +14,14 @@ use Rattle.lu_lint.specs.declared.remark.Cause.TheVariants.{Separator}
 use Rattle.lu_test.specs.Matrix.{Matrix}
 use Rattle.lu_test.specs.MatrixText.{matrix_grammar}
 use Rattle.lu_lint.specs.Further.{BehindMatrix}
-use Rattle.lu_lint.specs.Component.{component_lint}
+use Rattle.lu_lint.specs.Component.{component_lint, read_or_left}
 use Rattle.lu_lang.specs.Faulty.{Faulty}
 use Rattle.lu_lint.specs.Matrix.{matrix_lint}
-use Rattle.lu_lint.specs.Outline.{faulty_end, outline_text}
+use Rattle.lu_lint.specs.declared.component.ReadComponent.{ReadComponent}
+use Rattle.lu_lint.specs.declared.component.ReadComponent.TheVariants as read
+use Rattle.lu_lint.specs.Outline.{faulty_of_lines, outline}
 use Rattle.lu_lint.specs.Said.{SaysFurther, above_next, said_of_text}
-use Rattle.lu_lint.specs.Warnings.{warnings_in}
+use Rattle.lu_lint.specs.Warnings.{warnings_of_lines}
 use Rattle.lu_lint.specs.Runs.{RunsSaid}
 
 -- ---- the lines between the parts
@@ -56,14 +58,16 @@ separators_from n (line ∷ lines) = separator_said n line ++ separators_from (n
 abbrev pub parts_by_meant : List (List ℕ) → List (List ℕ)
 parts_by_meant lines = map concat (slice_split is_meant_to_part lines)
 
--- the component of a text, where it is read
-abbrev pub component_read : List ℕ → Option Declarations
-component_read text = result_ok (meaning_of component_grammar text)
+-- what a component's text is read as: the component, where it has no fault, and else what its lines
+-- leave
+abbrev pub component_read : List ℕ → ReadComponent
+component_read text =
+    read_or_left (meaning_of component_grammar text) (faulty_of_lines (lines_of text))
 
 -- the matrix of a text, where it and its component are read
-abbrev pub matrix_read : Option Declarations → List ℕ → Option Matrix
-matrix_read None text = None
-matrix_read (Some c) text = result_ok (meaning_of (matrix_grammar c) text)
+abbrev pub matrix_read : ReadComponent → List ℕ → Option Matrix
+matrix_read (read.Faulty f) text = None
+matrix_read (read.Sound c) text = result_ok (meaning_of (matrix_grammar c) text)
 
 -- what is said of a matrix by the operations of a component with faults, where these can be told
 -- apart
@@ -72,86 +76,43 @@ outline_said f None above text = []
 outline_said f (Some c) above text =
     said_of_text (matrix_lint c (Some f)) above text
 
-abbrev pub faulty_said : Faulty → ℕ → List ℕ → List Said
-faulty_said f above text = outline_said f (component_read (outline_text f.draft)) above text
+-- what is said of a matrix by its component
+abbrev pub matrix_said : ReadComponent → ℕ → List ℕ → List Said
+matrix_said (read.Faulty f) above text = outline_said f (outline f.draft) above text
+matrix_said (read.Sound c) above text = said_of_text (matrix_lint c None) above text
 
--- what is said of a matrix, by its component's text
-abbrev pub judged_said : Option Declarations → List ℕ → ℕ → List ℕ → List Said
-judged_said None component above text = faulty_said (faulty_end component) above text
-judged_said (Some c) component above text = said_of_text (matrix_lint c None) above text
-
-abbrev pub said_of_matrix : List ℕ → ℕ → List ℕ → List Said
-said_of_matrix component above text = judged_said (component_read component) component above text
-
--- the warnings of a component that is read
-abbrev pub warnings_said : Option Declarations → List ℕ → List Said
-warnings_said None text = []
-warnings_said (Some c) text = warnings_in c text
+-- the warnings of a component that is read, from these lines
+abbrev pub warnings_said : ReadComponent → List (List ℕ) → List Said
+warnings_said (read.Faulty f) lines = []
+warnings_said (read.Sound c) lines = warnings_of_lines c lines
 
 -- what is said of a component
 abbrev pub component_said : List ℕ → List Said
 component_said text =
-    said_of_text component_lint 0 text ++ warnings_said (component_read text) text
+    said_of_text component_lint 0 text ++ warnings_said (component_read text) (lines_of text)
 
--- what is said of the matrix right behind a component
-abbrev pub second_said : List ℕ → List ℕ → List Said
-second_said component matrix = said_of_matrix component (above_next 0 component) matrix
+-- what is said of the parts behind a component, before which so many lines stand: of the matrix, of
+-- the parts behind that, and by runs
+abbrev pub BehindComponent : ℕ → ReadComponent → ℕ → List (List ℕ) → List Said → Type 0
+BehindComponent bound c above [] said = said ≡ []
+BehindComponent bound c above (matrix ∷ parts) said =
+    (further : List Said) × (runs : List Said)
+    × BehindMatrix (matrix_read c matrix) (above_next above matrix) parts further
+    × RunsSaid bound c (matrix_read c matrix) above matrix runs
+    × (said ≡ matrix_said c above matrix ++ (further ++ runs))
 
--- what is said of the matrix behind a component, where there is one
-abbrev pub behind_component : List ℕ → List (List ℕ) → List Said
-behind_component component [] = []
-behind_component component (matrix ∷ parts) = second_said component matrix
-
--- what is said of the first two parts
-abbrev pub parts_said : List (List ℕ) → List Said
-parts_said [] = []
-parts_said (component ∷ parts) = component_said component ++ behind_component component parts
-
--- what is said of the lines of a bundle, without the parts behind its matrix
-abbrev pub lines_said : List (List ℕ) → List Said
-lines_said lines = separators_from 1 lines ++ parts_said (parts_by_meant lines)
-
--- what is said of the parts behind these texts of a component and a matrix
-abbrev pub FurtherOfTexts : List ℕ → List ℕ → List (List ℕ) → List Said → Type 0
-FurtherOfTexts component matrix texts said =
-    BehindMatrix (matrix_read (component_read component) matrix)
-    (above_next (above_next 0 component) matrix) texts said
-
--- where these are a third part and those behind it
-abbrev pub ThirdOf : List ℕ → List ℕ → List ℕ → List (List ℕ) → List Said → Type 0
-ThirdOf component matrix text texts said = FurtherOfTexts component matrix (text ∷ texts) said
-
--- what is said of the parts of a bundle behind its matrix
-abbrev pub FurtherOf : List (List ℕ) → List Said → Type 0
-FurtherOf [] said = said ≡ []
-FurtherOf (component ∷ []) said = said ≡ []
-FurtherOf (component ∷ matrix ∷ parts) said = FurtherOfTexts component matrix parts said
-
--- what runs show of the text of a matrix behind a component, where both are read
-abbrev pub RunsBehind : ℕ → Option Declarations → ℕ → List ℕ → List Said → Type 0
-RunsBehind bound c above text said = RunsSaid bound c (matrix_read c text) above text said
-
--- what runs show of these texts of a component and a matrix
-abbrev pub RunsOfTexts : ℕ → List ℕ → List ℕ → List Said → Type 0
-RunsOfTexts bound component matrix said =
-    RunsBehind bound (component_read component) (above_next 0 component) matrix said
-
--- the same, where there is a matrix
-abbrev pub RunsOfParts : ℕ → List (List ℕ) → List Said → Type 0
-RunsOfParts bound [] said = said ≡ []
-RunsOfParts bound (component ∷ []) said = said ≡ []
-RunsOfParts bound (component ∷ matrix ∷ parts) said = RunsOfTexts bound component matrix said
-
--- what is said of these parts, behind what was said first
-abbrev pub PartsSaid : ℕ → List (List ℕ) → List Said → List Said → Type 0
-PartsSaid bound parts first said =
-    (texts : List Said) × SaysFurther (FurtherOf parts) first texts
-    × SaysFurther (RunsOfParts bound parts) texts said
+-- what is said of the parts
+abbrev pub PartsSaid : ℕ → List (List ℕ) → List Said → Type 0
+PartsSaid bound [] said = said ≡ []
+PartsSaid bound (component ∷ parts) said =
+    SaysFurther (BehindComponent bound (component_read component) (above_next 0 component) parts)
+    (component_said component) said
 
 -- what is said of a bundle, with this bound of serial runs
 abbrev pub BundleSaid : ℕ → List ℕ → List Said → Type 0
 BundleSaid bound bundle said =
-    PartsSaid bound (parts_by_meant (kept_lines bundle)) (lines_said (kept_lines bundle)) said
+    SaysFurther (PartsSaid bound (parts_by_meant (kept_lines bundle)))
+    (separators_from 1 (kept_lines bundle)) said
 
 -- this is said of a bundle, in any order of the lines; on each line in the order of what is found
 abbrev pub IsSaidOf : ℕ → List ℕ → List Said → Type 0

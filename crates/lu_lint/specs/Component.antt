@@ -1,12 +1,16 @@
 -- The faults of a component's text, each line read as it was meant.
-use Rattle.std.specs.Prelude.{ℕ, List, [], map, Option, Some, None}
+use Rattle.std.specs.Prelude.{ℕ, Bool, List, [], map, Option, Some, None, Result, Ok, Err, if◌then◌else◌}
 use Rattle.lu_component.specs.Component.{Declarations}
 use Rattle.lu_lang.specs.declared.fault.LangFaultKind.{LangFaultKind}
 use Rattle.lu_lang.specs.declared.fault.LangFaultKind.TheVariants.{Name}
+use Rattle.lu_lang.specs.Draft.{Drafted}
 use Rattle.lu_lang.specs.Faulty.{Faulty}
+use Rattle.lu_lang.specs.Grammar.{component_grammar}
 use Rattle.lu_text.specs.Faults.{fault_in}
 use Rattle.lu_lang.specs.Meant.{faulty_grammar, mend_faulty}
 use Rattle.lu_lang.specs.Place.{backs, left_backs, open_backs}
+use Rattle.lu_lint.specs.declared.component.ReadComponent.{ReadComponent}
+use Rattle.lu_lint.specs.declared.component.ReadComponent.TheVariants as read
 use Rattle.lu_lint.specs.declared.remark.Position.{Position}
 use Rattle.lu_lint.specs.declared.remark.Said.{Said}
 use Rattle.lu_lint.specs.declared.remark.FaultKind.TheVariants as part
@@ -48,6 +52,24 @@ backs_beside f line lines (Some kind) = left_backs f.draft line lines kind
 -- the draft from which the lines behind a line are read, where the line left this or has a fault
 abbrev pub left_by : Faulty → List ℕ → List (List ℕ) → Option LangFaultKind → Faulty
 left_by f line lines fault = lint.left_by mend_faulty f line lines fault
+
+-- ---- what a text is read as
+
+-- the component, where there is one, and else what the lines left
+abbrev pub read_or_left : {E : Type 0} → Result Declarations E → Faulty → ReadComponent
+read_or_left (Ok c) left = read.Sound c
+read_or_left (Err e) left = read.Faulty left
+
+-- what is declared at the end of the text; or the draft, where its end has a fault
+abbrev pub declared_or_left : Drafted → Result Declarations LangFaultKind
+    → Result Declarations Drafted
+declared_or_left d (Ok c) = Ok c
+declared_or_left d (Err kind) = Err d
+
+-- where the lines left this, and have no fault or some
+abbrev pub read_as : Faulty → Bool → ReadComponent
+read_as f sound =
+    if sound then read_or_left (component_grammar.finish f.draft) f else read.Faulty f
 
 -- ---- what is said, of a line that stands here
 

@@ -6,7 +6,6 @@ use Rattle.lu_text.specs.declared.fault.Fault.{Fault as Refused}
 use Rattle.lu_text.specs.declared.fault.Fault.TheVariants.{At, Memory}
 use Rattle.lu_text.specs.Faults.{meaning_of}
 use Rattle.lu_text.specs.Lines.{kept_lines}
-use Rattle.lu_component.specs.Component.{Declarations}
 use Rattle.lu_lang.specs.declared.fault.LangFaultKind.{LangFaultKind}
 use Rattle.lu_lang.specs.declared.fault.LangFaultKind.TheVariants.{Name}
 use Rattle.lu_lang.specs.Grammar.{component_grammar}
@@ -21,6 +20,8 @@ use Rattle.lu_report.specs.Forms.{IsFault, Spells}
 use Rattle.lu_spec.specs.declared.fault.SpecFaultKind.{SpecFaultKind}
 use Rattle.lu_spec.specs.EveryFreeFault.{ListsGiven}
 use Rattle.lu_spec.specs.FreeSpecs.{IsGivenFault}
+use Rattle.lu_lint.specs.declared.component.ReadComponent.{ReadComponent}
+use Rattle.lu_lint.specs.declared.component.ReadComponent.TheVariants as read
 use Rattle.lu_lint.specs.declared.remark.Said.{Said}
 use Rattle.lu_lint.specs.declared.remark.Cause.{Cause}
 use Rattle.lu_lint.specs.declared.remark.Cause.TheVariants.{Fault}
@@ -109,9 +110,9 @@ ComponentLeast text said =
     LeastIsReaders component_fault SameOrJump (meaning_of component_grammar text) said
 
 -- where the component is read
-abbrev pub MatrixLeast : Option Declarations → List ℕ → List Said → Type 0
-MatrixLeast None text said = Unit {0}
-MatrixLeast (Some c) text said =
+abbrev pub MatrixLeast : ReadComponent → List ℕ → List Said → Type 0
+MatrixLeast (read.Faulty f) text said = Unit {0}
+MatrixLeast (read.Sound c) text said =
     LeastIsReaders matrix_fault Same (meaning_of (matrix_grammar c) text) said
 
 -- where the matrix is read

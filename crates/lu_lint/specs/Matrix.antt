@@ -1,12 +1,13 @@
 -- The faults of a matrix's text: each message stands on its fault's line.
-use Rattle.std.specs.Prelude.{ℕ, List, [], ◌∷◌, Option, Some, None, Result}
+use Rattle.std.specs.Prelude.{ℕ, Bool, List, [], ◌∷◌, Option, Some, None, Result, if◌then◌else◌}
+use Rattle.std.specs.Result.{result_ok}
 use Rattle.std.specs.Option.{option_copied}
 use Rattle.lu_component.specs.Component.{Declarations}
 use Rattle.lu_lang.specs.Faulty.{Faulty}
 use Rattle.lu_text.specs.Faults.{Grammar}
 use Rattle.lu_test.specs.declared.matrix_fault.MatrixFaultKind.{MatrixFaultKind}
 use Rattle.lu_test.specs.Matrix.{Matrix}
-use Rattle.lu_test.specs.MatrixText.{Drafted, line_of, matrix_grammar}
+use Rattle.lu_test.specs.MatrixText.{Drafted, finished, line_of, matrix_grammar}
 use Rattle.lu_test.specs.MatrixGoing.{mend}
 use Rattle.lu_lint.specs.declared.matrix.Basis.{Basis}
 use Rattle.lu_lint.specs.declared.remark.Position.{Position}
@@ -57,3 +58,7 @@ left_by d line (Some kind) = mend d line
 abbrev pub fault_said : Position → Option MatrixFaultKind → List Said
 fault_said at None = []
 fault_said at (Some kind) = said_told part.Matrix at.above (told_here at.line kind) ∷ []
+
+-- the matrix of what lines left that have no fault, or have some
+abbrev pub matrix_if : Drafted → Bool → Option Matrix
+matrix_if d sound = if sound then result_ok (finished d) else None

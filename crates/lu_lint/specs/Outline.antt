@@ -5,17 +5,21 @@ use Rattle.std.specs.List.{list_all, flat_map}
 use Rattle.std.specs.Str.{bytes_eq}
 use Rattle.std.specs.Option.{option_map_or}
 use Rattle.std.specs.Fmt.{decimal}
-use Rattle.lu_text.specs.Lines.{is_allowed, lines_of}
+use Rattle.std.specs.Result.{result_ok}
+use Rattle.lu_text.specs.Faults.{meaning_of, meaning_of_lines}
+use Rattle.lu_text.specs.Lines.{is_allowed}
 use Rattle.lu_text.specs.Words.{Word}
 use Rattle.lu_component.specs.declared.component.Op.{Op}
-use Rattle.lu_component.specs.Component.{operation_place}
+use Rattle.lu_component.specs.Component.{Declarations, operation_place}
 use Rattle.lu_lang.specs.declared.meant.Family.TheVariants.{Operation}
 use Rattle.lu_lang.specs.Draft.{Begun, Drafted}
 use Rattle.lu_lang.specs.Faulty.{Faulty}
+use Rattle.lu_lang.specs.Grammar.{component_grammar}
 use Rattle.lu_lang.specs.Meant.{is_meant, spaced}
 use Rattle.lu_test.specs.MatrixText.{parts_in}
 use Rattle.lu_lint.specs.Lint.{draft_after}
-use Rattle.lu_lint.specs.Component.{component_lint}
+use Rattle.lu_lint.specs.declared.component.ReadComponent.{ReadComponent}
+use Rattle.lu_lint.specs.Component.{component_lint, read_or_left}
 
 -- ---- the operations
 
@@ -23,9 +27,10 @@ use Rattle.lu_lint.specs.Component.{component_lint}
 abbrev pub faulty_of_lines : List (List ℕ) → Faulty
 faulty_of_lines lines = draft_after component_lint component_lint.grammar.nothing lines
 
--- and those of its text
-abbrev pub faulty_end : List ℕ → Faulty
-faulty_end text = faulty_of_lines (lines_of text)
+-- what these lines are read as, each as it was meant
+abbrev pub read_of_lines : List (List ℕ) → ReadComponent
+read_of_lines lines =
+    read_or_left (meaning_of_lines component_lint.grammar lines) (faulty_of_lines lines)
 
 -- an operation as its calls see it
 abbrev pub head_text : List ℕ → ℕ → List ℕ
@@ -55,6 +60,10 @@ outline_of begun ops = codes "component _\n" ++ heads_text begun (take 16 ops)
 
 abbrev pub outline_text : Drafted → List ℕ
 outline_text d = outline_of d.begun d.operations
+
+-- the component of this text, where it is read
+abbrev pub outline : Drafted → Option Declarations
+outline d = result_ok (meaning_of component_grammar (outline_text d))
 
 -- ---- calls of an operation whose `op` line has a fault: their arguments are not looked at
 

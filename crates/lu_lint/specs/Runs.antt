@@ -1,5 +1,5 @@
 -- Warnings by runs: what the setup's run and the serial runs show.
-use Rattle.std.specs.Prelude.{◌≡◌, ◌⊎◌, ℕ, ◌+◌, ◌-◌, Bool, true, false, List, [], ◌∷◌, ◌++◌, length, map, filter, replicate, Option, Some, None, Result, IfOk, Vec, slice_get, codes, ◌==◌, ◌&&◌, if◌then◌else◌}
+use Rattle.std.specs.Prelude.{◌≡◌, ◌⊎◌, ℕ, ◌+◌, ◌-◌, Bool, true, false, List, [], ◌∷◌, ◌++◌, length, map, filter, replicate, Option, Some, None, IfSome, Result, IfOk, Vec, slice_get, codes, ◌==◌, ◌&&◌, if◌then◌else◌}
 use Rattle.std.specs.List.{flat_map, list_any}
 use Rattle.std.specs.List.Sorted.{IsStrictlySortedBy}
 use Rattle.std.specs.Option.{unwrap_or}
@@ -8,7 +8,7 @@ use Rattle.lu_text.specs.Lines.{lines_of, words_of}
 use Rattle.lu_text.specs.Words.{Word}
 use Rattle.lu_component.specs.Component.{Declarations}
 use Rattle.lu_test.specs.declared.schedule.Move.{Move}
-use Rattle.lu_test.specs.Matrix.{Matrix, alone}
+use Rattle.lu_test.specs.Matrix.{IsOf, Matrix, alone}
 use Rattle.lu_machine.specs.declared.event.Event.{Event}
 use Rattle.lu_machine.specs.declared.event.Event.TheVariants.{Call, Return}
 use Rattle.lu_machine.specs.declared.event.Outcome.{Outcome}
@@ -29,6 +29,8 @@ use Rattle.lu_lint.specs.declared.remark.Ending.TheVariants.{Trap as Trapped, St
 use Rattle.lu_lint.specs.declared.remark.SerialHint.{SerialHint}
 use Rattle.lu_lint.specs.declared.remark.RunHint.{RunHint}
 use Rattle.lu_lint.specs.declared.remark.RunHint.TheVariants.{SetupGoesOn, SetupTraps, Serial}
+use Rattle.lu_lint.specs.declared.component.ReadComponent.{ReadComponent}
+use Rattle.lu_lint.specs.declared.component.ReadComponent.TheVariants.{Sound, Faulty}
 use Rattle.lu_lint.specs.declared.runs.Test.{Test}
 use Rattle.lu_lint.specs.Said.{line_below}
 
@@ -245,7 +247,12 @@ RunsOfTest test above text said =
     RunsOf test.bound test.component.now test.matrix.now above text said
 
 -- the same, where both are read
-abbrev pub RunsSaid : ℕ → Option Declarations → Option Matrix → ℕ → List ℕ → List Said → Type 0
-RunsSaid bound None matrix above text said = said ≡ []
-RunsSaid bound (Some c) None above text said = said ≡ []
-RunsSaid bound (Some c) (Some matrix) above text said = RunsOf bound c matrix above text said
+abbrev pub RunsSaid : ℕ → ReadComponent → Option Matrix → ℕ → List ℕ → List Said → Type 0
+RunsSaid bound (Faulty f) matrix above text said = said ≡ []
+RunsSaid bound (Sound c) None above text said = said ≡ []
+RunsSaid bound (Sound c) (Some matrix) above text said = RunsOf bound c matrix above text said
+
+-- where both are read, the matrix is one of the component
+abbrev pub AreTest : ReadComponent → Option Matrix → Type 0
+AreTest (Faulty f) matrix = Unit {0}
+AreTest (Sound c) matrix = IfSome matrix (λ m. IsOf m c)

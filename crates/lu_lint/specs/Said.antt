@@ -19,6 +19,15 @@ abbrev pub SaysAlso : {E Y Z : Type 0} → Result (Vec Remark Z) E → Vec Remar
 SaysAlso result before said =
     IfOk result (λ next. said_of next.items ≡ said_of before.items ++ said)
 
+-- the same, and this is read
+abbrev pub SaysAndReads : {E Y Z V : Type 0} → Result (Vec Remark Z × V) E → Vec Remark Y
+    → List Said
+    → V
+    → Type 0
+SaysAndReads result before said value =
+    IfOk result
+    (λ (next, read). (said_of next.items ≡ said_of before.items ++ said) × (read ≡ value))
+
 -- these are said behind what was said before, and this is known of them
 abbrev pub SaysFurther : (List Said → Type 0) → List Said → List Said → Type 0
 SaysFurther P before after = (said : List Said) × P said × (after ≡ before ++ said)

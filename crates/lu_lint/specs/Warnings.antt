@@ -3,7 +3,7 @@ use Rattle.std.specs.Prelude.{find, ℕ, zero, suc, ◌+◌, ◌-◌, Bool, true
 use Rattle.std.specs.List.{enumerate_from, list_all, list_any}
 use Rattle.std.specs.Option.{option_map, unwrap_or}
 use Rattle.std.specs.Str.{bytes_eq}
-use Rattle.lu_text.specs.Lines.{lines_of, words_of}
+use Rattle.lu_text.specs.Lines.{words_of}
 use Rattle.lu_text.specs.Words.{Word}
 use Rattle.lu_component.specs.Component.{Declarations}
 use Rattle.lu_component.specs.declared.instr.Instr.{Instr}
@@ -206,9 +206,6 @@ warnings_after c seen n d (line ∷ lines) =
     map (warned seen n) (line_hints c d line)
     ++ warnings_after c (with_words seen n line) (n + 1) (draft_behind d line) lines
 
+-- the warnings of the lines of this component
 abbrev pub warnings_of_lines : Declarations → List (List ℕ) → List Said
 warnings_of_lines c lines = warnings_after c [] 1 nothing lines
-
--- the warnings of the text of this component
-abbrev pub warnings_in : Declarations → List ℕ → List Said
-warnings_in c text = warnings_of_lines c (lines_of text)

@@ -1,19 +1,24 @@
 //! The faults of a component's text.
 
-ghost use Rattle.std.specs.Prelude.{◌≡◌, IfOk, Some};
+ghost use Rattle.std.specs.Prelude.{◌≡◌, true, IfOk, Some};
+ghost use Rattle.lu_lang.specs.Grammar.{component_grammar};
+ghost use Rattle.lu_lang.specs.Sound.{IsSoundDraft};
+ghost use Rattle.lu_lint.specs.Outline.{read_of_lines};
+ghost use Rattle.lu_lint.specs.Bundle.{component_read, component_said, warnings_said};
 ghost use Rattle.lu_lint.specs.Component as spec;
 ghost use Rattle.lu_lint.specs.Component.{component_lint};
 ghost use Rattle.lu_text.specs.Results.{HasItems};
 ghost use Rattle.lu_lint.specs.Lint.{told_there};
-ghost use Rattle.lu_lint.specs.Outline as outline;
-ghost use Rattle.lu_lint.specs.Said.{SaysAlso, said_of_lines, said_of_text, said_told};
+ghost use Rattle.lu_lint.specs.Said.{SaysAlso, SaysAndReads, said_of_lines, said_told};
 ghost use Rattle.lu_lint.specs.declared.remark.FaultKind.TheVariants as part;
 ghost use Rattle.lu_text.specs.Lines.{texts};
 
 use crate::remark::{
     Cause, FaultKind, Position, Remark, Said, line_before, line_below, with_remark, with_words,
 };
+use crate::warning::with_warnings;
 use crate::wording::{end_wording, jump_wording, wording};
+use lu_component::Component;
 use lu_lang::{
     Draft, FaultyDraft, LangFaultKind, end_fault, left_backs, meant_line, mended, message_backs,
     open_backs, read_or_fault,
@@ -158,23 +163,84 @@ fn with_end(
     }
 }
 
-fn faults_of_lines(
+/// What the text of a component is read as.
+#[derive(Drop)]
+pub(crate) enum ReadComponent {
+    /// The component, where the text has no fault.
+    Sound(Component),
+
+    /// What the lines leave, each read as it was meant.
+    Faulty(FaultyDraft),
+}
+
+/// What is declared at the end of the text; or the draft, where its end has a fault.
+#[tactic(auto, using(lu_lang::proofs::Drafts::draft_component))]
+fn component_of(draft: Draft) -> Result<Component, Draft>
+    requires { IsSoundDraft draft }
+    ensures { result ≡ spec.declared_or_left draft (component_grammar.finish draft) }
+{
+    let Draft {
+        name,
+        local,
+        arrays,
+        locks,
+        operations,
+        begun,
+    } = draft;
+    match (name, begun) {
+        (Some(name), None) => Ok(Component::new(
+            name,
+            local.unwrap_or(0),
+            arrays,
+            locks,
+            operations,
+        )),
+        (name, begun) => Err(Draft {
+            name,
+            local,
+            arrays,
+            locks,
+            operations,
+            begun,
+        }),
+    }
+}
+
+/// What the text is read as, of which the lines leave this draft, and have no fault or some.
+fn read_as(draft: FaultyDraft, sound: bool) -> ReadComponent
+    requires { sound ≡ true → IsSoundDraft draft.draft }
+    ensures { result ≡ spec.read_as draft sound }
+{
+    if !sound {
+        return ReadComponent::Faulty(draft);
+    }
+    let FaultyDraft { draft, meant } = draft;
+    match component_of(draft) {
+        Ok(component) => ReadComponent::Sound(component),
+        Err(draft) => ReadComponent::Faulty(FaultyDraft { draft, meant }),
+    }
+}
+
+/// The remarks with those on these lines of a component, and what the lines are read as.
+fn read_lines(
     alloc: Global,
     mut all: Vec<Remark>,
-    above: usize,
     lines: &[&[u8]],
-) -> Result<Vec<Remark>, AllocError>
-    ensures { SaysAlso result all (said_of_lines component_lint above (texts lines.now)) }
+) -> Result<(Vec<Remark>, ReadComponent), AllocError>
+    ensures { SaysAndReads result all (said_of_lines component_lint 0 (texts lines.now))
+        (read_of_lines (texts lines.now)) }
 {
     let mut draft = FaultyDraft::new(alloc);
+    let mut sound = true;
     let mut seen = Vec::new(alloc);
     for (before, text) in lines.iter().enumerate() {
         let at = Position {
-            above,
+            above: 0,
             line: before + 1,
             seen,
         };
         let (next, fault) = read_or_fault(alloc, draft, text)?;
+        sound &= fault.is_none();
         let (_, behind) = lines.split_at(before + 1);
         all = with_line(alloc, all, &at, &next, fault, text)?;
         let backs = backs_beside(alloc, &next, fault, text, behind)?;
@@ -183,16 +249,32 @@ fn faults_of_lines(
         seen = with_words(alloc, at.seen, before + 1, text)?;
     }
     let at = Position {
-        above,
+        above: 0,
         line: lines.len() + 1,
         seen,
     };
     let all = with_end(alloc, all, &at, &draft)?;
-    Ok(all)
+    Ok((all, read_as(draft, sound)))
 }
 
-/// The remarks with those on a component's text, before which `above` lines of the bundle stand:
-/// one on every fault that does not only follow from another, in the order of their lines.
+/// The remarks with the warnings of these lines of a component, where it is read.
+fn with_warnings_of(
+    alloc: Global,
+    all: Vec<Remark>,
+    component: &ReadComponent,
+    lines: &[&[u8]],
+) -> Result<Vec<Remark>, AllocError>
+    ensures { SaysAlso result all (warnings_said component.now (texts lines.now)) }
+{
+    match component {
+        ReadComponent::Faulty(_) => Ok(all),
+        ReadComponent::Sound(component) => with_warnings(alloc, component, all, lines),
+    }
+}
+
+/// The remarks with those on the text of a component, which begins the bundle, and what the text is
+/// read as: one on every fault that does not only follow from another, in the order of their lines;
+/// or, where it has none, each warning.
 ///
 /// # Errors
 ///
@@ -200,36 +282,12 @@ fn faults_of_lines(
 pub(crate) fn with_component(
     alloc: Global,
     all: Vec<Remark>,
-    above: usize,
     text: &[u8],
-) -> Result<Vec<Remark>, AllocError>
-    ensures { SaysAlso result all (said_of_text component_lint above text.now) }
+) -> Result<(Vec<Remark>, ReadComponent), AllocError>
+    ensures { SaysAndReads result all (component_said text.now) (component_read text.now) }
 {
     let lines = lines_of(alloc, text)?;
-    faults_of_lines(alloc, all, above, &lines)
-}
-
-/// What these lines leave, each read as it was meant.
-fn draft_of_lines(alloc: Global, lines: &[&[u8]]) -> Result<FaultyDraft, AllocError>
-    ensures { IfOk result (λ draft. draft ≡ outline.faulty_of_lines (texts lines.now)) }
-{
-    let mut draft = FaultyDraft::new(alloc);
-    for (before, text) in lines.iter().enumerate() {
-        let (next, fault) = read_or_fault(alloc, draft, text)?;
-        let (_, behind) = lines.split_at(before + 1);
-        draft = left_by(alloc, next, fault, text, behind)?;
-    }
-    Ok(draft)
-}
-
-/// What the lines of a component's text leave, each read as it was meant.
-///
-/// # Errors
-///
-/// There is no memory for what they declare.
-pub(crate) fn faulty_end(alloc: Global, text: &[u8]) -> Result<FaultyDraft, AllocError>
-    ensures { IfOk result (λ draft. draft ≡ outline.faulty_end text.now) }
-{
-    let lines = lines_of(alloc, text)?;
-    draft_of_lines(alloc, &lines)
+    let (all, component) = read_lines(alloc, all, &lines)?;
+    let all = with_warnings_of(alloc, all, &component, &lines)?;
+    Ok((all, component))
 }

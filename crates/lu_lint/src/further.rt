@@ -91,9 +91,8 @@ fn with_behind(
     }
 }
 
-/// The remarks with those on a third part and on the parts behind it, behind a matrix that is read
-/// or not.
-pub(crate) fn with_further(
+/// The remarks with those on a third part and on the parts behind it.
+fn with_third_part(
     alloc: Global,
     all: Vec<Remark>,
     matrix: &Option<Matrix>,
@@ -108,4 +107,20 @@ pub(crate) fn with_further(
     let above = above_next(alloc, above, text)?;
     let all = with_behind(alloc, all, third, matrix, above, parts)?;
     Ok(all)
+}
+
+/// The remarks with those on the parts behind a matrix that is read or not.
+pub(crate) fn with_further(
+    alloc: Global,
+    all: Vec<Remark>,
+    matrix: &Option<Matrix>,
+    above: usize,
+    parts: &[&[u8]],
+) -> Result<Vec<Remark>, AllocError>
+    ensures { SaysSuch result all (BehindMatrix matrix.now above (texts parts.now)) }
+{
+    match parts.split_first() {
+        None => Ok(all),
+        Some((text, others)) => with_third_part(alloc, all, matrix, above, text, others),
+    }
 }

@@ -1,24 +1,31 @@
 //! The faults of a matrix's text.
 
-ghost use Rattle.std.specs.Prelude.{◌≡◌, IfOk, OnOk};
+ghost use Rattle.std.specs.Prelude.{◌≡◌, IfOk, IfSome, OnOk, []};
+ghost use Rattle.std.specs.Option.{unwrap_or};
+ghost use Rattle.std.specs.Result.{result_ok};
 ghost use Rattle.lu_component.specs.Component.{IsComponent};
 ghost use Rattle.lu_lint.specs.Lint.{told_here};
 ghost use Rattle.lu_lint.specs.Matrix as spec;
 ghost use Rattle.lu_lint.specs.Matrix.{fault_said, judged_by, lint_on};
-ghost use Rattle.lu_lint.specs.Said.{SaysAlso, said_of_lines, said_of_text, said_told};
+ghost use Rattle.lu_lint.specs.Bundle.{matrix_read, matrix_said, outline_said};
+ghost use Rattle.lu_lint.specs.Outline.{outline};
+ghost use Rattle.lu_lint.specs.Runs.{AreTest};
+ghost use Rattle.lu_lint.specs.Said.{SaysAlso, SaysAndReads, said_of_lines, said_of_text, said_told};
 ghost use Rattle.lu_lint.specs.declared.remark.FaultKind.TheVariants as part;
-ghost use Rattle.lu_text.specs.Faults.{fault_in, going_on};
-ghost use Rattle.lu_test.specs.MatrixText.{IsDraft, finished, nothing};
+ghost use Rattle.lu_text.specs.Faults.{fault_in, going_on, meaning_of, meaning_of_lines};
+ghost use Rattle.lu_test.specs.Matrix.{IsOf};
+ghost use Rattle.lu_test.specs.MatrixText.{IsDraft, finished, nothing, matrix_of as left_matrix};
 ghost use Rattle.lu_text.specs.Lines.{texts};
 
+use crate::component::ReadComponent;
 use crate::matrix_wording::{end_wording, matrix_wording};
-use crate::outline::sure_line;
+use crate::outline::{outline, sure_line};
 use crate::remark::{
     Cause, FaultKind, Position, Remark, Said, line_below, with_remark, with_words,
 };
 use lu_component::Component;
 use lu_lang::FaultyDraft;
-use lu_test::{Draft, MatrixFaultKind, end_fault, mended};
+use lu_test::{Calls, Draft, Matrix, MatrixFaultKind, end_fault, mended};
 use lu_text::lines_of;
 use std::alloc::{AllocError, Global};
 
@@ -153,16 +160,46 @@ fn with_end(
     }
 }
 
-fn faults_of_lines(
+/// The calls of the setup: none where there is no line of it.
+fn setup_calls(alloc: Global, setup: Option<Calls>) -> Calls
+    ensures { result ≡ unwrap_or setup [] }
+{
+    match setup {
+        None => Calls::new(Vec::new(alloc)),
+        Some(setup) => setup,
+    }
+}
+
+/// The matrix of the component that lines without a fault, or with some, left, where there is none,
+/// nor one of the end of the text.
+fn matrix_of(alloc: Global, component: &Component, draft: Draft, sound: bool) -> Option<Matrix>
+    requires limits { IsDraft draft }
+    requires fits { IsOf (left_matrix draft) component.now }
+    ensures read { result ≡ spec.matrix_if draft sound }
+    ensures fits { IfSome result (λ matrix. IsOf matrix component.now) }
+{
+    if !sound || end_fault(&draft).is_some() {
+        return None;
+    }
+    let Draft { setup, threads } = draft;
+    Matrix::new(component, setup_calls(alloc, setup), threads)
+}
+
+/// The remarks with those on these lines of a matrix, and the matrix, where they have no fault.
+fn read_lines(
     alloc: Global,
     basis: &Basis<'_>,
     mut all: Vec<Remark>,
     above: usize,
     lines: &[&[u8]],
-) -> Result<Vec<Remark>, AllocError>
-    ensures { SaysAlso result all (said_of_lines (lint_on basis.now) above (texts lines.now)) }
+) -> Result<(Vec<Remark>, Option<Matrix>), AllocError>
+    ensures said { SaysAndReads result all
+        (said_of_lines (lint_on basis.now) above (texts lines.now))
+        (result_ok (meaning_of_lines (lint_on basis.now).grammar (texts lines.now))) }
+    ensures fits { IfOk result (λ (all, read). IfSome read (λ m. IsOf m basis.now.component.now)) }
 {
     let mut draft = no_lines(alloc);
+    let mut sound = true;
     let mut seen = Vec::new(alloc);
     for (before, text) in lines.iter().enumerate() {
         let at = Position {
@@ -171,6 +208,7 @@ fn faults_of_lines(
             seen,
         };
         let (read, fault) = judged(alloc, basis, draft, text)?;
+        sound &= fault.is_none();
         let next = Next { draft: &read, text };
         all = with_line(alloc, basis, all, &at, next, fault)?;
         draft = left_by(alloc, read, fault, text)?;
@@ -182,24 +220,80 @@ fn faults_of_lines(
         seen,
     };
     let all = with_end(alloc, all, &at, &draft)?;
-    Ok(all)
+    Ok((all, matrix_of(alloc, basis.component, draft, sound)))
 }
 
-/// The remarks with those on the text of a matrix, before which `above` lines of the bundle stand:
-/// one on every fault, in the order of their lines.
+/// The remarks with those on the text of a matrix, and the matrix, where it has no fault.
+fn read_text(
+    alloc: Global,
+    basis: &Basis<'_>,
+    all: Vec<Remark>,
+    above: usize,
+    text: &[u8],
+) -> Result<(Vec<Remark>, Option<Matrix>), AllocError>
+    ensures said { SaysAndReads result all (said_of_text (lint_on basis.now) above text.now)
+        (result_ok (meaning_of (lint_on basis.now).grammar text.now)) }
+    ensures fits { IfOk result (λ (all, read). IfSome read (λ m. IsOf m basis.now.component.now)) }
+{
+    let lines = lines_of(alloc, text)?;
+    read_lines(alloc, basis, all, above, &lines)
+}
+
+/// The remarks with those on the text of a matrix, by the operations of a component with faults,
+/// where these can be told apart.
+fn with_matrix_by(
+    alloc: Global,
+    all: Vec<Remark>,
+    faulty: &FaultyDraft,
+    above: usize,
+    text: &[u8],
+) -> Result<Vec<Remark>, AllocError>
+    ensures { SaysAlso result all
+        (outline_said faulty.now (outline faulty.now.draft) above text.now) }
+{
+    match outline(alloc, &faulty.draft)? {
+        None => Ok(all),
+        Some(component) => {
+            let basis = Basis {
+                component: &component,
+                faulty: Some(faulty),
+            };
+            let (all, _) = read_text(alloc, &basis, all, above, text)?;
+            Ok(all)
+        }
+    }
+}
+
+/// The remarks with those on the text of a matrix behind a component, before which `above` lines of
+/// the bundle stand: one on every fault, in the order of their lines; and the matrix, where it and
+/// the component have none.
 ///
 /// # Errors
 ///
 /// There is no memory for the remarks.
 pub(crate) fn with_matrix(
     alloc: Global,
-    basis: &Basis<'_>,
     all: Vec<Remark>,
+    component: &ReadComponent,
     above: usize,
     text: &[u8],
-) -> Result<Vec<Remark>, AllocError>
-    ensures { SaysAlso result all (said_of_text (lint_on basis.now) above text.now) }
+) -> Result<(Vec<Remark>, Option<Matrix>), AllocError>
+    ensures said { SaysAndReads result all (matrix_said component.now above text.now)
+        (matrix_read component.now text.now) }
+    ensures fits { IfOk result (λ (all, read). AreTest component.now read) }
 {
-    let lines = lines_of(alloc, text)?;
-    faults_of_lines(alloc, basis, all, above, &lines)
+    match component {
+        ReadComponent::Faulty(faulty) => {
+            let all = with_matrix_by(alloc, all, faulty, above, text)?;
+            Ok((all, None))
+        }
+        ReadComponent::Sound(component) => {
+            let basis = Basis {
+                component,
+                faulty: None,
+            };
+            let (all, read) = read_text(alloc, &basis, all, above, text)?;
+            Ok((all, read))
+        }
+    }
 }

@@ -10,9 +10,9 @@ ghost use Rattle.lu_text.specs.Results.{HasItems};
 ghost use Rattle.lu_lint.specs.Items.{Extends};
 ghost use Rattle.lu_lint.specs.Outline as spec;
 
-use lu_component::{MOST_OPS, Op, operation_place};
-use lu_lang::{Draft, FaultyDraft, OpenOp, with_spaced_words};
-use lu_text::{are_allowed, before_comment, parts_of, words_of};
+use lu_component::{Component, MOST_OPS, Op, operation_place};
+use lu_lang::{Draft, FaultyDraft, OpenOp, read_component, with_spaced_words};
+use lu_text::{Fault, are_allowed, before_comment, parts_of, words_of};
 use std::alloc::{AllocError, Global};
 use std::fmt::Write;
 
@@ -98,10 +98,26 @@ fn outline_of(alloc: Global, begun: &Option<OpenOp>, ops: &[Op]) -> Result<Strin
 /// # Errors
 ///
 /// There is no memory for the text.
-pub(crate) fn outline_text(alloc: Global, draft: &Draft) -> Result<String, AllocError>
+fn outline_text(alloc: Global, draft: &Draft) -> Result<String, AllocError>
     ensures { IfOk result (λ text. string_bytes text ≡ spec.outline_text draft.now) }
 {
     outline_of(alloc, &draft.begun, &draft.operations)
+}
+
+/// The component of that text, where it is read.
+///
+/// # Errors
+///
+/// There is no memory for the component.
+pub(crate) fn outline(alloc: Global, draft: &Draft) -> Result<Option<Component>, AllocError>
+    ensures { IfOk result (λ read. read ≡ spec.outline draft.now) }
+{
+    let text = outline_text(alloc, draft)?;
+    match read_component(alloc, text.as_bytes()) {
+        Ok(component) => Ok(Some(component)),
+        Err(Fault::At(_, _)) => Ok(None),
+        Err(Fault::Memory) => Err(AllocError),
+    }
 }
 
 /// The text with a call, without its arguments where these are not looked at.

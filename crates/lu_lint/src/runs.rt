@@ -11,11 +11,12 @@ ghost use Rattle.lu_serial.specs.Serial as serial;
 ghost use Rattle.lu_text.specs.Results.{HasItems};
 ghost use Rattle.lu_lint.specs.Items.{Extends};
 ghost use Rattle.lu_lint.specs.Runs as spec;
-ghost use Rattle.lu_lint.specs.Runs.{AreShownHints, CanPlay, HintsOfCut, RunsOfTest, Show, ShownBySetup, ShownSerially, ShowsFromEachStart, ShowsHistory, history_hints, set_hints, with_firsts, with_set};
+ghost use Rattle.lu_lint.specs.Runs.{AreShownHints, AreTest, CanPlay, HintsOfCut, RunsOfTest, RunsSaid, Show, ShownBySetup, ShownSerially, ShowsFromEachStart, ShowsHistory, history_hints, set_hints, with_firsts, with_set};
 ghost use Rattle.lu_lint.specs.declared.remark.RunHint.TheVariants.{Serial, SetupGoesOn};
 ghost use Rattle.lu_lint.specs.Said.{SaysAlso, SaysSuch};
 ghost use Rattle.lu_text.specs.Lines.{texts};
 
+use crate::component::ReadComponent;
 use crate::remark::{
     Cause, Ending, Operations, Remark, RunHint, Said, SerialHint, line_below, with_remark,
 };
@@ -500,7 +501,7 @@ fn with_hints(
 }
 
 /// The remarks with those that runs of the component and the matrix of this text show.
-pub(crate) fn with_runs_of(
+fn with_runs_of(
     alloc: Global,
     all: Vec<Remark>,
     test: Test<'_>,
@@ -514,4 +515,33 @@ pub(crate) fn with_runs_of(
 {
     let hints = hints_of(alloc, test.component, test.matrix, test.bound)?;
     with_hints(alloc, all, test, above, text, hints)
+}
+
+/// The remarks with those that runs show, where the component and the matrix of this text are read.
+/// `serial`, 1 to 256, is the bound of serial runs.
+pub(crate) fn with_runs(
+    alloc: Global,
+    all: Vec<Remark>,
+    component: &ReadComponent,
+    matrix: &Option<Matrix>,
+    serial: u16,
+    above: usize,
+    text: &[u8],
+) -> Result<Vec<Remark>, AllocError>
+    requires fits { AreTest component.now matrix.now }
+    requires some { 1 ≤ serial }
+    requires few { serial ≤ 256 }
+    ensures { SaysSuch result all (RunsSaid serial component.now matrix.now above text.now) }
+{
+    match (component, matrix) {
+        (ReadComponent::Sound(component), Some(matrix)) => {
+            let test = Test {
+                component,
+                matrix,
+                bound: serial,
+            };
+            with_runs_of(alloc, all, test, above, text)
+        }
+        _ => Ok(all),
+    }
 }

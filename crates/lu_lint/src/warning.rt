@@ -7,14 +7,14 @@ ghost use Rattle.lu_lang.specs.Grammar.{label_used};
 ghost use Rattle.lu_text.specs.Results.{HasItems};
 ghost use Rattle.lu_lint.specs.Said.{SaysAlso};
 ghost use Rattle.lu_lint.specs.Warnings as spec;
-ghost use Rattle.lu_lint.specs.Warnings.{warnings_in, warnings_of_lines};
+ghost use Rattle.lu_lint.specs.Warnings.{warnings_of_lines};
 ghost use Rattle.lu_text.specs.Lines.{texts};
 
 use crate::remark::{Cause, Hint, Position, Remark, Said, line_before, with_remark, with_words};
 use crate::warning_wording::warning_wording;
 use lu_component::{Arithmetic, Component, Instr};
 use lu_lang::{Draft, Label, OpenOp, Statement};
-use lu_text::{lines_of, words_of};
+use lu_text::words_of;
 use std::alloc::{AllocError, Global};
 
 /// A hint, which stands so many lines with words before a line.
@@ -492,7 +492,12 @@ fn draft_behind(alloc: Global, mut draft: Draft, text: &[u8]) -> Result<Draft, A
     Ok(draft)
 }
 
-fn warnings_of_lines(
+/// The remarks with the warnings of the lines of this component, which begins the bundle.
+///
+/// # Errors
+///
+/// There is no memory for the remarks.
+pub(crate) fn with_warnings(
     alloc: Global,
     component: &Component,
     mut all: Vec<Remark>,
@@ -514,21 +519,4 @@ fn warnings_of_lines(
         seen = with_words(alloc, at.seen, before + 1, text)?;
     }
     Ok(all)
-}
-
-/// The remarks with the warnings of the text of this component, which begins the bundle.
-///
-/// # Errors
-///
-/// There is no memory for the remarks.
-pub(crate) fn with_warnings(
-    alloc: Global,
-    component: &Component,
-    all: Vec<Remark>,
-    text: &[u8],
-) -> Result<Vec<Remark>, AllocError>
-    ensures { SaysAlso result all (warnings_in component.now text.now) }
-{
-    let lines = lines_of(alloc, text)?;
-    warnings_of_lines(alloc, component, all, &lines)
 }

@@ -1,6 +1,6 @@
 use Rattle.std.proofs.Common.{[], arith}
 use Rattle.lu_lint.proofs.Warned.{goes_on, ends}
-use Rattle.lu_lint.proofs.warning.warnings_of_lines.Goals as goal
+use Rattle.lu_lint.proofs.warning.with_warnings.Goals as goal
 
 pub loop-before-preserved : goal.loop-before-preserved
 loop-before-preserved c =

@@ -1,0 +1,138 @@
+-- What the lines of a text are read as, beside the faults that are told of them.
+use Rattle.std.proofs.Common.{◌≡◌, ℕ, ◌+◌, Bool, true, false, List, [], ◌∷◌, ◌++◌, Option, Some, None, Result, Ok, Err, refl, sym, ap, subst, ◌∙◌}
+use Rattle.std.specs.Prelude.{◌==◌, ◌&&◌, IfSome, IsSome, is_none, is_some, length, not}
+use Rattle.std.specs.Option.{unwrap_or}
+use Rattle.std.specs.Result.{result_ok}
+use Rattle.lu_text.specs.declared.fault.Fault.{Fault}
+use Rattle.lu_text.specs.declared.fault.Fault.TheVariants.{At}
+use Rattle.lu_text.specs.Faults.{Grammar, fault_in, going_on, lines_after, meaning_of, on_line, says, then_lines}
+use Rattle.lu_component.specs.Component.{Declarations}
+use Rattle.lu_lang.specs.declared.fault.LangFaultKind.{LangFaultKind}
+use Rattle.lu_lang.specs.Draft.{Drafted}
+use Rattle.lu_lang.specs.Faulty.{Faulty}
+use Rattle.lu_lang.specs.Grammar.{component_grammar, line_of}
+use Rattle.lu_lang.specs.Meant.{faulty_grammar, mend_faulty, read_as as meant_as, with_draft}
+use Rattle.lu_lang.specs.Sound.{IsSoundDraft}
+use Rattle.lu_lang.proofs.Drafts.{line_keeps}
+use Rattle.lu_test.specs.declared.matrix_fault.MatrixFaultKind.{MatrixFaultKind}
+use Rattle.lu_test.specs.declared.matrix.Call.{Call}
+use Rattle.lu_test.specs.declared.matrix_fault.MatrixFaultKind.TheVariants.{Limit}
+use Rattle.lu_test.specs.Matrix.{IsOf, Matrix, matrix_with}
+use Rattle.lu_test.specs.MatrixText.{finished, matrix_grammar}
+use Rattle.lu_test.specs.MatrixText as matrix
+use Rattle.lu_lint.specs.declared.component.ReadComponent.{ReadComponent}
+use Rattle.lu_lint.specs.declared.remark.Said.{Said}
+use Rattle.lu_lint.specs.Bundle.{component_read, component_said, warnings_said}
+use Rattle.lu_lint.specs.Component.{component_lint, read_as, read_or_left}
+use Rattle.lu_lint.specs.Outline.{faulty_of_lines, read_of_lines}
+use Rattle.lu_lint.specs.Said.{said_of_lines, said_of_text}
+use Rattle.lu_lint.proofs.Going.{two_more}
+use Rattle.lu_lang.proofs.Understood.{faulty_meaning}
+use Rattle.lu_text.specs.Lines.{lines_of}
+use Rattle.lu_lint.specs.Lint.{left_by}
+use Rattle.lu_lint.specs.Matrix.{judged_line, matrix_if, matrix_lint, matrix_mend, left_by as left_matrix}
+use Rattle.lu_lint.proofs.MatrixSteps.{left_same}
+
+-- while no line has had a fault, the lines to come give what all of them give; afterwards nothing
+abbrev pub Reads : {Kind Draft Value : Type 0} → Grammar Kind Draft Value → Bool → ℕ → Draft → List (List ℕ) → Result Value (Fault Kind) → Type 0
+Reads g true n d lines all = lines_after g n d lines ≡ all
+Reads g false n d lines all = result_ok all ≡ None
+
+-- a line has a fault or none
+pub free : (some none : Bool) → some ≡ not none → none ≡ not some
+free some true e = rw e refl
+free some false e = rw e refl
+
+-- one line more
+pub reads_on : {Kind Draft Value : Type 0} (g : Grammar Kind Draft Value) (mend : Draft → List ℕ → List (List ℕ) → Draft) (sound none : Bool) (n : ℕ) (d d1 next : Draft) (fault : Option Kind) (line : List ℕ) (behind rest : List (List ℕ)) (all : Result Value (Fault Kind))
+    → is_some fault ≡ not none → (d1, fault) ≡ going_on d (g.line d line) → next ≡ left_by mend d1 line behind fault → Reads g sound n d (line ∷ rest) all → Reads g (sound && none) (n + 1) next rest all
+unfolding lines_after
+reads_on g mend false none n d d1 next fault line behind rest all is e left h = h
+reads_on {Kind = Kind} {Draft = Draft} g mend true none n d d1 next fault line behind rest all is e left h = rw (free (is_some fault) none is) (go (g.line d line) e h)
+  where
+    go : (r : Result Draft Kind) → (d1, fault) ≡ going_on d r → then_lines (on_line n r) (λ x. lines_after g (n + 1) x rest) ≡ all → Reads g (true && is_none fault) (n + 1) next rest all
+    go (Ok y) f k =
+        let same : d1 ≡ y = ap (λ (x : Draft × Option Kind). x.0) f in
+        let free : fault ≡ None = ap (λ (x : Draft × Option Kind). x.1) f in
+        rw (left, free, same) k
+    go (Err kind) f k =
+        let some : fault ≡ Some kind = ap (λ (x : Draft × Option Kind). x.1) f in
+        rw (some, ← k) refl
+
+-- ---- a component
+
+-- while no line has had a fault, what is declared obeys the rules of components
+abbrev pub KeepsRules : Bool → Faulty → Type 0
+KeepsRules sound f = sound ≡ true → IsSoundDraft f.draft
+
+pub rules_on : (sound none : Bool) (f f1 next : Faulty) (fault : Option LangFaultKind) (line : List ℕ) (behind whole rest : List (List ℕ)) → whole ≡ line ∷ rest → behind ≡ rest → is_some fault ≡ not none → (f1, fault) ≡ going_on f (faulty_grammar.line f line) → next ≡ left_by mend_faulty f1 line behind fault → KeepsRules sound f → KeepsRules (sound && none) next
+rules_on false none f f1 next fault line behind whole rest cut same is e left h k = absurd cc
+rules_on true none f f1 next fault line behind whole rest cut same is e left h k = go (line_of f.draft (meant_as f line)) refl e (sym (free (is_some fault) none is) ∙ k)
+  where
+    go : (r : Result Drafted LangFaultKind) → line_of f.draft (meant_as f line) ≡ r → (f1, fault) ≡ going_on f (with_draft f r) → is_none fault ≡ true → IsSoundDraft next.draft
+    go (Ok d) read g free =
+        let same : f1 ≡ record f { draft = d } = ap (λ (x : Faulty × Option LangFaultKind). x.0) g in
+        let free : fault ≡ None = ap (λ (x : Faulty × Option LangFaultKind). x.1) g in
+        rw (left, free, same) (line_keeps f.draft (h refl) (meant_as f line) d read)
+    go (Err kind) read g free =
+        let some : fault ≡ Some kind = ap (λ (x : Faulty × Option LangFaultKind). x.1) g in
+        absurd (let free = rw some at free in cc)
+
+-- no line is left
+pub component_done : (sound : Bool) (n : ℕ) (f left : Faulty) (all : Result Declarations (Fault LangFaultKind)) → Reads faulty_grammar sound n f [] all → f ≡ left → read_as f sound ≡ read_or_left all left
+unfolding lines_after
+component_done false n f left all h same = go all h
+  where
+    go : (r : Result Declarations (Fault LangFaultKind)) → result_ok r ≡ None → read_as f false ≡ read_or_left r left
+    go (Ok c) k = absurd cc
+    go (Err e) k = rw same refl
+component_done true n f left all h same = rw (← h, ← same) (go (component_grammar.finish f.draft))
+  where
+    go : (r : Result Declarations LangFaultKind) → read_or_left r f ≡ read_or_left (on_line n r) f
+    go (Ok c) = refl
+    go (Err kind) = refl
+
+-- what is said of a component, and what it is read as
+pub of_component : (text : List ℕ) (lines : List (List ℕ)) (c : ReadComponent) (all one two : List Said) → lines ≡ lines_of text → (one ≡ all ++ said_of_lines component_lint 0 lines) × (c ≡ read_of_lines lines) → two ≡ one ++ warnings_said c lines → (two ≡ all ++ component_said text) × (c ≡ component_read text)
+of_component text lines c all one two is e more =
+    let read : c ≡ component_read text = e.1 ∙ (ap read_of_lines is ∙ ap (λ (r : Result Declarations (Fault LangFaultKind)). read_or_left r (faulty_of_lines (lines_of text))) (faulty_meaning text)) in
+    let told : two ≡ all ++ (said_of_lines component_lint 0 lines ++ warnings_said c lines) = two_more all one two _ _ e.0 more in (
+      told
+          ∙ (ap (λ (x : List (List ℕ)). all ++ (said_of_lines component_lint 0 x ++ warnings_said c x)) is
+          ∙ ap (λ (x : ReadComponent). all ++ (said_of_text component_lint 0 text ++ warnings_said x (lines_of text))) read),
+      read,
+    )
+
+-- ---- a matrix
+
+pub matrix_done : (g : Grammar MatrixFaultKind matrix.Drafted Matrix) (sound : Bool) (n : ℕ) (d : matrix.Drafted) (all : Result Matrix (Fault MatrixFaultKind)) → g.finish d ≡ finished d → Reads g sound n d [] all → matrix_if d sound ≡ result_ok all
+unfolding lines_after
+matrix_done g false n d all is h = sym h
+matrix_done g true n d all is h = rw (← h, is) (go (finished d))
+  where
+    go : (r : Result Matrix MatrixFaultKind) → result_ok r ≡ result_ok (on_line n r)
+    go (Ok m) = refl
+    go (Err kind) = refl
+
+-- the matrix of a component that lines without a fault left
+pub made : (c : Declarations) (d : matrix.Drafted) (setup : List Call) (new : Option Matrix) → fault_in (finished d) ≡ None → setup ≡ unwrap_or d.setup [] → IfSome new (λ m. m ≡ matrix_with setup d.threads) → (IsOf (matrix_with setup d.threads) c → IsSome new) → IsOf (matrix.matrix_of d) c → new ≡ matrix_if d true
+made c d setup new none is calls of fits = go (length d.threads == 0) none new calls (of (subst (λ (xs : List Call). IsOf (matrix_with xs d.threads) c) (sym is) fits))
+  where
+    left : Matrix
+    left = matrix.matrix_of d
+
+    go : (b : Bool) → fault_in (says ((b, Limit) ∷ []) left) ≡ None → (new : Option Matrix) → IfSome new (λ m. m ≡ matrix_with setup d.threads) → IsSome new → new ≡ result_ok (says ((b, Limit) ∷ []) left)
+    go true none new calls some = absurd cc
+    go false none None calls some = absurd (let e : false ≡ true = some in cc)
+    go false none (Some m) calls some = ap (λ (x : Matrix). Some x) (calls ∙ ap (λ (xs : List Call). matrix_with xs d.threads) is)
+
+-- a matrix behind a component without faults is judged as it is read
+pub judged_as_read : (c : Declarations) (text : List ℕ) → meaning_of (matrix_lint c None).grammar text ≡ meaning_of (matrix_grammar c) text
+unfolding judged_line
+judged_as_read c text = refl
+
+-- one line more of a matrix
+pub matrix_on : (c : Declarations) (faulty : Option Faulty) (sound none : Bool) (n : ℕ) (d d1 next : matrix.Drafted) (fault : Option MatrixFaultKind) (line : List ℕ) (rest : List (List ℕ)) (all : Result Matrix (Fault MatrixFaultKind))
+    → is_some fault ≡ not none → (d1, fault) ≡ going_on d (matrix.line_of c.operations d (judged_line faulty line)) → next ≡ left_matrix d1 line fault → Reads (matrix_lint c faulty).grammar sound n d (line ∷ rest) all → Reads (matrix_lint c faulty).grammar (sound && none) (n + 1) next rest all
+matrix_on c faulty sound none n d d1 next fault line rest all is e left h =
+    reads_on (matrix_lint c faulty).grammar matrix_mend sound none n d d1 next fault line [] rest all is e (left ∙ left_same d1 line [] fault) h
