@@ -1,5 +1,5 @@
 -- What `draw` answers.
-use Rattle.std.specs.Prelude.{◌≡◌, ◌⊎◌, ℕ, ◌<◌, true, false, List, Option, String, string_bytes}
+use Rattle.std.specs.Prelude.{◌≡◌, ◌⊎◌, ℕ, ◌<◌, true, false, List, Option, String, string_bytes, Result, IfOk}
 use denote.Ref.{Bor}
 use Rattle.std.specs.Option.{option_copied}
 use Rattle.lu_component.specs.Component.{Declarations}
