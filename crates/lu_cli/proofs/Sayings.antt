@@ -564,19 +564,19 @@ compile_else (source ∷ parts) answer is =
     is
 
 -- a run that is shown
-run_else : (view : RunView) (how : Wording) (c : Declarations) (m : Matrix) (u : List Move) (answer : Answer) → IsRunShown view how c m u answer → IsElse answer
-run_else run.Trace how c m u answer is = traced_else how c m u answer is
-run_else run.TraceFromSetup how c m u answer is = from_setup_else how c m u answer is
-run_else run.Picture how c m u answer is = drawn_else how None c m u answer is
+run_view_else : (view : RunView) (how : Wording) (c : Declarations) (m : Matrix) (u : List Move) (answer : Answer) → IsRunShown view how c m u answer → IsElse answer
+run_view_else run.Trace how c m u answer is = traced_else how c m u answer is
+run_view_else run.TraceFromSetup how c m u answer is = from_setup_else how c m u answer is
+run_view_else run.Picture how c m u answer is = drawn_else how None c m u answer is
 
-shown_else : (shown : RunView) (parts : List (List ℕ)) (answer : Answer) → IsShowOf shown parts answer → IsElse answer
-shown_else shown parts answer is = alone_or_else (view_of_failure shown) (IsShownBehind shown) parts answer (λ behind. behind_else parts (IsRunShown shown) answer (λ how c m u more. run_else shown how c m u answer more) behind) is
+view_else : (shown : RunView) (parts : List (List ℕ)) (answer : Answer) → IsShowOf shown parts answer → IsElse answer
+view_else shown parts answer is = alone_or_else (view_of_failure shown) (IsShownBehind shown) parts answer (λ behind. behind_else parts (IsRunShown shown) answer (λ how c m u more. run_view_else shown how c m u answer more) behind) is
 
 pub order_else : (order : BundleCommand) (parts : List (List ℕ)) (answer : Answer) → IsAnswerToOrder order parts answer → IsElse answer
 order_else Replay parts answer is = three_else parts IsReplayed answer (λ c m u more. replayed_else c m u answer more) is
-order_else Trace parts answer is = shown_else run.Trace parts answer is
-order_else TraceFromSetup parts answer is = shown_else run.TraceFromSetup parts answer is
-order_else Draw parts answer is = shown_else run.Picture parts answer is
+order_else Trace parts answer is = view_else run.Trace parts answer is
+order_else TraceFromSetup parts answer is = view_else run.TraceFromSetup parts answer is
+order_else Draw parts answer is = view_else run.Picture parts answer is
 order_else (DrawExplained limits) parts answer is = explain_else Picture limits parts answer is
 order_else (Explain limits) parts answer is = explain_else Words limits parts answer is
 order_else ExplainAgainst parts answer is = explain_against_else parts answer is

@@ -440,9 +440,9 @@ fn certify_matrix_alone(
     requires { CanRun component.now matrix.now }
     ensures { IfOk result (spec.IsCertified component.now matrix.now asked) }
 {
-    let options = asked.options;
+    let (options, nodes) = (asked.options, asked.nodes);
     let local = certified_local(asked, component);
-    let limits = Limits::of(options, asked.nodes);
+    let limits = Limits::of(options, nodes);
     let certificate = certify_longer(alloc, component, matrix, local, limits)?;
     show_certificate(alloc, component, &certificate)
 }
