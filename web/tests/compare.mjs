@@ -1,5 +1,5 @@
 // node --experimental-websocket compare.mjs PAGE PROGRAM REPOSITORY FOLDER: holds what the module in the page answers against what
-// the program answers, for each bundle of examples/ and its folders, with its report and without, and tries the page itself: an
+// the program answers, for each bundle and source of examples/ and its folders, with its report and without, and tries the page: an
 // example that its address names, what is typed, `stop`, a deep bound. Pictures of it, light, dark and as wide as a phone, go into
 // FOLDER. Says how many answers were compared; the status is 1 where one differs or the page fails.
 import { spawnSync } from 'node:child_process';
@@ -10,19 +10,17 @@ const [page, program, root, folder] = process.argv.slice(2);
 const LIMIT = 3000;    // milliseconds for the program; what takes longer is left out, and counted
 const COMMANDS = ['lint', 'serial', 'check', 'check --bound 60', 'check --bound 12 --serial 9', 'check --spec', 'certify --bound 30',
     'explain', 'explain --spec', 'draw', 'draw --explain', 'trace', 'trace --setup', 'replay', 'shrink', 'spec', 'refute', 'judge',
-    'conform', 'campaign --count', '', 'nonsense'];
+    'conform', 'campaign --count', 'compile', '', 'nonsense'];
 const faults = [];
 const tell = fault => { faults.push(fault); console.log(fault); };
 
 function cases() {
-    const found = [];
-    for (const part of ['', 'idioms', 'passes', 'literature', 'course/counter', 'course/queue', 'course/readers-writer-lock']) {
-        const at = `${root}/examples/${part}`;
-        for (const file of readdirSync(at).filter(name => name.endsWith('.bundle'))) {
-            const text = readFileSync(`${at}/${file}`, 'utf8'), report = `${at}/${file.slice(0, -7)}.report`;
-            found.push([`${part}/${file}`, text]);
-            if (existsSync(report)) found.push([`${part}/${file} with its report`, `${text}---\n${readFileSync(report, 'utf8')}`]);
-        }
+    const examples = `${root}/examples`, found = [];
+    const files = readdirSync(examples, { recursive: true }).filter(name => /\.(bundle|lineup)$/.test(name)).sort();
+    for (const file of files) {
+        const text = readFileSync(`${examples}/${file}`, 'utf8'), report = `${examples}/${file.replace(/\.[a-z]*$/, '.report')}`;
+        found.push([file, text]);
+        if (existsSync(report)) found.push([`${file} with its report`, `${text}---\n${readFileSync(report, 'utf8')}`]);
     }
     return found;
 }
