@@ -1,5 +1,5 @@
 -- Lines and words of a text.
-use Rattle.std.specs.Prelude.{ℕ, suc, ◌-◌, Bool, List, [], ◌∷◌, length, map, take, slice_index, Option, Some, None, ◌==◌, ◌&&◌, ◌||◌, not, nat_le, filter, if◌then◌else◌}
+use Rattle.std.specs.Prelude.{◌≡◌, ℕ, suc, ◌-◌, Bool, List, [], ◌∷◌, length, map, take, slice_index, Option, Some, None, ◌==◌, ◌&&◌, ◌||◌, not, nat_le, filter, if◌then◌else◌}
 use Rattle.std.specs.List.{slice_split, position}
 use Rattle.std.specs.Option.{option_map}
 use denote.Ref.{Bor}
@@ -11,6 +11,10 @@ texts words = map (λ w. w.now) words
 -- the bytes of a word in memory, where there is one
 abbrev pub text_if : Option (Bor (List ℕ)) → Option (List ℕ)
 text_if word = option_map (λ w. w.now) word
+
+-- what a separator parts a text into
+abbrev pub parts_of : ℕ → List ℕ → List (List ℕ)
+parts_of separator text = slice_split (λ b. b == separator) text
 
 -- the lines, without their LFs; a last LF begins no further line, and the empty text has no lines
 abbrev pub without_last_lf : List ℕ → List ℕ
@@ -29,6 +33,10 @@ onto_line b (line ∷ lines) = (b ∷ line) ∷ lines
 abbrev pub kept_lines : List ℕ → List (List ℕ)
 kept_lines [] = []
 kept_lines (b ∷ bs) = if b == 10 then (b ∷ []) ∷ kept_lines bs else onto_line b (kept_lines bs)
+
+-- this is the first line, and these are the others
+abbrev pub IsFirstLine : List ℕ → List ℕ → List ℕ → Type 0
+IsFirstLine text line rest = kept_lines text ≡ line ∷ kept_lines rest
 
 -- how many bytes the first line has, with its LF
 abbrev pub first_len : List ℕ → ℕ

@@ -6,6 +6,12 @@ abbrev pub Word : Type 0
 Word = List ℕ
 
 -- the bytes of words in memory
+abbrev pub two_texts : Bor Word × Bor Word → Word × Word
+two_texts (a, b) = (a.now, b.now)
+
+abbrev pub three_texts : Bor Word × Bor Word × Bor Word → Word × Word × Word
+three_texts (a, b, c) = (a.now, b.now, c.now)
+
 abbrev pub four_texts : Bor Word × Bor Word × Bor Word × Bor Word → Word × Word × Word × Word
 four_texts (a, b, c, d) = (a.now, b.now, c.now, d.now)
 

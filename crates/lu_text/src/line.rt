@@ -1,9 +1,9 @@
 //! Lines and their words.
 
-ghost use Rattle.std.specs.Prelude.{◌≡◌, ◌<◌, ◌==◌, ◌∷◌, ◌++◌, length, IfOk};
-ghost use Rattle.std.specs.List.{list_all, slice_split};
+ghost use Rattle.std.specs.Prelude.{◌≡◌, ◌<◌, ◌++◌, length, IfOk};
+ghost use Rattle.std.specs.List.{list_all};
 ghost use Rattle.lu_text.specs.Lines as spec;
-ghost use Rattle.lu_text.specs.Lines.{texts, first_len, kept_lines};
+ghost use Rattle.lu_text.specs.Lines.{texts, first_len, IsFirstLine};
 
 use crate::words::place_of;
 use std::alloc::{AllocError, Global};
@@ -61,8 +61,7 @@ fn without_last_lf(text: &[u8]) -> &[u8]
 ///
 /// There is no memory for the list of the parts.
 pub fn parts_of(alloc: Global, separator: u8, text: &[u8]) -> Result<Vec<&[u8]>, AllocError>
-    ensures { IfOk result (λ parts.
-        texts parts.items ≡ slice_split (λ b. b == separator) text.now) }
+    ensures { IfOk result (λ parts. texts parts.items ≡ spec.parts_of separator text.now) }
 {
     text.split(|byte| *byte == separator).collect(alloc)
 }
@@ -97,8 +96,7 @@ fn line_len(text: &[u8]) -> usize
 /// The first line, with its LF, and what follows it. Where no text is left both are empty.
 #[tactic(auto, using(crate::proofs::KeptLines::first_line, crate::proofs::KeptLines::first_len_le, crate::proofs::KeptLines::first_len_some))]
 pub fn cut_line(text: &[u8]) -> (&[u8], &[u8])
-    ensures line { 0 < length text.now →
-        kept_lines text.now ≡ result.0.now ∷ kept_lines result.1.now }
+    ensures line { 0 < length text.now → IsFirstLine text.now result.0.now result.1.now }
     ensures whole { text.now ≡ result.0.now ++ result.1.now }
     ensures some { 0 < length text.now → 0 < length result.0.now }
 {

@@ -27,7 +27,7 @@ pub fn exactly_one<'a>(words: &[&'a [u8]]) -> Option<&'a [u8]>
 /// The two words, where there are so many and no more.
 #[tactic(auto, using(crate::proofs::Arity::are_two, crate::proofs::Arity::are_not_two))]
 pub fn exactly_two<'a>(words: &[&'a [u8]]) -> Option<(&'a [u8], &'a [u8])>
-    ensures { option_map (λ p. (p.0.now, p.1.now)) result ≡ spec.exactly_two (texts words.now) }
+    ensures { option_map spec.two_texts result ≡ spec.exactly_two (texts words.now) }
 {
     if words.len() != 2 {
         return None;
@@ -38,8 +38,7 @@ pub fn exactly_two<'a>(words: &[&'a [u8]]) -> Option<(&'a [u8], &'a [u8])>
 /// The three words, where there are so many and no more.
 #[tactic(auto, using(crate::proofs::Arity::are_three, crate::proofs::Arity::are_not_three))]
 pub fn exactly_three<'a>(words: &[&'a [u8]]) -> Option<(&'a [u8], &'a [u8], &'a [u8])>
-    ensures { option_map (λ p. (p.0.now, p.1.now, p.2.now)) result
-        ≡ spec.exactly_three (texts words.now) }
+    ensures { option_map spec.three_texts result ≡ spec.exactly_three (texts words.now) }
 {
     if words.len() != 3 {
         return None;
