@@ -5,6 +5,7 @@ ghost use Rattle.std.specs.Option.{option_copied};
 ghost use Rattle.lu_text.specs.Lines.{texts};
 ghost use Rattle.lu_text.specs.Results.{Builds};
 ghost use Rattle.lu_lang.specs.Labels as spec;
+ghost use Rattle.lu_lang.specs.Labels.{label_on};
 
 use crate::reading::label_in;
 use lu_text::{Name, has_name_form, is_long, lines_of, words_of};
@@ -62,6 +63,7 @@ struct Marked {
 
 impl Model for Marked {
     ghost use Rattle.lu_lang.specs.Labels as spec;
+    ghost use Rattle.lu_lang.specs.Labels.{label_on};
 
     ghost Value = { spec.Marked };
 
@@ -81,7 +83,7 @@ fn name_if(alloc: Global, word: &[u8]) -> Result<Option<Name>, AllocError>
 
 /// The label of a line with this first word.
 fn label_on(alloc: Global, first: &[u8], words: &[&[u8]]) -> Result<Option<Name>, AllocError>
-    ensures { Builds result (spec.label_on (first.now ∷ texts words.now)) }
+    ensures { Builds result (label_on (first.now ∷ texts words.now)) }
 {
     match label_in(first) {
         None => Ok(None),
@@ -111,8 +113,7 @@ fn inside_line<'a>(
     words: &'a [&'a [u8]],
 ) -> Result<Marked, AllocError>
     requires { marked.begun ≡ None }
-    ensures { Builds result
-        (spec.inside_line marked marks (spec.label_on (first.now ∷ texts words.now)) first.now) }
+    ensures { Builds result (spec.words_inside marked marks first.now (texts words.now)) }
 {
     if first == b"end".as_slice() {
         marked.closed.push(marks)?;
@@ -125,7 +126,7 @@ fn inside_line<'a>(
 
 /// A line of these words.
 fn with_words(alloc: Global, mut marked: Marked, words: &[&[u8]]) -> Result<Marked, AllocError>
-    ensures { Builds result (spec.with_words spec.label_on marked (texts words.now)) }
+    ensures { Builds result (spec.with_words label_on marked (texts words.now)) }
 {
     let Some((first, rest)) = words.split_first() else {
         return Ok(marked);
@@ -139,8 +140,7 @@ fn with_words(alloc: Global, mut marked: Marked, words: &[&[u8]]) -> Result<Mark
 
 /// The labels on these lines.
 fn marked_after(alloc: Global, lines: &[&[u8]]) -> Result<Marked, AllocError>
-    ensures { Builds result
-        (spec.marked_after spec.label_on spec.nothing_marked (texts lines.now)) }
+    ensures { Builds result (spec.marked_after label_on spec.nothing_marked (texts lines.now)) }
 {
     let mut marked = Marked {
         closed: Vec::new(alloc),
