@@ -1,5 +1,5 @@
 -- Positions compare as equal exactly where they have the same cells, locks and threads.
-use Rattle.std.proofs.Common.{◌≡◌, ◌==◌, ℕ, Bool, true, false, ◌&&◌, List, Option, Some, None, refl, sym, ◌∙◌, ap, rules}
+use Rattle.std.proofs.Common.{◌≡◌, ℕ, Bool, ◌&&◌, List, Option, Some, None, refl, ◌∙◌, ap}
 use Rattle.std.specs.Bool.{Decides}
 use Rattle.std.specs.Prelude.{nat_eq}
 use lib.Pointwise.{pointwise}

@@ -35,6 +35,10 @@ idle done = record { done = done; activity = Idle }
 abbrev pub at_work : ℕ → Frame → Thread
 at_work done f = record { done = done; activity = Open f }
 
+-- thread t has an operation open, after so many others
+abbrev pub IsAtWork : State → ℕ → ℕ → Type 0
+IsAtWork s t done = (f : Frame) × (slice_get s.threads t ≡ Some (at_work done f))
+
 -- the operation that was open, with all its registers
 abbrev pub whole_frame : OperationBefore → Frame
 whole_frame was = record { registers = was.registers; op = was.op; place = was.place }
@@ -58,6 +62,10 @@ abbrev pub before : Bool → Option Event → OperationBefore → Thread → Thr
 before whole (Some (Called t k)) was now = record now { activity = Idle }
 before whole (Some (Returned t k outcome)) was now = at_work k (whole_frame was)
 before whole None was now = record now { activity = activity_before whole was now.activity }
+
+-- this is the event, or none, of the change of operation number `done` of thread t
+abbrev pub IsEventOf : ℕ → ℕ → Change → Option Event → Type 0
+IsEventOf t done change event = (f : Frame) → event ≡ event_after t done (effect_of f change)
 
 -- what was kept puts back where a thread stood whose operation was changed: whole where all
 -- registers were kept

@@ -43,6 +43,11 @@ StandsIn c thread = IsInCode c thread.activity
 abbrev pub WasIn : Declarations → OperationBefore → Type 0
 WasIn c was = (was.op < length c.operations) × (was.place ≤ 64)
 
+-- where a thread is put back, of whose operation this was kept, it still stands in the component
+abbrev pub StaysIn : OperationBefore → Thread → Thread → Type 0
+StaysIn was after before =
+    (c : Declarations) → WasIn c was → StandsIn c after → StandsIn c before
+
 -- the operation of a thread that stood so, if one was open, is one of the component's
 abbrev pub StoodIn : Declarations → Thread → OperationBefore → Type 0
 StoodIn c standing was =

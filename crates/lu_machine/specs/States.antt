@@ -35,6 +35,10 @@ cell_of c w i =
 unfoldable pub instr_at : Declarations → ℕ → ℕ → Option Instr
 instr_at c op place = option_and_then (λ o. slice_get o.code place) (slice_get c.operations op)
 
+-- the instruction at the place of the operation f
+abbrev pub current_instr : State → Frame → Option Instr
+current_instr s f = instr_at s.component f.op f.place
+
 -- the number of calls of thread t
 abbrev pub call_count : State → ℕ → ℕ
 call_count s t = length (calls_of s.matrix t)

@@ -1,10 +1,12 @@
 -- How a move is taken back.
-use Rattle.std.specs.Prelude.{◌≡◌, ◌<◌, ℕ, Bool, false, nat_lt, IfSome, length, slice_get}
+use Rattle.std.specs.Prelude.{◌≡◌, ◌<◌, ℕ, Bool, false, nat_lt, Option, IfSome, length, slice_get}
 use Rattle.std.specs.Option.{option_map_or}
+use Rattle.lu_machine.specs.declared.event.Event.{Event}
 use Rattle.lu_machine.specs.declared.undo.Shared.{Shared}
 use Rattle.lu_machine.specs.declared.undo.Shared.TheVariants.{Nothing, Cell, Owner}
 use Rattle.lu_machine.specs.declared.undo.Undo.{Undo}
 use Rattle.lu_component.specs.Component.{IsRegister}
+use Rattle.lu_machine.specs.declared.thread.OperationBefore.{OperationBefore}
 use Rattle.lu_machine.specs.declared.thread.Thread.{Thread}
 use Rattle.lu_machine.specs.Changes.{before}
 use Rattle.lu_machine.specs.Events.{IsEventInRange}
@@ -25,6 +27,10 @@ has_local s = nat_lt 0 s.component.local
 abbrev pub with_thread_back : State → ℕ → (Thread → Thread) → State
 with_thread_back s t back =
     option_map_or (λ thread. with_standing s t (back thread)) (slice_get s.threads t) s
+
+-- s with thread t standing as before a move with this event or none
+abbrev pub with_thread_before : State → ℕ → Option Event → OperationBefore → State
+with_thread_before s t event was = with_thread_back s t (before (has_local s) event was)
 
 -- The state before the move, from the state after it. Of an operation that went on all is put back
 -- where local instructions run with moves, and else its place and one register.

@@ -2,6 +2,7 @@
 
 ghost use Rattle.std.specs.Prelude.{◌≡◌, ◌<◌, length, IfSome};
 ghost use Rattle.lu_component.specs.Component.{IsOperand};
+ghost use Rattle.lu_component.specs.declared.instr.Instr.TheVariants.{Cas};
 ghost use Rattle.lu_machine.specs.Acts.{Acts, ActsAt, ActsOf, Alters, PassesOrTraps};
 ghost use Rattle.lu_machine.specs.Changes.{IsChange};
 ghost use Rattle.lu_machine.specs.Layout.{IsSound};
@@ -207,9 +208,8 @@ impl Machine<'_> {
         expected: Operand,
         desired: Operand,
     ) -> Act
-        requires { IsSound self.now frame.now (Instr.Cas to array index expected desired) }
-        ensures carries { Acts self.now frame.now
-            (Instr.Cas to array index expected desired) result }
+        requires { IsSound self.now frame.now (Cas to array index expected desired) }
+        ensures carries { Acts self.now frame.now (Cas to array index expected desired) result }
         ensures there { IsThere self.now result.shared }
         ensures sound { IsChange result.change }
     {

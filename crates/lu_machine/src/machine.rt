@@ -4,17 +4,16 @@ ghost use Rattle.std.specs.Prelude.{◌≡◌, true, false, ◌+◌, ◌<◌, �
 ghost use Rattle.std.specs.Option.{option_copied, option_map_or};
 ghost use Rattle.lu_test.specs.Matrix.{IsMatrix, IsOf, calls_of};
 ghost use Rattle.lu_machine.specs.declared.thread.Activity.TheVariants.{Open};
-ghost use Rattle.lu_machine.specs.declared.thread.Frame.{Frame as AFrame};
 ghost use Rattle.lu_component.specs.Component.{IsComponent, IsRegister};
-ghost use Rattle.lu_machine.specs.Changes.{ChangesThread, IsChange, at_work, before, effect_of, idle};
-ghost use Rattle.lu_machine.specs.States.{State as AState, call_count, cell_of, instr_at, owner_of, progress, value_at, with_cell, with_owner, with_standing};
-ghost use Rattle.lu_machine.specs.Steps.{IsEnabled, IsFeasible, OneStep, RunsOn, Step, event_after, is_at_local, more_local, picks_of};
+ghost use Rattle.lu_machine.specs.Changes.{ChangesThread, IsAtWork, IsChange, IsEventOf, idle};
+ghost use Rattle.lu_machine.specs.States.{State as AState, call_count, cell_of, current_instr, owner_of, progress, value_at, with_cell, with_owner, with_standing};
+ghost use Rattle.lu_machine.specs.Steps.{IsEnabled, IsFeasible, OneStep, RunsOn, Step, is_at_local, more_local, picks_of};
 ghost use Rattle.lu_machine.specs.Acts.{IsDoneInOpen, IsOpening, Opens};
 ghost use Rattle.lu_machine.specs.Layout.{IsInCode, IsSound, IsSoundNext, IsStanding, StandsIn, ThreadStoodIn, WasIn};
 ghost use Rattle.lu_machine.specs.Events.{IsEventInRange};
 ghost use Rattle.lu_machine.specs.Ends.{HasStatus, IsFinished};
 ghost use Rattle.lu_machine.specs.Positions.{CanStandAt, at_position};
-ghost use Rattle.lu_machine.specs.Undoes.{CanTake, IsThere, LeadsBack, has_local, restored, with_shared, with_thread_back};
+ghost use Rattle.lu_machine.specs.Undoes.{CanTake, IsThere, LeadsBack, restored, with_shared, with_thread_before};
 ghost use Rattle.lu_machine.specs.Starts.{CanRun, IsMaking, IsStart, Makes, MakesAll, empty_state};
 ghost use Rattle.lu_machine.specs.Tasks.{IsAwaitable, task_at};
 
@@ -198,8 +197,7 @@ impl<'a> Machine<'a> {
     #[tactic(auto, unfolding(crate::specs::States::instr_at))]
     #[inline(always)]
     pub fn instr(&self, frame: &Frame) -> Option<&Instr>
-        ensures value { option_copied result ≡
-            instr_at self.now.component frame.now.op frame.now.place }
+        ensures value { option_copied result ≡ current_instr self.now frame.now }
         ensures sound { IfSome result (λ instr. IsSound self.now frame.now instr.now) }
     {
         let op = self.component.operations().get(usize::from(frame.op))?;
@@ -341,8 +339,7 @@ impl<'a> Machine<'a> {
         requires register { IsRegister was.register }
         requires code { WasIn self.old.component was }
         requires event { IfSome event IsEventInRange }
-        ensures { self.new ≡
-            with_thread_back self.old thread (before (has_local self.old) event was) }
+        ensures { self.new ≡ with_thread_before self.old thread event was }
     {
         let whole = self.component.local() > 0;
         self.threads[usize::from(thread)].put_back(event, was, whole);
@@ -560,14 +557,12 @@ impl<'a> Machine<'a> {
     fn go_on<const WHOLE: bool>(&mut self, thread: u8, done: u8, act: Act) -> Undo
         requires few { thread < 8 }
         requires counted { done < 8 }
-        requires stands { (f : AFrame) ×
-            (slice_get self.old.threads thread ≡ Some (at_work done f)) }
+        requires stands { IsAtWork self.old thread done }
         requires there { IsThere self.old act.shared }
         requires sound { IsChange act.change }
         ensures after { IsDoneInOpen self.old thread done act self.new }
         ensures thread { result.thread ≡ thread }
-        ensures event { (f : AFrame) →
-            result.event ≡ event_after thread done (effect_of f act.change) }
+        ensures event { IsEventOf thread done act.change result.event }
         ensures range { IfSome result.event IsEventInRange }
         ensures back { LeadsBack WHOLE self.old result self.new }
         ensures fits { CanTake self.new result }

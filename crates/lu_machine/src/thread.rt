@@ -3,12 +3,10 @@
 ghost use Rattle.std.specs.Prelude.{◌≡◌, ◌-◌, ◌<◌, ◌≤◌, ◌++◌, length, replicate, IfSome};
 ghost use Rattle.lu_component.specs.Component.{Declarations, IsRegister, IsOperand};
 ghost use Rattle.lu_machine.specs.declared.thread.Activity.TheVariants.{Open};
-ghost use Rattle.lu_machine.specs.declared.thread.Frame.{Frame as AFrame};
-ghost use Rattle.lu_machine.specs.Changes.{IsChange, IsThreadAfter, PutsBack, before, effect_of, whole_frame};
+ghost use Rattle.lu_machine.specs.Changes.{IsChange, IsEventOf, IsThreadAfter, PutsBack, before, effect_of, whole_frame};
 ghost use Rattle.lu_machine.specs.Effects.{computed, onward, onward_with, value_of};
 ghost use Rattle.lu_machine.specs.Events.{IsEventInRange};
-ghost use Rattle.lu_machine.specs.Layout.{IsStanding, StandsIn, StoodIn, WasIn};
-ghost use Rattle.lu_machine.specs.Steps.{event_after};
+ghost use Rattle.lu_machine.specs.Layout.{IsStanding, StandsIn, StaysIn, StoodIn};
 
 use crate::event::{Event, Outcome};
 use lu_component::{Arithmetic, Operand};
@@ -198,8 +196,7 @@ impl Thread {
         requires event { IfSome event IsEventInRange }
         ensures before { self.new ≡ before whole event was self.old }
         ensures stands { IsStanding self.old → IsStanding self.new }
-        ensures in_code { (c : Declarations) → WasIn c was →
-            StandsIn c self.old → StandsIn c self.new }
+        ensures in_code { StaysIn was self.old self.new }
     {
         match event {
             None => {
@@ -226,7 +223,7 @@ impl Thread {
 pub(crate) fn event_after(t: u8, done: u8, change: Change) -> Option<Event>
     requires thread { t < 8 }
     requires operation { done < 8 }
-    ensures event { (f : AFrame) → result ≡ event_after t done (effect_of f change) }
+    ensures event { IsEventOf t done change result }
     ensures range { IfSome result IsEventInRange }
 {
     match change {
