@@ -45,6 +45,15 @@ LooksUp same events old new v =
     (λ known. (v ≡ known)
     × (new ≡ lru_cache (promoted (pointwise same events) old.entries) old.cap))
 
+-- the same, of a cache
+abbrev pub IsKept : {T : Type 0} → (Event → Event → Bool) → List Event → Remembered T
+    → Remembered T → Verdict → Type 0
+IsKept same events old new v = IsPut same events old.kept new.kept v
+
+abbrev pub Recalls : {T : Type 0} → (Event → Event → Bool) → List Event → Remembered T
+    → Remembered T → Verdict → Type 0
+Recalls same events old new v = LooksUp same events old.kept new.kept v
+
 -- the tree and the capacity are as before; the entries may be others
 pub record SameButEntries {T : Type 0} (old new : Remembered T) : Type 0 where
   pub tree_is : new.tree ≡ old.tree

@@ -2,7 +2,7 @@
 
 ghost use Rattle.std.specs.Prelude.{◌≡◌, ◌≤◌, [], IfOk};
 ghost use Rattle.lru.specs.LruCache.{lru_cache};
-ghost use Rattle.lu_witness.specs.Caches.{LooksUp, IsPut, SameButEntries, has_entry};
+ghost use Rattle.lu_witness.specs.Caches.{IsKept, Recalls, SameButEntries, has_entry};
 ghost use Rattle.lu_witness.specs.Witnesses.{IsMember, IsVerdict};
 
 use crate::judgement::Verdict;
@@ -80,8 +80,7 @@ impl<'t, T: SerialTree> Cache<'t, T> {
     pub fn verdict(&mut self, history: &History) -> Verdict
         ensures same { SameButEntries self.old self.new }
         ensures verdict { IsVerdict (IsMember (T.members self.old.tree)) history.now result }
-        ensures entries { LooksUp ⟦<Event as PartialEq>⟧.eq history.now self.old.kept
-            self.new.kept result }
+        ensures entries { Recalls ⟦<Event as PartialEq>⟧.eq history.now self.old self.new result }
     {
         let events = history.events();
         match self.kept.peek(events).copied() {
@@ -101,8 +100,7 @@ impl<'t, T: SerialTree> Cache<'t, T> {
     fn remember(&mut self, events: &[Event], found: Verdict)
         requires { IsVerdict (IsMember (T.members self.old.tree)) events.now found }
         ensures tree { self.new.tree ≡ self.old.tree }
-        ensures entries { IsPut ⟦<Event as PartialEq>⟧.eq events.now self.old.kept
-            self.new.kept found }
+        ensures entries { IsKept ⟦<Event as PartialEq>⟧.eq events.now self.old self.new found }
     {
         let mut key = Vec::new(self.alloc);
         if key.extend_from_slice(events).is_err() {
