@@ -3,6 +3,8 @@ use Rattle.std.specs.Prelude.{Bool, if◌then◌else◌, List}
 use Rattle.lu_machine.specs.declared.event.Event.{Event}
 use Rattle.lu_history.specs.declared.serial.SerialOp.{SerialOp}
 use Rattle.lu_history.specs.Histories.{IsWellFormed}
+use Rattle.lu_witness.specs.declared.judgement.Verdict.{Verdict}
+use Rattle.lu_witness.specs.Witnesses.{IsMember, IsVerdict}
 use Rattle.lu_judge.specs.declared.path.Path.{Path}
 use Rattle.lu_judge.specs.Paths.{IsPath, AreGoodAsMarked, history_of}
 
@@ -10,6 +12,10 @@ use Rattle.lu_judge.specs.Paths.{IsPath, AreGoodAsMarked, history_of}
 pub record Trailed (T : Type 0) : Type 0 where
   pub tree : T
   pub history : List Event
+
+-- this is the verdict of the trail's history over its tree
+abbrev pub IsJudgedAs : {T : Type 0} → (T → List (List SerialOp)) → Trailed T → Verdict → Type 0
+IsJudgedAs members trail v = IsVerdict (IsMember (members trail.tree)) trail.history v
 
 -- the history: its events alone, or a place among beginnings
 abbrev pub history_in : Bool → List Event → Path → List Event

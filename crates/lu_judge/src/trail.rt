@@ -5,6 +5,7 @@ ghost use Rattle.lu_history.specs.Histories.{Fits, IsWellFormed};
 ghost use Rattle.lu_witness.specs.Caches.{SameButEntries};
 ghost use Rattle.lu_witness.specs.Witnesses.{IsMember, IsVerdict};
 ghost use Rattle.lu_judge.specs.Returned.{returned};
+ghost use Rattle.lu_judge.specs.Trails.{IsJudgedAs};
 
 use crate::events::{Events, refill};
 use crate::path::Path;
@@ -174,8 +175,7 @@ impl<'t, T: SerialTree> Trail<'t, T> {
         ensures same { self.new ≡ self.old }
         ensures cache { SameButEntries cache.old cache.new }
         ensures well_formed { IsWellFormed self.old.history }
-        ensures verdict { IfOk result
-            (IsVerdict (IsMember (T.members self.old.tree)) self.old.history) }
+        ensures verdict { IfOk result (IsJudgedAs T.members self.old) }
     {
         self.uses.count();
         if self.is_plain {
