@@ -11,7 +11,7 @@ use Rattle.lu_machine.specs.declared.thread.Thread.{Thread}
 use Rattle.lu_machine.specs.declared.undo.Undo.{Undo}
 use Rattle.lu_machine.specs.declared.thread.Activity.TheVariants.{Idle}
 use Rattle.lu_machine.specs.States.{State, call_count}
-use Rattle.lu_machine.specs.Steps.{IsFeasible}
+use Rattle.lu_machine.specs.Steps.{IsFeasible, Step}
 use Rattle.lu_machine.specs.Order.{IsSmaller}
 use Rattle.lu_machine.specs.Runs.{Leads}
 use Rattle.lu_history.specs.declared.serial.SerialOp.{SerialOp}
@@ -61,6 +61,10 @@ IsFull (Some current) bound = current.taken ≡ bound
 abbrev pub entry_if : Option Event → List SerialOp
 entry_if None = []
 entry_if (Some e) = entry_of e
+
+-- the move was made, and the undo's event, or none, is its
+abbrev pub HasMoved : Move → Undo → SerialNode → SerialNode → Type 0
+HasMoved m undo old new = Step old.machine m new.machine undo.event
 
 -- the entry of the undo's event, if it has one, was added
 abbrev pub HasEntered : Undo → SerialNode → SerialNode → Type 0
@@ -150,11 +154,13 @@ abbrev pub GathersHistory : {H S : Type 0} → (H → H → List (List SerialOp)
 GathersHistory was_shown stops old new q =
     TakesOrStops (was_shown old) (was_shown new) (stops new) q
 
--- it gathers the history of a schedule that ends at the node, or stops there
+-- the visitor of a walk gathers the history of a schedule that ends at its node, or stops there
 abbrev pub Gathers : {H S : Type 0} → (H → H → List (List SerialOp) → Type 0)
-    → (H → List SerialOp → S → Type 0) → H → H → SerialNode → Option OpenCall → Option S → Type 0
-Gathers was_shown stops old new node current =
-    GathersHistory was_shown stops old new (ended_entries node.entries.items current)
+    → (H → List SerialOp → S → Type 0) → WalkState H → Option OpenCall → WalkState H → Option S
+    → Type 0
+Gathers was_shown stops old current new =
+    GathersHistory was_shown stops old.visitor new.visitor
+    (ended_entries old.node.entries.items current)
 
 -- a walk that passed leaves path, machine and entries as they were, and one that halted leaves a
 -- schedule at the path

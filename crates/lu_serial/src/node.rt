@@ -5,9 +5,9 @@ ghost use Rattle.lu_component.specs.Component.{IsComponent};
 ghost use Rattle.lu_test.specs.Matrix.{IsMatrix};
 ghost use Rattle.lu_machine.specs.Ends.{HasMove};
 ghost use Rattle.lu_machine.specs.Starts.{CanRun, IsStart};
-ghost use Rattle.lu_machine.specs.Steps.{IsFeasible, Step};
+ghost use Rattle.lu_machine.specs.Steps.{IsFeasible};
 ghost use Rattle.lu_machine.specs.Undoes.{CanTake, restored};
-ghost use Rattle.lu_serial.specs.Walks.{AreTurns, HasEntered, HasLeft, HasCountRoom, HasSerialMove, IsFull, IsOpenIn, open_after};
+ghost use Rattle.lu_serial.specs.Walks.{AreTurns, HasEntered, HasLeft, HasCountRoom, HasMoved, HasSerialMove, IsFull, IsOpenIn, open_after};
 
 use lu_component::Component;
 use lu_history::{SerialOp, SerialOutcome};
@@ -50,8 +50,7 @@ impl<'a> SerialNode<'a> {
     /// Makes the move here.
     pub(crate) fn enter(&mut self, next: Move) -> Result<Undo, AllocError>
         requires { IsFeasible self.old.machine next }
-        ensures step { IfOk result (λ undo.
-            Step self.old.machine next self.new.machine undo.event) }
+        ensures step { IfOk result (λ undo. HasMoved next undo self.old self.new) }
         ensures entries { IfOk result (λ undo. HasEntered undo self.old self.new) }
         ensures back { IfOk result (λ undo. restored undo self.new.machine ≡ self.old.machine) }
         ensures fits { IfOk result (λ undo. CanTake self.new.machine undo) }

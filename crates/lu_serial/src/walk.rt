@@ -43,33 +43,6 @@ pub(crate) enum EarlyEnd<S> {
     Stopped(S),
 }
 
-impl SerialNode<'_> {
-    /// Shows the history of a schedule that ends here.
-    fn end<H: HistoryVisitor>(
-        &mut self,
-        visitor: &mut H,
-        current: Option<OpenCall>,
-    ) -> Result<Option<H::Stop>, AllocError>
-        requires serial { IsSerial (ended_entries self.old.entries.items current) }
-        requires begun { (first : H) × (shown : _) × H.was_shown visitor.old first shown }
-        ensures machine { self.new.machine ≡ self.old.machine }
-        ensures entries { OnOk result (self.new.entries.items ≡ self.old.entries.items) }
-        ensures takes { IfOk result
-            (Gathers H.was_shown H.stops visitor.old visitor.new self.old current) }
-    {
-        let Some(current) = current else {
-            return visitor.at_end(&self.entries);
-        };
-        self.entries.push(SerialOp {
-            thread: current.thread,
-            outcome: SerialOutcome::Stuck,
-        })?;
-        let stop = visitor.at_end(&self.entries)?;
-        self.entries.pop();
-        Ok(stop)
-    }
-}
-
 /// What a walk takes along: the node where it stands, the path that led there, and the visitor.
 #[derive(Drop)]
 pub(crate) struct WalkState<'a, H> {
@@ -78,37 +51,59 @@ pub(crate) struct WalkState<'a, H> {
     pub(crate) visitor: H,
 }
 
+impl<H: HistoryVisitor> WalkState<'_, H> {
+    /// Shows the history of a schedule that ends here.
+    fn end(&mut self, current: Option<OpenCall>) -> Result<Option<H::Stop>, AllocError>
+        requires serial { IsSerial (ended_entries self.old.node.entries.items current) }
+        requires begun { (first : H) × (shown : _) × H.was_shown self.old.visitor first shown }
+        ensures path { self.new.path ≡ self.old.path }
+        ensures machine { self.new.node.machine ≡ self.old.node.machine }
+        ensures entries { OnOk result (self.new.node.entries.items ≡ self.old.node.entries.items) }
+        ensures takes { IfOk result (Gathers H.was_shown H.stops self.old current self.new) }
+    {
+        let Some(current) = current else {
+            return self.visitor.at_end(&self.node.entries);
+        };
+        self.node.entries.push(SerialOp {
+            thread: current.thread,
+            outcome: SerialOutcome::Stuck,
+        })?;
+        let stop = self.visitor.at_end(&self.node.entries)?;
+        self.node.entries.pop();
+        Ok(stop)
+    }
+}
+
 /// Walks the serial schedules that begin with the walk's path, in order, and shows those that end
 /// to its visitor. It halts at one that is cut, or where the visitor stops it.
 pub(crate) fn walk<H: HistoryVisitor>(
     bound: u16,
-    walk_state: &mut WalkState<'_, H>,
+    state: &mut WalkState<'_, H>,
     current: Option<OpenCall>,
 ) -> Result<Option<EarlyEnd<H::Stop>>, AllocError>
-    requires { CanWalk H.was_shown bound walk_state.old current }
-    ensures home { IfOk result (λ halt. IsHome walk_state.old halt walk_state.new) }
-    ensures walks { IfOk result (Walks H.was_shown H.stops bound walk_state.old current
-        walk_state.new) }
+    requires { CanWalk H.was_shown bound state.old current }
+    ensures home { IfOk result (λ halt. IsHome state.old halt state.new) }
+    ensures walks { IfOk result (Walks H.was_shown H.stops bound state.old current state.new) }
 {
-    if !goes_on(&walk_state.node.machine, current) {
-        let stop = walk_state.node.end(&mut walk_state.visitor, current)?;
+    if !goes_on(&state.node.machine, current) {
+        let stop = state.end(current)?;
         return Ok(stop.map(EarlyEnd::Stopped));
     }
     if is_full(current, bound) {
         return Ok(Some(EarlyEnd::Cut));
     }
-    let (first, end) = turns(&walk_state.node.machine, current);
+    let (first, end) = turns(&state.node.machine, current);
     for thread in first..end {
-        for pick in 0..walk_state.node.machine.picks(thread) {
+        for pick in 0..state.node.machine.picks(thread) {
             let next = Move { thread, pick };
-            let undo = walk_state.node.enter(next)?;
-            walk_state.path.push(next)?;
+            let undo = state.node.enter(next)?;
+            state.path.push(next)?;
             let below = open_after(current, thread, undo.event());
-            if let Some(halt) = walk(bound, walk_state, below)? {
+            if let Some(halt) = walk(bound, state, below)? {
                 return Ok(Some(halt));
             }
-            walk_state.path.pop();
-            walk_state.node.leave(undo);
+            state.path.pop();
+            state.node.leave(undo);
         }
     }
     Ok(None)

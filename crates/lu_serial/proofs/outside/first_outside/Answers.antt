@@ -14,7 +14,7 @@ walk-requires g c =
 
 pub new-requires : goal.new-requires
 new-requires g c =
-    let moves : AreMoves c.walk.new.walk_state.path.items = rw c.in-Some-Stopped.is at c.in_ok-walk.ensures.home in
+    let moves : AreMoves c.walk.new.state.path.items = rw c.in-Some-Stopped.is at c.in_ok-walk.ensures.home in
     moves
 
 pub returns-in-Some-Stopped : goal.returns-in-Some-Stopped
@@ -23,8 +23,8 @@ returns-in-Some-Stopped g c = λ s is.
     let same : start ≡ s = start_same c.args.component.now c.args.matrix.now c.in_ok-node.node.machine s c.in_ok-node.ensures.machine is in
     let walks = c.in_ok-walk.ensures.walks start (record { set = c.args.set }) (start_ready c.args.component.now c.args.matrix.now c.args.bound c.in_ok-node.ensures.limits.0 c.in_ok-node.ensures.limits.1 c.requires.few _ c.new-path.ensures.items _ c.in_ok-node.ensures.machine _ c.in_ok-node.ensures.entries (Seeks c.args.set.now c.args.set.now) (seeks_none c.args.set.now)) in
     let halts = rw (c.in-Some-Stopped.is, c.in-Some-Stopped.field-0-is) at walks in
-    let least : IsLeast (IsOutside start c.args.bound c.args.set.now) c.walk.new.walk_state.path.items = first_of start c.args.bound c.walk.new.walk_state.path.items c.args.set.now c.walk.new.walk_state.visitor.set.now halts.0 halts.1 in
-    rw c.new.ensures (subst (λ x. IsLeast (IsOutside x c.args.bound c.args.set.now) c.walk.new.walk_state.path.items) same least))
+    let least : IsLeast (IsOutside start c.args.bound c.args.set.now) c.walk.new.state.path.items = first_of start c.args.bound c.walk.new.state.path.items c.args.set.now c.walk.new.state.visitor.set.now halts.0 halts.1 in
+    rw c.new.ensures (subst (λ x. IsLeast (IsOutside x c.args.bound c.args.set.now) c.walk.new.state.path.items) same least))
 
 pub returns-in-Some-Cut : goal.returns-in-Some-Cut
 returns-in-Some-Cut g c = λ s is.
@@ -32,7 +32,7 @@ returns-in-Some-Cut g c = λ s is.
     let same : start ≡ s = start_same c.args.component.now c.args.matrix.now c.in_ok-node.node.machine s c.in_ok-node.ensures.machine is in
     let walks = c.in_ok-walk.ensures.walks start (record { set = c.args.set }) (start_ready c.args.component.now c.args.matrix.now c.args.bound c.in_ok-node.ensures.limits.0 c.in_ok-node.ensures.limits.1 c.requires.few _ c.new-path.ensures.items _ c.in_ok-node.ensures.machine _ c.in_ok-node.ensures.entries (Seeks c.args.set.now c.args.set.now) (seeks_none c.args.set.now)) in
     let halts = rw (c.in-Some-Cut.is, c.in-Some-Cut.field-0-is) at walks in
-    subst (λ x. IsFirstOutside x c.args.bound c.args.set.now None) same (none_past_cut start c.args.bound c.walk.new.walk_state.path.items c.args.set.now c.walk.new.walk_state.visitor.set.now c.args.component.now c.args.matrix.now c.in_ok-node.ensures.machine halts.0 halts.1))
+    subst (λ x. IsFirstOutside x c.args.bound c.args.set.now None) same (none_past_cut start c.args.bound c.walk.new.state.path.items c.args.set.now c.walk.new.state.visitor.set.now c.args.component.now c.args.matrix.now c.in_ok-node.ensures.machine halts.0 halts.1))
 
 pub returns-in-None : goal.returns-in-None
 returns-in-None g c = λ s is.
@@ -40,4 +40,4 @@ returns-in-None g c = λ s is.
     let same : start ≡ s = start_same c.args.component.now c.args.matrix.now c.in_ok-node.node.machine s c.in_ok-node.ensures.machine is in
     let walks = c.in_ok-walk.ensures.walks start (record { set = c.args.set }) (start_ready c.args.component.now c.args.matrix.now c.args.bound c.in_ok-node.ensures.limits.0 c.in_ok-node.ensures.limits.1 c.requires.few _ c.new-path.ensures.items _ c.in_ok-node.ensures.machine _ c.in_ok-node.ensures.entries (Seeks c.args.set.now c.args.set.now) (seeks_none c.args.set.now)) in
     let shows = rw c.in-None.is at walks in
-    subst (λ x. IsFirstOutside x c.args.bound c.args.set.now None) same (none_outside start c.args.bound c.new-path.result.items c.args.set.now c.walk.new.walk_state.visitor.set.now c.new-path.ensures.items shows))
+    subst (λ x. IsFirstOutside x c.args.bound c.args.set.now None) same (none_outside start c.args.bound c.new-path.result.items c.args.set.now c.walk.new.state.visitor.set.now c.new-path.ensures.items shows))
