@@ -1,5 +1,5 @@
 -- What rounds through the code of an operation keep, and that they come to an end.
-use Rattle.std.proofs.Common.{◌≡◌, ℕ, zero, suc, ◌+◌, ◌-◌, ◌<◌, ◌≤◌, ◌⊎◌, inl, inr, ◌||◌, Bool, true, false, cond, List, [], ◌∷◌, ◌++◌, Option, None, Some, get_or, set, replicate, length, length-append, slice_get, refl, sym, ◌∙◌, ap, subst, arith, ◌↔◌, not}
+use Rattle.std.proofs.Common.{◌≡◌, ℕ, zero, suc, ◌+◌, ◌-◌, ◌<◌, ◌≤◌, ◌⊎◌, inl, inr, ◌||◌, Bool, true, false, cond, List, [], ◌∷◌, ◌++◌, Option, None, Some, get_or, set, replicate, length, length-append, slice_get, refl, sym, ◌∙◌, ap, subst, arith, not}
 use Rattle.std.specs.List.{count_by}
 use Rattle.std.proofs.lemmas.Bool.{and_cases, and_parts, cases_Bool, cases_eq, cases_lt, both_ways, not-true, true≢false}
 use Rattle.std.proofs.lemmas.List.{get_or_append_left, get_or_past, get_or_push, get_or-replicate, length-replicate, get_or-set_other, get_or-set_same}
@@ -11,7 +11,7 @@ use Rattle.lu_component.specs.declared.instr.Instr.{Instr}
 use Rattle.lu_component.specs.declared.instr.Instr.TheVariants.{Set, Compute, Load, Store, Cas, Lock, Unlock, Await, AwaitNot, Pick, Jump, JumpIfZero, Return}
 use Rattle.lu_machine.specs.States.{instr_at}
 use Rattle.lu_machine.proofs.Moves.{all_at}
-use Rattle.lu_horizon.specs.Dead.{AreDeadAt, GoesTo, IsDead, IsLive, TellsDead, dead_at, dead_before, dead_behind, reads, writes, IsDeadTable, is_dead, IsReadAlong}
+use Rattle.lu_horizon.specs.Dead.{AreDeadAt, GoesTo, IsLive, TellsDead, dead_at, dead_before, dead_behind, reads, writes, IsDeadTable, is_dead, IsReadAlong}
 use Rattle.lu_horizon.specs.Rounds.{AreLive, AreLiveIn, AreWithin, IsRound, IsSettledAt, dead_count, with_live}
 
 -- ---- cells

@@ -7,6 +7,7 @@ use Rattle.lu_test.specs.Matrix.{Matrix, calls_of}
 use Rattle.lu_machine.specs.Starts.{IsStart}
 use Rattle.lu_machine.specs.States.{State, instr_at}
 use Rattle.lu_horizon.specs.declared.outlook.Outlook.{Outlook}
+use Rattle.lu_horizon.specs.Code.{ahead_at}
 use Rattle.lu_horizon.specs.Outlooks.{nothing_known}
 use Rattle.lu_horizon.specs.Own.{IsOwn, IsIdle, IsOpenAt}
 use Rattle.lu_horizon.specs.Sure.{HasOutlook}
@@ -27,6 +28,11 @@ Outlooks = List CallOutlooks
 -- the outlook at place of a call's operation
 abbrev pub outlook_of : List Outlook → ℕ → Outlook
 outlook_of places place = get_or places place nothing_known
+
+-- what is ahead of a move that begins with this instruction of the code, at this place, from these
+-- outlooks at the places
+abbrev pub ahead_from : Declarations → List Instr → List Outlook → Outlook → ℕ → Instr → Outlook
+ahead_from c code places rest place instr = ahead_at c code (outlook_of places) rest place instr
 
 -- the outlook before call number k of thread t
 abbrev pub IsOutlookBefore : Declarations → Matrix → ℕ → ℕ → Outlook → Type 0

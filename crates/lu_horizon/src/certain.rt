@@ -1,9 +1,9 @@
 //! What is ahead at one operation's places.
 
 ghost use Rattle.std.specs.Prelude.{◌≡◌, ◌<◌};
-ghost use Rattle.lu_horizon.specs.Code.{ahead_at, ahead_of_call, is_certain_cell, more_behind, run_on, unless_there};
+ghost use Rattle.lu_horizon.specs.Code.{ahead_of_call, is_certain_cell, more_behind, run_on, unless_there};
 ghost use Rattle.lu_horizon.specs.Outlooks.{IsWeaker};
-ghost use Rattle.lu_horizon.specs.Tables.{outlook_of};
+ghost use Rattle.lu_horizon.specs.Tables.{ahead_from, outlook_of};
 
 use crate::outlook::Outlook;
 use lu_component::{Component, Instr, Operand};
@@ -97,8 +97,7 @@ pub(crate) fn certain(
     rest: Outlook,
 ) -> Outlook
     requires { place < 64 }
-    ensures { IsWeaker result
-        (ahead_at component.now code.now (outlook_of known.now) rest place instr.now) }
+    ensures { IsWeaker result (ahead_from component.now code.now known.now rest place instr.now) }
 {
     let most = more_behind(component, instr);
     let next = run_on(code, known, most, BRANCHES, place + 1);

@@ -2,7 +2,7 @@
 
 ghost use Rattle.std.specs.Prelude.{◌≡◌, ◌<◌, ◌≤◌, IfOk, IfSome, length};
 ghost use Rattle.lu_horizon.specs.Outlooks.{no_move};
-ghost use Rattle.lu_horizon.specs.Sure.{AreCaps, HasOutlook};
+ghost use Rattle.lu_horizon.specs.Sure.{HasCaps, HasOutlook};
 ghost use Rattle.lu_horizon.specs.Tables.{AreOutlooks, IsCodeOf, IsThread, Serves, ServesRuns, StayOutlooks, outlook_before, outlook_of, outlook_within};
 
 use crate::certain::{before_call, certain, outlook_of};
@@ -335,8 +335,7 @@ impl Horizon {
     /// but with no other limit: none where that is not certain. The table has to be that of the
     /// machine's component and matrix.
     pub fn caps(&self, machine: &Machine, left: usize) -> Option<ArrayVec<u16, 8>>
-        ensures { Serves self.now machine.now →
-            IfSome result (λ c. AreCaps machine.now left c.items) }
+        ensures { Serves self.now machine.now → IfSome result (HasCaps machine.now left) }
     {
         if left > usize::from(self.greatest) {
             return None;
