@@ -15,7 +15,7 @@ use Rattle.lu_spec.specs.declared.marked_line.MarkedOp.{MarkedOp}
 use Rattle.lu_spec.specs.Collecting.{has_begun, listing_from, listing_lines, lists}
 use Rattle.lu_spec.specs.EveryFault.{AreSpecFaults}
 use Rattle.lu_spec.specs.EveryFreeFault.{AreFreeFaults, AreFreeFaultsFrom, AreGivenFaults, IsGivenToldAsRead, JudgesFreely, ListsFreely}
-use Rattle.lu_spec.specs.FirmEnds.{AddsFreely, CollectsFreely, IsOneMoreFreely, ListsTheSame, RefusesFreely, RefusesSome}
+use Rattle.lu_spec.specs.FirmEnds.{AddsFreely, CollectsFreely, IsOneMoreFree, ListsTheSame, RefusesFreely, RefusesSome}
 use Rattle.lu_spec.specs.FreeSpecs.{AreFirmlyApart, AreListedFreely, HasFirmConflictIn, IsFreeFault, has_free_entries}
 use Rattle.lu_spec.specs.Laws.{IsToldAsRead}
 use Rattle.lu_spec.proofs.FaultLines.{told_as_read}
@@ -47,7 +47,7 @@ module _ (matrix : Matrix) (text : List ℕ) (draft : FreeDraft) (faults : List 
   one_collected next begun adds = go (lists draft.begun (words_of line)) to.so_far adds
     where
       go : (b : Bool) → ((others : List SpecLineFault) → AreFreeFaultsFrom matrix to.gathered (others_of b) others → AreFreeFaults matrix text (faults ++ others))
-          → MatchBool b ((q : List MarkedOp) × IsOneMoreFreely matrix draft.kept (words_of line) q × AddsFreely draft next q) (ListsTheSame draft next)
+          → MatchBool b ((q : List MarkedOp) × IsOneMoreFree matrix draft.kept (words_of line) q × AddsFreely draft next q) (ListsTheSame draft next)
           → AreToldTo matrix text next faults (n + 1) rest
       go false so_far same = record {
         gathered = to.gathered;

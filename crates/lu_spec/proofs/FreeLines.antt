@@ -19,7 +19,7 @@ use Rattle.lu_spec.specs.declared.free.FreeDraft.{FreeDraft}
 use Rattle.lu_spec.specs.declared.marked_line.MarkedOp.{MarkedOp}
 use Rattle.lu_spec.specs.Beginnings.{Has, IsClosureOf}
 use Rattle.lu_spec.specs.Collecting.{has_begun, listing_from, listing_lines, lists}
-use Rattle.lu_spec.specs.FirmEnds.{AddsFreely, CollectsFreely, IsOneMoreFreely, ListsTheSame, RefusesFreely, RefusesSome}
+use Rattle.lu_spec.specs.FirmEnds.{AddsFreely, CollectsFreely, IsOneMoreFree, ListsTheSame, RefusesFreely, RefusesSome}
 use Rattle.lu_spec.specs.FreeSpecs.{AreFirmlyApart, AreListedFreely, FirmConflictAt, HasFirmConflictIn, IsFaultOfFree, IsFreeFault, IsFreeSpec, IsListedFreely, SayFreely, erased_all}
 use Rattle.lu_spec.specs.MarkedEntries.{SayMarked, erased}
 use Rattle.lu_spec.specs.SpecText.{IsListable}
@@ -106,7 +106,7 @@ module _ (matrix : Matrix) (text : List ℕ) (draft : FreeDraft) (n : ℕ) (line
   one_more next begun adds = go (lists draft.begun (words_of line)) to.parts adds
     where
       go : (b : Bool) → listing_lines text ≡ to.before ++ ((if b then (n, words_of line) ∷ [] else []) ++ listing_from (has_begun draft.begun (words_of line)) (n + 1) rest)
-          → MatchBool b ((q : List MarkedOp) × IsOneMoreFreely matrix draft.kept (words_of line) q × AddsFreely draft next q) (ListsTheSame draft next)
+          → MatchBool b ((q : List MarkedOp) × IsOneMoreFree matrix draft.kept (words_of line) q × AddsFreely draft next q) (ListsTheSame draft next)
           → AreFreeTo matrix text next (n + 1) rest
       go false parts same = record {
         before = to.before;

@@ -53,7 +53,7 @@ RefusesSome kept q =
 -- ---- one line behind those of a draft
 
 -- the words say q, which is of the matrix, and no entry of which is refused
-pub record IsOneMoreFreely (matrix : Matrix) (kept : FirmEnds) (words : List Word)
+pub record IsOneMoreFree (matrix : Matrix) (kept : FirmEnds) (words : List Word)
     (q : List MarkedOp) : Type 0 where
   pub said : SayMarked words q
   pub fits : FitsMatrix matrix (erased q)
@@ -79,7 +79,7 @@ pub record ListsTheSame (draft next : FreeDraft) : Type 0 where
 abbrev pub CollectsFreely : Matrix → FreeDraft → List Word → FreeDraft → Type 0
 CollectsFreely matrix draft words next =
     MatchBool (lists draft.begun words)
-    ((q : List MarkedOp) × IsOneMoreFreely matrix draft.kept words q × AddsFreely draft next q)
+    ((q : List MarkedOp) × IsOneMoreFree matrix draft.kept words q × AddsFreely draft next q)
     (ListsTheSame draft next)
 
 -- the fault of a line that is to list a history, which is line n, or want of memory

@@ -5,7 +5,7 @@ ghost use Rattle.lu_text.specs.Lines.{texts};
 ghost use Rattle.lu_history.specs.Serial.{IsSerial};
 ghost use Rattle.lu_spec.specs.Beginnings.{IsClosureOf};
 ghost use Rattle.lu_spec.specs.Collecting.{has_begun};
-ghost use Rattle.lu_spec.specs.FirmEnds.{AddsFreely, CollectsFreely, IsFreeRefusal, IsOneMoreFreely, RefusesFreely};
+ghost use Rattle.lu_spec.specs.FirmEnds.{AddsFreely, CollectsFreely, IsFreeRefusal, IsOneMoreFree, RefusesFreely};
 ghost use Rattle.lu_spec.specs.FreeSpecs.{IsFreeFault, IsListedFreely};
 ghost use Rattle.lu_spec.specs.MarkedEntries.{erased};
 ghost use Rattle.lu_spec.specs.Specs.{AreOf};
@@ -39,8 +39,7 @@ pub(crate) fn entries_said(
     words: &[&[u8]],
     number: usize,
 ) -> Result<Vec<MarkedOp>, SpecFault>
-    ensures said { IfOk result (λ q.
-        IsOneMoreFreely matrix.now kept.now (texts words.now) q.items) }
+    ensures said { IfOk result (λ q. IsOneMoreFree matrix.now kept.now (texts words.now) q.items) }
     ensures fault { IfErr result (IsFreeRefusal matrix.now kept.now (texts words.now) number) }
 {
     match marked_history_of(alloc, words)? {
