@@ -4,7 +4,7 @@ ghost use Rattle.std.specs.Prelude.{◌≡◌};
 ghost use Rattle.lu_text.specs.Writing.{Writes};
 ghost use Rattle.lu_test.specs.MatrixText.{argument_text, arguments_text, call_text, operation_name};
 ghost use Rattle.lu_trace.specs.Lines as spec;
-ghost use Rattle.lu_trace.specs.Lines.{component_line, labelled_line, told_by};
+ghost use Rattle.lu_trace.specs.Lines.{component_line, labelled_instr, labelled_line, told_by};
 
 use crate::deeds::write_deed;
 use crate::wording::{Wording, write_place, write_source_line};
@@ -125,8 +125,7 @@ fn write_labelled_instr(
     op: u8,
     instr: Instr,
 ) -> Result<(), AllocError>
-    ensures { Writes result text.old text.new
-        (spec.labelled_instr labels.now component.now op instr) }
+    ensures { Writes result text.old text.new (labelled_instr labels.now component.now op instr) }
 {
     match instr {
         Instr::Jump(target) => {
@@ -147,15 +146,14 @@ fn write_labelled_line(
     text: &mut String,
     labels: &Labels,
     component: &Component,
-    frame: &Frame,
-    instr: &Instr,
+    frame: Frame,
+    instr: Instr,
 ) -> Result<(), AllocError>
-    ensures { Writes result text.old text.new
-        (labelled_line labels.now component.now frame.now instr.now) }
+    ensures { Writes result text.old text.new (labelled_line labels.now component.now frame instr) }
 {
     let code = code_of_operation(component, frame.op);
     write_named_label(text, labels, frame.op, code, frame.place)?;
-    write_labelled_instr(text, labels, component, frame.op, *instr)?;
+    write_labelled_instr(text, labels, component, frame.op, instr)?;
     text.push_str("  # ")
 }
 
@@ -172,7 +170,7 @@ pub(crate) fn write_instr_text(
 {
     match *how {
         Wording::Component => write_component_line(text, component, frame, instr),
-        Wording::Labelled(labels) => write_labelled_line(text, labels, component, frame, instr),
+        Wording::Labelled(labels) => write_labelled_line(text, labels, component, *frame, *instr),
         Wording::Source { lines, origins } => write_source_line(text, lines, origins, frame),
     }
 }
