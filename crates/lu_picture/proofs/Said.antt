@@ -41,7 +41,7 @@ use Rattle.lu_witness.specs.Witnesses.{entries}
 use Rattle.lu_explain.specs.declared.explanation.Reason.{Reason}
 use Rattle.lu_explain.specs.declared.explanation.Reason.TheVariants.{After, Outcome, Nothing}
 use Rattle.lu_explain.specs.Explanations.{Explained, reason_of}
-use Rattle.lu_explain.specs.Lines.{call_words as call_behind, operation_words, nothing_words, outcome_words as ended_words, reason_words, stuck_last}
+use Rattle.lu_explain.specs.Lines.{call_words as call_behind, operation_words, nothing_words, outcome_words as ended_words, why_not, stuck_last}
 use Rattle.lu_replay.specs.Text.{replay_text, status_text}
 use Rattle.lu_trace.specs.declared.wording.Wording.{Wording}
 use Rattle.lu_trace.specs.declared.wording.Wording.TheVariants.{Component}
@@ -331,7 +331,7 @@ nothing_plain c matrix None limits = refl
 nothing_plain c matrix (Some (t, k)) limits =
     plain_three (codes ", but ") (operation_words c matrix t k) (codes " is stuck") refl (named_plain c matrix t k limits) refl
 
-reason_plain : (c : Declarations) (matrix : Matrix) (order : List SerialOp) (reason : Reason) → IsComponent c → IsPlain (reason_words c matrix order reason)
+reason_plain : (c : Declarations) (matrix : Matrix) (order : List SerialOp) (reason : Reason) → IsComponent c → IsPlain (why_not c matrix order reason)
 reason_plain c matrix order (After a) limits =
     plain_three (codes ", but ") (operation_words c matrix a.t a.k) (codes " precedes it") refl (named_plain c matrix a.t a.k limits) refl
 reason_plain c matrix order (Outcome o) limits =
@@ -344,12 +344,12 @@ why_plain c matrix (Some e) t k end limits =
     plain_if (k == length (entries t e.order)) (option_map_or said (reason_of e t) []) [] (by_reason (reason_of e t)) refl
   where
     said : Reason → List ℕ
-    said reason = ended_words (outcome_of end) ++ reason_words c matrix e.order reason
+    said reason = ended_words (outcome_of end) ++ why_not c matrix e.order reason
 
     by_reason : (o : Option Reason) → IsPlain (option_map_or said o [])
     by_reason None = refl
     by_reason (Some reason) =
-        plain_append (ended_words (outcome_of end)) (reason_words c matrix e.order reason) (ended_plain (outcome_of end)) (reason_plain c matrix e.order reason limits)
+        plain_append (ended_words (outcome_of end)) (why_not c matrix e.order reason) (ended_plain (outcome_of end)) (reason_plain c matrix e.order reason limits)
 
 pub says_plain : (s : State) → IsComponent s.component → SaysPlain s
 says_plain s limits = record {

@@ -10,7 +10,7 @@ use Rattle.lu_history.specs.declared.serial.SerialOutcome.TheVariants.{Stuck}
 use Rattle.lu_history.specs.Parts.{as_serial}
 use Rattle.lu_witness.specs.Witnesses.{entries}
 use Rattle.lu_explain.specs.Explanations.{Explained, reason_of}
-use Rattle.lu_explain.specs.Lines.{outcome_words as ended_words, reason_words}
+use Rattle.lu_explain.specs.Lines.{outcome_words as ended_words, why_not}
 use Rattle.lu_picture.specs.declared.mark.End.{End}
 
 -- ---- numbers in the order
@@ -56,7 +56,7 @@ abbrev pub reason_said : Declarations → Matrix → Explained → ℕ → ℕ �
 reason_said c matrix e t k o =
     if k == length (entries t e.order)
     then
-    option_map_or (λ reason. ended_words o ++ reason_words c matrix e.order reason) (reason_of e t)
+    option_map_or (λ reason. ended_words o ++ why_not c matrix e.order reason) (reason_of e t)
     []
     else []
 
