@@ -45,11 +45,12 @@ LooksUp same events old new v =
     (λ known. (v ≡ known)
     × (new ≡ lru_cache (promoted (pointwise same events) old.entries) old.cap))
 
--- the same, of a cache
+-- the verdict v of the events is put into the cache, unless there is no memory for that
 abbrev pub IsKept : {T : Type 0} → (Event → Event → Bool) → List Event → Remembered T
     → Remembered T → Verdict → Type 0
 IsKept same events old new v = IsPut same events old.kept new.kept v
 
+-- the cache was asked for the verdict of the events, which is v
 abbrev pub Recalls : {T : Type 0} → (Event → Event → Bool) → List Event → Remembered T
     → Remembered T → Verdict → Type 0
 Recalls same events old new v = LooksUp same events old.kept new.kept v
