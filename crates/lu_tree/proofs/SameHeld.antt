@@ -1,5 +1,5 @@
 -- What locations hold compares as equal exactly where it is the same.
-use Rattle.std.proofs.Common.{◌≡◌, ℕ, Bool, true, Option, Some, None, nat_eq, refl, ap, rules}
+use Rattle.std.proofs.Common.{◌≡◌, ℕ, true, Option, Some, None, nat_eq, refl, ap, rules}
 use Rattle.std.proofs.lemmas.Bool.{eq-eqb, eqb-true}
 use Rattle.std.specs.Option.{option_eq}
 use Rattle.lu_tree.specs.contracts.access.HeldPartialEq as held

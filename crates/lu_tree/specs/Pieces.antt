@@ -1,5 +1,5 @@
 -- What the steps to a frontier promise one another.
-use Rattle.std.specs.Prelude.{◌≡◌, ℕ, ◌+◌, ◌<◌, List, [], ◌∷◌, ◌++◌, drop, length, map, min, Some, slice_get}
+use Rattle.std.specs.Prelude.{◌≡◌, ℕ, ◌+◌, ◌<◌, List, [], ◌∷◌, ◌++◌, drop, length, map, min, Some, slice_get, Vec}
 use Rattle.lu_component.specs.Component.{Declarations}
 use Rattle.lu_test.specs.declared.schedule.Move.{Move}
 use Rattle.lu_test.specs.Matrix.{Matrix}
@@ -46,9 +46,11 @@ TooMany s pieces =
     → AreAll (IsPieceAt s e) list → 65536 < length list
 
 -- the pieces before, and then what p becomes, `made` moves of which lead to s
-abbrev pub GrowByKids : State → List Move → ℕ → List (List Move) → List (List Move) → Type 0
+abbrev pub GrowByKids : {Z : Type 0} → State → List Move → ℕ → Vec (List Move) Z
+    → Vec (List Move) Z → Type 0
 GrowByKids s p made before after =
-    (kids : List (List Move)) × (after ≡ before ++ kids) × AreKids s p (drop made p) kids
+    (kids : List (List Move)) × (after.items ≡ before.items ++ kids)
+    × AreKids s p (drop made p) kids
 
 -- where the pieces are those at some depth, these are the ones one move deeper
 abbrev pub AreDeeper : State → List (List Move) → List (List Move) → Type 0
@@ -56,9 +58,10 @@ AreDeeper s pieces next =
     (d : ℕ) → AreAll (IsPieceAt s d) pieces → AreAll (IsPieceAt s (d + 1)) next
 
 -- the frontier and the cover of the tree of a component and a matrix
-abbrev pub IsFrontierFrom : Declarations → Matrix → ℕ → ℕ → List (List Move) → Type 0
+abbrev pub IsFrontierFrom : {Z : Type 0} → Declarations → Matrix → ℕ → ℕ → Vec (List Move) Z
+    → Type 0
 IsFrontierFrom c matrix bound depth pieces =
-    (s : State) → IsStart c matrix s → IsFrontier s (min bound depth) pieces
+    (s : State) → IsStart c matrix s → IsFrontier s (min bound depth) pieces.items
 
 abbrev pub IsCoverFrom : Declarations → Matrix → ℕ → List (List Move) → Type 0
 IsCoverFrom c matrix bound pieces = (s : State) → IsStart c matrix s → IsCover s bound pieces

@@ -8,6 +8,7 @@ use Rattle.lu_machine.specs.Ends.{IsEnded}
 use Rattle.lu_machine.specs.Starts.{CanRun, IsStart}
 use Rattle.lu_machine.specs.Schedules.{BeginsWith, Reaches, IsSchedule, AreAll}
 use Rattle.lu_history.specs.declared.serial.SerialOp.{SerialOp}
+use Rattle.lu_witness.specs.Caches.{Remembered}
 use Rattle.lu_witness.specs.Witnesses.{IsMember}
 use Rattle.lu_witness.specs.Goodness.{IsFirstBad, AreAllGood}
 use Rattle.lu_tree.specs.declared.found.Found.{Found}
@@ -53,17 +54,17 @@ pub record IsFrontier (s : State) (most : ℕ) (pieces : List (List Move)) : Typ
       → AreAll (IsPieceAt s d) list → 65536 < length list
 
 -- what is found from the start of the component and the matrix among the schedules that begin with
--- `from`; and the same, unless the search was abandoned
+-- `from`; and the same over the tree of a cache, unless the search was abandoned
 abbrev pub FindsBelow : {E : Type 0} → Declarations → Matrix → List (List SerialOp) → List Move → ℕ
     → Result Found E → Type 0
 FindsBelow c matrix members from bound result =
     (s : State) → IsStart c matrix s → IfOk result (IsFound (IsMember members) s bound (Below from))
 
-abbrev pub MayFindBelow : {E : Type 0} → Declarations → Matrix → List (List SerialOp) → List Move
-    → ℕ → Result Found E → Type 0
-MayFindBelow c matrix members from bound result =
+abbrev pub MayFindOver : {T E : Type 0} → Declarations → Matrix → (T → List (List SerialOp))
+    → Remembered T → List Move → ℕ → Result Found E → Type 0
+MayFindOver c matrix members cache from bound result =
     (s : State) → IsStart c matrix s
-    → IfOk result (IsFoundWatched (IsMember members) s bound (Below from))
+    → IfOk result (IsFoundWatched (IsMember (members cache.tree)) s bound (Below from))
 
 abbrev pub MayFind : {E : Type 0} → SearchSpace → List (List SerialOp) → List Move
     → Result Found E → Type 0

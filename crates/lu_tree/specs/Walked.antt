@@ -1,5 +1,5 @@
 -- What a walk below a node leaves behind.
-use Rattle.std.specs.Prelude.{◌≡◌, ◌≤◌, Bool, false, ℕ, List, [], length, vec_capacity}
+use Rattle.std.specs.Prelude.{◌≡◌, ◌≤◌, ℕ, List, [], length, vec_capacity}
 use Rattle.lu_test.specs.declared.schedule.Move.{Move}
 use Rattle.lu_machine.specs.States.{progress}
 use Rattle.lu_history.specs.Standing.{Agree}
@@ -23,11 +23,9 @@ pub record StaysBelow {T Place : Type 0} (node : Node T Place) (left : ℕ) (tal
 
 -- The walk passed: it is back at the node, can go on, and this is known below the node.
 pub record Passed {T Place : Type 0} (members : T → List (List SerialOp)) (node : Node T Place)
-    (left : ℕ) (stopped : Bool) (tally : WalkProgress) (end : Node T Place)
-    (below : Known) : Type 0 where
+    (left : ℕ) (tally : WalkProgress) (end : Node T Place) (below : Known) : Type 0 where
   pub machine : end.machine ≡ node.machine
   pub history : end.trail.history ≡ node.trail.history
-  pub running : stopped ≡ false
   pub ready : IsReadyToWalk tally
   pub known : IsKnownNode members node left below
 

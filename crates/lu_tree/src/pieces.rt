@@ -68,8 +68,7 @@ fn deepen(
     requires within { made ≤ length piece.now }
     requires leads { IsSchedule machine.old (drop made piece.now) }
     ensures home { OnOk result (machine.new ≡ machine.old) }
-    ensures kids { OnOk result
-        (GrowByKids machine.old piece.now made next.old.items next.new.items) }
+    ensures kids { OnOk result (GrowByKids machine.old piece.now made next.old next.new) }
 {
     let moves = piece.moves();
     if made == moves.len() {
@@ -123,8 +122,7 @@ pub fn frontier(
     requires of { CanRun component.now matrix.now }
     requires few { bound ≤ 256 }
     requires shallow { depth ≤ 8 }
-    ensures frontier { IfOk result (λ p.
-        IsFrontierFrom component.now matrix.now bound depth p.items) }
+    ensures frontier { IfOk result (IsFrontierFrom component.now matrix.now bound depth) }
     ensures cover { IfOk result (λ p. IsCoverFrom component.now matrix.now bound p.items) }
     ensures limits { IsComponent component.now × IsMatrix matrix.now }
 {

@@ -11,7 +11,7 @@ ghost use Rattle.lu_machine.specs.Starts.{CanRun, IsStart};
 ghost use Rattle.lu_history.specs.Standing.{Agree};
 ghost use Rattle.lu_witness.specs.Caches.{SameButEntries};
 ghost use Rattle.lu_tree.specs.Tables.{AreRunTables};
-ghost use Rattle.lu_tree.specs.Trees.{CanSearch, FindsBelow, MayFind, MayFindBelow, is_abandoned};
+ghost use Rattle.lu_tree.specs.Trees.{CanSearch, FindsBelow, MayFind, MayFindOver, is_abandoned};
 ghost use Rattle.lu_tree.specs.Walked.{IsBadFound};
 ghost use Rattle.lu_tree.specs.Walks.{IsScheduleIn, LeadsToNode};
 
@@ -150,8 +150,7 @@ pub fn search_watched<'t, T: SerialTree, W: Watch>(
     requires short { length from.now ≤ bound }
     requires leads { (s : State) → IsStart component.now matrix.now s → IsSchedule s from.now }
     requires running { W.is_stopped watch.old ≡ false }
-    ensures found { MayFindBelow component.now matrix.now (T.members cache.old.tree) from.now
-        bound result }
+    ensures found { MayFindOver component.now matrix.now T.members cache.old from.now bound result }
     ensures base { W.base watch.new ≡ W.base watch.old }
     ensures cache { SameButEntries cache.old cache.new }
     ensures stopped { W.is_stopped watch.new ≡ is_abandoned result }

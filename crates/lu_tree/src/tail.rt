@@ -4,10 +4,10 @@ ghost use Rattle.std.specs.Prelude.{◌≡◌, ◌≢◌, ◌+◌, ◌<◌, ◌�
 ghost use Rattle.lu_machine.specs.States.{progress};
 ghost use Rattle.lu_history.specs.Standing.{Agree};
 ghost use Rattle.lu_witness.specs.Caches.{SameButEntries};
-ghost use Rattle.lu_horizon.specs.Tables.{Serves};
 ghost use Rattle.lu_machine.specs.Ends.{IsFinished};
 ghost use Rattle.lu_tree.specs.declared.tail_question.Judging.TheVariants.{OneVerdict};
 ghost use Rattle.lu_tree.specs.Tails.{StartsBehind, IsCutBelow, IsGoodTailOf, IsJudgedEnd, IsRestOf, IsRestOfNone, MayMove, RespectsSharing, sharing_of};
+ghost use Rattle.lu_tree.specs.Tables.{ServesAhead};
 ghost use Rattle.lu_tree.specs.Walks.{AreBelowNode};
 
 use crate::ahead::Ahead;
@@ -220,8 +220,7 @@ fn complete_below<'t, const RUNS_LOCAL: bool, T: SerialTree>(
 /// Where no schedule from the machine's state ends within `left` moves, how many are cut: none
 /// where that is not certain.
 fn cut_below(ahead: &Ahead<'_>, left: usize, machine: &Machine<'_>) -> Option<u64>
-    ensures { Serves ahead.now.tables.now.horizon machine.now →
-        IfSome result (IsCutBelow machine.now left) }
+    ensures { ServesAhead ahead.now machine.now → IfSome result (IsCutBelow machine.now left) }
 {
     let caps = ahead.tables.horizon.caps(machine, left)?;
     ahead.tables.orders.orders_within(left, &caps)
@@ -236,7 +235,7 @@ pub(crate) fn counted_below<'t, const RUNS_LOCAL: bool, T: SerialTree>(
     node: &mut Node<'_, 't, T>,
 ) -> Option<Counts>
     requires one { RUNS_LOCAL ≡ false → node.old.machine.component.local ≡ 0 }
-    requires serves { Serves ahead.now.tables.now.horizon node.old.machine }
+    requires serves { ServesAhead ahead.now node.old.machine }
     requires agree { Agree (progress node.old.machine) node.old.trail.history }
     requires tree { cache.old.tree ≡ node.old.trail.tree }
     ensures cache { SameButEntries cache.old cache.new }

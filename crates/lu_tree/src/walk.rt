@@ -4,10 +4,10 @@ ghost use Rattle.std.specs.Prelude.{◌≡◌, ◌≤◌, ◌-◌, false, true, 
 ghost use Rattle.lu_machine.specs.States.{progress};
 ghost use Rattle.lu_machine.specs.Ends.{IsEnded};
 ghost use Rattle.lu_horizon.specs.Dead.{IsDeadTable};
-ghost use Rattle.lu_horizon.specs.Tables.{Serves};
 ghost use Rattle.lu_history.specs.Standing.{Agree};
 ghost use Rattle.lu_witness.specs.Caches.{SameButEntries};
 ghost use Rattle.lu_tree.specs.Known.{AreHints, TellsAlone};
+ghost use Rattle.lu_tree.specs.Tables.{ServesAhead};
 ghost use Rattle.lu_tree.specs.Walked.{IsCountedAlone, Passed, StaysBelow};
 ghost use Rattle.lu_tree.specs.Walks.{IsReadyToWalk, Stopped};
 
@@ -131,7 +131,7 @@ pub(crate) fn walk<'a, 't, T: SerialTree, W: Watch>(
     tally: &mut WalkProgress,
 ) -> Option<Known>
     requires few { left ≤ 256 }
-    requires serves { Serves ahead.now.tables.now.horizon node.old.machine }
+    requires serves { ServesAhead ahead.now node.old.machine }
     requires dead { IsDeadTable node.old.machine.component ahead.now.tables.now.dead }
     requires agree { Agree (progress node.old.machine) node.old.trail.history }
     requires tree { cache.old.tree ≡ node.old.trail.tree }
@@ -140,8 +140,8 @@ pub(crate) fn walk<'a, 't, T: SerialTree, W: Watch>(
     ensures cache { SameButEntries cache.old cache.new }
     ensures base { W.base watch.new ≡ W.base watch.old }
     ensures stays { StaysBelow node.old left tally.new node.new }
-    ensures passed { IfSome result (Passed T.members node.old left (W.is_stopped watch.new)
-        tally.new node.new) }
+    ensures running { IfSome result (λ _. W.is_stopped watch.new ≡ false) }
+    ensures passed { IfSome result (Passed T.members node.old left tally.new node.new) }
     ensures stops { Stopped T.members node.old left (is_some result) (W.is_stopped watch.new)
         tally.new node.new }
 {
@@ -170,7 +170,7 @@ fn walk_as<'a, 't, const RUNS_LOCAL: bool, T: SerialTree, W: Watch>(
 ) -> Option<Known>
     requires few { visit.now.left ≤ 256 }
     requires one { RUNS_LOCAL ≡ false → node.old.machine.component.local ≡ 0 }
-    requires serves { Serves ahead.now.tables.now.horizon node.old.machine }
+    requires serves { ServesAhead ahead.now node.old.machine }
     requires dead { IsDeadTable node.old.machine.component ahead.now.tables.now.dead }
     requires agree { Agree (progress node.old.machine) node.old.trail.history }
     requires tree { cache.old.tree ≡ node.old.trail.tree }
@@ -180,8 +180,8 @@ fn walk_as<'a, 't, const RUNS_LOCAL: bool, T: SerialTree, W: Watch>(
     ensures cache { SameButEntries cache.old cache.new }
     ensures base { W.base watch.new ≡ W.base watch.old }
     ensures stays { StaysBelow node.old visit.now.left tally.new node.new }
-    ensures passed { IfSome result (Passed T.members node.old visit.now.left
-        (W.is_stopped watch.new) tally.new node.new) }
+    ensures running { IfSome result (λ _. W.is_stopped watch.new ≡ false) }
+    ensures passed { IfSome result (Passed T.members node.old visit.now.left tally.new node.new) }
     ensures stops { Stopped T.members node.old visit.now.left (is_some result)
         (W.is_stopped watch.new) tally.new node.new }
 {

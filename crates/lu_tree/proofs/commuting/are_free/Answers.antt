@@ -1,8 +1,7 @@
-use Rattle.std.proofs.Common.{rules, ◌≡◌, true, sym, ◌∙◌, refl, subst}
-use Rattle.lu_machine.specs.Changes.{idle}
+use Rattle.std.proofs.Common.{subst}
 use Rattle.lu_tree.specs.Known.{Moves}
 use Rattle.lu_tree.specs.Reordered.{AreUnordered}
-use Rattle.lu_tree.proofs.Accessing.{moves_event, open_free}
+use Rattle.lu_tree.proofs.Accessing.{moves_event}
 use Rattle.lu_tree.proofs.commuting.are_free.Goals as goal
 
 pub returns-clause-free : goal.returns-clause-free

@@ -149,7 +149,7 @@ loop-pick-preserved g t c =
       tree = c.leave.ensures.tree ∙ c.walk_as-walked.ensures.stays.tree ∙ c.enter-undo.ensures.tree ∙ i.tree;
       cache = record { tree_is = c.walk_as-walked.ensures.cache.tree_is ∙ i.cache.tree_is; capacity = c.walk_as-walked.ensures.cache.capacity ∙ i.cache.capacity };
       base = c.walk_as-walked.ensures.base ∙ i.base;
-      running = w.running;
+      running = c.in-Some-walked.ensures.running;
       ready = w.ready;
       ended = ended_picked s next able;
       counted = subst (AreAdded Set s h c.args.visit.now.left (record { thread = thread; pick = pick + 1 })) (sym counts) more;
@@ -186,10 +186,9 @@ returns-then-left-eq0-clause-passed g t c =
     let h = c.args.node.now.trail.history in
     let node = c.end.ensures.node in
     some_both _ _ _ c.end.result
-    (λ known running alone. record {
+    (λ known _ alone. record {
       machine = ap (λ n. n.machine) node;
       history = ap (λ n. n.trail.history) node;
-      running = running;
       ready = ready_still c.args.tally.now c.end.new.tally c.end.ensures.path c.requires.ready;
       known = known_alone Set s h c.args.visit.now.left known (counts_of known) refl alone.1 (end_below Set s h c.args.visit.now.left (inr (search rules)) (counts_of known) alone.0);
     })
@@ -218,10 +217,9 @@ returns-in-Some-clause-passed g t c =
     let h = c.args.node.now.trail.history in
     let there = c.counted_below.ensures in
     some_both _ _ _ c.pass.result
-    (λ known running alone. record {
+    (λ known _ alone. record {
       machine = (ap (λ n. n.machine) there.same);
       history = (ap (λ n. n.trail.history) there.same);
-      running = running;
       ready = ready_still c.args.tally.now c.pass.new.tally c.pass.ensures.path c.requires.ready;
       known = known_alone Set s h c.args.visit.now.left known c.in-Some.counts alone.0 alone.1 c.in-Some.ensures.below;
     })
@@ -244,10 +242,9 @@ returns-then-is_ended-clause-passed g t c =
     let none : HasNoMove s = ended_all s c.loop-thread.thread past (rw all at i.ended) in
     let node = c.end-then-is_ended.ensures.node in
     some_both _ _ _ c.end-then-is_ended.result
-    (λ known running alone. record {
+    (λ known _ alone. record {
       machine = ap (λ n. n.machine) node ∙ i.machine;
       history = ap (λ n. n.trail.history) node ∙ i.history;
-      running = running;
       ready = ready_still c.loop-thread.tally c.end-then-is_ended.new.tally c.end-then-is_ended.ensures.path i.ready;
       known =
           (let counted : IsCountAtEnd Set s h (counts_of known) = rw (← i.tree, ← i.machine, ← i.history) alone.0 in
@@ -288,7 +285,6 @@ returns-clause-passed g t c =
     record {
       machine = i.machine;
       history = i.history;
-      running = i.running;
       ready = i.ready;
       known = c.keep_nearest.ensures (g.T.SerialTree.members c.args.node.now.trail.tree) s h c.args.visit.now.left known;
     }
