@@ -3,12 +3,10 @@
 #![tactic(auto)]
 
 ghost use Rattle.std.specs.Prelude.{◌≡◌, IfOk, Ok, OnOk};
-ghost use Rattle.lu_text.specs.Faults.{meaning_of};
 ghost use Rattle.lu_text.specs.Results.{Builds};
-ghost use Rattle.lu_lang.specs.Grammar.{component_grammar};
-ghost use Rattle.lu_test.specs.MatrixText.{matrix_grammar};
 ghost use Rattle.lu_test.specs.Matrix.{IsOf};
 ghost use Rattle.lu_machine.specs.Starts.{CanRun};
+ghost use Rattle.lu_fixtures.specs.Fixtures.{IsOfTexts};
 
 use lu_history::History;
 use lu_lang::{Component, read_component};
@@ -46,10 +44,7 @@ fn settled(rt: &impl AllocGlobal, component: &Component, matrix: &Matrix) -> Res
 ///
 /// A text that has a fault, a setup that does not settle, and want of memory.
 pub fn fixture_of(rt: &impl AllocGlobal, component: &[u8], matrix: &[u8]) -> Result<Fixture, Fail>
-    ensures component { IfOk result (λ fixture.
-        meaning_of component_grammar component.now ≡ Ok fixture.component) }
-    ensures matrix { IfOk result (λ fixture.
-        meaning_of (matrix_grammar fixture.component) matrix.now ≡ Ok fixture.matrix) }
+    ensures texts { IfOk result (IsOfTexts component.now matrix.now) }
     ensures runs { IfOk result (λ fixture. CanRun fixture.component fixture.matrix) }
 {
     let component = read_component(rt.alloc(), component)?;
