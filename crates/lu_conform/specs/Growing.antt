@@ -1,5 +1,6 @@
 -- How the list of stages that are kept grows.
 use Rattle.std.specs.Prelude.{◌≡◌, ℕ, List, [], ◌∷◌, ◌++◌, All, Option, Some, slice_get}
+use Rattle.indexmap.specs.IndexMap.{IndexMap}
 use Rattle.lu_component.specs.Component.{Declarations}
 use Rattle.lu_test.specs.declared.schedule.Move.{Move}
 use Rattle.lu_test.specs.Matrix.{Matrix}
@@ -7,6 +8,7 @@ use Rattle.lu_machine.specs.declared.event.Event.{Event}
 use Rattle.lu_machine.specs.Positions.{CanStandAt}
 use Rattle.lu_machine.specs.States.{State}
 use Rattle.lu_machine.specs.Steps.{Step}
+use Rattle.lu_conform.specs.declared.growing.Behind.{Behind}
 use Rattle.lu_conform.specs.declared.kept.Kept.{Kept}
 use Rattle.lu_conform.specs.declared.kept.Way.{Way}
 use Rattle.lu_conform.specs.Stages.{Follows, Stage, stage_of}
@@ -77,3 +79,24 @@ pub record AddsNext (s : State) (h : List Event) (seen : ℕ) (moves : List Move
   pub there : (m : Move) (next : State) (event : Option Event) (after : ℕ) → Step s m next event
       → Follows h seen event after → Keeps s.component s.matrix new (stage_of next after)
   pub grows : GrowsBy (IsNext s h seen moves) old new
+
+-- ---- the same, of the stages of a search
+
+-- the stage at which s stands is there, and if it is added, by this way
+abbrev pub AddsHere : {S : Type 0} → State → ℕ → Way → IndexMap Kept Way S → IndexMap Kept Way S
+    → Type 0
+AddsHere s seen way old new =
+    AddsStage s.component s.matrix (stage_of s seen) way.moves.items old.entries new.entries
+
+-- s is there behind the move m with this event, or none, where that follows
+abbrev pub AddsBehind : {S : Type 0} → State → Behind → Move → Option Event
+    → IndexMap Kept Way S → IndexMap Kept Way S → Type 0
+AddsBehind s behind m event old new =
+    AddsFollowing s behind.events.now behind.seen event (behind.moves.now ++ m ∷ [])
+    old.entries new.entries
+
+-- all stages to which moves of s lead that follow are there
+abbrev pub AddsAhead : {S : Type 0} → State → Behind → IndexMap Kept Way S → IndexMap Kept Way S
+    → Type 0
+AddsAhead s behind old new =
+    AddsNext s behind.events.now behind.seen behind.moves.now old.entries new.entries

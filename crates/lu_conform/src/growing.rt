@@ -1,14 +1,22 @@
 //! How the stages that are kept grow.
 
 ghost use Rattle.std.specs.Prelude.{◌≡◌, [], ◌∷◌, ◌++◌, IfOk, OnOk};
-ghost use Rattle.lu_conform.specs.Growing.{AddsFollowing, AddsNext, AddsStage};
-ghost use Rattle.lu_conform.specs.Stages.{stage_of};
+ghost use Rattle.lu_conform.specs.Growing.{AddsAhead, AddsBehind, AddsHere};
 
 use crate::following::seen_behind;
 use crate::kept::{Kept, Stages, Way};
 use lu_machine::{Event, Machine};
 use lu_test::Move;
 use std::alloc::{AllocError, Global};
+
+/// What is behind the stage from which moves are made: so many of the events of the history were
+/// seen, and these moves led there.
+#[derive(Clone, Copy)]
+pub(crate) struct Behind<'a> {
+    pub(crate) events: &'a [Event],
+    pub(crate) seen: usize,
+    pub(crate) moves: &'a [Move],
+}
 
 /// Adds the stage at which the machine stands, behind so many events, unless it is there. This way
 /// leads to it.
@@ -19,8 +27,7 @@ pub(crate) fn add(
     way: Way,
     stages: &mut Stages,
 ) -> Result<(), AllocError>
-    ensures { OnOk result (AddsStage machine.now.component machine.now.matrix
-        (stage_of machine.now seen) way.moves.items stages.old.entries stages.new.entries) }
+    ensures { OnOk result (AddsHere machine.now seen way stages.old stages.new) }
 {
     let kept = Kept {
         position: machine.position(alloc)?,
@@ -44,54 +51,44 @@ fn longer(alloc: Global, moves: &[Move], next: Move) -> Result<Way, AllocError>
 }
 
 /// Adds the stage at which the machine stands behind this move, which had this event, or none,
-/// where it follows the history. So many events were seen before it, and these moves led there.
+/// where it follows the history.
 fn add_behind(
     alloc: Global,
     machine: &Machine<'_>,
-    events: &[Event],
-    seen: usize,
-    moves: &[Move],
+    behind: Behind<'_>,
     next: Move,
     event: Option<Event>,
     stages: &mut Stages,
 ) -> Result<(), AllocError>
-    ensures { OnOk result (AddsFollowing machine.now events.now seen event
-        (moves.now ++ next ∷ []) stages.old.entries stages.new.entries) }
+    ensures { OnOk result (AddsBehind machine.now behind.entry next event stages.old stages.new) }
 {
-    match seen_behind(events, seen, event) {
+    match seen_behind(behind.events, behind.seen, event) {
         None => Ok(()),
-        Some(after) => add(alloc, machine, after, longer(alloc, moves, next)?, stages),
+        Some(after) => add(
+            alloc,
+            machine,
+            after,
+            longer(alloc, behind.moves, next)?,
+            stages,
+        ),
     }
 }
 
-/// Adds all stages to which the machine's moves lead that follow the history. So many of its events
-/// were seen, and these moves led there.
+/// Adds all stages to which the machine's moves lead that follow the history.
 pub(crate) fn add_next(
     alloc: Global,
     machine: &mut Machine<'_>,
-    events: &[Event],
-    seen: usize,
-    moves: &[Move],
+    behind: Behind<'_>,
     stages: &mut Stages,
 ) -> Result<(), AllocError>
     ensures home { OnOk result (machine.new ≡ machine.old) }
-    ensures next { OnOk result (AddsNext machine.old events.now seen moves.now
-        stages.old.entries stages.new.entries) }
+    ensures next { OnOk result (AddsAhead machine.old behind.entry stages.old stages.new) }
 {
     for thread in 0..machine.threads() {
         for pick in 0..machine.picks(thread) {
             let next = Move { thread, pick };
             let undo = machine.apply(next);
-            add_behind(
-                alloc,
-                machine,
-                events,
-                seen,
-                moves,
-                next,
-                undo.event(),
-                stages,
-            )?;
+            add_behind(alloc, machine, behind, next, undo.event(), stages)?;
             machine.undo(undo);
         }
     }

@@ -11,7 +11,7 @@ ghost use Rattle.lu_conform.specs.Showing.{IsShown};
 ghost use Rattle.lu_conform.specs.declared.shown.Shown.TheVariants.{By, Undecided};
 
 use crate::ending::is_end;
-use crate::growing::{add, add_next};
+use crate::growing::{Behind, add, add_next};
 use crate::kept::Way;
 use crate::shown::Shown;
 use indexmap::IndexMap;
@@ -78,7 +78,12 @@ pub fn shown_by(
         if is_end(&machine, recorded, seen) {
             return Ok(by_way(moves));
         }
-        add_next(alloc, &mut machine, events, seen, &moves, &mut stages)?;
+        let behind = Behind {
+            events,
+            seen,
+            moves: &moves,
+        };
+        add_next(alloc, &mut machine, behind, &mut stages)?;
     }
     if stages.len() > MOST_STAGES {
         return Ok(Shown::Undecided);
