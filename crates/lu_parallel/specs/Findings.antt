@@ -9,6 +9,7 @@ use Rattle.lu_machine.specs.Starts.{FromEachStart}
 use Rattle.lu_replay.specs.Reports.{IsFinding, IsFindingAgainst, IsReportAgainst}
 use Rattle.lu_report.specs.declared.report.Finding.{Finding}
 use Rattle.lu_report.specs.declared.report.Finding.TheVariants.{Pass, Fail}
+use Rattle.lu_parallel.specs.Ranges.{Choice}
 use Rattle.lu_tree.specs.declared.found.Found.{Found}
 use Rattle.lu_tree.specs.declared.found.Found.TheVariants.{Clean, Bad, Abandoned}
 use Rattle.lu_tree.specs.declared.space.SearchSpace.{SearchSpace}
@@ -47,3 +48,8 @@ abbrev pub ReportsAgainst : {E : Type 0} → Declarations → Matrix → List (L
     → Result Report E → Type 0
 ReportsAgainst c matrix members bound result =
     IfOk result (IsReportAgainst (IsMember members) c matrix bound)
+
+-- the same, within the bound that is asked for
+abbrev pub ReportsAsAsked : {E : Type 0} → Declarations → Matrix → List (List SerialOp) → Choice
+    → Result Report E → Type 0
+ReportsAsAsked c matrix members asked result = ReportsAgainst c matrix members asked.bound result

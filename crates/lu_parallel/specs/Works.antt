@@ -122,20 +122,22 @@ IsFoundIn job members piece result =
     (λ s. IfOk result
     (IsFoundWatched (IsMember members) s job.space.bound (Below (piece_at job.pieces.now piece))))
 
--- what is a tally of the one view and is kept on is one of the other
-abbrev pub Tallied : {T G : Type 0} → Job T G → List (List SerialOp) → View → Worker → View
-    → Worker → Type 0
-Tallied job members v old w new =
+-- what is a tally of the seat before and is kept on is one of the seat after
+abbrev pub Tallied : {T G : Type 0} → Job T G → List (List SerialOp) → SeatModel → Worker
+    → SeatModel → Worker → Type 0
+Tallied job members before old after new =
     FromEachStart job.space.component.now job.space.matrix.now
-    (λ s. IsTally (IsMember members) s job.space.bound job.pieces.now v old.counts old.found.items
-    → IsTally (IsMember members) s job.space.bound job.pieces.now w new.counts new.found.items)
+    (λ s. IsTally (IsMember members) s job.space.bound job.pieces.now before.view old.counts
+    old.found.items
+    → IsTally (IsMember members) s job.space.bound job.pieces.now after.view new.counts
+    new.found.items)
 
 -- what was found in the piece is on the tally
-abbrev pub IsNoted : {T G E : Type 0} → Job T G → ℕ → Result Found E → View → Worker → View
-    → Worker → Type 0
-IsNoted job piece found v old w new =
+abbrev pub IsNoted : {T G E : Type 0} → Job T G → ℕ → Result Found E → SeatModel → Worker
+    → SeatModel → Worker → Type 0
+IsNoted job piece found before old after new =
     (members : List (List SerialOp)) → IsFoundIn job members piece found
-    → Tallied job members v old w new
+    → Tallied job members before old after new
 
 -- piece i, which was held, is put into another set
 pub record PutsAway (i : ℕ) (old new : View) : Type 0 where

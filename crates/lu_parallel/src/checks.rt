@@ -5,7 +5,7 @@ ghost use Rattle.lu_test.specs.Matrix.{IsMatrix};
 ghost use Rattle.lu_machine.specs.Starts.{CanRun};
 ghost use Rattle.lu_report.specs.Limits.{most_moves};
 ghost use Rattle.lu_replay.specs.Reports.{IsReport};
-ghost use Rattle.lu_parallel.specs.Findings.{FindsFromStarts, FindsAgainst, MayFindAgainst, ReportsAgainst};
+ghost use Rattle.lu_parallel.specs.Findings.{FindsFromStarts, FindsAgainst, MayFindAgainst, ReportsAsAsked};
 ghost use Rattle.lu_parallel.specs.declared.fault.CheckFault.TheVariants.{Memory};
 
 use crate::conclusion::conclude;
@@ -214,8 +214,7 @@ pub fn check_against<R: Threads + Wait, G: Gate, T: SerialTree + Sync>(
 where
     T::Place: Send + Sync,
     requires of { CanRun component.now matrix.now }
-    ensures report { ReportsAgainst component.now matrix.now (T.members tree.now)
-        options.bound result }
+    ensures report { ReportsAsAsked component.now matrix.now (T.members tree.now) options result }
     ensures alone { IfErr result (λ fault. options.workers ≡ 1 → fault ≡ Memory) }
 {
     let bound = options.bound();

@@ -79,7 +79,7 @@ impl Worker {
         ensures pieces { result.view.pieces ≡ seat.view.pieces }
         ensures past { result.view.past ≡ seat.view.past }
         ensures held { result.view.held ≡ [] }
-        ensures holds { IsNoted job.now piece found seat.view self.old result.view self.new }
+        ensures holds { IsNoted job.now piece found seat self.old result self.new }
     {
         let mut seat = seat;
         match found {
@@ -129,8 +129,7 @@ impl Worker {
         ensures cache { SameButEntries cache.old cache.new }
         ensures board { result.board ≡ seat.board }
         ensures away { PutsAway piece seat.view result.view }
-        ensures holds { Tallied job.now (T.members cache.old.tree) seat.view self.old
-            result.view self.new }
+        ensures holds { Tallied job.now (T.members cache.old.tree) seat self.old result self.new }
     {
         let mut seat = seat;
         if self.starved {
