@@ -5,7 +5,7 @@ use Rattle.lu_component.specs.Component.{Declarations, IsComponent}
 use Rattle.lu_text.specs.declared.fault.Fault.{Fault}
 use Rattle.lu_text.specs.Faults.{Gives, OnLine, meaning_of}
 use Rattle.lu_source.specs.Programs.{program_of}
-use Rattle.lu_source.specs.Runs.{DoesAs, compiled}
+use Rattle.lu_source.specs.Runs.{IsCompiled, compiled}
 use Rattle.lu_source.specs.Trees.{Program}
 use Rattle.lu_source_text.specs.declared.draft.Draft.{Draft}
 use Rattle.lu_source_text.specs.declared.source.Source.{Source}
@@ -19,7 +19,7 @@ SourceSound =
 
 -- what a source of the code declares
 abbrev pub program_in : Source → Program
-program_in s = program_of s.name s.local s.arrays.items s.locks.items s.operations.items
+program_in s = program_of s.name s.local s.arrays s.locks s.operations.items
 
 -- what a reader returned is this source or this fault, unless memory ran out
 abbrev pub GivesSource : Result Source (Fault Kind) → Result Program (Fault Kind) → Type 0
@@ -36,4 +36,4 @@ component_meant text = result_map_both compiled (λ e. e) (meaning_of source_gra
 -- the component is compiled from the source that the text spells, and does as that source
 abbrev pub IsCompiledFrom : List ℕ → Declarations → Type 0
 IsCompiledFrom text c =
-    (p : Program) × (meaning_of source_grammar text ≡ Ok p) × (c ≡ compiled p) × DoesAs p c
+    (p : Program) × (meaning_of source_grammar text ≡ Ok p) × IsCompiled p c

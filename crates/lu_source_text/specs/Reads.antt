@@ -4,7 +4,7 @@ use denote.Ref.{Bor}
 use Rattle.lu_text.specs.Lines.{texts}
 use Rattle.lu_text.specs.Words.{Word}
 use Rattle.lu_source.specs.declared.expr.Expr.{Expr as Boxed}
-use Rattle.lu_source.specs.Evaluations.{expr_of}
+use Rattle.lu_source.specs.Evaluations.{coded_of, expr_of}
 use Rattle.lu_source.specs.declared.expr.Evaluation.{Evaluation}
 use Rattle.lu_source.specs.declared.tree.Stmt.{Stmt}
 use Rattle.lu_source.specs.Expressions.{Coded, Expr}
@@ -137,10 +137,6 @@ ReadsWhole returned meant = Reads expr_of returned meant
 
 abbrev pub ReadsTree : Result Stmt Refusal → Result Tree Kind → Type 0
 ReadsTree returned meant = Reads tree_of returned meant
-
--- code without the boxes of its statements
-abbrev pub coded_of : Evaluation → Coded
-coded_of x = record { code = tree_of x.code; at = x.at }
 
 abbrev pub ReadsCode : Result Evaluation Refusal → Result Coded Kind → Type 0
 ReadsCode returned meant = Reads coded_of returned meant
