@@ -1,5 +1,5 @@
 -- Which lines begin a source.
-use Rattle.std.proofs.Common.{◌≡◌, ℕ, Bool, List, ◌∷◌, Option, Some, None, refl}
+use Rattle.std.proofs.Common.{◌≡◌, ℕ, Bool, List, ◌∷◌, Some, None, refl}
 use Rattle.lu_source_text.specs.Begins.{begins_so, begins_source}
 use Rattle.lu_source_text.specs.Grammar.{source_words}
 

@@ -20,7 +20,7 @@ use Rattle.lu_component.specs.Component.{AreDistinct, IsArray, IsComponent, IsIn
 use Rattle.lu_source.specs.declared.tree.Action.{Action}
 use Rattle.lu_source.specs.declared.tree.Action.TheVariants.{Set, Compute, Load, Store, Cas, Lock, Unlock, Await, AwaitNot, Pick, Return}
 use Rattle.lu_source.specs.Code.{instr_of, op_of, operation_code}
-use Rattle.lu_source_text.specs.Grammar.{Begun, Block, Drafted, Kind, all_read, aside, begun_as, last_number, op_fault, where_some, behind_word, by_state, by_words, close_line, closes, end_block, whole_of, constant_in, const_line, declaration, else_line, end_line, first_number, init_in, inside, is_free_name, is_operation, is_taken, is_whole, is_word, keeps_going, len_in, line_of, local_in, local_line, lock_in, lock_line, names_from, names_in, new_name, nothing, object_line, on_first, on_ok, op_line, place_from, program_of, shared_from, shared_in, source_grammar, source_words, statement, whole_line, word_line}
+use Rattle.lu_source_text.specs.Grammar.{Begun, Block, Drafted, Kind, all_read, aside, begun_as, last_number, op_fault, where_some, behind_word, by_state, by_words, close_blocks, closes, end_block, whole_of, constant_in, const_line, declaration, else_line, end_line, first_number, init_in, inside, is_free_name, is_operation, is_taken, is_whole, is_word, keeps_going, len_in, line_of, local_in, local_line, lock_in, lock_line, names_from, names_in, new_name, nothing, object_line, on_first, on_ok, op_line, other_side, place_from, program_of, shared_from, shared_in, source_grammar, source_words, statement, whole_line, word_line}
 use Rattle.lu_source.specs.Programs.{operation_of}
 use Rattle.lu_source_text.specs.Drafts.{begun_of, drafted_of}
 use Rattle.lu_source_text.specs.declared.draft.Begun.{Begun as HeldBegun}
@@ -102,13 +102,13 @@ new_fine d locals w =
 abbrev AreNamed : List Word × List Word → Type 0
 AreNamed r = AllByRecursion IsName r.0
 
-from_named : (d : Drafted) (names ws : List Word) → AllByRecursion IsName names → Holds AreNamed (names_from d names ws)
+from_named : (d : Drafted) (names ws : List Word) → AllByRecursion IsName names → Holds AreNamed (names_from names d ws)
 from_named d names [] are = tt
 from_named d names (w ∷ []) are = tt
 from_named d names (w ∷ c ∷ ws) are =
     then_holds IsName AreNamed (new_name d names w) _ (new_named d names w) (λ name is.
     let more = each_last IsName names name are is in
-    if_holds AreNamed (is_word c (codes ",")) (names_from d (names ++ name ∷ []) ws) _ (from_named d (names ++ name ∷ []) ws more)
+    if_holds AreNamed (is_word c (codes ",")) (names_from (names ++ name ∷ []) d ws) _ (from_named d (names ++ name ∷ []) ws more)
     (if_holds AreNamed (is_word c (codes ")")) (Ok (names ++ name ∷ [], ws)) _ more tt))
 
 names_named : (d : Drafted) (ws : List Word) → Holds AreNamed (names_in d ws)
@@ -376,25 +376,25 @@ module _ (d : Drafted) (h : IsDraft d) where
   end_kept : (b : Begun) (block : Block) → IsOpenIn (length d.words) (length d.locks) d.operations b → IsBlock (length d.words) (length d.locks) block → Holds IsDraft (end_line d b block)
   end_kept b block open_now one = if_holds IsDraft (is_whole block.opening) _ _ (whole_kept b block.does open_now one.0) (ends_kept b block open_now one)
 
-  closes_kept : (b : Begun) (block : Block) (ws : List Word) → IsOpenIn (length d.words) (length d.locks) d.operations b → IsBlock (length d.words) (length d.locks) block → Holds IsDraft (closes d b block ws)
+  closes_kept : (b : Begun) (block : Block) (ws : List Word) → IsOpenIn (length d.words) (length d.locks) d.operations b → IsBlock (length d.words) (length d.locks) block → Holds IsDraft (closes block d b ws)
   closes_kept b block [] open_now one = end_kept b block open_now one
   closes_kept b block (w ∷ ws) open_now one =
-      if_holds IsDraft (is_word w (codes "else")) _ _ (going_kept b (else_line d b block ws) open_now (else_fine d h.values b block ws open_now.0 one)) tt
+      if_holds IsDraft (is_word w (codes "else")) _ _ (going_kept b (on_ok (other_side b block) (λ other. else_line d other ws)) open_now (else_fine d h.values b block ws open_now.0 one)) tt
 
-  close_kept : (b : Begun) (ws : List Word) (blocks : List Block) → IsOpenIn (length d.words) (length d.locks) d.operations b → AllByRecursion (IsBlock (length d.words) (length d.locks)) blocks → Holds IsDraft (close_line d b ws blocks)
+  close_kept : (b : Begun) (ws : List Word) (blocks : List Block) → IsOpenIn (length d.words) (length d.locks) d.operations b → AllByRecursion (IsBlock (length d.words) (length d.locks)) blocks → Holds IsDraft (close_blocks blocks d b ws)
   close_kept b ws [] open_now all = tt
   close_kept b ws (block ∷ blocks) open_now all =
       let now : Begun = record b { blocks = blocks } in
       let going_now : IsGoing (length d.words) (length d.locks) now = record { name = open_now.0.name; args = open_now.0.args; locals = open_now.0.locals; named = open_now.0.named; blocks = all.1 } in
       closes_kept now block ws (going_now, open_now.1, open_now.2) all.0
 
-  inside_kept : (b : Begun) (w : Word) (ws : List Word) → IsOpenIn (length d.words) (length d.locks) d.operations b → Holds IsDraft (inside d b w ws)
+  inside_kept : (b : Begun) (w : Word) (ws : List Word) → IsOpenIn (length d.words) (length d.locks) d.operations b → Holds IsDraft (inside w d b ws)
   inside_kept b w ws open_now =
       unless_holds IsDraft (nat_le 256 b.lines) Limit _ (λ few.
       let now : Begun = record b { lines = b.lines + 1 } in
       let going_now : IsGoing (length d.words) (length d.locks) now = record { name = open_now.0.name; args = open_now.0.args; locals = open_now.0.locals; named = open_now.0.named; blocks = open_now.0.blocks } in
       if_holds IsDraft (is_word w (codes "}")) _ _ (close_kept now ws b.blocks (going_now, open_now.1, open_now.2) open_now.0.blocks)
-      (going_kept now (statement d now w ws) (going_now, open_now.1, open_now.2) (statement_fine d h.values now w ws going_now)))
+      (going_kept now (statement w d now ws) (going_now, open_now.1, open_now.2) (statement_fine d h.values now w ws going_now)))
 
   aside_is : IsDraft (aside d)
   aside_is = record { name = h.name; local = h.local; values = h.values; words_few = h.words_few; words = h.words; words_apart = h.words_apart; locks_few = h.locks_few; locks = h.locks; locks_apart = h.locks_apart; operations_few = h.operations_few; operations = h.operations; operations_apart = h.operations_apart; begun = tt }

@@ -9,10 +9,10 @@ use Rattle.lu_text.specs.Numbers.{value_in}
 use Rattle.lu_text.specs.Words.{Word}
 use Rattle.lu_text.proofs.NumberText.{value_small}
 use Rattle.lu_source.specs.Expressions.{Expr}
-use Rattle.lu_source.specs.Expressions.Expr.{Number, Local, Swap}
+use Rattle.lu_source.specs.Expressions.Expr.{Number, Local}
 use Rattle.lu_source_text.specs.declared.infix.Infix.{Infix}
 use Rattle.lu_source_text.specs.declared.infix.Infix.TheVariants.{Or as Or', And as And', Joins}
-use Rattle.lu_source_text.specs.Grammar.{Inner, Kind, Scope, all_read, behind_word, binding, cas_with, cell_with, closed_with, constant_from, either, exchange_with, expr_from, expr_of, first_number, infix_from, infix_in, is_free_name, is_word, joined, local_in, most_behind, name_with, named_expr, number_of, on_first, on_ok, or_fault, pick_from, shared_from, steps_for, swapped_with, unary_with, unless, where_some}
+use Rattle.lu_source_text.specs.Grammar.{Inner, Kind, Read', Scope, all_read, behind_word, binding, cas_with, cell_with, closed_with, constant_from, either, exchange_with, expr_from, first_number, infix_from, infix_in, inner_by, is_free_name, is_word, joined, local_in, most_behind, name_with, named_expr, number_of, on_first, on_ok, or_fault, pick_from, shared_from, steps_for, swapped_with, unary_with, unless, where_some}
 use Rattle.lu_source_text.specs.declared.draft.Constant.{Constant}
 use Rattle.lu_source_text.specs.declared.draft.Shared.{Shared}
 use Rattle.lu_source_text.specs.declared.fault.SourceFaultKind.TheVariants.{Form, Number as Number', Limit, Name}
@@ -139,46 +139,49 @@ module _ (s : Scope) (values : AreValues s.constants) where
 
   -- ---- inside of an expression
 
-  module _ (inner : Inner) (inner_fine : (least : ℕ) (ws : List Word) → Holds Fine (inner least ws)) where
-    closed_fine : (text : List ℕ) (ws : List Word) → Holds Fine (closed_with inner text ws)
-    closed_fine text ws = then_holds Fine Fine (inner 1 ws) _ (inner_fine 1 ws) (λ r h. behind_holds Fine text r.1 _ (λ more. h))
+  module _ (read : ℕ → List Word → Read' Expr) (inner_fine : (least : ℕ) (ws : List Word) → Holds Fine (read least ws)) where
+    abbrev inner : Inner
+    inner = record { scope = s; read = read }
 
-    pub cell_fine : (w : Word) (ws : List Word) → Holds FineCell (cell_with inner s w ws)
+    closed_fine : (text : List ℕ) (ws : List Word) → Holds Fine (closed_with text inner ws)
+    closed_fine text ws = then_holds Fine Fine (read 1 ws) _ (inner_fine 1 ws) (λ r h. behind_holds Fine text r.1 _ (λ more. h))
+
+    pub cell_fine : (w : Word) (ws : List Word) → Holds FineCell (cell_with w inner ws)
     cell_fine w ws =
         then_holds (λ (r : ℕ × Bool). r.0 < 0 + length s.words) FineCell (or_fault Name (shared_from 0 s.words w)) _
         (or_holds (λ (r : ℕ × Bool). r.0 < 0 + length s.words) Name (shared_from 0 s.words w) (shared_within 0 s.words w)) (λ r h.
         if_holds FineCell r.1 _ _
         (behind_holds FineCell (codes "[") ws _ (λ index.
-        then_holds Fine FineCell (closed_with inner (codes "]") index) _ (closed_fine (codes "]") index) (λ e k. (omega arith, k))))
+        then_holds Fine FineCell (closed_with (codes "]") inner index) _ (closed_fine (codes "]") index) (λ e k. (omega arith, k))))
         (omega arith, lit< tt))
 
-    name_fine : (w : Word) (ws : List Word) → Holds Fine (name_with inner s w ws)
+    name_fine : (w : Word) (ws : List Word) → Holds Fine (name_with w inner ws)
     name_fine w ws =
         some_holds (IsExpr (length s.words)) Fine (named_expr s w) _ (λ e. Ok (e, ws)) (named_fine w)
-        (then_holds FineCell Fine (cell_with inner s w ws) _ (cell_fine w ws) (λ r h. h)) (λ e h. h)
+        (then_holds FineCell Fine (cell_with w inner ws) _ (cell_fine w ws) (λ r h. h)) (λ e h. h)
 
     abbrev FinePair : (Expr × Expr) × List Word → Type 0
     FinePair r = IsExpr (length s.words) r.0.0 × IsExpr (length s.words) r.0.1
 
-    swapped_fine : (ws : List Word) → Holds FineCell (swapped_with inner s ws)
+    swapped_fine : (ws : List Word) → Holds FineCell (swapped_with inner ws)
     swapped_fine ws = behind_holds FineCell (codes "(") ws _ (λ inside. of_first inside)
       where
         of_first : (inside : List Word) → Holds FineCell (on_first inside (λ w rest.
-            on_ok (cell_with inner s w rest) (λ (cell, second). on_ok (behind_word (codes ",") second) (λ third.
+            on_ok (cell_with w inner rest) (λ (cell, second). on_ok (behind_word (codes ",") second) (λ third.
             Ok (cell, third)))))
         of_first [] = tt
         of_first (w ∷ rest) =
-            then_holds FineCell FineCell (cell_with inner s w rest) _ (cell_fine w rest) (λ cell h.
+            then_holds FineCell FineCell (cell_with w inner rest) _ (cell_fine w rest) (λ cell h.
             behind_holds FineCell (codes ",") cell.1 _ (λ third. h))
 
     exchange_fine : (ws : List Word) → Holds FinePair (exchange_with inner ws)
     exchange_fine ws =
-        then_holds Fine FinePair (closed_with inner (codes ",") ws) _ (closed_fine (codes ",") ws) (λ old k.
-        then_holds Fine FinePair (closed_with inner (codes ")") old.1) _ (closed_fine (codes ")") old.1) (λ new l. (k, l)))
+        then_holds Fine FinePair (closed_with (codes ",") inner ws) _ (closed_fine (codes ",") ws) (λ old k.
+        then_holds Fine FinePair (closed_with (codes ")") inner old.1) _ (closed_fine (codes ")") old.1) (λ new l. (k, l)))
 
-    pub swap_fine : (ws : List Word) → Holds Fine (cas_with inner s ws)
+    pub swap_fine : (ws : List Word) → Holds Fine (cas_with inner ws)
     swap_fine ws =
-        then_holds FineCell Fine (swapped_with inner s ws) _ (swapped_fine ws) (λ cell h.
+        then_holds FineCell Fine (swapped_with inner ws) _ (swapped_fine ws) (λ cell h.
         then_holds FinePair Fine (exchange_with inner cell.1) _ (exchange_fine cell.1) (λ both k. (h.0, h.1, k.0, k.1)))
 
     pick_fine : (ws : List Word) → Holds Fine (pick_from s.constants ws)
@@ -191,9 +194,9 @@ module _ (s : Scope) (values : AreValues s.constants) where
         let high = ltb-false 8 r.0 parts.1 in
         behind_holds Fine (codes ")") r.1 _ (λ more. (low, high)))))
 
-    unary_fine : (w : Word) (ws : List Word) → Holds Fine (unary_with inner s w ws)
+    unary_fine : (w : Word) (ws : List Word) → Holds Fine (unary_with w inner ws)
     unary_fine w ws =
-        if_holds Fine (is_word w (codes "!")) _ _ (then_holds Fine Fine (inner 6 ws) _ (inner_fine 6 ws) (λ r h. h))
+        if_holds Fine (is_word w (codes "!")) _ _ (then_holds Fine Fine (read 6 ws) _ (inner_fine 6 ws) (λ r h. h))
         (if_holds Fine (is_word w (codes "(")) _ _ (closed_fine (codes ")") ws)
         (if_holds Fine (is_word w (codes "cas")) _ _ (swap_fine ws)
         (if_holds Fine (is_word w (codes "pick")) _ _ (pick_fine ws)
@@ -207,7 +210,7 @@ module _ (s : Scope) (values : AreValues s.constants) where
     expr_fine zero least ws = tt
     expr_fine (suc n) least [] = tt
     expr_fine (suc n) least (w ∷ ws) =
-        then_holds Fine Fine (unary_with (expr_from n s) s w ws) (λ (left, more). infix_from n s least 5 left more) (unary_fine (expr_from n s) (expr_fine n) w ws) (λ r h. chain_fine n least 5 r.0 r.1 h)
+        then_holds Fine Fine (unary_with w (inner_by n s) ws) (λ (left, more). infix_from n s least 5 left more) (unary_fine (expr_from n s) (expr_fine n) w ws) (λ r h. chain_fine n least 5 r.0 r.1 h)
 
     chain_fine : (n least most : ℕ) (left : Expr) (ws : List Word) → IsExpr (length s.words) left → Holds Fine (infix_from n s least most left ws)
     chain_fine zero least most left ws h = tt
@@ -224,7 +227,7 @@ module _ (s : Scope) (values : AreValues s.constants) where
         any (Some by) = tt
 
   -- of a whole line's words
-  pub whole_fine : (ws : List Word) → Holds (IsExpr (length s.words)) (expr_of s ws)
+  pub whole_fine : (ws : List Word) → Holds (IsExpr (length s.words)) (on_ok (expr_from (steps_for ws) s 1 ws) all_read)
   whole_fine ws = then_holds Fine (IsExpr (length s.words)) (expr_from (steps_for ws) s 1 ws) all_read (expr_fine (steps_for ws) 1 ws) (λ r h. all_fine r h)
     where
       all_fine : (r : Expr × List Word) → Fine r → Holds (IsExpr (length s.words)) (all_read r)

@@ -16,7 +16,7 @@ use Rattle.lu_source.specs.declared.tree.Action.TheVariants as action
 use Rattle.lu_source.specs.Code.{falls, instr_of}
 use Rattle.lu_source.specs.Expressions.{Coded, Expr, as_test, coded, needed, past, put}
 use Rattle.lu_source.specs.Expressions.Expr.{Number, Local, Read, Swap, Pick, Binary, Not, And, Or}
-use Rattle.lu_source_text.specs.Grammar.{Begun, Block, Drafted, Kind, Opening, added, added_to, all_read, assign_tree, await_tree, awaited, awaiting, awaits_equal, behind_word, both_of, cas_of, cas_tree, cas_with, cell_in, closed_by, closing, code_for, compared, deeper, does_too, else_line, end_block, let_in, expr_before_brace, expr_from, expr_of, if_line, in_loop, inner_of, is_free_name, is_still, is_word, leave_tree, let_line, local_in, lock_in, lock_number, loop_line, new_name, on_first, on_ok, or_fault, other_side, owner_tree, place_from, return_tree, scope_of, set_tree, simple, statement, steps_for, store_tree, tested, while_line, with_blocks, is_keyword, is_taken}
+use Rattle.lu_source_text.specs.Grammar.{Begun, Block, Drafted, Kind, Opening, added, added_to, all_read, assign, await_tree, awaited, awaiting, awaits_equal, behind_word, both_of, cas_in, cas_tree, cas_with, cell_in, closed_by, closing, code_for, compared, deeper, does_too, else_line, end_block, let_in, expr_before_brace, expr_from, expr_in, if_line, in_loop, inner_of, is_free_name, is_still, is_word, leave, let_line, local_in, lock_in, lock_number, loop_line, new_name, on_first, on_ok, or_fault, other_by, other_side, owner_tree, place_from, return_tree, scope_of, set_tree, simple, statement, steps_for, store_tree, tested, where_some, while_line, with_blocks, is_keyword, is_taken}
 use Rattle.lu_source_text.specs.declared.fault.SourceFaultKind.TheVariants.{Form, Limit, Registers, Flow, Name}
 use Rattle.lu_source_text.specs.Grammar.Opening.{Whole, Test, Other, Turns}
 use Rattle.lu_source.specs.Sound.{IsExpr, IsTree}
@@ -125,8 +125,8 @@ module _ (d : Drafted) (values : AreValues d.constants) where
       (λ x h. next x h.0 h.1 h.2)
 
   -- an expression of the line
-  expr_holds : {A : Type 0} (P : A → Type 0) (b : Begun) (ws : List Word) (go : Expr → Result A Kind) → ((e : Expr) → IsExpr (length d.words) e → Holds P (go e)) → Holds P (on_ok (expr_of (scope_of d b) ws) go)
-  expr_holds P b ws go next = then_holds (IsExpr (length d.words)) P (expr_of (scope_of d b) ws) go (whole_fine (scope_of d b) values ws) next
+  expr_holds : {A : Type 0} (P : A → Type 0) (b : Begun) (ws : List Word) (go : Expr → Result A Kind) → ((e : Expr) → IsExpr (length d.words) e → Holds P (go e)) → Holds P (on_ok (expr_in d b ws) go)
+  expr_holds P b ws go next = then_holds (IsExpr (length d.words)) P (expr_in d b ws) go (whole_fine (scope_of d b) values ws) next
 
   words_hold : {A : Type 0} (P : A → Type 0) (text : List ℕ) (ws : List Word) (go : List Word → Result A Kind) → ((rest : List Word) → Holds P (go rest)) → Holds P (on_ok (behind_word text ws) go)
   words_hold P text ws go next = then_holds (λ r. Unit {0}) P (behind_word text ws) go (any_holds (behind_word text ws)) (λ rest t. next rest)
@@ -156,7 +156,7 @@ module _ (d : Drafted) (values : AreValues d.constants) where
           code_fine P e (length b.locals) (length b.locals) (λ x. Ok (name, Then x.code (put (length b.locals) x.at))) fine (omega arith) (λ x is_x code at.
           (small, (code, put_sound _ _ (length b.locals) x.at small at), named)))))))
 
-  set_fine : (b : Begun) (r : ℕ) (ws : List Word) → length b.locals ≤ 8 → r < length b.locals → Holds Sound (set_tree d b r ws)
+  set_fine : (b : Begun) (r : ℕ) (ws : List Word) → length b.locals ≤ 8 → r < length b.locals → Holds Sound (set_tree r d b ws)
   set_fine b r ws few within =
       words_hold Sound (codes "=") ws _ (λ more. expr_holds Sound b more _ (λ e fine.
       code_fine Sound e r (length b.locals) (λ x. Ok (Then x.code (put r x.at))) fine (omega arith) (λ x is_x code at.
@@ -171,10 +171,10 @@ module _ (d : Drafted) (values : AreValues d.constants) where
       (cx, ax, cy, ay))))
       (λ z h. next z.0 z.1 h.0 h.1 h.2 h.3)
 
-  cell_holds : {A : Type 0} (P : A → Type 0) (b : Begun) (w : Word) (ws : List Word) (go : (ℕ × Expr) × List Word → Result A Kind) → ((r : (ℕ × Expr) × List Word) → r.0.0 < length d.words → IsExpr (length d.words) r.0.1 → Holds P (go r)) → Holds P (on_ok (cell_in (scope_of d b) w ws) go)
-  cell_holds P b w ws go next = then_holds (λ (r : (ℕ × Expr) × List Word). (r.0.0 < length d.words) × IsExpr (length d.words) r.0.1) P (cell_in (scope_of d b) w ws) go (cell_fine (scope_of d b) values (inner_of (scope_of d b) ws) (expr_fine (scope_of d b) values (steps_for ws)) w ws) (λ r h. next r h.0 h.1)
+  cell_holds : {A : Type 0} (P : A → Type 0) (b : Begun) (w : Word) (ws : List Word) (go : (ℕ × Expr) × List Word → Result A Kind) → ((r : (ℕ × Expr) × List Word) → r.0.0 < length d.words → IsExpr (length d.words) r.0.1 → Holds P (go r)) → Holds P (on_ok (cell_in w d b ws) go)
+  cell_holds P b w ws go next = then_holds (λ (r : (ℕ × Expr) × List Word). (r.0.0 < length d.words) × IsExpr (length d.words) r.0.1) P (cell_in w d b ws) go (cell_fine (scope_of d b) values (expr_from (steps_for ws) (scope_of d b)) (expr_fine (scope_of d b) values (steps_for ws)) w ws) (λ r h. next r h.0 h.1)
 
-  store_fine : (b : Begun) (w : Word) (ws : List Word) → Holds Sound (store_tree d b w ws)
+  store_fine : (b : Begun) (w : Word) (ws : List Word) → Holds Sound (store_tree w d b ws)
   store_fine b w ws =
       cell_holds Sound b w ws _ (λ r within fi. words_hold Sound (codes "=") r.1 _ (λ more.
       expr_holds Sound b more _ (λ e fe. both_fine Sound b r.0.1 e _ fi fe (λ x y cx ax cy ay.
@@ -245,9 +245,9 @@ module _ (d : Drafted) (values : AreValues d.constants) where
       then_holds (Fits b) (λ (r : Begun × Operand). Fits b r.0 × IsOperand r.1) (added b x.code) _ (added_fine b x.code is code) (λ now h. (h, at))))
       (λ r h. fits_weaker b r.0 (go r.0 r.1) h.0 (next r.0 r.1 h.0.0 h.1))
 
-  brace_holds : (P : Begun → Type 0) (b : Begun) (ws : List Word) (go : Expr → Result Begun Kind) → ((e : Expr) → IsExpr (length d.words) e → Holds P (go e)) → Holds P (on_ok (expr_before_brace (scope_of d b) ws) go)
+  brace_holds : (P : Begun → Type 0) (b : Begun) (ws : List Word) (go : Expr → Result Begun Kind) → ((e : Expr) → IsExpr (length d.words) e → Holds P (go e)) → Holds P (on_ok (expr_before_brace d b ws) go)
   brace_holds P b ws go next =
-      then_holds (IsExpr (length d.words)) P (expr_before_brace (scope_of d b) ws) go
+      then_holds (IsExpr (length d.words)) P (expr_before_brace d b ws) go
       (then_holds (λ (r : Expr × List Word). IsExpr (length d.words) r.0) (IsExpr (length d.words)) (expr_from (steps_for ws) (scope_of d b) 1 ws) _ (expr_fine (scope_of d b) values (steps_for ws) 1 ws) (λ r h.
       words_hold (IsExpr (length d.words)) (codes "{") r.1 _ (λ more. read_fine r.0 more h)))
       next
@@ -256,7 +256,7 @@ module _ (d : Drafted) (values : AreValues d.constants) where
       read_fine e [] h = h
       read_fine e (w ∷ ws) h = tt
 
-  if_fine : (b : Begun) (chained : Bool) (ws : List Word) → IsGoing (length d.words) (length d.locks) b → Holds (Fits b) (if_line d b chained ws)
+  if_fine : (b : Begun) (chained : Bool) (ws : List Word) → IsGoing (length d.words) (length d.locks) b → Holds (Fits b) (if_line chained d b ws)
   if_fine b chained ws is = brace_holds (Fits b) b ws _ (λ e fine. tested_fine b e _ is fine (λ now v going_now at. deeper_fine now (Test v) chained going_now at))
 
   while_fine : (b : Begun) (ws : List Word) → IsGoing (length d.words) (length d.locks) b → Holds (Fits b) (while_line d b ws)
@@ -264,7 +264,7 @@ module _ (d : Drafted) (values : AreValues d.constants) where
       brace_holds (Fits b) b ws _ (λ e fine. then_holds (Fits b) (Fits b) (deeper b Turns false) _ (deeper_fine b Turns false is tt) (λ inner h.
       fits_weaker b inner (on_ok (tested inner e) (λ (now, v). added now (BreakUnless v))) h (tested_fine inner e _ h.0 fine (λ now v going_now at. added_fine now (BreakUnless v) going_now at))))
 
-  leave_fine : (b : Begun) (t : Tree) (ws : List Word) → Sound t → Holds Sound (leave_tree b t ws)
+  leave_fine : (b : Begun) (t : Tree) (ws : List Word) → Sound t → Holds Sound (leave b t ws)
   leave_fine b t [] fine = unless_holds Sound (not (in_loop b.blocks)) Flow (Ok t) (λ so. fine)
   leave_fine b t (w ∷ ws) fine = tt
 
@@ -289,9 +289,9 @@ module _ (d : Drafted) (values : AreValues d.constants) where
 
   cas_line_fine : (b : Begun) (ws : List Word) → Holds Sound (cas_tree d b ws)
   cas_line_fine b ws =
-      then_holds (IsExpr (length d.words)) Sound (cas_of (scope_of d b) ws) _
-      (then_holds (λ (r : Expr × List Word). IsExpr (length d.words) r.0) (IsExpr (length d.words)) (cas_with (inner_of (scope_of d b) ws) (scope_of d b) ws) all_read
-      (swap_fine (scope_of d b) values (inner_of (scope_of d b) ws) (expr_fine (scope_of d b) values (steps_for ws)) ws) (λ r h. all_fine r.0 r.1 h))
+      then_holds (IsExpr (length d.words)) Sound (cas_in d b ws) _
+      (then_holds (λ (r : Expr × List Word). IsExpr (length d.words) r.0) (IsExpr (length d.words)) (cas_with (inner_of (scope_of d b) ws) ws) all_read
+      (swap_fine (scope_of d b) values (expr_from (steps_for ws) (scope_of d b)) (expr_fine (scope_of d b) values (steps_for ws)) ws) (λ r h. all_fine r.0 r.1 h))
       (λ e fine. code_fine Sound e (length b.locals) (length b.locals) (λ x. Ok x.code) fine (omega arith) (λ x is_x code at. code))
     where
       all_fine : (e : Expr) (ws : List Word) → IsExpr (length d.words) e → Holds (IsExpr (length d.words)) (all_read (e, ws))
@@ -317,19 +317,19 @@ module _ (d : Drafted) (values : AreValues d.constants) where
   fewer : (n : ℕ) (xs : List Word) → length xs ≤ 8 → length (take n xs) ≤ 8
   fewer n xs few = omega (arith, length-take n xs)
 
-  other_fine : (b : Begun) (block : Block) (opening : Opening) → IsGoing (length d.words) (length d.locks) b → Sound block.does → IsOpening (length d.words) (length d.locks) opening → Holds (Goes (length d.words) (length d.locks) b) (other_side b block opening)
+  other_fine : (b : Begun) (block : Block) (opening : Opening) → IsGoing (length d.words) (length d.locks) b → Sound block.does → IsOpening (length d.words) (length d.locks) opening → Holds (Goes (length d.words) (length d.locks) b) (other_by b block opening)
   other_fine b block Whole is fine h = tt
   other_fine b block (Other v t) is fine h = tt
   other_fine b block Turns is fine h = tt
   other_fine b block (Test v) is fine h =
       (record { name = is.name; args = is.args; locals = fewer block.locals b.locals is.locals; named = each_taken IsName block.locals b.locals is.named; blocks = ((tt, (h, fine)), is.blocks) }, refl)
 
-  pub else_fine : (b : Begun) (block : Block) (ws : List Word) → IsGoing (length d.words) (length d.locks) b → IsBlock (length d.words) (length d.locks) block → Holds (Goes (length d.words) (length d.locks) b) (else_line d b block ws)
+  pub else_fine : (b : Begun) (block : Block) (ws : List Word) → IsGoing (length d.words) (length d.locks) b → IsBlock (length d.words) (length d.locks) block → Holds (Goes (length d.words) (length d.locks) b) (on_ok (other_side b block) (λ other. else_line d other ws))
   else_fine b block ws is one =
-      then_holds (Goes (length d.words) (length d.locks) b) (Goes (length d.words) (length d.locks) b) (other_side b block block.opening) _ (other_fine b block block.opening is one.0 one.1) (λ other h.
+      then_holds (Goes (length d.words) (length d.locks) b) (Goes (length d.words) (length d.locks) b) (other_side b block) _ (other_fine b block block.opening is one.0 one.1) (λ other h.
       first_holds (Goes (length d.words) (length d.locks) b) ws _ (λ w rest.
       if_holds (Goes (length d.words) (length d.locks) b) (is_word w (codes "{")) _ _ (read_fine other rest h)
-      (if_holds (Goes (length d.words) (length d.locks) b) (is_word w (codes "if")) _ _ (goes_weaker b other (if_line d other true rest) h.1 (fits_goes other (if_line d other true rest) (if_fine other true rest h.0))) tt)))
+      (if_holds (Goes (length d.words) (length d.locks) b) (is_word w (codes "if")) _ _ (goes_weaker b other (if_line true d other rest) h.1 (fits_goes other (if_line true d other rest) (if_fine other true rest h.0))) tt)))
     where
       read_fine : (other : Begun) (ws : List Word) → Goes (length d.words) (length d.locks) b other → Holds (Goes (length d.words) (length d.locks) b) (all_read (other, ws))
       read_fine other [] h = h
@@ -345,11 +345,14 @@ module _ (d : Drafted) (values : AreValues d.constants) where
 
   -- ---- statements
 
-  assign_fine : (b : Begun) (w : Word) (ws : List Word) (o : Option ℕ) → local_in b.locals w ≡ o → length b.locals ≤ 8 → Holds Sound (assign_tree d b w ws o)
-  assign_fine b w ws None at few = store_fine b w ws
-  assign_fine b w ws (Some r) at few = set_fine b r ws few (let l = place_within 0 b.locals w r at in omega arith)
+  assign_fine : (b : Begun) (w : Word) (ws : List Word) → length b.locals ≤ 8 → Holds Sound (assign w d b ws)
+  assign_fine b w ws few = by_place (local_in b.locals w) refl
+    where
+      by_place : (o : Option ℕ) → local_in b.locals w ≡ o → Holds Sound (where_some o (store_tree w d b ws) (λ r. set_tree r d b ws))
+      by_place None at = store_fine b w ws
+      by_place (Some r) at = set_fine b r ws few (let l = place_within 0 b.locals w r at in omega arith)
 
-  simple_fine : (b : Begun) (w : Word) (ws : List Word) → length b.locals ≤ 8 → Holds Sound (simple d b w ws)
+  simple_fine : (b : Begun) (w : Word) (ws : List Word) → length b.locals ≤ 8 → Holds Sound (simple w d b ws)
   simple_fine b w ws few =
       if_holds Sound (is_word w (codes "break")) _ _ (leave_fine b Break ws tt)
       (if_holds Sound (is_word w (codes "continue")) _ _ (leave_fine b Continue ws tt)
@@ -359,7 +362,7 @@ module _ (d : Drafted) (values : AreValues d.constants) where
       (if_holds Sound (is_word w (codes "await")) _ _ (await_fine b ws)
       (if_holds Sound (is_word w (codes "cas")) _ _ (cas_line_fine b ws)
       (if_holds Sound (not (is_free_name w)) (Err Form) _ tt
-      (assign_fine b w ws (local_in b.locals w) refl few))))))))
+      (assign_fine b w ws few))))))))
 
   loop_fine : (b : Begun) (ws : List Word) → IsGoing (length d.words) (length d.locks) b → Holds (Fits b) (loop_line b ws)
   loop_fine b ws is = words_hold (Fits b) (codes "{") ws _ (λ rest. by_rest rest)
@@ -368,11 +371,11 @@ module _ (d : Drafted) (values : AreValues d.constants) where
       by_rest [] = deeper_fine b Turns false is tt
       by_rest (w ∷ ws) = tt
 
-  pub statement_fine : (b : Begun) (w : Word) (ws : List Word) → IsGoing (length d.words) (length d.locks) b → Holds (Goes (length d.words) (length d.locks) b) (statement d b w ws)
+  pub statement_fine : (b : Begun) (w : Word) (ws : List Word) → IsGoing (length d.words) (length d.locks) b → Holds (Goes (length d.words) (length d.locks) b) (statement w d b ws)
   statement_fine b w ws is =
       let G = Goes (length d.words) (length d.locks) b in
       if_holds G (is_word w (codes "let")) _ _ (let_fine b ws is)
       (if_holds G (is_word w (codes "if")) _ _ (fits_goes b _ (if_fine b false ws is))
       (if_holds G (is_word w (codes "while")) _ _ (fits_goes b _ (then_holds (Fits b) (Fits b) (added b Nothing) _ (added_fine b Nothing is tt) (λ now h. fits_weaker b now _ h (while_fine now ws h.0))))
       (if_holds G (is_word w (codes "loop")) _ _ (fits_goes b _ (then_holds (Fits b) (Fits b) (added b Nothing) _ (added_fine b Nothing is tt) (λ now h. fits_weaker b now _ h (loop_fine now ws h.0))))
-      (fits_goes b _ (tree_added b (simple d b w ws) is (simple_fine b w ws is.locals))))))
+      (fits_goes b _ (tree_added b (simple w d b ws) is (simple_fine b w ws is.locals))))))

@@ -4,10 +4,10 @@ use Rattle.std.specs.Prelude.{codes, nat_lt, if◌then◌else◌, Ok, Err}
 use Rattle.lu_text.specs.Words.{Word}
 use Rattle.lu_source.specs.Expressions.{Expr}
 use Rattle.lu_source_text.specs.declared.fault.SourceFaultKind.TheVariants.{Form}
-use Rattle.lu_source_text.specs.Grammar.{Drafted, Scope, is_word, names_from, new_name, binding, expr_from, infix_from, infix_in, joined, most_behind, on_ok, unary_with, where_some}
+use Rattle.lu_source_text.specs.Grammar.{Drafted, Scope, is_word, names_from, new_name, binding, expr_from, infix_from, infix_in, inner_by, joined, most_behind, on_ok, unary_with, where_some}
 
 pub expr_more : (n m : ℕ) (s : Scope) (least : ℕ) (ws : List Word) (w : Word) (rest : List Word) → n ≡ m + 1 → ws ≡ w ∷ rest
-    → expr_from n s least ws ≡ on_ok (unary_with (expr_from m s) s w rest) (λ (left, more). infix_from m s least 5 left more)
+    → expr_from n s least ws ≡ on_ok (unary_with w (inner_by m s) rest) (λ (left, more). infix_from m s least 5 left more)
 expr_more n m s least ws w rest e is = rw (e, is, add-one) refl
 
 pub infix_more : (n m : ℕ) (s : Scope) (least most : ℕ) (left : Expr) (ws : List Word) (w : Word) (rest : List Word) → n ≡ m + 1 → ws ≡ w ∷ rest
@@ -19,7 +19,7 @@ pub infix_more : (n m : ℕ) (s : Scope) (least most : ℕ) (left : Expr) (ws : 
 infix_more n m s least most left ws w rest e is = rw (e, is, add-one) refl
 
 pub names_more : (d : Drafted) (names : List Word) (ws : List Word) (w c : Word) (rest : List Word) → ws ≡ w ∷ c ∷ rest
-    → names_from d names ws ≡ on_ok (new_name d names w) (λ name.
-    if is_word c (codes ",") then names_from d (names ++ name ∷ []) rest
+    → names_from names d ws ≡ on_ok (new_name d names w) (λ name.
+    if is_word c (codes ",") then names_from (names ++ name ∷ []) d rest
     else (if is_word c (codes ")") then Ok (names ++ name ∷ [], rest) else Err Form))
 names_more d names ws w c rest is = rw is refl

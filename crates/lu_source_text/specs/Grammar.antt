@@ -19,7 +19,7 @@ use Rattle.lu_source_text.specs.declared.infix.Infix.TheVariants.{Or as Or', And
 use Rattle.lu_source.specs.declared.tree.Action.{Action}
 use Rattle.lu_source.specs.declared.tree.Action.TheVariants as action
 use Rattle.lu_source.specs.Code.{falls, operation_code}
-use Rattle.lu_source.specs.Expressions.{Coded, Expr, as_test, coded, needed, past, put}
+use Rattle.lu_source.specs.Expressions.{Coded, Expr, as_test, coded, needed, past, put_at}
 use Rattle.lu_source.specs.Expressions.Expr.{Number, Local, Read, Swap, Pick, Binary, Not, And, Or}
 use Rattle.lu_source.specs.declared.expr.Operator.TheVariants.{Plus, Minus, Times, Equals, Differs, Below, Above, AtMost, AtLeast}
 use Rattle.lu_source.specs.Trees.{Operation, Program, Tree}
@@ -270,48 +270,49 @@ abbrev pub on_first : {A : Type 0} → List Word → (Word → List Word → Res
 on_first [] go = Err Form
 on_first (w ∷ ws) go = go w ws
 
--- How an expression is read that stands inside of another, with operators in it that bind at least
--- so tightly.
-abbrev pub Inner : Type 0
-Inner = ℕ → List Word → Read' Expr
+-- How an expression is read that stands inside of another: what names mean there, and what is read
+-- of words with operators in it that bind at least so tightly.
+pub record Inner : Type 0 where
+  pub scope : Scope
+  pub read : ℕ → List Word → Read' Expr
 
 -- an expression, and then this word
-abbrev pub closed_with : Inner → List ℕ → List Word → Read' Expr
-closed_with inner text ws =
-    on_ok (inner 1 ws) (λ (e, rest). on_ok (behind_word text rest) (λ more. Ok (e, more)))
+abbrev pub closed_with : List ℕ → Inner → List Word → Read' Expr
+closed_with text inner ws =
+    on_ok (inner.read 1 ws) (λ (e, rest). on_ok (behind_word text rest) (λ more. Ok (e, more)))
 
 -- a shared word, with an index where it has many cells
-abbrev pub cell_with : Inner → Scope → Word → List Word → Read' (ℕ × Expr)
-cell_with inner s w ws =
-    on_ok (or_fault Name (shared_from 0 s.words w)) (λ (k, indexed).
+abbrev pub cell_with : Word → Inner → List Word → Read' (ℕ × Expr)
+cell_with w inner ws =
+    on_ok (or_fault Name (shared_from 0 inner.scope.words w)) (λ (k, indexed).
     if indexed then on_ok (behind_word (codes "[") ws) (λ index.
-    on_ok (closed_with inner (codes "]") index) (λ (i, rest). Ok ((k, i), rest)))
+    on_ok (closed_with (codes "]") inner index) (λ (i, rest). Ok ((k, i), rest)))
     else Ok ((k, Number 0), ws))
 
 -- a local, a constant, or a cell
-abbrev pub name_with : Inner → Scope → Word → List Word → Read' Expr
-name_with inner s w ws =
-    where_some (named_expr s w)
-    (on_ok (cell_with inner s w ws) (λ (cell, rest). Ok (Read cell.0 cell.1, rest)))
+abbrev pub name_with : Word → Inner → List Word → Read' Expr
+name_with w inner ws =
+    where_some (named_expr inner.scope w)
+    (on_ok (cell_with w inner ws) (λ (cell, rest). Ok (Read cell.0 cell.1, rest)))
     (λ e. Ok (e, ws))
 
 -- `(CELL,` behind `cas`
-abbrev pub swapped_with : Inner → Scope → List Word → Read' (ℕ × Expr)
-swapped_with inner s ws =
+abbrev pub swapped_with : Inner → List Word → Read' (ℕ × Expr)
+swapped_with inner ws =
     on_ok (behind_word (codes "(") ws) (λ inside. on_first inside (λ w rest.
-    on_ok (cell_with inner s w rest) (λ (cell, second).
+    on_ok (cell_with w inner rest) (λ (cell, second).
     on_ok (behind_word (codes ",") second) (λ third. Ok (cell, third)))))
 
 -- `OLD, NEW)` behind it
 abbrev pub exchange_with : Inner → List Word → Read' (Expr × Expr)
 exchange_with inner ws =
-    on_ok (closed_with inner (codes ",") ws) (λ (old, rest).
-    on_ok (closed_with inner (codes ")") rest) (λ (new, more). Ok ((old, new), more)))
+    on_ok (closed_with (codes ",") inner ws) (λ (old, rest).
+    on_ok (closed_with (codes ")") inner rest) (λ (new, more). Ok ((old, new), more)))
 
 -- `(CELL, OLD, NEW)` behind `cas`
-abbrev pub cas_with : Inner → Scope → List Word → Read' Expr
-cas_with inner s ws =
-    on_ok (swapped_with inner s ws) (λ (cell, rest).
+abbrev pub cas_with : Inner → List Word → Read' Expr
+cas_with inner ws =
+    on_ok (swapped_with inner ws) (λ (cell, rest).
     on_ok (exchange_with inner rest) (λ ((old, new), more).
     Ok (Swap cell.0 cell.1 old new, more)))
 
@@ -324,15 +325,15 @@ pick_from constants ws =
     (on_ok (behind_word (codes ")") rest) (λ more. Ok (Pick k, more)))))
 
 -- an expression without operators between two values in it, but for those in parentheses
-abbrev pub unary_with : Inner → Scope → Word → List Word → Read' Expr
-unary_with inner s w ws =
-    if is_word w (codes "!") then on_ok (inner 6 ws) (λ (e, rest). Ok (Not e, rest))
-    else (if is_word w (codes "(") then closed_with inner (codes ")") ws
-    else (if is_word w (codes "cas") then cas_with inner s ws
-    else (if is_word w (codes "pick") then pick_from s.constants ws
+abbrev pub unary_with : Word → Inner → List Word → Read' Expr
+unary_with w inner ws =
+    if is_word w (codes "!") then on_ok (inner.read 6 ws) (λ (e, rest). Ok (Not e, rest))
+    else (if is_word w (codes "(") then closed_with (codes ")") inner ws
+    else (if is_word w (codes "cas") then cas_with inner ws
+    else (if is_word w (codes "pick") then pick_from inner.scope.constants ws
     else (if is_word w (codes "true") then Ok (Number 1, ws)
     else (if is_word w (codes "false") then Ok (Number 0, ws)
-    else (if is_free_name w then name_with inner s w ws
+    else (if is_free_name w then name_with w inner ws
     else on_ok (or_fault Number' (value_in w)) (λ k. Ok (Number k, ws))))))))
 
 -- Expressions, by so many steps at most: more than there are words is enough.
@@ -341,7 +342,8 @@ abbrev mutual
   pub expr_from : ℕ → Scope → ℕ → List Word → Read' Expr
   expr_from zero s least ws = Err Form
   expr_from (suc n) s least ws =
-      on_first ws (λ w rest. on_ok (unary_with (expr_from n s) s w rest)
+      on_first ws (λ w rest.
+      on_ok (unary_with w (record { scope = s; read = expr_from n s }) rest)
       (λ (left, more). infix_from n s least 5 left more))
 
   -- operators behind a left side, at least and at most so tight
@@ -355,6 +357,10 @@ abbrev mutual
       else on_ok (expr_from n s (binding by + 1) ws)
       (λ (right, rest). infix_from n s least (most_behind by) (joined by left right) rest)))
 
+-- expressions inside of another, by so many steps
+abbrev pub inner_by : ℕ → Scope → Inner
+inner_by n s = record { scope = s; read = expr_from n s }
+
 -- nothing is left of the words
 abbrev pub all_read : {A : Type 0} → A × List Word → Result A Kind
 all_read (x, []) = Ok x
@@ -366,23 +372,11 @@ steps_for ws = length ws + 2
 
 -- expressions inside of one that these words are
 abbrev pub inner_of : Scope → List Word → Inner
-inner_of s ws = expr_from (steps_for ws) s
-
--- an expression that all the words are
-abbrev pub expr_of : Scope → List Word → Result Expr Kind
-expr_of s ws = on_ok (expr_from (steps_for ws) s 1 ws) all_read
-
--- `(CELL, OLD, NEW)` behind `cas`, which all the words are
-abbrev pub cas_of : Scope → List Word → Result Expr Kind
-cas_of s ws = on_ok (cas_with (inner_of s ws) s ws) all_read
+inner_of s ws = inner_by (steps_for ws) s
 
 -- what was read, and then this word, which is the last
 abbrev pub last_word : {A : Type 0} → List ℕ → A × List Word → Result A Kind
 last_word text (x, ws) = on_ok (behind_word text ws) (λ more. all_read (x, more))
-
--- an expression in front of `{`, which is the last word
-abbrev pub expr_before_brace : Scope → List Word → Result Expr Kind
-expr_before_brace s ws = on_ok (expr_from (steps_for ws) s 1 ws) (last_word (codes "{"))
 
 -- a number, behind which no word is left
 abbrev pub last_number : List Constant → List Word → Result ℕ Kind
@@ -452,19 +446,19 @@ lock_line d ws =
     unless (nat_le 8 (length d.locks)) Limit (Ok (record d { locks = d.locks ++ name ∷ [] })))))
 
 -- names parted by commas, and then `)`
-abbrev pub names_from : Drafted → List Word → List Word → Read' (List Word)
-names_from d names [] = Err Form
-names_from d names (w ∷ []) = Err Form
-names_from d names (w ∷ c ∷ ws) =
+abbrev pub names_from : List Word → Drafted → List Word → Read' (List Word)
+names_from names d [] = Err Form
+names_from names d (w ∷ []) = Err Form
+names_from names d (w ∷ c ∷ ws) =
     on_ok (new_name d names w) (λ name.
-    if is_word c (codes ",") then names_from d (names ++ name ∷ []) ws
+    if is_word c (codes ",") then names_from (names ++ name ∷ []) d ws
     else (if is_word c (codes ")") then Ok (names ++ name ∷ [], ws) else Err Form))
 
 -- `)`, or names and then `)`
 abbrev pub names_in : Drafted → List Word → Read' (List Word)
 names_in d ws =
     on_first ws (λ w rest.
-    if is_word w (codes ")") then Ok ([], rest) else names_from d [] ws)
+    if is_word w (codes ")") then Ok ([], rest) else names_from [] d ws)
 
 -- an open block
 abbrev pub opened : Opening → ℕ → Bool → Block
@@ -547,16 +541,34 @@ both_of b i e =
     on_ok (code_for e (past (length b.locals) x.at) (past (length b.locals) x.at)) (λ y.
     Ok (x, y)))
 
+-- what names mean in an open operation
 abbrev pub scope_of : Drafted → Begun → Scope
 scope_of d b = record { constants = d.constants; words = d.words; locals = b.locals }
+
+-- an expression that all the words are
+abbrev pub expr_in : Drafted → Begun → List Word → Result Expr Kind
+expr_in d b ws = on_ok (expr_from (steps_for ws) (scope_of d b) 1 ws) all_read
+
+-- an expression in front of `{`, which is the last word
+abbrev pub expr_before_brace : Drafted → Begun → List Word → Result Expr Kind
+expr_before_brace d b ws =
+    on_ok (expr_from (steps_for ws) (scope_of d b) 1 ws) (last_word (codes "{"))
+
+-- `(CELL, OLD, NEW)` behind `cas`, which all the words are
+abbrev pub cas_in : Drafted → Begun → List Word → Result Expr Kind
+cas_in d b ws = on_ok (cas_with (inner_of (scope_of d b) ws) ws) all_read
+
+-- a cell, and the words behind it
+abbrev pub cell_in : Word → Drafted → Begun → List Word → Read' (ℕ × Expr)
+cell_in w d b ws = cell_with w (inner_of (scope_of d b) ws) ws
 
 -- the name of `let NAME = EXPR`, and what gives it its value
 abbrev pub let_in : Drafted → Begun → List Word → Result (Word × Tree) Kind
 let_in d b ws =
     on_first ws (λ w rest. on_ok (new_name d b.locals w) (λ name.
-    on_ok (behind_word (codes "=") rest) (λ more. on_ok (expr_of (scope_of d b) more) (λ e.
+    on_ok (behind_word (codes "=") rest) (λ more. on_ok (expr_in d b more) (λ e.
     unless (nat_le 8 (length b.locals)) Registers
-    (on_ok (value_of b e) (λ x. Ok (name, Then x.code (put (length b.locals) x.at))))))))
+    (on_ok (value_of b e) (λ x. Ok (name, put_at (length b.locals) x)))))))
 
 -- `let NAME = EXPR`: a local more
 abbrev pub let_line : Drafted → Begun → List Word → Result Begun Kind
@@ -564,23 +576,23 @@ let_line d b ws =
     on_ok (let_in d b ws) (λ (name, t). on_ok (added b t) (λ now.
     Ok (record now { locals = now.locals ++ name ∷ [] })))
 
--- a cell, and the words behind it
-abbrev pub cell_in : Scope → Word → List Word → Read' (ℕ × Expr)
-cell_in s w ws = cell_with (inner_of s ws) s w ws
-
 -- `NAME = EXPR` of a local
-abbrev pub set_tree : Drafted → Begun → ℕ → List Word → Result Tree Kind
-set_tree d b r ws =
-    on_ok (behind_word (codes "=") ws) (λ more. on_ok (expr_of (scope_of d b) more) (λ e.
-    on_ok (code_for e r (length b.locals)) (λ x. Ok (Then x.code (put r x.at)))))
+abbrev pub set_tree : ℕ → Drafted → Begun → List Word → Result Tree Kind
+set_tree r d b ws =
+    on_ok (behind_word (codes "=") ws) (λ more. on_ok (expr_in d b more) (λ e.
+    on_ok (code_for e r (length b.locals)) (λ x. Ok (put_at r x))))
+
+-- the codes of two values, and then the action
+abbrev pub both_then : Tree → Tree → Action → Tree
+both_then first second last = Then first (Then second (Plain last))
 
 -- `NAME = EXPR` and `NAME[EXPR] = EXPR` of a shared word
-abbrev pub store_tree : Drafted → Begun → Word → List Word → Result Tree Kind
-store_tree d b w ws =
-    on_ok (cell_in (scope_of d b) w ws) (λ (cell, rest).
-    on_ok (behind_word (codes "=") rest) (λ more. on_ok (expr_of (scope_of d b) more) (λ e.
+abbrev pub store_tree : Word → Drafted → Begun → List Word → Result Tree Kind
+store_tree w d b ws =
+    on_ok (cell_in w d b ws) (λ (cell, rest).
+    on_ok (behind_word (codes "=") rest) (λ more. on_ok (expr_in d b more) (λ e.
     on_ok (both_of b cell.1 e) (λ (x, y).
-    Ok (Then x.code (Then y.code (Plain (action.Store cell.0 x.at y.at))))))))
+    Ok (both_then x.code y.code (action.Store cell.0 x.at y.at))))))
 
 -- neither reads what is shared nor changes it
 abbrev pub is_still : Expr → Bool
@@ -606,13 +618,13 @@ awaiting equal w i v = if equal then action.Await w i v else action.AwaitNot w i
 abbrev pub compared : Drafted → Begun → List Word → Result (Bool × Expr) Kind
 compared d b ws =
     on_first ws (λ by rest. on_ok (or_fault Form (awaits_equal by)) (λ equal.
-    on_ok (expr_of (scope_of d b) rest) (λ e. Ok (equal, e))))
+    on_ok (expr_in d b rest) (λ e. Ok (equal, e))))
 
 -- what is awaited of a cell
 abbrev pub awaited : Drafted → Begun → List Word → Result ((ℕ × Expr) × Bool × Expr) Kind
 awaited d b ws =
     on_first ws (λ w rest. unless (not (is_free_name w)) Form
-    (on_ok (cell_in (scope_of d b) w rest) (λ (cell, more).
+    (on_ok (cell_in w d b rest) (λ (cell, more).
     on_ok (compared d b more) (λ (equal, e).
     unless (not (is_still cell.1 && is_still e)) Flow (Ok (cell, equal, e))))))
 
@@ -620,7 +632,7 @@ awaited d b ws =
 abbrev pub await_tree : Drafted → Begun → List Word → Result Tree Kind
 await_tree d b ws =
     on_ok (awaited d b ws) (λ (cell, equal, e). on_ok (both_of b cell.1 e) (λ (x, y).
-    Ok (Then x.code (Then y.code (Plain (awaiting equal cell.0 x.at y.at))))))
+    Ok (both_then x.code y.code (awaiting equal cell.0 x.at y.at))))
 
 abbrev pub is_loop : Opening → Bool
 is_loop Turns = true
@@ -632,15 +644,15 @@ in_loop [] = false
 in_loop (block ∷ blocks) = is_loop block.opening || in_loop blocks
 
 -- `break` or `continue`
-abbrev pub leave_tree : Begun → Tree → List Word → Result Tree Kind
-leave_tree b t ws =
+abbrev pub leave : Begun → Tree → List Word → Result Tree Kind
+leave b t ws =
     on_ok (all_read (t, ws)) (λ what. unless (not (in_loop b.blocks)) Flow (Ok what))
 
 -- `return` and `return EXPR`
 abbrev pub return_tree : Drafted → Begun → List Word → Result Tree Kind
 return_tree d b [] = Ok (Plain (action.Return (Num 0)))
 return_tree d b (w ∷ ws) =
-    on_ok (expr_of (scope_of d b) (w ∷ ws)) (λ e.
+    on_ok (expr_in d b (w ∷ ws)) (λ e.
     on_ok (value_of b e) (λ x. Ok (Then x.code (Plain (action.Return x.at)))))
 
 -- the lock of `lock NAME` and `unlock NAME`
@@ -655,12 +667,12 @@ owner_tree d act ws = on_ok (lock_number d ws) (λ l. Ok (Plain (act l)))
 -- `cas(CELL, OLD, NEW)`, whose answer nobody asks for
 abbrev pub cas_tree : Drafted → Begun → List Word → Result Tree Kind
 cas_tree d b ws =
-    on_ok (cas_of (scope_of d b) ws) (λ e. on_ok (value_of b e) (λ x. Ok x.code))
+    on_ok (cas_in d b ws) (λ e. on_ok (value_of b e) (λ x. Ok x.code))
 
--- `NAME = EXPR` and `NAME[EXPR] = EXPR`, where the name is of this local or of none
-abbrev pub assign_tree : Drafted → Begun → Word → List Word → Option ℕ → Result Tree Kind
-assign_tree d b w ws None = store_tree d b w ws
-assign_tree d b w ws (Some r) = set_tree d b r ws
+-- `NAME = EXPR` and `NAME[EXPR] = EXPR`
+abbrev pub assign : Word → Drafted → Begun → List Word → Result Tree Kind
+assign w d b ws =
+    where_some (local_in b.locals w) (store_tree w d b ws) (λ r. set_tree r d b ws)
 
 -- what is tested by an expression of which only counts whether it is 0
 abbrev pub tested : Begun → Expr → Result (Begun × Operand) Kind
@@ -668,15 +680,15 @@ tested b e =
     on_ok (value_of b (as_test e)) (λ x. on_ok (added b x.code) (λ now. Ok (now, x.at)))
 
 -- `if EXPR {`
-abbrev pub if_line : Drafted → Begun → Bool → List Word → Result Begun Kind
-if_line d b chained ws =
-    on_ok (expr_before_brace (scope_of d b) ws) (λ e.
+abbrev pub if_line : Bool → Drafted → Begun → List Word → Result Begun Kind
+if_line chained d b ws =
+    on_ok (expr_before_brace d b ws) (λ e.
     on_ok (tested b e) (λ (now, v). deeper now (Test v) chained))
 
 -- `while EXPR {`
 abbrev pub while_line : Drafted → Begun → List Word → Result Begun Kind
 while_line d b ws =
-    on_ok (expr_before_brace (scope_of d b) ws) (λ e. on_ok (deeper b Turns false) (λ inside.
+    on_ok (expr_before_brace d b ws) (λ e. on_ok (deeper b Turns false) (λ inside.
     on_ok (tested inside e) (λ (now, v). added now (BreakUnless v))))
 
 -- `loop {`
@@ -740,66 +752,77 @@ end_line d b block =
     if is_whole block.opening then whole_line d b block.does
     else keeps_going d (end_block b block)
 
--- the other side of the test of a block, where it was opened by one
-abbrev pub other_side : Begun → Block → Opening → Result Begun Kind
-other_side b block (Test v) = Ok (record b {
+-- the other side of the test of a block, by what it was opened by
+abbrev pub other_by : Begun → Block → Opening → Result Begun Kind
+other_by b block (Test v) = Ok (record b {
   locals = take block.locals b.locals;
   blocks = opened (Other v block.does) block.locals block.chained ∷ b.blocks;
 })
-other_side b block Whole = Err Form
-other_side b block (Other v t) = Err Form
-other_side b block Turns = Err Form
+other_by b block Whole = Err Form
+other_by b block (Other v t) = Err Form
+other_by b block Turns = Err Form
 
--- `} else {` and `} else if EXPR {`, behind `else`
-abbrev pub else_line : Drafted → Begun → Block → List Word → Result Begun Kind
-else_line d b block ws =
-    on_ok (other_side b block block.opening) (λ other.
+-- the other side of the test of a block, where it was opened by one
+abbrev pub other_side : Begun → Block → Result Begun Kind
+other_side b block = other_by b block block.opening
+
+-- `{` and `if EXPR {`, behind `} else`
+abbrev pub else_line : Drafted → Begun → List Word → Result Begun Kind
+else_line d b ws =
     on_first ws (λ w rest.
-    if is_word w (codes "{") then all_read (other, rest)
-    else (if is_word w (codes "if") then if_line d other true rest else Err Form)))
+    if is_word w (codes "{") then all_read (b, rest)
+    else (if is_word w (codes "if") then if_line true d b rest else Err Form))
 
 -- a line that begins with `}`, where this is the innermost block, and these words come behind
-abbrev pub closes : Drafted → Begun → Block → List Word → Result Drafted Kind
-closes d b block [] = end_line d b block
-closes d b block (w ∷ ws) =
-    if is_word w (codes "else") then keeps_going d (else_line d b block ws) else Err Form
+abbrev pub closes : Block → Drafted → Begun → List Word → Result Drafted Kind
+closes block d b [] = end_line d b block
+closes block d b (w ∷ ws) =
+    if is_word w (codes "else")
+    then keeps_going d (on_ok (other_side b block) (λ other. else_line d other ws))
+    else Err Form
 
-abbrev pub close_line : Drafted → Begun → List Word → List Block → Result Drafted Kind
-close_line d b ws [] = Err Flow
-close_line d b ws (block ∷ blocks) = closes d (record b { blocks = blocks }) block ws
+-- the same, by the open blocks
+abbrev pub close_blocks : List Block → Drafted → Begun → List Word → Result Drafted Kind
+close_blocks [] d b ws = Err Flow
+close_blocks (block ∷ blocks) d b ws = closes block d (record b { blocks = blocks }) ws
+
+-- a line that begins with `}`, and the words behind it
+abbrev pub close_line : Drafted → Begun → List Word → Result Drafted Kind
+close_line d b ws = close_blocks b.blocks d b ws
 
 -- ---- lines
 
 -- a statement that opens no block and declares no local
-abbrev pub simple : Drafted → Begun → Word → List Word → Result Tree Kind
-simple d b w ws =
-    if is_word w (codes "break") then leave_tree b Break ws
-    else (if is_word w (codes "continue") then leave_tree b Continue ws
+abbrev pub simple : Word → Drafted → Begun → List Word → Result Tree Kind
+simple w d b ws =
+    if is_word w (codes "break") then leave b Break ws
+    else (if is_word w (codes "continue") then leave b Continue ws
     else (if is_word w (codes "return") then return_tree d b ws
     else (if is_word w (codes "lock") then owner_tree d action.Lock ws
     else (if is_word w (codes "unlock") then owner_tree d action.Unlock ws
     else (if is_word w (codes "await") then await_tree d b ws
     else (if is_word w (codes "cas") then cas_tree d b ws
     else (if not (is_free_name w) then Err Form
-    else assign_tree d b w ws (local_in b.locals w))))))))
+    else assign w d b ws)))))))
 
-abbrev pub statement : Drafted → Begun → Word → List Word → Result Begun Kind
-statement d b w ws =
+-- a line of an operation that closes no block
+abbrev pub statement : Word → Drafted → Begun → List Word → Result Begun Kind
+statement w d b ws =
     if is_word w (codes "let") then let_line d b ws
-    else (if is_word w (codes "if") then if_line d b false ws
+    else (if is_word w (codes "if") then if_line false d b ws
     else (if is_word w (codes "while") then on_ok (added b Nothing) (λ now. while_line d now ws)
     else (if is_word w (codes "loop") then on_ok (added b Nothing) (λ now. loop_line now ws)
-    else on_ok (simple d b w ws) (added b))))
+    else on_ok (simple w d b ws) (added b))))
 
-abbrev pub line_inside : Drafted → Begun → Word → List Word → Result Drafted Kind
-line_inside d b w ws =
-    if is_word w (codes "}") then close_line d b ws b.blocks
-    else keeps_going d (statement d b w ws)
+abbrev pub line_inside : Word → Drafted → Begun → List Word → Result Drafted Kind
+line_inside w d b ws =
+    if is_word w (codes "}") then close_line d b ws
+    else keeps_going d (statement w d b ws)
 
 -- a line of an operation, which has at most 256 of them
-abbrev pub inside : Drafted → Begun → Word → List Word → Result Drafted Kind
-inside d b w ws =
-    unless (nat_le 256 b.lines) Limit (line_inside d (record b { lines = b.lines + 1 }) w ws)
+abbrev pub inside : Word → Drafted → Begun → List Word → Result Drafted Kind
+inside w d b ws =
+    unless (nat_le 256 b.lines) Limit (line_inside w d (record b { lines = b.lines + 1 }) ws)
 
 -- what is declared, without the open operation
 abbrev pub aside : Drafted → Drafted
@@ -814,7 +837,7 @@ object_first d w ws = if is_word w (codes "object") then object_line d ws else E
 abbrev pub by_state : Drafted → Option Word → Option Begun → Word → List Word → Result Drafted Kind
 by_state d None begun w ws = object_first d w ws
 by_state d (Some name) None w ws = declaration d w ws
-by_state d (Some name) (Some b) w ws = inside (aside d) b w ws
+by_state d (Some name) (Some b) w ws = inside w (aside d) b ws
 
 abbrev pub by_words : Drafted → List Word → Result Drafted Kind
 by_words d [] = Ok d

@@ -1,13 +1,15 @@
 -- What the reader's functions return: what the definitions say, unless memory ran out.
-use Rattle.std.specs.Prelude.{◌≡◌, ℕ, Bool, List, [], ◌∷◌, ◌++◌, Some, Result, Ok, Err, Vec}
+use Rattle.std.specs.Prelude.{◌≡◌, ℕ, Bool, List, [], ◌∷◌, ◌++◌, Option, Some, MatchOption, Result, Ok, Err, Vec}
 use denote.Ref.{Bor}
 use Rattle.lu_text.specs.Lines.{texts}
 use Rattle.lu_text.specs.Words.{Word}
+use Rattle.lu_component.specs.declared.instr.Operand.{Operand}
 use Rattle.lu_source.specs.declared.expr.Expr.{Expr as Boxed}
 use Rattle.lu_source.specs.Evaluations.{coded_of, expr_of}
 use Rattle.lu_source.specs.declared.expr.Evaluation.{Evaluation}
 use Rattle.lu_source.specs.declared.tree.Stmt.{Stmt}
 use Rattle.lu_source.specs.Expressions.{Coded, Expr}
+use Rattle.lu_source.specs.Expressions.Expr.{Swap}
 use Rattle.lu_source.specs.Shapes.{tree_of}
 use Rattle.lu_source.specs.declared.tree.Operation.{Operation as HeldOperation}
 use Rattle.lu_source.specs.Programs.{operation_of}
@@ -17,13 +19,13 @@ use Rattle.lu_source_text.specs.declared.fault.Refusal.TheVariants.{Kind as OfKi
 use Rattle.lu_source_text.specs.declared.scope.Awaited.{Awaited}
 use Rattle.lu_source_text.specs.declared.scope.Cell.{Cell}
 use Rattle.lu_source_text.specs.declared.scope.Scope.{Scope as Lent}
-use Rattle.lu_source_text.specs.Drafts.{begun_of, block_of, drafted_of}
+use Rattle.lu_source_text.specs.Drafts.{begun_of, block_of, blocks_of, drafted_of}
 use Rattle.lu_source_text.specs.declared.draft.Block.{Block as HeldBlock}
 use Rattle.lu_source_text.specs.declared.draft.Begun.{Begun as HeldBegun}
 use Rattle.lu_source_text.specs.declared.draft.Draft.{Draft}
 use Rattle.lu_source_text.specs.declared.draft.Constant.{Constant}
 use Rattle.lu_source_text.specs.declared.draft.Shared.{Shared}
-use Rattle.lu_source_text.specs.Grammar.{Begun, Block, Drafted, Kind, Scope, all_read, const_line, last_word, local_line, lock_line, object_line, op_line, word_line}
+use Rattle.lu_source_text.specs.Grammar.{Begun, Block, Drafted, Inner, Kind, Read', Scope, all_read, both_of, const_line, infix_from, inner_by, last_word, local_line, lock_line, object_line, op_line, tested, word_line}
 
 -- a refusal is the fault, unless memory ran out
 abbrev pub IsRefused : {B : Type 0} → Refusal → Result B Kind → Type 0
@@ -42,6 +44,36 @@ Left = Bor (List (Bor Word))
 -- what is read of words, seen so, and the words behind it
 abbrev pub with_rest : {A B : Type 0} → (A → B) → A × Left → B × List Word
 with_rest seen read = (seen read.0, texts read.1.now)
+
+-- ---- what definitions say of values of the code
+
+-- what is said of words, in a draft
+abbrev pub in_draft : {A : Type 0} → (Drafted → List Word → A) → Draft → List (Bor Word) → A
+in_draft said d words = said (drafted_of d) (texts words)
+
+-- what is said of a draft and its open operation
+abbrev pub within : {A : Type 0} → Draft → HeldBegun → (Drafted → Begun → A) → A
+within d b said = said (drafted_of d) (begun_of b)
+
+-- what is said of words, in a draft and its open operation
+abbrev pub in_begun : {A : Type 0} → (Drafted → Begun → List Word → A) → Draft → HeldBegun
+    → List (Bor Word) → A
+in_begun said d b words = within d b said (texts words)
+
+-- what names mean there
+abbrev pub meanings : Lent → Scope
+meanings s = record { constants = s.constants.now; words = s.words.now; locals = s.locals.now }
+
+-- what is said of words inside of an expression, which is read by at most so many steps
+abbrev pub by_steps : {A : Type 0} → (Inner → List Word → A) → ℕ → Lent → List (Bor Word) → A
+by_steps said steps s words = said (inner_by steps (meanings s)) (texts words)
+
+-- what is said of operators behind this left side, at least and at most so tight
+abbrev pub infix_behind : Boxed → ℕ → ℕ → ℕ → Lent → List (Bor Word) → Read' Expr
+infix_behind left least most steps s words =
+    infix_from steps (meanings s) least most (expr_of left) (texts words)
+
+-- ---- values
 
 -- the value itself
 abbrev pub ReadsAlone : {A : Type 0} → Result A Refusal → Result A Kind → Type 0
@@ -102,6 +134,10 @@ ReadsExpr returned meant = Reads (with_rest expr_of) returned meant
 abbrev pub cell_of : Cell → ℕ × Expr
 cell_of cell = (cell.array, expr_of cell.index)
 
+-- a `cas` of a cell
+abbrev pub swap_of : Cell → Boxed → Boxed → Expr
+swap_of cell old new = Swap cell.array (expr_of cell.index) (expr_of old) (expr_of new)
+
 abbrev pub ReadsCell : Result (Cell × Left) Refusal → Result ((ℕ × Expr) × List Word) Kind → Type 0
 ReadsCell returned meant = Reads (with_rest cell_of) returned meant
 
@@ -141,9 +177,11 @@ ReadsTree returned meant = Reads tree_of returned meant
 abbrev pub ReadsCode : Result Evaluation Refusal → Result Coded Kind → Type 0
 ReadsCode returned meant = Reads coded_of returned meant
 
-abbrev pub ReadsBoth : Result (Evaluation × Evaluation) Refusal → Result (Coded × Coded) Kind
-    → Type 0
-ReadsBoth returned meant = Reads (λ (x, y). (coded_of x, coded_of y)) returned meant
+-- the code of an index, and of a value behind it
+abbrev pub ReadsBoth : Result (Evaluation × Evaluation) Refusal → HeldBegun → Boxed → Boxed → Type 0
+ReadsBoth returned b i e =
+    Reads (λ (x, y). (coded_of x, coded_of y)) returned
+    (both_of (begun_of b) (expr_of i) (expr_of e))
 
 abbrev pub ReadsBlock : Result HeldBlock Refusal → Result Block Kind → Type 0
 ReadsBlock returned meant = Reads block_of returned meant
@@ -155,6 +193,37 @@ ReadsLet returned meant = Reads (λ (name, t). (name, tree_of t)) returned meant
 abbrev pub ReadsOperation : Result HeldOperation Refusal → Result Operation Kind → Type 0
 ReadsOperation returned meant = Reads operation_of returned meant
 
--- what names mean there
-abbrev pub meanings : Lent → Scope
-meanings s = record { constants = s.constants.now; words = s.words.now; locals = s.locals.now }
+-- ---- what becomes of an open operation
+
+-- all the blocks are the others, and this one inside of them
+abbrev pub HasInside : {Z : Type 0} → Vec HeldBlock Z → HeldBlock → Vec HeldBlock Z → Type 0
+HasInside all block others = blocks_of all.items ≡ block_of block ∷ blocks_of others.items
+
+-- the innermost block is taken out, where there is one
+abbrev pub TakesInnermost : {Z : Type 0} → Option HeldBlock → Vec HeldBlock Z → Vec HeldBlock Z
+    → Type 0
+TakesInnermost returned old new =
+    MatchOption returned (blocks_of old.items ≡ []) (λ block. HasInside old block new)
+
+-- the open blocks become what is made of them, or the fault is there
+abbrev pub BlocksBecome : {Z : Type 0} → Result (Unit {0}) Refusal → Vec HeldBlock Z
+    → Vec HeldBlock Z → (List Block → Result (List Block) Kind) → Type 0
+BlocksBecome returned old new made =
+    Reads (λ _. blocks_of new.items) returned (made (blocks_of old.items))
+
+-- the open operation becomes what is made of it, or the fault is there
+abbrev pub Becomes : Result (Unit {0}) Refusal → HeldBegun → HeldBegun
+    → (Begun → Result Begun Kind) → Type 0
+Becomes returned old new made = Reads (λ _. begun_of new) returned (made (begun_of old))
+
+-- the open operation becomes what a line of these words makes of it in the draft
+abbrev pub ReadsLine : Result (Unit {0}) Refusal
+    → (Drafted → Begun → List Word → Result Begun Kind) → Draft → List (Bor Word) → HeldBegun
+    → HeldBegun → Type 0
+ReadsLine returned line d words old new =
+    Becomes returned old new (λ b. line (drafted_of d) b (texts words))
+
+-- the value that is tested by an expression, and the open operation with the code that leads to it
+abbrev pub ReadsTest : Result Operand Refusal → HeldBegun → HeldBegun → Boxed → Type 0
+ReadsTest returned old new e =
+    Reads (λ v. (begun_of new, v)) returned (tested (begun_of old) (expr_of e))

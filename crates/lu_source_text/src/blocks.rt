@@ -1,10 +1,10 @@
 //! The open blocks of an operation, the innermost last.
 
-ghost use Rattle.std.specs.Prelude.{◌≡◌, ◌<◌, ◌∷◌, [], length, nat_le, IfOk, IfSome, MatchOption, Ok};
+ghost use Rattle.std.specs.Prelude.{◌≡◌, ◌<◌, length, nat_le, IfOk, IfSome, Ok};
 ghost use Rattle.lu_source.specs.Shapes.{tree_of};
 ghost use Rattle.lu_source_text.specs.Drafts.{block_of, blocks_of, opening_of};
 ghost use Rattle.lu_source_text.specs.Grammar as spec;
-ghost use Rattle.lu_source_text.specs.Reads.{Reads, ReadsBlock, ReadsTree};
+ghost use Rattle.lu_source_text.specs.Reads.{BlocksBecome, HasInside, ReadsBlock, ReadsTree, TakesInnermost};
 
 use crate::draft::{Block, Opening};
 use crate::fault::{Refusal, SourceFaultKind};
@@ -13,8 +13,7 @@ use std::alloc::{AllocError, Global};
 
 /// One block more, inside of the others.
 pub(crate) fn push_block(blocks: &mut Vec<Block>, block: Block) -> Result<(), AllocError>
-    ensures { IfOk result
-        (λ _. blocks_of blocks.new.items ≡ block_of block ∷ blocks_of blocks.old.items) }
+    ensures { IfOk result (λ _. HasInside blocks.new block blocks.old) }
 {
     blocks.push(block)?;
     Ok(())
@@ -22,8 +21,7 @@ pub(crate) fn push_block(blocks: &mut Vec<Block>, block: Block) -> Result<(), Al
 
 /// The innermost block, which is taken out.
 pub(crate) fn pop_block(blocks: &mut Vec<Block>) -> Option<Block>
-    ensures taken { MatchOption result (blocks_of blocks.old.items ≡ [])
-        (λ block. blocks_of blocks.old.items ≡ block_of block ∷ blocks_of blocks.new.items) }
+    ensures taken { TakesInnermost result blocks.old blocks.new }
     ensures fewer { IfSome result (λ _. length blocks.new.items < length blocks.old.items) }
 {
     blocks.pop()
@@ -63,8 +61,7 @@ fn does_too(alloc: Global, block: Block, stmt: Stmt) -> Result<Block, Refusal>
 
 /// The innermost of the blocks does this too.
 pub(crate) fn add_to(alloc: Global, blocks: &mut Vec<Block>, stmt: Stmt) -> Result<(), Refusal>
-    ensures { Reads (λ _. blocks_of blocks.new.items) result
-        (spec.added_to (tree_of stmt) (blocks_of blocks.old.items)) }
+    ensures { BlocksBecome result blocks.old blocks.new (spec.added_to (tree_of stmt)) }
 {
     let Some(block) = pop_block(blocks) else {
         return Err(Refusal::Kind(SourceFaultKind::Flow));
@@ -97,8 +94,7 @@ pub(crate) fn close_into(
     stmt: Stmt,
     both: bool,
 ) -> Result<(), Refusal>
-    ensures { Reads (λ _. blocks_of blocks.new.items) result
-        (spec.closing (tree_of stmt) both (blocks_of blocks.old.items)) }
+    ensures { BlocksBecome result blocks.old blocks.new (spec.closing (tree_of stmt) both) }
 {
     let Some(block) = pop_block(blocks) else {
         return Err(Refusal::Kind(SourceFaultKind::Flow));

@@ -2,11 +2,10 @@
 
 ghost use Rattle.std.specs.Prelude.{◌≡◌, length, nat_lt};
 ghost use Rattle.lu_source.specs.Code.{operation_code};
-ghost use Rattle.lu_text.specs.Lines.{texts};
 ghost use Rattle.lu_source.specs.Shapes.{tree_of};
 ghost use Rattle.lu_source_text.specs.Drafts.{begun_of, block_of, drafted_of, opening_of};
 ghost use Rattle.lu_source_text.specs.Grammar as spec;
-ghost use Rattle.lu_source_text.specs.Reads.{Reads, ReadsDraft, ReadsOperation};
+ghost use Rattle.lu_source_text.specs.Reads.{Becomes, ReadsDraft, ReadsLine, ReadsOperation, in_begun, within};
 
 use crate::blocks::{close_into, closed_by, pop_block, push_block};
 use crate::declaration::open_block;
@@ -40,8 +39,7 @@ fn whole_of(begun: Begun, body: Stmt) -> Result<Operation, Refusal>
 
 /// The operation is there.
 fn whole_line(mut draft: Draft, begun: Begun, body: Stmt) -> Result<Draft, Refusal>
-    ensures { ReadsDraft result
-        (spec.whole_line (drafted_of draft) (begun_of begun) (tree_of body)) }
+    ensures { ReadsDraft result (within draft begun spec.whole_line (tree_of body)) }
 {
     let operation = whole_of(begun, body)?;
     draft.operations.push(operation)?;
@@ -51,8 +49,7 @@ fn whole_line(mut draft: Draft, begun: Begun, body: Stmt) -> Result<Draft, Refus
 
 /// A block ends, and with it its locals; the blocks around do what it did.
 fn end_block(alloc: Global, begun: &mut Begun, block: Block) -> Result<(), Refusal>
-    ensures { Reads (λ _. begun_of begun.new) result
-        (spec.end_block (begun_of begun.old) (block_of block)) }
+    ensures { Becomes result begun.old begun.new (λ b. spec.end_block b (block_of block)) }
 {
     let chained = block.chained;
     begun.locals.truncate(block.locals);
@@ -76,8 +73,7 @@ fn is_whole(opening: &Opening) -> bool
 
 /// `}`
 fn end_line(alloc: Global, draft: Draft, mut begun: Begun, block: Block) -> Result<Draft, Refusal>
-    ensures { ReadsDraft result
-        (spec.end_line (drafted_of draft) (begun_of begun) (block_of block)) }
+    ensures { ReadsDraft result (within draft begun spec.end_line (block_of block)) }
 {
     if is_whole(&block.opening) {
         whole_line(draft, begun, block.does)
@@ -89,8 +85,7 @@ fn end_line(alloc: Global, draft: Draft, mut begun: Begun, block: Block) -> Resu
 
 /// The other side of the test of a block, where it was opened by one.
 fn other_side(begun: &mut Begun, block: Block) -> Result<(), Refusal>
-    ensures { Reads (λ _. begun_of begun.new) result
-        (spec.other_side (begun_of begun.old) (block_of block) (block_of block).opening) }
+    ensures { Becomes result begun.old begun.new (λ b. spec.other_side b (block_of block)) }
 {
     let Opening::Test(value) = block.opening else {
         return Err(Refusal::Kind(SourceFaultKind::Form));
@@ -104,18 +99,15 @@ fn other_side(begun: &mut Begun, block: Block) -> Result<(), Refusal>
     Ok(())
 }
 
-/// `} else {` and `} else if EXPR {`, behind `else`.
+/// `{` and `if EXPR {`, behind `} else`.
 fn else_line(
     alloc: Global,
     draft: &Draft,
     begun: &mut Begun,
-    block: Block,
     words: &[&[u8]],
 ) -> Result<(), Refusal>
-    ensures { Reads (λ _. begun_of begun.new) result (spec.else_line
-        (drafted_of draft.now) (begun_of begun.old) (block_of block) (texts words.now)) }
+    ensures { ReadsLine result spec.else_line draft.now words.now begun.old begun.new }
 {
-    other_side(begun, block)?;
     let Some((word, rest)) = words.split_first() else {
         return Err(Refusal::Kind(SourceFaultKind::Form));
     };
@@ -139,14 +131,14 @@ fn closes(
     block: Block,
     words: &[&[u8]],
 ) -> Result<Draft, Refusal>
-    ensures { ReadsDraft result (spec.closes
-        (drafted_of draft) (begun_of begun) (block_of block) (texts words.now)) }
+    ensures { ReadsDraft result (in_begun (spec.closes (block_of block)) draft begun words.now) }
 {
     let Some((word, rest)) = words.split_first() else {
         return end_line(alloc, draft, begun, block);
     };
     if *word == b"else".as_slice() {
-        else_line(alloc, &draft, &mut begun, block, rest)?;
+        other_side(&mut begun, block)?;
+        else_line(alloc, &draft, &mut begun, rest)?;
         Ok(going(draft, begun))
     } else {
         Err(Refusal::Kind(SourceFaultKind::Form))
@@ -160,8 +152,7 @@ pub(crate) fn close_line(
     mut begun: Begun,
     words: &[&[u8]],
 ) -> Result<Draft, Refusal>
-    ensures { ReadsDraft result (spec.close_line
-        (drafted_of draft) (begun_of begun) (texts words.now) (begun_of begun).blocks) }
+    ensures { ReadsDraft result (in_begun spec.close_line draft begun words.now) }
 {
     match pop_block(&mut begun.blocks) {
         None => Err(Refusal::Kind(SourceFaultKind::Flow)),

@@ -6,7 +6,7 @@ ghost use Rattle.lu_source_text.specs.Drafts.{block_of, drafted_of, opening_of};
 ghost use Rattle.lu_text.specs.Lines.{texts};
 ghost use Rattle.lu_source.specs.Programs.{operation_of};
 ghost use Rattle.lu_source_text.specs.Grammar as spec;
-ghost use Rattle.lu_source_text.specs.Reads.{ReadsAlone, ReadsBegun, ReadsConstant, ReadsDraft, ReadsLocal, ReadsLock, ReadsNames, ReadsObject, ReadsOp, ReadsShared, ReadsSize, ReadsValue};
+ghost use Rattle.lu_source_text.specs.Reads.{ReadsAlone, ReadsBegun, ReadsConstant, ReadsDraft, ReadsLocal, ReadsLock, ReadsNames, ReadsObject, ReadsOp, ReadsShared, ReadsSize, ReadsValue, in_draft};
 
 use crate::draft::{Begun, Block, Constant, Draft, Opening, Shared};
 use crate::expression::{behind_word, first_number};
@@ -224,8 +224,7 @@ fn names_from<'a>(
     mut names: Vec<Name>,
     words: &'a [&'a [u8]],
 ) -> Result<(Vec<Name>, &'a [&'a [u8]]), Refusal>
-    ensures { ReadsNames result
-        (spec.names_from (drafted_of draft.now) names.items (texts words.now)) }
+    ensures { ReadsNames result (in_draft (spec.names_from names.items) draft.now words.now) }
 {
     let Some((word, rest)) = words.split_first() else {
         return Err(Refusal::Kind(SourceFaultKind::Form));

@@ -4,9 +4,9 @@ ghost use Rattle.std.specs.Prelude.{◌≡◌, ◌<◌, ◌≤◌, IfOk, length}
 ghost use Rattle.std.specs.Option.{option_map};
 ghost use Rattle.lu_text.specs.Lines.{texts};
 ghost use Rattle.lu_source.specs.Evaluations.{expr_of};
-ghost use Rattle.lu_source.specs.Expressions.Expr.{Not, Swap};
+ghost use Rattle.lu_source.specs.Expressions.Expr.{Not};
 ghost use Rattle.lu_source_text.specs.Grammar as spec;
-ghost use Rattle.lu_source_text.specs.Reads.{ReadsCell, ReadsExchange, ReadsExpr, ReadsLast, ReadsNoMore, ReadsNumber, ReadsWords, meanings};
+ghost use Rattle.lu_source_text.specs.Reads.{ReadsCell, ReadsExchange, ReadsExpr, ReadsLast, ReadsNoMore, ReadsNumber, ReadsWords, by_steps, infix_behind, meanings, swap_of};
 
 use crate::draft::Constant;
 use crate::fault::{Refusal, SourceFaultKind};
@@ -124,8 +124,7 @@ fn closed_with<'a>(
     text: &[u8],
     words: &'a [&'a [u8]],
 ) -> Result<Parsed<'a>, Refusal>
-    ensures { ReadsExpr result (spec.closed_with
-        (spec.expr_from steps (meanings scope.entry)) text.now (texts words.now)) }
+    ensures { ReadsExpr result (by_steps (spec.closed_with text.now) steps scope.entry words.now) }
 {
     let (expr, rest) = expr_from(alloc, steps, scope, 1, words)?;
     let more = behind_word(text, rest)?;
@@ -141,9 +140,7 @@ pub(crate) fn cell_with<'a>(
     word: &[u8],
     words: &'a [&'a [u8]],
 ) -> Result<(Cell, &'a [&'a [u8]]), Refusal>
-    ensures { ReadsCell result (spec.cell_with
-        (spec.expr_from steps (meanings scope.entry)) (meanings scope.entry)
-        word.now (texts words.now)) }
+    ensures { ReadsCell result (by_steps (spec.cell_with word.now) steps scope.entry words.now) }
 {
     let Some((place, indexed)) = shared_from(0, scope.words, word) else {
         return Err(Refusal::Kind(SourceFaultKind::Name));
@@ -168,9 +165,7 @@ fn name_with<'a>(
     word: &[u8],
     words: &'a [&'a [u8]],
 ) -> Result<Parsed<'a>, Refusal>
-    ensures { ReadsExpr result (spec.name_with
-        (spec.expr_from steps (meanings scope.entry)) (meanings scope.entry)
-        word.now (texts words.now)) }
+    ensures { ReadsExpr result (by_steps (spec.name_with word.now) steps scope.entry words.now) }
 {
     if let Some(expr) = named_expr(scope, word) {
         return Ok((expr, words));
@@ -188,8 +183,7 @@ fn swapped_with<'a>(
     scope: Scope<'_>,
     words: &'a [&'a [u8]],
 ) -> Result<(Cell, &'a [&'a [u8]]), Refusal>
-    ensures { ReadsCell result (spec.swapped_with
-        (spec.expr_from steps (meanings scope.entry)) (meanings scope.entry) (texts words.now)) }
+    ensures { ReadsCell result (by_steps spec.swapped_with steps scope.entry words.now) }
 {
     let inside = behind_word(b"(".as_slice(), words)?;
     let Some((word, rest)) = inside.split_first() else {
@@ -208,8 +202,7 @@ fn exchange_with<'a>(
     scope: Scope<'_>,
     words: &'a [&'a [u8]],
 ) -> Result<((Expr, Expr), &'a [&'a [u8]]), Refusal>
-    ensures { ReadsExchange result (spec.exchange_with
-        (spec.expr_from steps (meanings scope.entry)) (texts words.now)) }
+    ensures { ReadsExchange result (by_steps spec.exchange_with steps scope.entry words.now) }
 {
     let (old, rest) = closed_with(alloc, steps, scope, b",".as_slice(), words)?;
     let (new, more) = closed_with(alloc, steps, scope, b")".as_slice(), rest)?;
@@ -224,17 +217,16 @@ pub(crate) fn cas_with<'a>(
     scope: Scope<'_>,
     words: &'a [&'a [u8]],
 ) -> Result<Parsed<'a>, Refusal>
-    ensures { ReadsExpr result (spec.cas_with
-        (spec.expr_from steps (meanings scope.entry)) (meanings scope.entry) (texts words.now)) }
+    ensures { ReadsExpr result (by_steps spec.cas_with steps scope.entry words.now) }
 {
     let (cell, rest) = swapped_with(alloc, steps, scope, words)?;
     let ((old, new), more) = exchange_with(alloc, steps, scope, rest)?;
     Ok((swap(alloc, cell, old, new)?, more))
 }
 
+/// A `cas` of a cell.
 fn swap(alloc: Global, cell: Cell, old: Expr, new: Expr) -> Result<Expr, AllocError>
-    ensures { IfOk result (λ expr. expr_of expr
-        ≡ Swap cell.array (expr_of cell.index) (expr_of old) (expr_of new)) }
+    ensures { IfOk result (λ expr. expr_of expr ≡ swap_of cell old new) }
 {
     let index = Box::new(alloc, cell.index)?;
     let old = Box::new(alloc, old)?;
@@ -258,9 +250,7 @@ fn unary_with<'a>(
     word: &[u8],
     words: &'a [&'a [u8]],
 ) -> Result<Parsed<'a>, Refusal>
-    ensures { ReadsExpr result (spec.unary_with
-        (spec.expr_from steps (meanings scope.entry)) (meanings scope.entry)
-        word.now (texts words.now)) }
+    ensures { ReadsExpr result (by_steps (spec.unary_with word.now) steps scope.entry words.now) }
 {
     if word == b"!".as_slice() {
         let (expr, rest) = expr_from(alloc, steps, scope, 6, words)?;
@@ -295,7 +285,7 @@ pub(crate) fn expr_from<'a>(
     words: &'a [&'a [u8]],
 ) -> Result<Parsed<'a>, Refusal>
     ensures { ReadsExpr result
-        (spec.expr_from steps (meanings scope.entry) least (texts words.now)) }
+        (by_steps (λ inner. inner.read least) steps scope.entry words.now) }
 {
     if steps == 0 {
         return Err(Refusal::Kind(SourceFaultKind::Form));
@@ -318,8 +308,7 @@ fn infix_from<'a>(
     left: Expr,
     words: &'a [&'a [u8]],
 ) -> Result<Parsed<'a>, Refusal>
-    ensures { ReadsExpr result
-        (spec.infix_from steps (meanings scope.entry) least most (expr_of left) (texts words.now)) }
+    ensures { ReadsExpr result (infix_behind left least most steps scope.entry words.now) }
 {
     if steps == 0 {
         return Err(Refusal::Kind(SourceFaultKind::Form));

@@ -4,11 +4,11 @@ ghost use Rattle.std.specs.Prelude.{◌≡◌, ◌<◌, ◌≤◌, ◌∷◌, le
 ghost use Rattle.lu_text.specs.Faults.{Gives, TellsFirst, meaning_of, meaning_of_lines, on_line};
 ghost use Rattle.lu_text.specs.Lines.{texts};
 ghost use Rattle.lu_text.specs.Results.{HasItems};
-ghost use Rattle.lu_source_text.specs.Drafts.{begun_of, drafted_of};
+ghost use Rattle.lu_source_text.specs.Drafts.{drafted_of};
 ghost use Rattle.lu_source_text.specs.Grammar as spec;
 ghost use Rattle.lu_source_text.specs.Grammar.{source_grammar};
 ghost use Rattle.lu_source_text.specs.Readers.{GivesDraft, GivesSource, IsCompiledFrom, component_meant};
-ghost use Rattle.lu_source_text.specs.Reads.{ReadsDraft};
+ghost use Rattle.lu_source_text.specs.Reads.{ReadsDraft, in_begun};
 
 use crate::closing::close_line;
 use crate::declaration::{declaration, object_line};
@@ -51,8 +51,7 @@ fn line_inside(
     word: &[u8],
     words: &[&[u8]],
 ) -> Result<Draft, Refusal>
-    ensures { ReadsDraft result (spec.line_inside
-        (drafted_of draft) (begun_of begun) word.now (texts words.now)) }
+    ensures { ReadsDraft result (in_begun (spec.line_inside word.now) draft begun words.now) }
 {
     if word == b"}".as_slice() {
         close_line(alloc, draft, begun, words)
@@ -71,8 +70,7 @@ fn inside(
     word: &[u8],
     words: &[&[u8]],
 ) -> Result<Draft, Refusal>
-    ensures { ReadsDraft result (spec.inside
-        (drafted_of draft) (begun_of begun) word.now (texts words.now)) }
+    ensures { ReadsDraft result (in_begun (spec.inside word.now) draft begun words.now) }
 {
     if begun.lines >= MOST_LINES {
         return Err(Refusal::Kind(SourceFaultKind::Limit));

@@ -2,14 +2,13 @@
 
 ghost use Rattle.std.specs.Prelude.{◌≡◌, ◌<◌, ◌≤◌, length, IfOk};
 ghost use Rattle.std.specs.List.{list_any};
-ghost use Rattle.lu_source.specs.Trees.Tree.{Plain, Then};
 ghost use Rattle.lu_text.specs.Lines.{texts};
-ghost use Rattle.lu_source.specs.Evaluations.{expr_of};
+ghost use Rattle.lu_source.specs.Evaluations.{coded_of, expr_of};
 ghost use Rattle.lu_source.specs.Expressions as expressions;
 ghost use Rattle.lu_source.specs.Shapes.{tree_of};
 ghost use Rattle.lu_source_text.specs.Drafts.{begun_of, blocks_of, drafted_of, opening_of};
 ghost use Rattle.lu_source_text.specs.Grammar as spec;
-ghost use Rattle.lu_source_text.specs.Reads.{Reads, ReadsAwaited, ReadsBoth, ReadsCell, ReadsCode, ReadsCompared, ReadsTree, ReadsWhole};
+ghost use Rattle.lu_source_text.specs.Reads.{Reads, ReadsAwaited, ReadsBoth, ReadsCell, ReadsCode, ReadsCompared, ReadsTree, ReadsWhole, in_begun};
 
 use crate::draft::{Begun, Block, Draft, Opening};
 use crate::expression::{
@@ -29,8 +28,7 @@ pub(crate) fn expr_in(
     begun: &Begun,
     words: &[&[u8]],
 ) -> Result<Expr, Refusal>
-    ensures { ReadsWhole result (spec.expr_of
-        (spec.scope_of (drafted_of draft.now) (begun_of begun.now)) (texts words.now)) }
+    ensures { ReadsWhole result (in_begun spec.expr_in draft.now begun.now words.now) }
 {
     let scope = Scope {
         constants: &draft.constants,
@@ -49,8 +47,7 @@ pub(crate) fn expr_before_brace(
     begun: &Begun,
     words: &[&[u8]],
 ) -> Result<Expr, Refusal>
-    ensures { ReadsWhole result (spec.expr_before_brace
-        (spec.scope_of (drafted_of draft.now) (begun_of begun.now)) (texts words.now)) }
+    ensures { ReadsWhole result (in_begun spec.expr_before_brace draft.now begun.now words.now) }
 {
     let scope = Scope {
         constants: &draft.constants,
@@ -64,8 +61,7 @@ pub(crate) fn expr_before_brace(
 
 /// `(CELL, OLD, NEW)` behind `cas`, which all the words are.
 fn cas_in(alloc: Global, draft: &Draft, begun: &Begun, words: &[&[u8]]) -> Result<Expr, Refusal>
-    ensures { ReadsWhole result (spec.cas_of
-        (spec.scope_of (drafted_of draft.now) (begun_of begun.now)) (texts words.now)) }
+    ensures { ReadsWhole result (in_begun spec.cas_in draft.now begun.now words.now) }
 {
     let scope = Scope {
         constants: &draft.constants,
@@ -85,8 +81,7 @@ fn cell_in<'a>(
     word: &[u8],
     words: &'a [&'a [u8]],
 ) -> Result<(Cell, &'a [&'a [u8]]), Refusal>
-    ensures { ReadsCell result (spec.cell_in
-        (spec.scope_of (drafted_of draft.now) (begun_of begun.now)) word.now (texts words.now)) }
+    ensures { ReadsCell result (in_begun (spec.cell_in word.now) draft.now begun.now words.now) }
 {
     let scope = Scope {
         constants: &draft.constants,
@@ -121,8 +116,7 @@ fn both_of(
     index: &Expr,
     expr: &Expr,
 ) -> Result<(Evaluation, Evaluation), Refusal>
-    ensures { ReadsBoth result
-        (spec.both_of (begun_of begun.now) (expr_of index.now) (expr_of expr.now)) }
+    ensures { ReadsBoth result begun.now index.now expr.now }
 {
     let first = value_of(alloc, begun, index)?;
     let free = past(begun.locals.len() as u8, first.at);
@@ -132,18 +126,17 @@ fn both_of(
 
 /// The code, and then the register becomes its value.
 pub(crate) fn put_value(alloc: Global, value: Evaluation, register: u8) -> Result<Stmt, AllocError>
-    ensures { IfOk result
-        (λ t. tree_of t ≡ Then (tree_of value.code) (expressions.put register value.at)) }
+    ensures { IfOk result (λ t. tree_of t ≡ expressions.put_at register (coded_of value)) }
 {
     then(alloc, value.code, put(register, value.at))
 }
 
 /// The codes, and then the action.
-fn both_then(alloc: Global, first: Stmt, second: Stmt, action: Action) -> Result<Stmt, AllocError>
+fn both_then(alloc: Global, first: Stmt, second: Stmt, last: Action) -> Result<Stmt, AllocError>
     ensures { IfOk result
-        (λ t. tree_of t ≡ Then (tree_of first) (Then (tree_of second) (Plain action))) }
+        (λ t. tree_of t ≡ spec.both_then (tree_of first) (tree_of second) last) }
 {
-    let behind = then(alloc, second, Stmt::Plain(action))?;
+    let behind = then(alloc, second, Stmt::Plain(last))?;
     then(alloc, first, behind)
 }
 
@@ -155,8 +148,7 @@ fn set_tree(
     register: u8,
     words: &[&[u8]],
 ) -> Result<Stmt, Refusal>
-    ensures { ReadsTree result (spec.set_tree
-        (drafted_of draft.now) (begun_of begun.now) register (texts words.now)) }
+    ensures { ReadsTree result (in_begun (spec.set_tree register) draft.now begun.now words.now) }
 {
     let more = behind_word(b"=".as_slice(), words)?;
     let expr = expr_in(alloc, draft, begun, more)?;
@@ -172,8 +164,7 @@ fn store_tree(
     word: &[u8],
     words: &[&[u8]],
 ) -> Result<Stmt, Refusal>
-    ensures { ReadsTree result (spec.store_tree
-        (drafted_of draft.now) (begun_of begun.now) word.now (texts words.now)) }
+    ensures { ReadsTree result (in_begun (spec.store_tree word.now) draft.now begun.now words.now) }
 {
     let (cell, rest) = cell_in(alloc, draft, begun, word, words)?;
     let more = behind_word(b"=".as_slice(), rest)?;
@@ -240,8 +231,7 @@ fn compared(
     begun: &Begun,
     words: &[&[u8]],
 ) -> Result<(bool, Expr), Refusal>
-    ensures { ReadsCompared result (spec.compared
-        (drafted_of draft.now) (begun_of begun.now) (texts words.now)) }
+    ensures { ReadsCompared result (in_begun spec.compared draft.now begun.now words.now) }
 {
     let Some((by, rest)) = words.split_first() else {
         return Err(Refusal::Kind(SourceFaultKind::Form));
@@ -254,8 +244,7 @@ fn compared(
 
 /// What is awaited of a cell.
 fn awaited(alloc: Global, draft: &Draft, begun: &Begun, words: &[&[u8]]) -> Result<Awaited, Refusal>
-    ensures { ReadsAwaited result (spec.awaited
-        (drafted_of draft.now) (begun_of begun.now) (texts words.now)) }
+    ensures { ReadsAwaited result (in_begun spec.awaited draft.now begun.now words.now) }
 {
     let Some((word, rest)) = words.split_first() else {
         return Err(Refusal::Kind(SourceFaultKind::Form));
@@ -274,8 +263,7 @@ fn awaited(alloc: Global, draft: &Draft, begun: &Begun, words: &[&[u8]]) -> Resu
 
 /// `await CELL == EXPR` and `await CELL != EXPR`.
 fn await_tree(alloc: Global, draft: &Draft, begun: &Begun, words: &[&[u8]]) -> Result<Stmt, Refusal>
-    ensures { ReadsTree result (spec.await_tree
-        (drafted_of draft.now) (begun_of begun.now) (texts words.now)) }
+    ensures { ReadsTree result (in_begun spec.await_tree draft.now begun.now words.now) }
 {
     let Awaited { cell, equal, value } = awaited(alloc, draft, begun, words)?;
     let (index, other) = both_of(alloc, begun, &cell.index, &value)?;
@@ -303,9 +291,8 @@ fn in_loop(blocks: &[Block]) -> bool
 }
 
 /// `break` or `continue`.
-fn leave_tree(begun: &Begun, stmt: Stmt, words: &[&[u8]]) -> Result<Stmt, Refusal>
-    ensures { ReadsTree result
-        (spec.leave_tree (begun_of begun.now) (tree_of stmt) (texts words.now)) }
+fn leave(begun: &Begun, stmt: Stmt, words: &[&[u8]]) -> Result<Stmt, Refusal>
+    ensures { ReadsTree result (spec.leave (begun_of begun.now) (tree_of stmt) (texts words.now)) }
 {
     if let Some(_) = words.split_first() {
         return Err(Refusal::Kind(SourceFaultKind::Form));
@@ -323,8 +310,7 @@ fn return_tree(
     begun: &Begun,
     words: &[&[u8]],
 ) -> Result<Stmt, Refusal>
-    ensures { ReadsTree result (spec.return_tree
-        (drafted_of draft.now) (begun_of begun.now) (texts words.now)) }
+    ensures { ReadsTree result (in_begun spec.return_tree draft.now begun.now words.now) }
 {
     let None = words.split_first() else {
         let expr = expr_in(alloc, draft, begun, words)?;
@@ -352,23 +338,22 @@ fn lock_number(draft: &Draft, words: &[&[u8]]) -> Result<u8, Refusal>
 
 /// `cas(CELL, OLD, NEW)`, whose answer nobody asks for.
 fn cas_tree(alloc: Global, draft: &Draft, begun: &Begun, words: &[&[u8]]) -> Result<Stmt, Refusal>
-    ensures { ReadsTree result (spec.cas_tree
-        (drafted_of draft.now) (begun_of begun.now) (texts words.now)) }
+    ensures { ReadsTree result (in_begun spec.cas_tree draft.now begun.now words.now) }
 {
     let expr = cas_in(alloc, draft, begun, words)?;
     Ok(value_of(alloc, begun, &expr)?.code)
 }
 
 /// `NAME = EXPR` and `NAME[EXPR] = EXPR`.
-fn assign_tree(
+fn assign(
     alloc: Global,
     draft: &Draft,
     begun: &Begun,
     word: &[u8],
     words: &[&[u8]],
 ) -> Result<Stmt, Refusal>
-    ensures { ReadsTree result (spec.assign_tree (drafted_of draft.now) (begun_of begun.now)
-        word.now (texts words.now) (spec.local_in (begun_of begun.now).locals word.now)) }
+    ensures { ReadsTree result
+        (in_begun (spec.assign word.now) draft.now begun.now words.now) }
 {
     match local_in(&begun.locals, word) {
         None => store_tree(alloc, draft, begun, word, words),
@@ -384,13 +369,12 @@ pub(crate) fn simple(
     word: &[u8],
     words: &[&[u8]],
 ) -> Result<Stmt, Refusal>
-    ensures { ReadsTree result (spec.simple
-        (drafted_of draft.now) (begun_of begun.now) word.now (texts words.now)) }
+    ensures { ReadsTree result (in_begun (spec.simple word.now) draft.now begun.now words.now) }
 {
     if word == b"break".as_slice() {
-        leave_tree(begun, Stmt::Break, words)
+        leave(begun, Stmt::Break, words)
     } else if word == b"continue".as_slice() {
-        leave_tree(begun, Stmt::Continue, words)
+        leave(begun, Stmt::Continue, words)
     } else if word == b"return".as_slice() {
         return_tree(alloc, draft, begun, words)
     } else if word == b"lock".as_slice() {
@@ -404,6 +388,6 @@ pub(crate) fn simple(
     } else if !is_free_name(word) {
         Err(Refusal::Kind(SourceFaultKind::Form))
     } else {
-        assign_tree(alloc, draft, begun, word, words)
+        assign(alloc, draft, begun, word, words)
     }
 }

@@ -5,9 +5,9 @@ ghost use Rattle.lu_text.specs.Lines.{texts};
 ghost use Rattle.lu_source.specs.Evaluations.{expr_of};
 ghost use Rattle.lu_source.specs.Expressions as expressions;
 ghost use Rattle.lu_source.specs.Shapes.{tree_of};
-ghost use Rattle.lu_source_text.specs.Drafts.{begun_of, block_of, drafted_of, opening_of};
+ghost use Rattle.lu_source_text.specs.Drafts.{opening_of};
 ghost use Rattle.lu_source_text.specs.Grammar as spec;
-ghost use Rattle.lu_source_text.specs.Reads.{Reads, ReadsLet};
+ghost use Rattle.lu_source_text.specs.Reads.{Becomes, ReadsLet, ReadsLine, ReadsTest, in_begun};
 
 use crate::blocks::{add_to, are_deep, push_block};
 use crate::declaration::{new_name, open_block};
@@ -22,16 +22,15 @@ use std::alloc::Global;
 
 /// The innermost block does this too.
 fn add(alloc: Global, begun: &mut Begun, stmt: Stmt) -> Result<(), Refusal>
-    ensures { Reads (λ _. begun_of begun.new) result
-        (spec.added (begun_of begun.old) (tree_of stmt)) }
+    ensures { Becomes result begun.old begun.new (λ b. spec.added b (tree_of stmt)) }
 {
     add_to(alloc, &mut begun.blocks, stmt)
 }
 
 /// One block more, with what opened it.
 fn deeper(begun: &mut Begun, opening: Opening, chained: bool) -> Result<(), Refusal>
-    ensures { Reads (λ _. begun_of begun.new) result
-        (spec.deeper (begun_of begun.old) (opening_of opening) chained) }
+    ensures { Becomes result begun.old begun.new
+        (λ b. spec.deeper b (opening_of opening) chained) }
 {
     if are_deep(&begun.blocks) {
         return Err(Refusal::Kind(SourceFaultKind::Limit));
@@ -48,8 +47,7 @@ fn let_in(
     begun: &Begun,
     words: &[&[u8]],
 ) -> Result<(Name, Stmt), Refusal>
-    ensures read { ReadsLet result (spec.let_in
-        (drafted_of draft.now) (begun_of begun.now) (texts words.now)) }
+    ensures read { ReadsLet result (in_begun spec.let_in draft.now begun.now words.now) }
     ensures room { IfOk result (λ _. length begun.now.locals.items < 8) }
 {
     let Some((word, rest)) = words.split_first() else {
@@ -68,8 +66,7 @@ fn let_in(
 
 /// `let NAME = EXPR`: a local more.
 fn let_line(alloc: Global, draft: &Draft, begun: &mut Begun, words: &[&[u8]]) -> Result<(), Refusal>
-    ensures { Reads (λ _. begun_of begun.new) result (spec.let_line
-        (drafted_of draft.now) (begun_of begun.old) (texts words.now)) }
+    ensures { ReadsLine result spec.let_line draft.now words.now begun.old begun.new }
 {
     let (name, stmt) = let_in(alloc, draft, begun, words)?;
     add_to(alloc, &mut begun.blocks, stmt)?;
@@ -91,8 +88,7 @@ fn as_test(expr: Expr) -> Expr
 
 /// What is tested by an expression.
 fn tested(alloc: Global, begun: &mut Begun, expr: Expr) -> Result<Operand, Refusal>
-    ensures { Reads (λ v. (begun_of begun.new, v)) result
-        (spec.tested (begun_of begun.old) (expr_of expr)) }
+    ensures { ReadsTest result begun.old begun.new expr }
 {
     let test = as_test(expr);
     let value = value_of(alloc, begun, &test)?;
@@ -109,8 +105,7 @@ pub(crate) fn if_line(
     chained: bool,
     words: &[&[u8]],
 ) -> Result<(), Refusal>
-    ensures { Reads (λ _. begun_of begun.new) result (spec.if_line
-        (drafted_of draft.now) (begun_of begun.old) chained (texts words.now)) }
+    ensures { ReadsLine result (spec.if_line chained) draft.now words.now begun.old begun.new }
 {
     let expr = expr_before_brace(alloc, draft, begun, words)?;
     let value = tested(alloc, begun, expr)?;
@@ -124,8 +119,7 @@ fn while_line(
     begun: &mut Begun,
     words: &[&[u8]],
 ) -> Result<(), Refusal>
-    ensures { Reads (λ _. begun_of begun.new) result (spec.while_line
-        (drafted_of draft.now) (begun_of begun.old) (texts words.now)) }
+    ensures { ReadsLine result spec.while_line draft.now words.now begun.old begun.new }
 {
     let expr = expr_before_brace(alloc, draft, begun, words)?;
     deeper(begun, Opening::Turns, false)?;
@@ -135,8 +129,7 @@ fn while_line(
 
 /// `loop {`
 fn loop_line(begun: &mut Begun, words: &[&[u8]]) -> Result<(), Refusal>
-    ensures { Reads (λ _. begun_of begun.new) result (spec.loop_line
-        (begun_of begun.old) (texts words.now)) }
+    ensures { Becomes result begun.old begun.new (λ b. spec.loop_line b (texts words.now)) }
 {
     let rest = behind_word(b"{".as_slice(), words)?;
     if let Some(_) = rest.split_first() {
@@ -153,8 +146,8 @@ pub(crate) fn statement(
     word: &[u8],
     words: &[&[u8]],
 ) -> Result<(), Refusal>
-    ensures { Reads (λ _. begun_of begun.new) result (spec.statement
-        (drafted_of draft.now) (begun_of begun.old) word.now (texts words.now)) }
+    ensures { ReadsLine result
+        (spec.statement word.now) draft.now words.now begun.old begun.new }
 {
     if word == b"let".as_slice() {
         let_line(alloc, draft, begun, words)
