@@ -95,50 +95,92 @@ fn taken_words(alloc: Global, words: &[&[u8]]) -> Result<String, AllocError> {
     }
 }
 
-/// How a line looks that begins with this word.
-fn form_of(words: &[&[u8]]) -> &'static str {
-    if word_is(words, 0, b"let") {
-        "`let NAME = EXPR`"
-    } else if word_is(words, 0, b"const") {
-        "`const NAME = N`, outside of operations"
-    } else if word_is(words, 0, b"word") {
-        "`word NAME`, `word NAME = N`, `word NAME[LEN]` or `word NAME[LEN] = N`, outside of operations"
-    } else if word_is(words, 0, b"lock") {
-        "`lock NAME`"
-    } else if word_is(words, 0, b"unlock") {
-        "`unlock NAME`, in an operation"
-    } else if word_is(words, 0, b"local") {
-        "`local N`, once, before the first operation"
-    } else if word_is(words, 0, b"object") {
-        "`object NAME`, once, as the first line"
-    } else if word_is(words, 0, b"op") {
-        "`op NAME(A, B) {`, where no operation is open"
-    } else {
-        statement_form(words)
-    }
+/// A word that begins a line, and how such a line looks.
+struct Form {
+    word: &'static str,
+    looks: &'static str,
 }
 
-fn statement_form(words: &[&[u8]]) -> &'static str {
-    if word_is(words, 0, b"if") {
-        "`if EXPR {`"
-    } else if word_is(words, 0, b"while") {
-        "`while EXPR {`"
-    } else if word_is(words, 0, b"loop") {
-        "`loop {`"
-    } else if word_is(words, 0, b"}") {
-        "`}`, or behind an `if` `} else {` or `} else if EXPR {`, where a block is open"
-    } else if word_is(words, 0, b"return") {
-        "`return` or `return EXPR`, in an operation"
-    } else if word_is(words, 0, b"await") {
-        "`await CELL == EXPR` or `await CELL != EXPR`"
-    } else if word_is(words, 0, b"cas") {
-        "`cas(CELL, OLD, NEW)`"
-    } else if word_is(words, 0, b"break") {
-        "`break`, by itself"
-    } else if word_is(words, 0, b"continue") {
-        "`continue`, by itself"
-    } else {
-        "`NAME = EXPR` or `NAME[EXPR] = EXPR` in an operation, and outside of them a declaration"
+const FORMS: [Form; 17] = [
+    Form {
+        word: "let",
+        looks: "`let NAME = EXPR`",
+    },
+    Form {
+        word: "const",
+        looks: "`const NAME = N`, outside of operations",
+    },
+    Form {
+        word: "word",
+        looks: "`word NAME`, `word NAME = N`, `word NAME[LEN]` or `word NAME[LEN] = N`, outside of operations",
+    },
+    Form {
+        word: "lock",
+        looks: "`lock NAME`",
+    },
+    Form {
+        word: "unlock",
+        looks: "`unlock NAME`, in an operation",
+    },
+    Form {
+        word: "local",
+        looks: "`local N`, once, before the first operation",
+    },
+    Form {
+        word: "object",
+        looks: "`object NAME`, once, as the first line",
+    },
+    Form {
+        word: "op",
+        looks: "`op NAME(A, B) {`, where no operation is open",
+    },
+    Form {
+        word: "if",
+        looks: "`if EXPR {`",
+    },
+    Form {
+        word: "while",
+        looks: "`while EXPR {`",
+    },
+    Form {
+        word: "loop",
+        looks: "`loop {`",
+    },
+    Form {
+        word: "}",
+        looks: "`}`, or behind an `if` `} else {` or `} else if EXPR {`, where a block is open",
+    },
+    Form {
+        word: "return",
+        looks: "`return` or `return EXPR`, in an operation",
+    },
+    Form {
+        word: "await",
+        looks: "`await CELL == EXPR` or `await CELL != EXPR`",
+    },
+    Form {
+        word: "cas",
+        looks: "`cas(CELL, OLD, NEW)`",
+    },
+    Form {
+        word: "break",
+        looks: "`break`, by itself",
+    },
+    Form {
+        word: "continue",
+        looks: "`continue`, by itself",
+    },
+];
+
+/// How a line looks that begins with this word.
+fn form_of(words: &[&[u8]]) -> &'static str {
+    match FORMS
+        .iter()
+        .find(|form| word_is(words, 0, form.word.as_bytes()))
+    {
+        Some(form) => form.looks,
+        None =>
+            "`NAME = EXPR` or `NAME[EXPR] = EXPR` in an operation, and outside of them a declaration",
     }
 }
 
