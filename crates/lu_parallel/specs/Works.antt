@@ -89,10 +89,11 @@ pub record IsWork (c : Declarations) (matrix : Matrix) (members : List (List Ser
   pub holds : FromEachStart c matrix
       (λ s. IsTally (IsMember members) s bound pieces w.seat.view w.counts w.found.items)
 
--- the same of this board
-abbrev pub IsWorkOn : Declarations → Matrix → List (List SerialOp) → ℕ → List (List Move)
-    → BoardModel → Work → Type 0
-IsWorkOn c matrix members bound pieces board w = IsWork c matrix members bound pieces board.board w
+-- the same on this board, with the members of a tree
+abbrev pub Worked : {T : Type 0} → Declarations → Matrix → (T → List (List SerialOp)) → T → ℕ
+    → List (List Move) → BoardModel → Work → Type 0
+Worked c matrix members tree bound pieces board w =
+    IsWork c matrix (members tree) bound pieces board.board w
 
 -- ---- what a worker is lent
 
@@ -107,8 +108,8 @@ AreTablesFor job tables = AreRunTables job.space.component.now job.space.matrix.
 -- a work for what is lent, with the set of these members
 abbrev pub IsWorkFor : {T G : Type 0} → Job T G → List (List SerialOp) → Work → Type 0
 IsWorkFor job members w =
-    IsWorkOn job.space.component.now job.space.matrix.now members job.space.bound
-    job.pieces.now job.board.now w
+    IsWork job.space.component.now job.space.matrix.now members job.space.bound
+    job.pieces.now job.board.now.board w
 
 abbrev pub AreWorksFor : {T G E Z : Type 0} → Job T G → List (List SerialOp)
     → Result (Vec Work Z) E → Type 0

@@ -7,7 +7,7 @@ ghost use Rattle.lu_witness.specs.Caches.{SameButEntries};
 ghost use Rattle.lu_report.specs.Limits.{most_moves};
 ghost use Rattle.lu_tree.specs.Trees.{is_abandoned};
 ghost use Rattle.lu_parallel.specs.Watches.{held_piece};
-ghost use Rattle.lu_parallel.specs.Works.{ArePieces, AreTablesFor, IsNoted, IsFresh, IsLent, IsWorkFor, IsWorkOn, PutsAway, Tallied};
+ghost use Rattle.lu_parallel.specs.Works.{ArePieces, AreTablesFor, IsNoted, IsFresh, IsLent, IsWorkFor, Worked, PutsAway, Tallied};
 
 use crate::gate::Gate;
 use crate::seat_watch::SeatWatch;
@@ -194,8 +194,7 @@ pub fn work<T: SerialTree, G: Gate>(
     requires pieces { ArePieces component.now matrix.now bound pieces.now }
     requires board { board.now.pieces ≡ length pieces.now }
     requires fresh { IsFresh board.now.board seat }
-    ensures { IsWorkOn component.now matrix.now (T.members tree.now) bound
-        pieces.now board.now result }
+    ensures { Worked component.now matrix.now T.members tree.now bound pieces.now board.now result }
 {
     let space = SearchSpace {
         alloc,

@@ -1,0 +1,5 @@
+use Rattle.lu_graph.proofs.Unseen.{first_tells_all}
+use Rattle.lu_graph.proofs.laws.first_law.Goals as goal
+
+pub returns : goal.returns
+returns _ = first_tells_all
