@@ -62,6 +62,12 @@ abbrev pub NumbersStay : List (Vec SerialOp) → State → OpId → Outcome → 
     → Possibilities → ℕ → Type 0
 NumbersStay members s a outcome = Numbers (StayTold s members a outcome) members
 
+-- so it is of a return of s, which has the calls of s
+abbrev pub NumbersBehind : List (Vec SerialOp) → State → ReturnAt → Possibilities → Possibilities → ℕ
+    → Type 0
+NumbersBehind members s at old new n =
+    HaveCalls s at.calls → NumbersStay members s at.operation at.outcome at.alive old new n
+
 -- the number of what is possible behind the event, if there is one, that led to s
 abbrev pub NumbersAfter : List (Vec SerialOp) → State → Option Event → ℕ → Possibilities
     → Possibilities → ℕ → Type 0

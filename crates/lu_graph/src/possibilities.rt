@@ -1,7 +1,7 @@
 //! Which members are possible: each different list once, with what returns leave of it.
 
 ghost use Rattle.std.specs.Prelude.{◌≡◌, [], IfOk};
-ghost use Rattle.lu_graph.specs.Possibilities.{Gives, HaveCalls, NumbersAfter, NumbersStay};
+ghost use Rattle.lu_graph.specs.Possibilities.{Gives, HaveCalls, NumbersAfter, NumbersBehind};
 
 use crate::alive::still_alive;
 use crate::standing::called;
@@ -65,33 +65,24 @@ fn calls_of(machine: &Machine<'_>) -> [u16; 8]
     calls
 }
 
-/// The number of what stays possible where the operation returns with this outcome, and what has
-/// the number `was` was possible. It is looked up, and remembered where it was not there.
+/// The number of what stays possible behind the return, which has the calls of the machine. It is
+/// looked up, and remembered where it was not there.
 fn number_behind(
     alloc: Global,
     machine: &Machine<'_>,
     members: &[Vec<SerialOp>],
-    was: u32,
-    operation: OpId,
-    outcome: Outcome,
-    possible: &mut Possibilities,
+    at: ReturnAt,
+    known: &mut Possibilities,
 ) -> Result<u32, AllocError>
-    ensures { IfOk result
-        (NumbersStay members.now machine.now operation outcome was possible.old possible.new) }
+    ensures { IfOk result (NumbersBehind members.now machine.now at known.old known.new) }
 {
-    let at = ReturnAt {
-        alive: was,
-        calls: calls_of(machine),
-        operation,
-        outcome,
-    };
-    if let Some(number) = possible.returns.get(&at) {
+    if let Some(number) = known.returns.get(&at) {
         return Ok(*number);
     }
-    let old = possible.list(was);
-    let now = still_alive(alloc, machine, members, old, operation, outcome)?;
-    let number = number_of_list(alloc, &mut possible.lists, &now, was)?;
-    possible.returns.insert(at, number)?;
+    let old = known.list(at.alive);
+    let now = still_alive(alloc, machine, members, old, at.operation, at.outcome)?;
+    let number = number_of_list(alloc, &mut known.lists, &now, at.alive)?;
+    known.returns.insert(at, number)?;
     Ok(number)
 }
 
@@ -103,18 +94,22 @@ pub(crate) fn number_after(
     members: &[Vec<SerialOp>],
     was: u32,
     event: Option<Event>,
-    possible: &mut Possibilities,
+    known: &mut Possibilities,
 ) -> Result<u32, AllocError>
-    ensures { IfOk result
-        (NumbersAfter members.now machine.now event was possible.old possible.new) }
+    ensures { IfOk result (NumbersAfter members.now machine.now event was known.old known.new) }
 {
     match event {
         None => Ok(was),
         Some(event) => match event {
             Event::Call { .. } => Ok(was),
             Event::Return { t, k, outcome } => {
-                let operation = OpId { t, k };
-                number_behind(alloc, machine, members, was, operation, outcome, possible)
+                let at = ReturnAt {
+                    alive: was,
+                    calls: calls_of(machine),
+                    operation: OpId { t, k },
+                    outcome,
+                };
+                number_behind(alloc, machine, members, at, known)
             }
         },
     }

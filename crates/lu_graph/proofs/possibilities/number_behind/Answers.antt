@@ -3,19 +3,20 @@ use Rattle.std.specs.Bool.{beq}
 use Rattle.indexmap.proofs.CallerLemmas.{insert_entry-new}
 use Rattle.lu_graph.specs.declared.possibilities.Possibilities.{Possibilities}
 use Rattle.lu_graph.specs.Numbered.{IsNumbered, is_list}
-use Rattle.lu_graph.proofs.Recalled.{at_calls, numbers_met, numbers_new, return_eq}
+use Rattle.lu_graph.proofs.Recalled.{numbers_met, numbers_new, return_eq}
 use Rattle.lu_graph.proofs.possibilities.number_behind.Goals as goal
 
 pub returns-in-Some : goal.returns-in-Some
-returns-in-Some c =
-    numbers_met c.args.members.now c.args.machine.now c.args.operation c.args.outcome c.args.was c.args.possible.now c.calls_of.result c.in-Some.number.now c.calls_of.ensures (sym c.in-Some.ensures.value)
+returns-in-Some c = λ have.
+    (let at = c.args.at in
+    numbers_met c.args.members.now c.args.machine.now at.operation at.outcome at.alive c.args.known.now at.calls c.in-Some.number.now have (sym c.in-Some.ensures.value))
 
 pub returns : goal.returns
-returns c =
-    let old = c.args.possible.now in
+returns c = λ have.
+    (let old = c.args.known.now in
     let new : Possibilities = record { lists = c.number_of_list.new.table; returns = c.insert.new.self } in
-    let at = at_calls c.args.members.now c.args.machine.now c.args.operation c.args.outcome c.args.was c.calls_of.result in
+    let at = c.args.at in
     let number = c.in_ok-number.number in
-    numbers_new c.args.members.now c.args.machine.now c.args.operation c.args.outcome c.args.was old new c.calls_of.result c.list-old.result.now c.in_ok-now.now.items number c.calls_of.ensures c.list-old.ensures c.in_ok-now.ensures
+    numbers_new c.args.members.now c.args.machine.now at.operation at.outcome at.alive old new at.calls c.list-old.result.now c.in_ok-now.now.items number have c.list-old.ensures c.in_ok-now.ensures
     (subst (λ xs. IsNumbered (is_list beq xs) old.lists.keys new.lists.keys number) c.deref.ensures.value c.in_ok-number.ensures)
-    (c.in_ok-insert.ensures.entries ∙ insert_entry-new return_eq old.returns at number (sym c.in_default.ensures.value))
+    (c.in_ok-insert.ensures.entries ∙ insert_entry-new return_eq old.returns at number (sym c.in_default.ensures.value)))
