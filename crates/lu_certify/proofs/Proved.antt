@@ -13,41 +13,15 @@ use Rattle.lu_report.specs.Limits.{most_moves}
 use Rattle.lu_witness.specs.Witnesses.{IsMember}
 use Rattle.lu_graph.specs.declared.ending.Ending.{Ending}
 use Rattle.lu_graph.specs.declared.ending.Ending.TheVariants.{Badly, TooMany, Well}
-use Rattle.lu_graph.specs.Nodes.{EndsBadly, EndsWellOnFewNodes, HasFewNodes, IsEnding, IsShortestBad}
+use Rattle.lu_graph.specs.Nodes.{EndsWellOnFewNodes, HasFewNodes, IsEnding, IsShortestBad}
+use Rattle.lu_graph.proofs.OtherSet.{few_too, shortest_too, well_too}
 use Rattle.lu_certify.specs.declared.limits.Limits.{Limits}
 use Rattle.lu_certify.specs.declared.told.Told.{Told}
 use Rattle.lu_certify.specs.declared.told.Told.TheVariants.{AllGood, BadBehind, Nothing}
 use Rattle.lu_certify.specs.Certificates.{FailsBehind, IsProved}
 use Rattle.lu_certify.specs.Places.{IsLeftOpen, IsTold, IsToldBy}
 use Rattle.lu_certify.proofs.Behind.{one_length}
-use Rattle.lu_certify.proofs.Fitted.{good_more, reaches_more}
 use Rattle.lu_certify.proofs.Linear.{never_bad}
-
--- ---- two sets with the same members
-
-module _ (Set Other : List SerialOp → Type 0) (more : (q : List SerialOp) → Set q → Other q) (fewer : (q : List SerialOp) → Other q → Set q) where
-  few_more : (s : State) (most : ℕ) → HasFewNodes Set s most → HasFewNodes Other s most
-  few_more s most few = (
-    few.0,
-    (λ u end h leads.
-        let there = few.1 u end h leads in
-        (there.0, there.1, (there.2.0, λ q is. there.2.1 q (fewer q is)))),
-    few.2,
-  )
-
-  well_more : (s : State) (most : ℕ) → EndsWellOnFewNodes Set s most → EndsWellOnFewNodes Other s most
-  well_more s most is = (few_more s most is.0, λ u ended. reaches_more Set Other more s u (is.1 u ended))
-
-  bad_more : (s : State) (u : List Move) → EndsBadly Set s u → EndsBadly Other s u
-  bad_more s u bad = record { end = bad.end; history = bad.history; leads = bad.leads; holds = (bad.holds.0, λ good. bad.holds.1 (good_more Other Set fewer bad.end bad.history good)) }
-
-shortest_more : (Set Other : List SerialOp → Type 0) → ((q : List SerialOp) → Set q → Other q) → ((q : List SerialOp) → Other q → Set q) → (s : State) (moves : ℕ) → IsShortestBad Set s moves → IsShortestBad Other s moves
-shortest_more Set Other more fewer s moves x = record {
-  schedule = x.schedule;
-  long = x.long;
-  bad = bad_more Set Other more fewer s x.schedule x.bad;
-  shortest = λ v less bad. x.shortest v less (bad_more Other Set fewer more s v bad);
-}
 
 -- ---- what is told
 
@@ -67,22 +41,22 @@ module _ (c : Declarations) (matrix : Matrix) (limits : Limits) (settles : Settl
     few_at : (s : State) → IsStart c matrix s → HasFewNodes (IsMember members) s limits.nodes → HasFewNodes (IsSerialHistory s) s limits.nodes
     few_at s at few =
         let here = set s at in
-        few_more (IsMember members) (IsSerialHistory s) (λ q y. (here.are q).0 y) (λ q y. (here.are q).1 y) s limits.nodes few
+        few_too (IsMember members) (IsSerialHistory s) (λ q y. (here.are q).0 y) (λ q y. (here.are q).1 y) s limits.nodes few
 
     few_back : (s : State) → IsStart c matrix s → HasFewNodes (IsSerialHistory s) s limits.nodes → HasFewNodes (IsMember members) s limits.nodes
     few_back s at few =
         let here = set s at in
-        few_more (IsSerialHistory s) (IsMember members) (λ q y. (here.are q).1 y) (λ q y. (here.are q).0 y) s limits.nodes few
+        few_too (IsSerialHistory s) (IsMember members) (λ q y. (here.are q).1 y) (λ q y. (here.are q).0 y) s limits.nodes few
 
     shortest_at : (s : State) → IsStart c matrix s → (moves : ℕ) → IsShortestBad (IsMember members) s moves → IsShortestBad (IsSerialHistory s) s moves
     shortest_at s at moves x =
         let here = set s at in
-        shortest_more (IsMember members) (IsSerialHistory s) (λ q y. (here.are q).0 y) (λ q y. (here.are q).1 y) s moves x
+        shortest_too (IsMember members) (IsSerialHistory s) (λ q y. (here.are q).0 y) (λ q y. (here.are q).1 y) s moves x
 
     told_well : FromEachStart c matrix (λ s. EndsWellOnFewNodes (IsMember members) s limits.nodes) → IsProved c matrix limits
     told_well is s at =
         let here = set s at in
-        (here.none, well_more (IsMember members) (IsSerialHistory s) (λ q y. (here.are q).0 y) (λ q y. (here.are q).1 y) s limits.nodes (is s at))
+        (here.none, few_at s at (is s at).0, well_too (IsMember members) (IsSerialHistory s) (λ q y. (here.are q).0 y) (λ q y. (here.are q).1 y) s (is s at).1)
 
     told_badly : (moves : ℕ) → FromEachStart c matrix (λ s. IsEnding (IsMember members) limits.bound limits.nodes s (Badly moves)) → limits.bound < moves → moves ≤ most_moves → FailsBehind c limits matrix moves
     told_badly moves is more few = (more, few, λ s at. ((set s at).none, few_at s at ((is s at).1 more), shortest_at s at moves (is s at).0))

@@ -14,6 +14,8 @@ use Rattle.lu_machine.proofs.Paths.{child_leads, leads_split}
 use Rattle.lu_history.specs.declared.serial.SerialOp.{SerialOp}
 use Rattle.lu_history.specs.Standing.{Agree}
 use Rattle.lu_horizon.specs.Dead.{DeadTable}
+use Rattle.lu_tree.proofs.Reordering.{good_reordered}
+use Rattle.lu_graph.specs.First.{AllGoFirst, GoesFirst}
 use Rattle.lu_graph.specs.Kept.{Kept}
 use Rattle.lu_graph.specs.Rows.{KnowsDead}
 use Rattle.lu_graph.specs.Growing.{AddsNext, ComesBy, HasStart, IsNext}
@@ -23,6 +25,8 @@ use Rattle.lu_graph.specs.Visiting.{AreVisited, IsFor, IsReached, its}
 use Rattle.lu_graph.proofs.Among.{all_at, at_either, at_first, at_left}
 use Rattle.lu_graph.proofs.Closing.{for_next, step_for, step_of}
 use Rattle.lu_graph.proofs.Explored.{AreGoodBefore, start_is}
+use Rattle.lu_graph.proofs.First.{first_alike, first_back, first_before, first_last, first_more}
+use Rattle.lu_graph.proofs.Unseen.{first_tells_all}
 
 -- the last move of a schedule
 last_move : (u : List Move) (n : ℕ) → length u ≡ n + 1 → (v : List Move) × (m : Move) × (length v ≡ n) × (u ≡ v ++ m ∷ [])
@@ -48,10 +52,10 @@ without_last s v m last h leads =
 abbrev IsKeptBefore : State → List (Vec SerialOp) → List Kept → ℕ → State → List Event → Type 0
 IsKeptBefore s members list place end h = (i : ℕ) × (kept : Kept) × (i < place) × (slice_get list i ≡ Some kept) × IsFor s members end h kept
 
--- each schedule of fewer moves leads to what is kept before this place
+-- each schedule of fewer moves that all go first leads to what is kept before this place
 abbrev pub LeadBefore : State → List (Vec SerialOp) → List Kept → ℕ → ℕ → Type 0
 LeadBefore s members list moves place =
-    (u : List Move) (end : State) (h : List Event) → length u < moves → Leads s u end h → IsKeptBefore s members list place end h
+    (u : List Move) (end : State) (h : List Event) → length u < moves → AllGoFirst s u → Leads s u end h → IsKeptBefore s members list place end h
 
 -- a schedule of so many moves leads to it
 pub record IsReachedIn (s : State) (members : List (Vec SerialOp)) (moves : ℕ) (kept : Kept) : Type 0 where
@@ -80,14 +84,14 @@ module _ (s : State) (members : List (Vec SerialOp)) (dead : DeadTable) (dead_kn
         (let adds = start.2 in
         let one = all_at (λ (k : Kept). CanStandAt s.component s.matrix k.position × ComesBy s.component s.matrix members s start.0 None k) adds.grows.0 adds.grows.2 i kept (subst (λ (x : List Kept). slice_get x i ≡ Some kept) adds.grows.1 is) in
         record {
-          way = record { schedule = []; end = s; history = []; leads = (refl, refl); is = start_is s members dead dead_known agree list start kept one.1 };
+          way = record { schedule = []; first = tt; end = s; history = []; leads = (refl, refl); is = start_is s members dead dead_known agree list start kept one.1 };
           long = refl;
         });
     next = λ i kept le is. (let lt = slice_get_within list i kept is in absurd (omega (arith, lt, le)));
   }
     where
       first : LeadBefore s members list (0 + 1) (length list)
-      first [] end h lt leads =
+      first [] end h lt all leads =
           let there = start.2.there in
           let here = start_is s members dead dead_known agree list start there.1 there.3 in (
             there.0,
@@ -96,33 +100,34 @@ module _ (s : State) (members : List (Vec SerialOp)) (dead : DeadTable) (dead_kn
             there.2,
             subst (λ x. IsFor s members end x there.1) (sym leads.1) (subst (λ x. IsFor s members x [] there.1) (sym leads.0) here),
           )
-      first (m ∷ u) end h lt leads = absurd (omega (arith, lt))
+      first (m ∷ u) end h lt all leads = absurd (omega (arith, lt))
 
   module _ (list : List Kept) (place moves end : ℕ) (known : AreSearched members s list place moves end) where
     -- the level has ended at this place
     module _ (visited : AreVisited members s list place) (ended : end ≤ place) where
       -- one move behind a node of the level
-      move_on : (i : ℕ) (one : Kept) → i < end → slice_get list i ≡ Some one → (mid last : State) (first : List Event) → IsFor s members mid first one → (m : Move) (event : Option Event) → Step mid m last event → IsKeptBefore s members list (length list) last (longer first event)
-      move_on i one lt at mid last first is m event step =
+      move_on : (i : ℕ) (one : Kept) → i < end → slice_get list i ≡ Some one → (mid last : State) (first : List Event) → IsFor s members mid first one → (m : Move) (event : Option Event) → GoesFirst mid m → Step mid m last event → IsKeptBefore s members list (length list) last (longer first event)
+      move_on i one lt at mid last first is m event goes step =
           let other = step_of s members dead dead_known one mid first is m last event step in
-          let there = visited.closed i one (omega (arith, lt, ended)) at m other.0 event other.1 in
+          let there = visited.closed i one (omega (arith, lt, ended)) at m other.0 event (first_alike mid (its s one) is.state m goes) other.1 in
           (there.0, there.1, slice_get_within list there.0 there.1 there.2, there.2, for_next s members dead dead_known one there.1 mid first is m last other.0 event step other.2 there.3)
 
-      behind : (u : List Move) (last : State) (h : List Event) → length u ≡ moves + 1 → Leads s u last h → IsKeptBefore s members list (length list) last h
-      behind u last h long leads =
+      behind : (u : List Move) (last : State) (h : List Event) → length u ≡ moves + 1 → AllGoFirst s u → Leads s u last h → IsKeptBefore s members list (length list) last h
+      behind u last h long all leads =
           let cut = last_move u moves long in
           let shorter = cut.2 in
           let way = without_last s cut.0 cut.1 last h (subst (λ (x : List Move). Leads s x last h) cut.3 leads) in
-          let before = known.level cut.0 way.0 way.1 (omega (arith, shorter)) way.3 in
-          subst (λ x. IsKeptBefore s members list (length list) last x) (sym way.5) (move_on before.0 before.1 before.2 before.3 way.0 last way.1 before.4 cut.1 way.2 way.4)
+          let first : AllGoFirst s (cut.0 ++ cut.1 ∷ []) = subst (λ (x : List Move). AllGoFirst s x) cut.3 all in
+          let before = known.level cut.0 way.0 way.1 (omega (arith, shorter)) (first_before s cut.0 cut.1 first) way.3 in
+          subst (λ x. IsKeptBefore s members list (length list) last x) (sym way.5) (move_on before.0 before.1 before.2 before.3 way.0 last way.1 before.4 cut.1 way.2 (first_last s cut.0 cut.1 way.0 way.1 first way.3) way.4)
 
       pub searched_level : AreSearched members s list place (moves + 1) (length list)
       searched_level = record {
         good = known.good;
-        past = λ u last h lt leads. (let x = known.level u last h lt leads in let less = x.2 in (x.0, x.1, omega (arith, less, ended), x.3, x.4));
-        level = λ u last h lt leads. elim (cases_lt (length u) (moves + 1)) as (λ _. IsKeptBefore s members list (length list) last h) [
-          | inl less ↦ (let x = known.level u last h less leads in (x.0, x.1, slice_get_within list x.0 x.1 x.3, x.3, x.4))
-          | inr least ↦ behind u last h (omega (arith, lt, least)) leads
+        past = λ u last h lt all leads. (let x = known.level u last h lt all leads in let less = x.2 in (x.0, x.1, omega (arith, less, ended), x.3, x.4));
+        level = λ u last h lt all leads. elim (cases_lt (length u) (moves + 1)) as (λ _. IsKeptBefore s members list (length list) last h) [
+          | inl less ↦ (let x = known.level u last h less all leads in (x.0, x.1, slice_get_within list x.0 x.1 x.3, x.3, x.4))
+          | inr least ↦ behind u last h (omega (arith, lt, least)) all leads
         ];
         within = omega arith;
         now = λ i kept le lt is. known.next i kept (omega (arith, le, ended)) is;
@@ -142,7 +147,7 @@ module _ (s : State) (members : List (Vec SerialOp)) (dead : DeadTable) (dead_kn
         still i one is = subst (λ (x : List Kept). slice_get x i ≡ Some one) (sym adds.grows.1) (at_left list adds.grows.0 i one is)
 
         next_reached : (one : Kept) → CanStandAt s.component s.matrix one.position × IsNext members (its s kept) kept.alive one → IsReachedIn s members (moves + 1) one
-        next_reached one (stands, (m, next, event, step, by)) =
+        next_reached one (stands, (m, next, event, first, step, by)) =
             let u = reached.way.schedule in
             let h = reached.way.history in
             let end = reached.way.end in
@@ -152,6 +157,7 @@ module _ (s : State) (members : List (Vec SerialOp)) (dead : DeadTable) (dead_kn
             record {
               way = record {
                 schedule = u ++ m ∷ [];
+                first = first_more s u end h m reached.way.first reached.way.leads (first_back end (its s kept) reached.way.is.state m first);
                 end = other.0;
                 history = longer h event;
                 leads = child_leads s u end h reached.way.leads m other.0 event other.1;
@@ -169,8 +175,8 @@ module _ (s : State) (members : List (Vec SerialOp)) (dead : DeadTable) (dead_kn
                 let same : kept ≡ one = same_Some kept one (sym at ∙ (ap (slice_get list) (sym here) ∙ stood i one (omega (arith, here, less, within)) is)) in
                 good x h (subst (IsFor s members x h) (sym same) for))
           ]);
-          past = λ u last h lt leads. (let x = known.past u last h lt leads in let before = x.2 in (x.0, x.1, omega (arith, before), still x.0 x.1 x.3, x.4));
-          level = λ u last h lt leads. (let x = known.level u last h lt leads in (x.0, x.1, x.2, still x.0 x.1 x.3, x.4));
+          past = λ u last h lt all leads. (let x = known.past u last h lt all leads in let before = x.2 in (x.0, x.1, omega (arith, before), still x.0 x.1 x.3, x.4));
+          level = λ u last h lt all leads. (let x = known.level u last h lt all leads in (x.0, x.1, x.2, still x.0 x.1 x.3, x.4));
           within = (let within = known.within in let long = ap length adds.grows.1 in let sum = length-append list adds.grows.0 in omega (arith, within, long, sum));
           now = λ i one le lt is. (let within = known.within in known.now i one (omega (arith, le)) lt (stood i one (omega (arith, lt, within)) is));
           next = λ i one le is. elim (at_either list adds.grows.0 i one (subst (λ (x : List Kept). slice_get x i ≡ Some one) adds.grows.1 is)) as (λ _. IsReachedIn s members (moves + 1) one) [
@@ -188,6 +194,9 @@ module _ (s : State) (members : List (Vec SerialOp)) (dead : DeadTable) (dead_kn
             long = reached.long;
             bad = record { end = way.end; history = way.history; leads = way.leads; holds = bad way.end way.history way.is };
             shortest = λ v lt ends.
-                (let x = known.past v ends.end ends.history lt ends.leads in
-                ends.holds.1 (known.good x.0 x.1 x.2 x.3 ends.end ends.history x.4 ends.holds.0));
+                (let first = first_tells_all s v ends.end ends.history ends.leads ends.holds.0 in
+                let long = first.long in
+                let x = known.past first.schedule ends.end first.before (omega (arith, lt, long)) first.first first.leads in
+                let good = known.good x.0 x.1 x.2 x.3 ends.end first.before x.4 ends.holds.0 in
+                ends.holds.1 (good_reordered (IsOneOf members) ends.end first.before ends.history first.reordered good));
           }

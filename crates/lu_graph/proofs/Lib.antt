@@ -1,3 +1,6 @@
+mod Unseen
+mod First
+mod Turns
 mod StatesAlike
 mod Closing
 mod ForEver

@@ -20,7 +20,7 @@ module _ (S T : List SerialOp → Type 0) (to : (q : List SerialOp) → S q → 
 
   pub few_too : (s : State) (most : ℕ) → HasFewNodes S s most → HasFewNodes T s most
   few_too s most few =
-      (few.0, λ u end h leads. (let one = few.1 u end h leads in (one.0, one.1, (one.2.0, λ q of. one.2.1 q (back q of)))), few.2)
+      (few.0, λ u end h first leads. (let one = few.1 u end h first leads in (one.0, one.1, (one.2.0, λ q of. one.2.1 q (back q of)))), few.2)
 
   pub well_too : (s : State) → EndsWell S s → EndsWell T s
   well_too s well u ended =

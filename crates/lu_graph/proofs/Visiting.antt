@@ -77,7 +77,7 @@ module _ (members : List (Vec SerialOp)) (c : Declarations) (matrix : Matrix) (s
         let within = no_more_apart (IsLike members s) list (λ i j x y n lt at there p q. differ i j x y lt at there (one_kept members s dead (known_at s is) x y n p q)) holds.0
         (λ i kept at.
         (let one = all_at (IsReachedAndSound s members) list x.reached i kept at in
-        let like = holds.1 one.1.schedule one.1.end one.1.history one.1.leads in
+        let like = holds.1 one.1.schedule one.1.end one.1.history one.1.first one.1.leads in
         (like.0, like.1, record { end = one.1.end; history = one.1.history; is = one.1.is; alike = like.2 }))) in
         let few = holds.2 in
         omega (arith, within, few)

@@ -1,5 +1,5 @@
 -- How the list of nodes that are kept grows.
-use Rattle.std.specs.Prelude.{◌≡◌, ℕ, List, [], ◌++◌, All, Bool, IfSome, Option, Some, None, slice_get}
+use Rattle.std.specs.Prelude.{◌≡◌, ◌↔◌, ℕ, ◌<◌, ◌≤◌, List, [], ◌++◌, All, Bool, IfSome, Option, Some, None, slice_get}
 use Rattle.std.specs.Global.{Vec}
 use Rattle.lu_component.specs.Component.{Declarations}
 use Rattle.lu_test.specs.declared.schedule.Move.{Move}
@@ -8,9 +8,10 @@ use Rattle.lu_machine.specs.declared.event.Event.{Event}
 use Rattle.lu_machine.specs.Events.{IsEventInRange}
 use Rattle.lu_machine.specs.Positions.{CanStandAt}
 use Rattle.lu_machine.specs.States.{State}
-use Rattle.lu_machine.specs.Steps.{Step}
+use Rattle.lu_machine.specs.Steps.{IsFeasible, Step}
 use Rattle.lu_history.specs.declared.serial.SerialOp.{SerialOp}
 use Rattle.lu_graph.specs.Alive.{AreTold}
+use Rattle.lu_graph.specs.First.{GoesFirst}
 use Rattle.lu_graph.specs.Judging.{Follows}
 use Rattle.lu_graph.specs.Kept.{Kept}
 use Rattle.lu_graph.specs.Nodes.{AreStatesAlike}
@@ -59,18 +60,23 @@ pub record IsNextBy (members : List (Vec SerialOp)) (s : State) (alive : List Bo
   pub range : IfSome event IsEventInRange
   pub comes : ComesBy s.component s.matrix members next alive event kept
 
--- a move of s leads to it
+-- a move of s that goes first leads to it
 abbrev pub IsNext : List (Vec SerialOp) → State → List Bool → Kept → Type 0
 IsNext members s alive kept =
-    (m : Move) × (next : State) × (event : Option Event) × Step s m next event
+    (m : Move) × (next : State) × (event : Option Event) × GoesFirst s m × Step s m next event
     × IsNextBy members s alive next event kept
 
--- all nodes to which moves of s lead are there, and no others are added
+-- all nodes to which moves of s lead that go first are there, and no others are added
 pub record AddsNext (members : List (Vec SerialOp)) (s : State) (alive : List Bool)
     (old new : List Kept) : Type 0 where
-  pub there : (m : Move) (next : State) (event : Option Event) → Step s m next event
-      → Keeps (IsNextBy members s alive next event) new
+  pub there : (m : Move) (next : State) (event : Option Event) → GoesFirst s m
+      → Step s m next event → Keeps (IsNextBy members s alive next event) new
   pub grows : GrowsBy s.component s.matrix (IsNext members s alive) old new
+
+-- of the moves of s just those of the threads from `first` to before `end` go first
+abbrev pub TakeTurns : State → ℕ → ℕ → Type 0
+TakeTurns s first end =
+    (m : Move) → IsFeasible s m → GoesFirst s m ↔ ((first ≤ m.thread) × (m.thread < end))
 
 -- the list has the node of s, before any event, and no other
 abbrev pub HasStart : List (Vec SerialOp) → State → List Kept → Type 0

@@ -80,7 +80,7 @@ abbrev pub HoldsHere : List (Vec SerialOp) → State → Row → Option Event �
 HoldsHere members s from event old new =
     HoldsMore s.component members (λ alive. AddsHere members s alive event) from.alive old new
 
--- with all nodes to which moves of s lead, the state of the node of the row
+-- with all nodes to which moves of s lead that go first, the state of the node of the row
 abbrev pub HoldsNext : List (Vec SerialOp) → State → Row → Nodes → Nodes → Type 0
 HoldsNext members s from old new =
     HoldsMore s.component members (AddsNext members s) from.alive old new

@@ -1,4 +1,5 @@
 pub mod Alive
+pub mod First
 pub mod Nodes
 pub mod Laws
 pub mod Judging

@@ -16,6 +16,7 @@ use Rattle.lu_graph.specs.declared.ending.Ending.{Ending}
 use Rattle.lu_graph.specs.declared.ending.Ending.TheVariants.{Well, Badly, TooMany}
 use Rattle.lu_history.specs.declared.serial.SerialOp.{SerialOp}
 use Rattle.lu_graph.specs.Alive.{IsPossible}
+use Rattle.lu_graph.specs.First.{AllGoFirst}
 use Rattle.lu_witness.specs.Goodness.{IsGoodAt}
 use Rattle.lu_witness.specs.Witnesses.{IsMember}
 
@@ -49,10 +50,11 @@ AreAlike Set a b =
     AreStatesAlike a.state b.state
     × ((q : List SerialOp) → Set q → IsPossible q a.history ↔ IsPossible q b.history)
 
--- each schedule from s, of any length, leads to a node that is like one of the list
+-- each schedule from s, of any length, whose moves all go first leads to a node that is like one of
+-- the list
 abbrev pub HasAllNodes : (List SerialOp → Type 0) → State → List Node → Type 0
 HasAllNodes Set s nodes =
-    (u : List Move) (end : State) (h : List Event) → Leads s u end h
+    (u : List Move) (end : State) (h : List Event) → AllGoFirst s u → Leads s u end h
     → (node : Node) × IsAmong nodes node × AreAlike Set node (node_of end h)
 
 -- so it is of a list of no more than so many nodes

@@ -15,6 +15,7 @@ use Rattle.lu_history.specs.Histories.{IsWellFormed}
 use Rattle.lu_history.specs.Standing.{Agree}
 use Rattle.lu_graph.specs.declared.level.Level.{Level}
 use Rattle.lu_graph.specs.Alive.{AreTold}
+use Rattle.lu_graph.specs.First.{AllGoFirst, GoesFirst}
 use Rattle.lu_graph.specs.Growing.{IsNextBy, Keeps, state_of}
 use Rattle.lu_graph.specs.Kept.{Kept}
 use Rattle.lu_graph.specs.Nodes.{AreStatesAlike}
@@ -31,9 +32,10 @@ pub record IsFor (s : State) (members : List (Vec SerialOp)) (end : State) (h : 
   pub agree : Agree (progress end) h
   pub told : AreTold members h kept.alive
 
--- a schedule leads from s to a state for which it stands
+-- a schedule whose moves all go first leads from s to a state for which it stands
 pub record IsReached (s : State) (members : List (Vec SerialOp)) (kept : Kept) : Type 0 where
   pub schedule : List Move
+  pub first : AllGoFirst s schedule
   pub end : State
   pub history : List Event
   pub leads : Leads s schedule end history
@@ -44,13 +46,14 @@ IsReachedAndSound s members kept =
     CanStandAt s.component s.matrix kept.position × IsReached s members kept
 
 -- The start s is kept; to each that is kept a schedule leads from s, and a machine can stand there;
--- and with each before this place, all to which its moves lead are kept.
+-- and with each before this place, all to which its moves lead that go first are kept.
 pub record AreVisited (members : List (Vec SerialOp)) (s : State) (list : List Kept)
     (place : ℕ) : Type 0 where
   pub start : Keeps (IsFor s members s []) list
   pub reached : All (IsReachedAndSound s members) list
   pub closed : (i : ℕ) (kept : Kept) → i < place → slice_get list i ≡ Some kept
-      → (m : Move) (next : State) (event : Option Event) → Step (its s kept) m next event
+      → (m : Move) (next : State) (event : Option Event) → GoesFirst (its s kept) m
+      → Step (its s kept) m next event
       → Keeps (IsNextBy members (its s kept) kept.alive next event) list
 
 -- so it is from each start

@@ -1,6 +1,7 @@
 //! How the nodes that were found grow.
 
 ghost use Rattle.std.specs.Prelude.{◌≡◌, OnOk};
+ghost use Rattle.lu_graph.specs.Growing.{TakeTurns};
 ghost use Rattle.lu_graph.specs.Holding.{HoldsHere, HoldsNext};
 ghost use Rattle.lu_graph.specs.Rows.{IsSized};
 
@@ -8,6 +9,7 @@ use crate::holding::{Nodes, add_at};
 use crate::possibilities::number_after;
 use crate::row::Row;
 use lu_history::SerialOp;
+use lu_horizon::is_unseen_at;
 use lu_machine::{Event, Machine};
 use lu_test::Move;
 use std::alloc::{AllocError, Global};
@@ -30,7 +32,35 @@ fn add(
     add_at(alloc, machine, &Row { alive, ..*from }, nodes)
 }
 
-/// Adds all nodes to which the machine's moves lead. It stands at the node of the row `from`.
+/// The threads whose moves go first: from `first` to before `end`.
+#[derive(Clone, Copy)]
+struct Turns {
+    first: u8,
+    end: u8,
+}
+
+/// The threads whose moves go first where the machine stands: the first thread that is at an
+/// instruction which no other thread sees, or else all. What the others do meanwhile is the same,
+/// and where a return comes earlier, a history only has more precedence.
+fn turns_at(machine: &Machine<'_>) -> Turns
+    ensures { TakeTurns machine.now result.first result.end }
+{
+    for thread in 0..machine.threads() {
+        if is_unseen_at(machine, thread) {
+            return Turns {
+                first: thread,
+                end: thread + 1,
+            };
+        }
+    }
+    Turns {
+        first: 0,
+        end: machine.threads(),
+    }
+}
+
+/// Adds all nodes to which those of the machine's moves lead that go first. It stands at the node of
+/// the row `from`.
 pub(crate) fn add_next(
     alloc: Global,
     machine: &mut Machine<'_>,
@@ -42,7 +72,8 @@ pub(crate) fn add_next(
     ensures home { OnOk result (machine.new ≡ machine.old) }
     ensures next { OnOk result (HoldsNext members.now machine.old from.now nodes.old nodes.new) }
 {
-    for thread in 0..machine.threads() {
+    let turns = turns_at(machine);
+    for thread in turns.first..turns.end {
         for pick in 0..machine.picks(thread) {
             let undo = machine.apply(Move { thread, pick });
             add(alloc, machine, members, from, undo.event(), nodes)?;

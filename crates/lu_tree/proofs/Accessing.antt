@@ -181,32 +181,33 @@ written_again : (s : State) (w : Shared) (t : ℕ) (x y : Thread) → with_stand
 written_again s w t x y = ap (λ (threads : List Thread). let z : State = record (with_shared s w) { threads = threads } in z) (set-set (with_shared s w).threads t x y)
 
 -- what one call or instruction writes, and that it does the same in each state that is like this one for its thread
-record Once (s : State) (t : ℕ) (new : State) (event : Option Event) : Type 0 where
+record Once (s : State) (m : Move) (new : State) (event : Option Event) : Type 0 where
   pub wrote : Shared
-  pub within : Within wrote (next_access s t)
+  pub within : Within wrote (next_access s m.thread)
   pub now : Thread
-  pub is : new ≡ written s wrote t now
-  pub there : (r : State) → IsLike t s r → OneStep r (only_move t) (written r wrote t now) event × (picks_of r t ≡ picks_of s t)
+  pub is : new ≡ written s wrote m.thread now
+  pub there : (r : State) → IsLike m.thread s r → OneStep r m (written r wrote m.thread now) event × (picks_of r m.thread ≡ picks_of s m.thread)
 
-picks_at : (s : State) (t k : ℕ) (f : Frame) (instr : Instr) → slice_get s.threads t ≡ Some (at_work k f) → instr_at s.component f.op f.place ≡ Some instr → picks_of s t ≡ instr_picks s f instr
+pub picks_at : (s : State) (t k : ℕ) (f : Frame) (instr : Instr) → slice_get s.threads t ≡ Some (at_work k f) → instr_at s.component f.op f.place ≡ Some instr → picks_of s t ≡ instr_picks s f instr
 picks_at s t k f instr stands at = rw (stands, at) refl
 
-access_at : (s : State) (t k : ℕ) (f : Frame) (instr : Instr) → slice_get s.threads t ≡ Some (at_work k f) → instr_at s.component f.op f.place ≡ Some instr → next_access s t ≡ instr_access s.component f instr
+pub access_at : (s : State) (t k : ℕ) (f : Frame) (instr : Instr) → slice_get s.threads t ≡ Some (at_work k f) → instr_at s.component f.op f.place ≡ Some instr → next_access s t ≡ instr_access s.component f instr
 access_at s t k f instr stands at = rw (stands, at) refl
 
-once : (s new : State) (t k : ℕ) (activity : Activity) (event : Option Event) → slice_get s.threads t ≡ Some (record { done = k; activity = activity }) → ByActivity s (only_move t) k activity new event → Once s t new event
-once s new t k Idle event was h = record {
+once : (s new : State) (m : Move) (k : ℕ) (activity : Activity) (event : Option Event) → slice_get s.threads m.thread ≡ Some (record { done = k; activity = activity }) → ByActivity s m k activity new event → Once s m new event
+once s new m k Idle event was h = record {
   wrote = Nothing;
   within = tt;
   now = at_work k (opened h.0);
   is = h.3;
   there = λ r like.
-      (let stands : slice_get r.threads t ≡ Some (idle k) = like.stands ∙ was in
-      let picks : picks_of r t ≡ picks_of s t = rw (stands, was, like.matrix_is) refl in
-      ((idle k, stands, (h.0, rw like.matrix_is h.1, refl, refl, h.4)), picks));
+      (let stands : slice_get r.threads m.thread ≡ Some (idle k) = like.stands ∙ was in
+      let picks : picks_of r m.thread ≡ picks_of s m.thread = rw (stands, was, like.matrix_is) refl in
+      ((idle k, stands, (h.0, rw like.matrix_is h.1, h.2, refl, h.4)), picks));
 }
-once s new t k (Open f) event was h =
-    let a = acting s (only_move t) f h.0 h.1 h.2 h.5 in
+once s new m k (Open f) event was h =
+    let t = m.thread in
+    let a = acting s m f h.0 h.1 h.2 h.5 in
     let at : next_access s t ≡ instr_access s.component f h.0 = access_at s t k f h.0 was h.3 in
     let now = thread_after k h.2 in
     record {
@@ -220,6 +221,16 @@ once s new t k (Open f) event was h =
           let on = a.there r like.component (subst (λ x. AccessSame s r x) at like.held) in
           ((at_work k f, stands, (h.0, with_shared r a.wrote, h.2, here, h.4, on.0, refl, h.7)), picks_at r t k f h.0 stands here ∙ (on.1 ∙ sym (picks_at s t k f h.0 was h.3))));
     }
+
+-- what a move writes, and that it does the same in each state that is like this one for its thread
+pub record DoesMove (s : State) (m : Move) (new : State) (event : Option Event) : Type 0 where
+  pub wrote : Shared
+  pub within : Within wrote (next_access s m.thread)
+  pub was : Thread
+  pub stood : slice_get s.threads m.thread ≡ Some was
+  pub now : Thread
+  pub is : new ≡ written s wrote m.thread now
+  pub there : (r : State) → IsLike m.thread s r → Step r m (written r wrote m.thread now) event × (picks_of r m.thread ≡ picks_of s m.thread)
 
 -- what a thread's only move writes, and that it does the same in each state that is like this one for it
 pub record Does (s : State) (t : ℕ) (new : State) (event : Option Event) : Type 0 where
@@ -243,13 +254,13 @@ same_for s r w t was now stands like = record {
 like_same : (s r : State) (t : ℕ) → IsLike t s r → IsSame false t s r
 like_same s r t like = record { component = like.component; matrix_is = like.matrix_is; stands = like.stands; shared = λ is. absurd (cc) }
 
-pub does : (s new : State) (t : ℕ) (event : Option Event) → Moves t s new event → Does s t new event
-does s new t event moves =
-    let step : Step s (only_move t) new event = moves.1 in
+pub does_move : (s new : State) (m : Move) (event : Option Event) → Step s m new event → DoesMove s m new event
+does_move s new m event step =
+    let t = m.thread in
     let mid = step.0 in
     let thread : Thread = step.1.0 in
-    let by : ByActivity s (only_move t) thread.done thread.activity mid event = one_step_by s (only_move t) mid event thread step.1.1 step.1 in
-    let first = once s mid t thread.done thread.activity event step.1.1 by in
+    let by : ByActivity s m thread.done thread.activity mid event = one_step_by s m mid event thread step.1.1 step.1 in
+    let first = once s mid m thread.done thread.activity event step.1.1 by in
     let n = more_local s t in
     let start = written s first.wrote t first.now in
     let runs : RunsOn n start t new = subst (λ x. RunsOn n x t new) first.is step.2 in
@@ -275,7 +286,20 @@ does s new t event moves =
           let is : on.there ≡ written r first.wrote t last.now = end.moved ∙ (written_again r first.wrote t first.now end.now ∙ ap (λ x. written r first.wrote t x) now) in
           let more : more_local r t ≡ n = more_alike false t s r (like_same s r t like) in
           let runs_on : RunsOn (more_local r t) begin t (written r first.wrote t last.now) = rw (more, ← is) on.runs in
-          (one.1 ∙ moves.0, (begin, one.0, runs_on)));
+          ((begin, one.0, runs_on), one.1));
+    }
+
+does : (s new : State) (t : ℕ) (event : Option Event) → Moves t s new event → Does s t new event
+does s new t event moves =
+    let move = does_move s new (only_move t) event moves.1 in
+    record {
+      wrote = move.wrote;
+      within = move.within;
+      was = move.was;
+      stood = move.stood;
+      now = move.now;
+      is = move.is;
+      there = λ r like. (let on = move.there r like in (on.1 ∙ moves.0, on.0));
     }
 
 -- a location of an access that does not conflict with one that writes is another
@@ -329,14 +353,17 @@ holds_after s Nothing t now a (Some b) within none = holds_still s t now b.locat
 holds_after s (Cell p n) t now a (Some b) within none = holds_cell s p n t now b.location (other_of b (of_cell true p) refl (subst (λ x. conflict x (Some b) ≡ None) within none))
 holds_after s (Owner m owner) t now a (Some b) within none = holds_owner s m owner t now b.location (other_of b (of_lock m) refl (subst (λ x. conflict x (Some b) ≡ None) within none))
 
--- behind the move of t all is the same for the move of u
-like_after : (s r : State) (t u : ℕ) (event : Option Event) (d : Does s t r event) → (t ≡ u → ⊥) → conflict (next_access s t) (next_access s u) ≡ None → IsLike u s (written s d.wrote t d.now)
-like_after s r t u event d differ none = record {
-  component = shared_component s d.wrote;
-  matrix_is = shared_matrix s d.wrote;
-  stands = written_other s d.wrote t u d.now differ;
-  held = holds_after s d.wrote t d.now (next_access s t) (next_access s u) d.within none;
+-- behind a move of t all is the same for a move of u
+pub like_behind : (s : State) (w : Shared) (t u : ℕ) (now : Thread) → Within w (next_access s t) → (t ≡ u → ⊥) → conflict (next_access s t) (next_access s u) ≡ None → IsLike u s (written s w t now)
+like_behind s w t u now within differ none = record {
+  component = shared_component s w;
+  matrix_is = shared_matrix s w;
+  stands = written_other s w t u now differ;
+  held = holds_after s w t now (next_access s t) (next_access s u) within none;
 }
+
+like_after : (s r : State) (t u : ℕ) (event : Option Event) (d : Does s t r event) → (t ≡ u → ⊥) → conflict (next_access s t) (next_access s u) ≡ None → IsLike u s (written s d.wrote t d.now)
+like_after s r t u event d differ none = like_behind s d.wrote t u d.now d.within differ none
 
 pub set_both : {A : Type 0} (xs : List A) (i j : ℕ) (x y : A) → (i ≡ j → ⊥) → slice_set (slice_set xs i x) j y ≡ slice_set (slice_set xs j y) i x
 set_both [] i j x y h = refl
@@ -350,7 +377,7 @@ state_parts : (c d : Declarations) (m n : Matrix) (x y : List ℕ) (k l : List (
 state_parts c d m n x y k l t u e f g h i = rw (e, f, g, h, i) refl
 
 -- what two such moves write may be written in either order
-written_both : (s : State) (w x : Shared) (t u : ℕ) (now after : Thread) (a b : Option Access) → (t ≡ u → ⊥) → Within w a → Within x b → conflict a b ≡ None → written (written s w t now) x u after ≡ written (written s x u after) w t now
+pub written_both : (s : State) (w x : Shared) (t u : ℕ) (now after : Thread) (a b : Option Access) → (t ≡ u → ⊥) → Within w a → Within x b → conflict a b ≡ None → written (written s w t now) x u after ≡ written (written s x u after) w t now
 written_both s w x t u now after a b differ one two none = by w x one two
   where
     threads : slice_set (slice_set s.threads t now) u after ≡ slice_set (slice_set s.threads u after) t now
@@ -425,21 +452,27 @@ turn_event : (s : State) (t done : ℕ) (activity : Activity) (now : Thread) (ev
 turn_event s t done Idle now event turns = rw turns.4 refl
 turn_event s t done (Open f) now event turns = rw turns.2 ((effect_event t done turns.0).0)
 
+pub step_event : (s r : State) (m : Move) (event : Option Event) → Step s m r event → IsEventOf m.thread event
+step_event s r m event step =
+    let moved = step_moved s m r event step in
+    turn_event s m.thread moved.standing.done moved.standing.activity moved.now event moved.turns
+
 event_is_of : (s r : State) (t : ℕ) (event : Option Event) → Moves t s r event → IsEventOf t event
-event_is_of s r t event moves =
-    let moved = step_moved s (only_move t) r event moves.1 in
-    turn_event s t moved.standing.done moved.standing.activity moved.now event moved.turns
+event_is_of s r t event moves = step_event s r (only_move t) event moves.1
 
 turn_opens : (s : State) (t done : ℕ) (activity : Activity) (now : Thread) (event : Option Event) → (activity ≡ Idle → ⊥) → Turns s t done activity now event → OpensNone event
 turn_opens s t done Idle now event busy turns = absurd (busy refl)
 turn_opens s t done (Open f) now event busy turns = rw turns.2 ((effect_event t done turns.0).1)
 
-opens_none : (s r : State) (t : ℕ) (event : Option Event) → ((k : ℕ) → slice_get s.threads t ≡ Some (idle k) → ⊥) → Moves t s r event → OpensNone event
-opens_none s r t event busy moves =
-    let moved = step_moved s (only_move t) r event moves.1 in
-    turn_opens s t moved.standing.done moved.standing.activity moved.now event (λ is. busy moved.standing.done (moved.stands ∙ ap (λ (a : Activity). let x : Thread = record { done = moved.standing.done; activity = a } in Some x) is)) moved.turns
+pub step_opens : (s r : State) (m : Move) (event : Option Event) → ((k : ℕ) → slice_get s.threads m.thread ≡ Some (idle k) → ⊥) → Step s m r event → OpensNone event
+step_opens s r m event busy step =
+    let moved = step_moved s m r event step in
+    turn_opens s m.thread moved.standing.done moved.standing.activity moved.now event (λ is. busy moved.standing.done (moved.stands ∙ ap (λ (a : Activity). let x : Thread = record { done = moved.standing.done; activity = a } in Some x) is)) moved.turns
 
-unordered_by : (t u : ℕ) (e f : Option Event) → (t ≡ u → ⊥) → IsEventOf t e → OpensNone e → IsEventOf u f → AreUnordered e f
+opens_none : (s r : State) (t : ℕ) (event : Option Event) → ((k : ℕ) → slice_get s.threads t ≡ Some (idle k) → ⊥) → Moves t s r event → OpensNone event
+opens_none s r t event busy moves = step_opens s r (only_move t) event busy moves.1
+
+pub unordered_by : (t u : ℕ) (e f : Option Event) → (t ≡ u → ⊥) → IsEventOf t e → OpensNone e → IsEventOf u f → AreUnordered e f
 unordered_by t u None f differ one opens two = tt
 unordered_by t u (Some (Called v k)) f differ one opens two = absurd opens
 unordered_by t u (Some (Returned v k outcome)) None differ one opens two = tt

@@ -13,10 +13,10 @@ mod TailVerdicts
 mod Finishing
 mod OrderSets
 mod NeverStopped
-mod Reordering
+pub mod Reordering
 mod KnownLaws
 mod Leaving
-mod Accessing
+pub mod Accessing
 mod SameHeld
 pub mod Alike
 mod AlikeLaws

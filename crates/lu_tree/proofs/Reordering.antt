@@ -64,6 +64,9 @@ by_front (suc n) z h k (g, e, rest) = (
   by_front n z g k rest,
 )
 
+pub reordered_behind : (z : Event) (h k : List Event) → AreReordered h k → AreReordered (z ∷ h) (z ∷ k)
+reordered_behind z h k (n, by) = (n, by_front n z h k by)
+
 -- one after the other
 by_both : (n : ℕ) (h g k : List Event) → AreReorderedBy n h g → AreReordered g k → AreReordered h k
 by_both zero h g k same on = subst (λ x. AreReordered x k) (sym same) on
