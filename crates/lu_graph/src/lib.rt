@@ -48,5 +48,5 @@ mod unvisited;
 
 pub use ending::Ending;
 pub use exploring::ends_well;
-pub use laws::{alike_laws, alive_laws, hopeless_law};
+pub use laws::{alike_laws, alive_laws, first_law, hopeless_law};
 pub use losing::first_lost;
