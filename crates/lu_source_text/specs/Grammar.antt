@@ -752,7 +752,7 @@ end_line d b block =
     if is_whole block.opening then whole_line d b block.does
     else keeps_going d (end_block b block)
 
--- the other side of the test of a block, by what it was opened by
+-- the other side of the test of a block, by what opened it
 abbrev pub other_by : Begun → Block → Opening → Result Begun Kind
 other_by b block (Test v) = Ok (record b {
   locals = take block.locals b.locals;

@@ -8,7 +8,7 @@ ghost use Rattle.lu_source.specs.Expressions as expressions;
 ghost use Rattle.lu_source.specs.Shapes.{tree_of};
 ghost use Rattle.lu_source_text.specs.Drafts.{begun_of, blocks_of, drafted_of, opening_of};
 ghost use Rattle.lu_source_text.specs.Grammar as spec;
-ghost use Rattle.lu_source_text.specs.Reads.{Reads, ReadsAwaited, ReadsBoth, ReadsCell, ReadsCode, ReadsCompared, ReadsTree, ReadsWhole, in_begun};
+ghost use Rattle.lu_source_text.specs.Reads.{Reads, ReadsAwaited, ReadsBoth, ReadsCell, ReadsCode, ReadsCompared, ReadsTree, ReadsWhole, in_begun, meanings, within};
 
 use crate::draft::{Begun, Block, Draft, Opening};
 use crate::expression::{
@@ -21,6 +21,17 @@ use lu_component::Operand;
 use lu_source::{Action, Evaluation, Expr, Stmt, coded, past, put, then};
 use std::alloc::{AllocError, Global};
 
+/// What names mean in an open operation.
+fn scope_of<'a>(draft: &'a Draft, begun: &'a Begun) -> Scope<'a>
+    ensures { meanings result ≡ within draft.now begun.now spec.scope_of }
+{
+    Scope {
+        constants: &draft.constants,
+        words: &draft.words,
+        locals: &begun.locals,
+    }
+}
+
 /// An expression that all the words are.
 pub(crate) fn expr_in(
     alloc: Global,
@@ -30,11 +41,7 @@ pub(crate) fn expr_in(
 ) -> Result<Expr, Refusal>
     ensures { ReadsWhole result (in_begun spec.expr_in draft.now begun.now words.now) }
 {
-    let scope = Scope {
-        constants: &draft.constants,
-        words: &draft.words,
-        locals: &begun.locals,
-    };
+    let scope = scope_of(draft, begun);
     let (expr, rest) = expr_from(alloc, words.len() + 2, scope, 1, words)?;
     nothing_left(rest)?;
     Ok(expr)
@@ -49,11 +56,7 @@ pub(crate) fn expr_before_brace(
 ) -> Result<Expr, Refusal>
     ensures { ReadsWhole result (in_begun spec.expr_before_brace draft.now begun.now words.now) }
 {
-    let scope = Scope {
-        constants: &draft.constants,
-        words: &draft.words,
-        locals: &begun.locals,
-    };
+    let scope = scope_of(draft, begun);
     let (expr, rest) = expr_from(alloc, words.len() + 2, scope, 1, words)?;
     last_word(b"{".as_slice(), rest)?;
     Ok(expr)
@@ -63,11 +66,7 @@ pub(crate) fn expr_before_brace(
 fn cas_in(alloc: Global, draft: &Draft, begun: &Begun, words: &[&[u8]]) -> Result<Expr, Refusal>
     ensures { ReadsWhole result (in_begun spec.cas_in draft.now begun.now words.now) }
 {
-    let scope = Scope {
-        constants: &draft.constants,
-        words: &draft.words,
-        locals: &begun.locals,
-    };
+    let scope = scope_of(draft, begun);
     let (expr, rest) = cas_with(alloc, words.len() + 2, scope, words)?;
     nothing_left(rest)?;
     Ok(expr)
@@ -83,11 +82,7 @@ fn cell_in<'a>(
 ) -> Result<(Cell, &'a [&'a [u8]]), Refusal>
     ensures { ReadsCell result (in_begun (spec.cell_in word.now) draft.now begun.now words.now) }
 {
-    let scope = Scope {
-        constants: &draft.constants,
-        words: &draft.words,
-        locals: &begun.locals,
-    };
+    let scope = scope_of(draft, begun);
     cell_with(alloc, words.len() + 2, scope, word, words)
 }
 
