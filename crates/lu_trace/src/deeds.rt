@@ -4,7 +4,7 @@ ghost use Rattle.std.specs.Prelude.{◌≡◌, ◌<◌, length};
 ghost use Rattle.lu_text.specs.Writing.{Writes};
 ghost use Rattle.lu_component.specs.Component.{IsOperand};
 ghost use Rattle.lu_machine.specs.Layout.{IsSound};
-ghost use Rattle.lu_trace.specs.Deeds.{deed, loaded, looked, register_behind, swapped};
+ghost use Rattle.lu_trace.specs.Deeds.{cell_said, deed, loaded, looked, register_behind, swapped};
 ghost use Rattle.lu_trace.specs.Deeds as spec;
 
 use crate::wording::{Wording, has_name, is_indexed, write_jump, write_register};
@@ -55,46 +55,20 @@ fn write_cell_name(
     }
 }
 
-/// Adds what a cell becomes.
-fn write_becoming(
-    text: &mut String,
-    how: &Wording<'_>,
-    component: &Component,
-    cell: Cell,
-    value: u32,
-) -> Result<(), AllocError>
-    ensures { Writes result text.old text.new (spec.cell_becomes how.now component.now cell value) }
-{
-    write_cell_name(text, how, component, cell)?;
-    write!(text, " = {value}")
-}
-
-/// Adds what a cell is.
+/// Adds a cell, what is said of it, and a value.
 pub(crate) fn write_cell(
     text: &mut String,
     how: &Wording<'_>,
     component: &Component,
     cell: Cell,
+    said: &str,
     value: u32,
 ) -> Result<(), AllocError>
-    ensures { Writes result text.old text.new (spec.cell_is how.now component.now cell value) }
+    ensures { Writes result text.old text.new
+        (cell_said how.now component.now cell said.now value) }
 {
     write_cell_name(text, how, component, cell)?;
-    write!(text, " is {value}")
-}
-
-/// Adds the value that a cell is not to have.
-pub(crate) fn write_other(
-    text: &mut String,
-    how: &Wording<'_>,
-    component: &Component,
-    cell: Cell,
-    value: u32,
-) -> Result<(), AllocError>
-    ensures { Writes result text.old text.new (spec.cell_is_not how.now component.now cell value) }
-{
-    write_cell_name(text, how, component, cell)?;
-    write!(text, " is not {value}")
+    write!(text, "{said}{value}")
 }
 
 /// Adds what a register becomes behind what else is said, where it has a name.
@@ -134,10 +108,10 @@ fn write_swap(
         desired,
     } = swap;
     if value == expected {
-        write_becoming(text, how, component, cell, desired)?;
+        write_cell(text, how, component, cell, " = ", desired)?;
         write_register_behind(text, how, frame, to, 1)
     } else {
-        write_cell(text, how, component, cell, value)?;
+        write_cell(text, how, component, cell, " is ", value)?;
         write_register_behind(text, how, frame, to, 0)
     }
 }
@@ -183,7 +157,7 @@ fn write_loaded(
     if has_name(how, frame, read.to) {
         write_register(text, how, frame, read.to, value)
     } else {
-        write_cell(text, how, component, read.cell, value)
+        write_cell(text, how, component, read.cell, " is ", value)
     }
 }
 
@@ -203,7 +177,7 @@ fn write_seen(
     let cell = named_cell(frame, array, index);
     match value_in(machine, frame, array, index) {
         None => text.push_str("trap"),
-        Some(value) => write_cell(text, how, machine.component(), cell, value),
+        Some(value) => write_cell(text, how, machine.component(), cell, " is ", value),
     }
 }
 
@@ -280,7 +254,7 @@ pub(crate) fn write_deed(
             None => text.push_str("trap"),
             Some(_) => {
                 let cell = named_cell(frame, array, index);
-                write_becoming(text, how, component, cell, frame.value(value))
+                write_cell(text, how, component, cell, " = ", frame.value(value))
             }
         },
         Instr::Cas {

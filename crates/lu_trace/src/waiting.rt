@@ -8,7 +8,7 @@ ghost use Rattle.lu_trace.specs.Deeds.{awaited, awaited_is, awaited_is_not};
 ghost use Rattle.lu_trace.specs.Lines as spec;
 ghost use Rattle.lu_trace.specs.Lines.{waiting};
 
-use crate::deeds::{Cell, named_cell, value_in, write_cell, write_other};
+use crate::deeds::{Cell, named_cell, value_in, write_cell};
 use crate::lines::{write_head, write_instr_text};
 use crate::wording::Wording;
 use lu_component::{Component, Instr};
@@ -59,7 +59,7 @@ fn write_await(
         (awaited_is how.now component.now cell value seen) }
 {
     text.push_str("waits until ")?;
-    write_cell(text, how, component, cell, value)?;
+    write_cell(text, how, component, cell, " is ", value)?;
     write_present(text, seen)
 }
 
@@ -74,7 +74,7 @@ fn write_await_not(
     ensures { Writes result text.old text.new (awaited_is_not how.now component.now cell value) }
 {
     text.push_str("waits until ")?;
-    write_other(text, how, component, cell, value)
+    write_cell(text, how, component, cell, " is not ", value)
 }
 
 /// Adds what a blocked instruction waits for.

@@ -6,4 +6,4 @@ use Rattle.lu_trace.proofs.waiting.write_await_not.Goals as goal
 
 pub returns : goal.returns
 returns c =
-    on_ok_weaker c.write_other.result (λ more. two_pieces (codes "waits until ") (cell_is_not c.args.how.now c.args.component.now c.args.cell c.args.value) (string_bytes c.args.text.now) (string_bytes c.push_str.new.self) (string_bytes c.write_other.new.text) c.in_ok-push_str.ensures.bytes more) c.write_other.ensures
+    on_ok_weaker c.write_cell.result (λ more. two_pieces (codes "waits until ") (cell_is_not c.args.how.now c.args.component.now c.args.cell c.args.value) (string_bytes c.args.text.now) (string_bytes c.push_str.new.self) (string_bytes c.write_cell.new.text) c.in_ok-push_str.ensures.bytes more) c.write_cell.ensures
