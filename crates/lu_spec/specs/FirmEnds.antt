@@ -1,5 +1,5 @@
 -- What is kept of the entries without marks, to find firm conflicts.
-use Rattle.std.specs.Prelude.{◌≡◌, ◌↔◌, ◌⊎◌, ℕ, true, ◌++◌, MatchBool, List, [], ◌∷◌, take, slice_get, Some}
+use Rattle.std.specs.Prelude.{◌≡◌, ◌↔◌, ◌⊎◌, ℕ, Bool, true, false, ◌++◌, MatchBool, List, [], ◌∷◌, take, slice_get, Some}
 use Rattle.lu_text.specs.declared.fault.Fault.{Fault}
 use Rattle.lu_text.specs.declared.fault.Fault.TheVariants.{At, Memory}
 use Rattle.lu_text.specs.Words.{Word}
@@ -22,6 +22,11 @@ with_outcome op = op
 -- the operation with its outcome left out: `Stuck` stands in its place
 abbrev pub without_outcome : SerialOp → SerialOp
 without_outcome op = record { thread = op.thread; outcome = Stuck }
+
+-- the operation, with its outcome or without
+abbrev pub as_kept : Bool → SerialOp → SerialOp
+as_kept true op = with_outcome op
+as_kept false op = without_outcome op
 
 -- a beginning of q that ends with an entry without a mark, of which f says the last operation
 abbrev pub EndsFirmly : (SerialOp → SerialOp) → List MarkedOp → List SerialOp → Type 0

@@ -2,7 +2,7 @@
 
 ghost use Rattle.std.specs.Prelude.{◌≡◌, ◌↔◌, ◌∷◌, ◌++◌, [], IsTrue, IfOk, OnOk};
 ghost use Rattle.lu_history.specs.Serial.{IsSerial};
-ghost use Rattle.lu_spec.specs.FirmEnds.{AddsEnds, KeepsMore, Refuses, RefusesSome, with_outcome, without_outcome};
+ghost use Rattle.lu_spec.specs.FirmEnds.{AddsEnds, KeepsMore, Refuses, RefusesSome, as_kept, without_outcome};
 ghost use Rattle.lu_spec.specs.MarkedEntries.{erased};
 
 use crate::marked_line::{MarkedOp, erased};
@@ -51,39 +51,30 @@ fn followed_by(alloc: Global, begin: &[SerialOp], op: SerialOp) -> Result<Vec<Se
     Ok(longer)
 }
 
-/// Adds the beginnings that end with an entry without a mark.
+/// The operation, with its outcome or without.
+fn as_kept(op: SerialOp, outcome: bool) -> SerialOp
+    ensures { result ≡ as_kept outcome op }
+{
+    if outcome { op } else { without_outcome(op) }
+}
+
+/// Adds the beginnings that end with an entry without a mark, with the outcomes of their last
+/// operations or without.
 fn add_ends(
     alloc: Global,
     set: &mut Trie<Global>,
     entries: &[MarkedOp],
     history: &[SerialOp],
+    outcomes: bool,
 ) -> Result<(), AllocError>
     requires of { history.now ≡ erased entries.now }
     requires serial { IsSerial history.now }
-    ensures { OnOk result (AddsEnds with_outcome set.old set.new entries.now) }
+    ensures { OnOk result (AddsEnds (as_kept outcomes) set.old set.new entries.now) }
 {
     for (i, entry) in entries.iter().enumerate() {
         if !entry.marked {
-            set.insert(&followed_by(alloc, &history[..i], entry.op)?)?;
-        }
-    }
-    Ok(())
-}
-
-/// Adds the same, each without the outcome of its last operation.
-fn add_asked(
-    alloc: Global,
-    set: &mut Trie<Global>,
-    entries: &[MarkedOp],
-    history: &[SerialOp],
-) -> Result<(), AllocError>
-    requires of { history.now ≡ erased entries.now }
-    requires serial { IsSerial history.now }
-    ensures { OnOk result (AddsEnds without_outcome set.old set.new entries.now) }
-{
-    for (i, entry) in entries.iter().enumerate() {
-        if !entry.marked {
-            set.insert(&followed_by(alloc, &history[..i], without_outcome(entry.op))?)?;
+            let last = as_kept(entry.op, outcomes);
+            set.insert(&followed_by(alloc, &history[..i], last)?)?;
         }
     }
     Ok(())
@@ -100,8 +91,8 @@ pub(crate) fn keep_more(
     requires serial { IsSerial history.now }
     ensures { IfOk result (λ next. KeepsMore kept next entries.now) }
 {
-    add_ends(alloc, &mut kept.ends, entries, history)?;
-    add_asked(alloc, &mut kept.asked, entries, history)?;
+    add_ends(alloc, &mut kept.ends, entries, history, true)?;
+    add_ends(alloc, &mut kept.asked, entries, history, false)?;
     Ok(kept)
 }
 

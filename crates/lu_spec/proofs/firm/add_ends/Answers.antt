@@ -1,13 +1,13 @@
 use Rattle.std.proofs.Common.{◌∙◌, ◌+◌, List, rules, sym, subst}
 use Rattle.lu_history.specs.declared.serial.SerialOp.{SerialOp}
 use Rattle.lu_history.specs.Serial.{IsSerial}
-use Rattle.lu_spec.specs.FirmEnds.{with_outcome}
+use Rattle.lu_spec.specs.FirmEnds.{as_kept}
 use Rattle.lu_spec.proofs.FirmSets.{AddedTo, all_added, none_added, one_added_firm, one_marked, serial_end}
 use Rattle.lu_spec.proofs.firm.add_ends.Goals.{then-not-entry+in_ok-followed_by+in_ok-insert, else-not-entry}
 use Rattle.lu_spec.proofs.firm.add_ends.Goals as goal
 
 pub loop-i-init : goal.loop-i-init
-loop-i-init c = none_added with_outcome c.args.entries.now c.args.set.now
+loop-i-init c = none_added (as_kept c.args.outcomes) c.args.entries.now c.args.set.now
 
 pub insert-requires : goal.insert-requires
 insert-requires c =
@@ -20,15 +20,16 @@ loop-i-preserved c =
     let q = c.args.entries.now in
     let old = c.args.set.now in
     let i = c.loop-i.i in
-    elim c.if-not-entry.branch as (λ _. AddedTo with_outcome old c.if-not-entry.set q (i + 1)) [
+    let last = as_kept c.args.outcomes in
+    elim c.if-not-entry.branch as (λ _. AddedTo last old c.if-not-entry.set q (i + 1)) [
       | then-not-entry+in_ok-followed_by+in_ok-insert w ↦
-          let longer = rw c.requires.of at (w.deref.ensures.value ∙ w.in_ok-followed_by.ensures) in
-          subst (λ (s : List (List SerialOp)). AddedTo with_outcome old s q (i + 1)) (sym w.set-is)
-          (one_added_firm with_outcome q i _ c.loop-i-test.true old c.loop-i.set w.insert.new.self w.deref.result.now w.if-not-entry.true longer c.loop-i.invariant w.in_ok-insert.ensures.ok)
+          let longer = rw (c.requires.of, w.as_kept-last.ensures) at (w.deref.ensures.value ∙ w.in_ok-followed_by.ensures) in
+          subst (λ (s : List (List SerialOp)). AddedTo last old s q (i + 1)) (sym w.set-is)
+          (one_added_firm last q i _ c.loop-i-test.true old c.loop-i.set w.insert.new.self w.deref.result.now w.if-not-entry.true longer c.loop-i.invariant w.in_ok-insert.ensures.ok)
       | else-not-entry w ↦
-          subst (λ (s : List (List SerialOp)). AddedTo with_outcome old s q (i + 1)) (sym w.set-is)
-          (one_marked with_outcome q i _ c.loop-i-test.true old c.loop-i.set w.if-not-entry.false c.loop-i.invariant)
+          subst (λ (s : List (List SerialOp)). AddedTo last old s q (i + 1)) (sym w.set-is)
+          (one_marked last q i _ c.loop-i-test.true old c.loop-i.set w.if-not-entry.false c.loop-i.invariant)
     ]
 
 pub returns : goal.returns
-returns c = all_added with_outcome c.args.entries.now c.args.set.now c.loop-i.set c.loop-i.i (search rules) c.loop-i.invariant
+returns c = all_added (as_kept c.args.outcomes) c.args.entries.now c.args.set.now c.loop-i.set c.loop-i.i (search rules) c.loop-i.invariant
