@@ -1,10 +1,9 @@
 //! Histories that are remembered, also where there are more of them than there is room for.
 
 ghost use Rattle.std.specs.Prelude.{◌≡◌, ◌<◌, [], ◌∷◌, ◌++◌, length, IfOk};
-ghost use Rattle.lu_machine.specs.declared.event.Event.TheVariants.{Call, Return};
-ghost use Rattle.lu_machine.specs.declared.event.Outcome.TheVariants.{Ret};
 ghost use Rattle.lu_history.specs.Histories.{calls, outcomes};
 ghost use Rattle.lu_history.specs.declared.serial.SerialOutcome.TheVariants.{Ret as Returned};
+ghost use Rattle.lu_search_tests.specs.Operations.{first_operation};
 
 use lu_history::{SerialOp, SerialOutcome};
 use lu_judge::Trail;
@@ -21,8 +20,7 @@ fn push_operation<T: SerialTree>(trail: &mut Trail<'_, T>, t: u8, number: u32)
     requires called { calls t trail.old.history ≡ 0 }
     requires returned { length (outcomes t trail.old.history) ≡ 0 }
     ensures tree { trail.new.tree ≡ trail.old.tree }
-    ensures history { trail.new.history ≡
-        trail.old.history ++ Call t 0 ∷ Return t 0 (Ret number) ∷ [] }
+    ensures history { trail.new.history ≡ trail.old.history ++ first_operation t number }
 {
     trail.push(Event::Call { t, k: 0 });
     trail.push(Event::Return {

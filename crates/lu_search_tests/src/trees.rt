@@ -1,9 +1,8 @@
 //! What is found below schedules of one component, over serial histories, and its frontiers.
 
 ghost use Rattle.std.specs.Prelude.{IfOk};
-ghost use Rattle.lu_machine.specs.States.{State};
 ghost use Rattle.lu_machine.specs.Schedules.{IsSchedule};
-ghost use Rattle.lu_machine.specs.Starts.{CanRun, IsStart};
+ghost use Rattle.lu_machine.specs.Starts.{CanRun, FromEachStart};
 
 use crate::serial_runs::{assert_spelled, set_of};
 use lu_fixtures::{Fixture, ROWS, fixture_of};
@@ -24,8 +23,7 @@ pub(crate) fn beginning(
     text: &[u8],
 ) -> Result<Schedule, Fail>
     requires { CanRun case.now.component case.now.matrix }
-    ensures { (s : State) → IsStart case.now.component case.now.matrix s →
-        IfOk result (IsSchedule s) }
+    ensures { FromEachStart case.now.component case.now.matrix (λ s. IfOk result (IsSchedule s)) }
 {
     let schedule = read_schedule(rt.alloc(), text)?;
     replay(rt.alloc(), &case.component, &case.matrix, &schedule)?;
