@@ -29,20 +29,20 @@ abbrev pub cell_word : Wording → Declarations → Cell → List ℕ
 cell_word how c cell = array_word c cell.array ++ index_word (is_indexed how cell.array) cell.index
 
 -- a cell, what is said of it, and a value
-abbrev pub cell_said : Wording → Declarations → Cell → List ℕ → ℕ → List ℕ
-cell_said how c cell said n = cell_word how c cell ++ said ++ decimal n
+abbrev pub of_cell : Wording → Declarations → Cell → List ℕ → ℕ → List ℕ
+of_cell how c cell said n = cell_word how c cell ++ said ++ decimal n
 
 -- `count[0] = 5`: the cell becomes 5
 abbrev pub cell_becomes : Wording → Declarations → Cell → ℕ → List ℕ
-cell_becomes how c cell n = cell_said how c cell (codes " = ") n
+cell_becomes how c cell n = of_cell how c cell (codes " = ") n
 
 -- `count[0] is 5`
 abbrev pub cell_is : Wording → Declarations → Cell → ℕ → List ℕ
-cell_is how c cell n = cell_said how c cell (codes " is ") n
+cell_is how c cell n = of_cell how c cell (codes " is ") n
 
 -- `count[0] is not 5`
 abbrev pub cell_is_not : Wording → Declarations → Cell → ℕ → List ℕ
-cell_is_not how c cell n = cell_said how c cell (codes " is not ") n
+cell_is_not how c cell n = of_cell how c cell (codes " is not ") n
 
 -- `, r1 = 5`, where the register has a name
 abbrev pub register_behind : Wording → Frame → ℕ → ℕ → List ℕ

@@ -4,7 +4,7 @@ ghost use Rattle.std.specs.Prelude.{◌≡◌, ◌<◌, length};
 ghost use Rattle.lu_text.specs.Writing.{Writes};
 ghost use Rattle.lu_component.specs.Component.{IsOperand};
 ghost use Rattle.lu_machine.specs.Layout.{IsSound};
-ghost use Rattle.lu_trace.specs.Deeds.{cell_said, deed, loaded, looked, register_behind, swapped};
+ghost use Rattle.lu_trace.specs.Deeds.{deed, loaded, looked, of_cell, register_behind, swapped};
 ghost use Rattle.lu_trace.specs.Deeds as spec;
 
 use crate::wording::{Wording, has_name, is_indexed, write_jump, write_register};
@@ -65,7 +65,7 @@ pub(crate) fn write_cell(
     value: u32,
 ) -> Result<(), AllocError>
     ensures { Writes result text.old text.new
-        (cell_said how.now component.now cell said.now value) }
+        (of_cell how.now component.now cell said.now value) }
 {
     write_cell_name(text, how, component, cell)?;
     write!(text, "{said}{value}")
