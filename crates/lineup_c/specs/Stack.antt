@@ -3,7 +3,7 @@ use Rattle.std.specs.Prelude.{ℕ, ◌+◌, ◌*◌, max}
 use Rattle.lu_cli.specs.declared.order.BundleCommand.{BundleCommand}
 use Rattle.lu_cli.specs.declared.order.BundleCommand.TheVariants.{Replay, Trace, TraceFromSetup, Draw, DrawExplained, Explain, ExplainAgainst, Serial, Judge, JudgeAgainst, Conform, Spec, Check, CheckAgainst, Certify, Refute, Shrink, Campaign, CampaignAgainst, Compile}
 use Rattle.lu_cli.specs.declared.order.Request.{Request}
-use Rattle.lu_cli.specs.declared.order.Request.TheVariants.{Lint, Ordered}
+use Rattle.lu_cli.specs.declared.order.Request.TheVariants.{Help, Lint, Ordered}
 use Rattle.lu_report.specs.Limits.{most_moves}
 
 -- how many bytes of stack a search takes at most: 128 KiB, and 2 KiB for each move of a schedule up
@@ -36,5 +36,6 @@ stack_of_order (CampaignAgainst options) = stack_within options.bounds.bound opt
 stack_of_order Compile = stack_within most_moves 0
 
 abbrev pub stack_for : Request → ℕ
+stack_for Help = stack_within 0 0
 stack_for (Lint limits) = stack_within 0 limits.serial
 stack_for (Ordered order) = stack_of_order order

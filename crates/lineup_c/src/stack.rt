@@ -50,6 +50,7 @@ pub(crate) fn stack_for(request: &Request) -> usize
     ensures { result ≡ spec.stack_for request.now }
 {
     match request {
+        Request::Help => stack_within(0, 0),
         Request::Lint(bounds) => stack_within(0, bounds.serial()),
         Request::Ordered(order) => stack_of_order(order),
     }

@@ -11,3 +11,4 @@ pub mod Judged
 mod Strings
 mod ToldTexts
 mod Messages
+mod Tables

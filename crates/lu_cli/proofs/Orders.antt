@@ -1,5 +1,5 @@
 -- What words ask for, from what the crate for command lines says of them.
-use Rattle.std.proofs.Common.{◌≡◌, ℕ, ◌^◌, Bool, true, false, List, [], ◌∷◌, length, Option, Some, None, Result, Ok, Err, refl, sym, ap, subst, ◌⊎◌, inl, inr}
+use Rattle.std.proofs.Common.{◌≡◌, ℕ, ◌^◌, Bool, true, false, List, [], ◌∷◌, length, Option, Some, None, Result, Ok, Err, refl, sym, ap, subst, ◌∙◌, ◌⊎◌, inl, inr}
 use Rattle.std.specs.Prelude.{IfOk, IsErrOf, codes, nat_lt, unwrap_or, ◌&&◌}
 use Rattle.std.specs.Str.{bytes_eq}
 use Rattle.std.specs.Option.{ok_or, option_map}
@@ -118,4 +118,4 @@ request_entered name_of rows_of None name rows named rowed = absurd cc
 request_entered name_of rows_of (Some s) name rows named rowed =
     let same : name ≡ name_of s = cc in
     let also : rows ≡ rows_of s = cc in
-    rw (same, also) refl
+    ap (λ (n : Text). request_by n rows) same ∙ ap (λ (l : List Row). request_by (name_of s) l) also

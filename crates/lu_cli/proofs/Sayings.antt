@@ -56,7 +56,7 @@ use Rattle.lu_cli.specs.declared.order.CampaignPart.TheVariants.{Whole, Slice, C
 use Rattle.lu_cli.specs.declared.order.CampaignThreads.{CampaignThreads}
 use Rattle.lu_cli.specs.declared.order.CampaignThreads.TheVariants.{Alike, Own}
 use Rattle.lu_cli.specs.declared.order.Request.{Request}
-use Rattle.lu_cli.specs.declared.order.Request.TheVariants.{Lint, Ordered}
+use Rattle.lu_cli.specs.declared.order.Request.TheVariants.{Help, Lint, Ordered}
 use Rattle.lu_cli.specs.declared.order.BundleCommand.{BundleCommand}
 use Rattle.lu_cli.specs.declared.order.BundleCommand.TheVariants.{Replay, Trace, TraceFromSetup, Draw, DrawExplained, Explain, ExplainAgainst, Serial, Judge, JudgeAgainst, Conform, Spec, Check, CheckAgainst, Certify, Refute, Shrink, Campaign as Campaigning, CampaignAgainst, Compile}
 use Rattle.lu_trace.specs.declared.wording.Wording.{Wording}
@@ -86,10 +86,11 @@ use Rattle.lu_cli.specs.declared.order.CertifyOptions.{CertifyOptions}
 use Rattle.lu_cli.specs.declared.order.Showing.{Showing}
 use Rattle.lu_cli.specs.declared.order.Showing.TheVariants.{Count as CountAlone, Schedules}
 use Rattle.lu_cli.specs.Bundle.{bundle_parts}
+use Rattle.lu_cli.specs.Help.{help_answer}
 use Rattle.lu_report.specs.Limits.{Limits}
 use Rattle.lu_cli.specs.declared.failing.RunView.{RunView}
 use Rattle.lu_cli.specs.declared.failing.RunView.TheVariants as run
-use Rattle.lu_cli.specs.Replies.{AloneOr, IsRunShown, IsShowOf, IsShownBehind, Answer, Answers, IsAnswerFrom, IsAnswerIn, IsAnswerOf, IsAnswerToAlike, IsAnswerToOrder, IsAnswerToPart, IsAnswerToTrial, IsByThreadAnswer, IsCampaignAgainstOf, IsCampaignAlike, IsCampaignBy, IsCampaignFrom, IsCertified, IsCertifiedPart, IsCertifiedReply, IsCheckAgainstFrom, IsCheckAgainstOf, IsChecked, IsCheckedAgainst, IsCollected, IsComparedAlike, IsComparedBy, IsComparedFrom, IsComparedPart, IsComparisonReply, IsCompileOf, IsConformOf, IsCountAnswer, IsDrawn, IsExplainAgainstOf, IsExplainBehind, IsExplainOf, IsExplainedAgainst, IsExplainedText, IsJudgeAgainstOf, IsJudgeOf, IsJudgedAgainstTexts, IsJudgedSerially, IsJudgedTexts, IsRefuteOf, IsRefuted, IsRefutedBy, IsReplayed, IsRunSerially, IsShrinkAnswer, IsSliceReply, IsSpecOf, IsSurveyReply, IsSurveyedPart, IsTraced, IsTracedFromSetup, IsTriedAll, IsTriedPart, ShowsCertificate, ShowsCertified, Tells, ToComponent, ToGiven, ToMatrix, ToParts, ToReport, ToSchedule, ToSettled, ToShown, ToSpec, ToTarget, ToTexts, ToTold, ToTrusted, ToValue, comparison_answer, found_answer, lists_of, no_command, no_device, no_memory, or_schedule, refused, reported, status_of, survey_status, two_texts, view_of, with_matrix, with_schedule}
+use Rattle.lu_cli.specs.Replies.{AloneOr, IsRunShown, IsShowOf, IsShownBehind, Answer, Answers, IsAnswerFrom, IsAnswerOf, IsAnswerToAlike, IsAnswerToOrder, IsAnswerToPart, IsAnswerToParts, IsAnswerToTrial, IsByThreadAnswer, IsCampaignAgainstOf, IsCampaignAlike, IsCampaignBy, IsCampaignFrom, IsCertified, IsCertifiedPart, IsCertifiedReply, IsCheckAgainstFrom, IsCheckAgainstOf, IsChecked, IsCheckedAgainst, IsCollected, IsComparedAlike, IsComparedBy, IsComparedFrom, IsComparedPart, IsComparisonReply, IsCompileOf, IsConformOf, IsCountAnswer, IsDrawn, IsExplainAgainstOf, IsExplainBehind, IsExplainOf, IsExplainedAgainst, IsExplainedText, IsJudgeAgainstOf, IsJudgeOf, IsJudgedAgainstTexts, IsJudgedSerially, IsJudgedTexts, IsRefuteOf, IsRefuted, IsRefutedBy, IsReplayed, IsRunSerially, IsShrinkAnswer, IsSliceReply, IsSpecOf, IsSurveyReply, IsSurveyedPart, IsTraced, IsTracedFromSetup, IsTriedAll, IsTriedPart, ShowsCertificate, ShowsCertified, Tells, ToComponent, ToGiven, ToInput, ToMatrix, ToParts, ToReport, ToSchedule, ToSettled, ToShown, ToSpec, ToTarget, ToTexts, ToTold, ToTrusted, ToValue, comparison_answer, found_answer, lists_of, no_command, no_device, no_memory, or_schedule, refused, reported, status_of, survey_status, two_texts, view_of, with_matrix, with_schedule}
 
 -- an answer that was made and said
 pub said : (IsAnswer : Answer → Type 0) (answer : Answer) (text : List ℕ) (old new : Option (List ℕ)) (status : ℕ) → IsAnswer answer → text ≡ answer.text → Appends old new text × (status ≡ answer.status) → Answers IsAnswer old new status
@@ -104,20 +105,25 @@ answer_whole request known input answer all is = (input, all, is)
 too_long : (input : List ℕ) → 1048576 < length input → nat_lt 1048576 (length input) ≡ true
 too_long input long = lt-ltb 1048576 (length input) long
 
-refused_as_long : (request : Request) (input : List ℕ) (answer : Answer) → 1048576 < length input → answer ≡ refused (codes "B2") → IsAnswerOf request input answer
-refused_as_long request input answer long is = rw (too_long input long) is
+refused_as_long : (IsAnswer : List ℕ → Answer → Type 0) (input : List ℕ) (answer : Answer) → 1048576 < length input → answer ≡ refused (codes "B2") → ToInput IsAnswer input answer
+refused_as_long IsAnswer input answer long is = rw (too_long input long) is
 
 -- some text has more bytes
 longer : (n : ℕ) → (input : List ℕ) × (n < length input)
 longer n = (replicate (suc n) n, (let e = length-replicate (suc n) n in omega arith))
 
-some_long : (request : Request) (answer : Answer) → ((input : List ℕ) × (1048576 < length input)) → answer ≡ refused (codes "B2") → IsAnswerFrom request None answer
-some_long request answer some is = (some.0, tt, refused_as_long request some.0 answer some.1 is)
+some_long : (IsAnswer : List ℕ → Answer → Type 0) (answer : Answer) → ((input : List ℕ) × (1048576 < length input)) → answer ≡ refused (codes "B2") → (input : List ℕ) × IfSome None (λ all. input ≡ all) × ToInput IsAnswer input answer
+some_long IsAnswer answer some is = (some.0, tt, refused_as_long IsAnswer some.0 answer some.1 is)
 
 -- more came than is read
-pub answer_long : (request : Request) (known : Option (List ℕ)) (answer : Answer) → IfSome known (λ all. 1048576 < length all) → answer ≡ refused (codes "B2") → IsAnswerFrom request known answer
-answer_long request (Some all) answer long is = (all, refl, refused_as_long request all answer long is)
-answer_long request None answer long is = some_long request answer (longer 1048576) is
+pub answer_long : (IsAnswer : List ℕ → Answer → Type 0) (known : Option (List ℕ)) (answer : Answer) → IfSome known (λ all. 1048576 < length all) → answer ≡ refused (codes "B2") → (input : List ℕ) × IfSome known (λ all. input ≡ all) × ToInput IsAnswer input answer
+answer_long IsAnswer (Some all) answer long is = (all, refl, refused_as_long IsAnswer all answer long is)
+answer_long IsAnswer None answer long is = some_long IsAnswer answer (longer 1048576) is
+
+-- the help, whatever would be read
+pub help_from : (known : Option (List ℕ)) (answer : Answer) → answer ≡ help_answer → IsAnswerFrom Help known answer
+help_from (Some all) answer is = (all, refl, is)
+help_from None answer is = ([], tt, is)
 
 -- ---- no answer blames a device
 
@@ -608,7 +614,7 @@ source_linted_else limits source parts answer is = go (component_meant source) i
     go (Ok c) (said, remarks, tells, are, e) = marked_else answer (list_any (λ r. is_fault r.said.cause) (below_source source c remarks)) (ap (λ (a : Answer). a.status) e)
     go (Err fault) (text, tells, e) = status_else answer 2 (ap (λ (a : Answer). a.status) e) (λ f. omega arith)
 
-lint_else : (limits : Limits) (bundle : List ℕ) (answer : Answer) → IsLint limits bundle answer → IsElse answer
+pub lint_else : (limits : Limits) (bundle : List ℕ) (answer : Answer) → IsLint limits bundle answer → IsElse answer
 lint_else limits bundle answer is = go (bundle_parts bundle) is
   where
     by : (first : List ℕ) (parts : List (List ℕ)) (b : Bool) → MatchBool b (IsSourceLinted limits first parts answer) (IsLinted limits bundle answer) → IsElse answer
@@ -619,16 +625,23 @@ lint_else limits bundle answer is = go (bundle_parts bundle) is
     go [] is = linted_else limits bundle answer is
     go (first ∷ parts) is = by first parts (is_source first) is
 
-request_else : (request : Request) (input : List ℕ) (answer : Answer) → IsAnswerIn request input answer → IsElse answer
-request_else (Lint limits) input answer is = lint_else limits input answer is
-request_else (Ordered order) input answer is = order_else order (bundle_parts input) answer is
+ordered_else : (order : BundleCommand) (input : List ℕ) (answer : Answer) → IsAnswerToParts order input answer → IsElse answer
+ordered_else order input answer is = order_else order (bundle_parts input) answer is
 
-either_else : (long : Bool) (request : Request) (input : List ℕ) (answer : Answer) → MatchBool long (answer ≡ refused (codes "B2")) (IsAnswerIn request input answer) → IsElse answer
-either_else true request input answer is = refused_else (codes "B2") answer is
-either_else false request input answer is = request_else request input answer is
+input_else : (IsAnswer : List ℕ → Answer → Type 0) (long : Bool) (input : List ℕ) (answer : Answer) → (IsAnswer input answer → IsElse answer) → MatchBool long (answer ≡ refused (codes "B2")) (IsAnswer input answer) → IsElse answer
+input_else IsAnswer true input answer other is = refused_else (codes "B2") answer is
+input_else IsAnswer false input answer other is = other is
+
+pub help_else : (answer : Answer) → answer ≡ help_answer → answer ≢ no_device
+help_else answer is = status_else answer 0 (ap (λ (a : Answer). a.status) is) (λ e. omega arith)
+
+request_else : (request : Request) (input : List ℕ) (answer : Answer) → IsAnswerOf request input answer → IsElse answer
+request_else Help input answer is = help_else answer is
+request_else (Lint limits) input answer is = input_else (IsLint limits) (nat_lt 1048576 (length input)) input answer (lint_else limits input answer) is
+request_else (Ordered order) input answer is = input_else (IsAnswerToParts order) (nat_lt 1048576 (length input)) input answer (ordered_else order input answer) is
 
 pub answer_else : (request : Request) (known : Option (List ℕ)) (answer : Answer) → IsAnswerFrom request known answer → answer ≢ no_device
-answer_else request known answer is = either_else (nat_lt 1048576 (length is.0)) request is.0 answer is.2
+answer_else request known answer is = request_else request is.0 answer is.2
 
 pub command_else : (answer : Answer) → answer ≡ no_command → answer ≢ no_device
 command_else answer is = status_else answer 2 (ap (λ (a : Answer). a.status) is) (λ e. omega arith)

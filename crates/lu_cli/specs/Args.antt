@@ -1,13 +1,12 @@
 -- The commands of the program, and what words ask for.
-use Rattle.std.specs.Prelude.{◌≡◌, ℕ, ◌^◌, ◌&&◌, ◌==◌, Bool, true, false, pos, List, [], ◌∷◌, length, map, Option, Some, None, Result, IfOk, option_and_then, unwrap_or, codes, nat_lt, if◌then◌else◌}
-use Rattle.std.specs.List.{list_all}
-use Rattle.std.specs.Option.{option_map}
+use Rattle.std.specs.Prelude.{◌≡◌, ℕ, ◌^◌, ◌&&◌, ◌==◌, Bool, true, false, pos, List, [], ◌∷◌, fold, length, map, Option, Some, None, Result, IfOk, option_and_then, unwrap_or, codes, nat_lt, if◌then◌else◌}
+use Rattle.std.specs.List.{list_all, list_any}
+use Rattle.std.specs.Option.{option_map, option_map_or}
 use Rattle.std.specs.Str.{bytes_eq}
 use Rattle.std.specs.Char.{digit_value}
 use Rattle.std.specs.Str.Parse.{digits_value, without_leading_plus}
-use Rattle.clap.specs.Words.{App, Row, Rule, Text, app_of, new_app, new_rule, rule_of, with_rule, with_subcommand, subcommand_of, fault_of}
+use Rattle.clap.specs.Words.{App, Row, Rule, Text, app_of, new_app, new_rule, with_rule, with_subcommand, subcommand_of, fault_of}
 pub use Rattle.clap.specs.Words.{one_of}
-use Rattle.clap.specs.declared.builder.arg.Arg.{Arg}
 use Rattle.clap.specs.declared.builder.action.ArgAction.TheVariants.{SetTrue}
 use Rattle.clap.specs.declared.builder.command.Command.{Command}
 use Rattle.clap.specs.declared.builder.command.Command.TheViews.{out-Command}
@@ -23,10 +22,15 @@ use Rattle.lu_cli.specs.declared.order.CampaignTrial.TheVariants.{Checked, Certi
 use Rattle.lu_cli.specs.declared.order.CertifyOptions.{CertifyOptions}
 use Rattle.lu_cli.specs.declared.order.Request.{Request}
 use Rattle.lu_cli.specs.declared.order.Showing.TheVariants as showing
-use Rattle.lu_cli.specs.declared.order.Request.TheVariants.{Lint, Ordered}
+use Rattle.lu_cli.specs.declared.order.Request.TheVariants.{Help, Lint, Ordered}
 use Rattle.lu_cli.specs.declared.order.BundleCommand.{BundleCommand}
 use Rattle.lu_cli.specs.declared.order.BundleCommand.TheVariants.{Replay, Trace, TraceFromSetup, Draw, DrawExplained, Explain, ExplainAgainst, Serial, Judge, JudgeAgainst, Conform, Spec, Check, CheckAgainst, Certify, Refute, Shrink, Campaign, CampaignAgainst, Compile}
+use Rattle.lu_cli.specs.declared.table.CommandRow.{CommandRow}
+use Rattle.lu_cli.specs.declared.table.Kind.{Kind}
+use Rattle.lu_cli.specs.declared.table.Kind.TheVariants.{Flag, Number, Long}
+use Rattle.lu_cli.specs.declared.table.OptionRow.{OptionRow}
 use Rattle.lu_cli.specs.Orders.{choice_of}
+use Rattle.lu_cli.specs.Table.{TableCommand, TableOption, command_said, commands, commands_said, option_said, options, options_said}
 use Rattle.lu_report.specs.Limits.{Limits, limits_of, most_moves}
 use Rattle.lu_parallel.specs.Ranges.{Choice, choice, with_head_start}
 
@@ -41,190 +45,76 @@ pub record IsApp (app : App) (command : Command) : Type 0 where
   pub shape : app_of command ≡ app
   pub local : (out-Command command).has_globals ≡ false
 
--- where there was a command, it has the rule of one more option now
-abbrev pub AddsRule : {E : Type 0} → Result Command E → Arg → Result Command E → Type 0
-AddsRule old option new =
-    (app : App) (rule : Rule) → IfOk old (IsApp app) → rule_of option ≡ rule
-    → IfOk new (IsApp (with_rule app rule))
-
--- where there were a program and a command, the program has the command now
-abbrev pub AddsCommand : {E : Type 0} → Result Command E → Result Command E → Result Command E
-    → Type 0
-AddsCommand old command new =
-    (app sub : App) → IfOk old (IsApp app) → IfOk command (IsApp sub)
-    → IfOk new (IsApp (with_subcommand app sub.top))
-
--- an option `--NAME N`
-abbrev pub number_option : Text → ℕ → ℕ → Text → Rule
-number_option name least most default = record (new_rule name) {
+-- the rule of an option with this name
+abbrev pub rule_by : Text → Kind → Option Text → Rule
+rule_by name Flag default = record (new_rule name) { long = Some name; action = Some SetTrue }
+rule_by name (Number least most) default = record (new_rule name) {
   long = Some name;
   parser = Some (vp.Signed (pos least) (pos most));
-  defaults = default ∷ [];
+  defaults = option_map_or (λ text. text ∷ []) default [];
 }
-
--- an option `--NAME N` without a default
-abbrev pub optional_number : Text → ℕ → ℕ → Rule
-optional_number name least most = record (new_rule name) {
-  long = Some name;
-  parser = Some (vp.Signed (pos least) (pos most));
-}
-
--- an option `--NAME N` of any number of 64 bits
-abbrev pub long_option : Text → Text → Rule
-long_option name default = record (new_rule name) {
+rule_by name Long default = record (new_rule name) {
   long = Some name;
   parser = Some (vp.Unsigned 0 most_long);
-  defaults = default ∷ [];
+  defaults = option_map_or (λ text. text ∷ []) default [];
 }
 
--- the greatest number of nodes that can be asked for
-abbrev pub most_nodes : ℕ
-most_nodes = 4294967295
+abbrev pub option_rule : TableOption → Rule
+option_rule o = rule_by o.name o.kind o.default
 
--- the option `--nodes N`
-abbrev pub nodes_option : Rule
-nodes_option = record (new_rule (codes "nodes")) {
-  long = Some (codes "nodes");
-  parser = Some (vp.Signed (pos 1) (pos most_nodes));
-  defaults = codes "8388608" ∷ [];
-}
+-- whether the command with this name takes the option
+abbrev pub takes : Text → TableOption → Bool
+takes name o = list_any (λ command. bytes_eq command name) o.commands
 
--- an option `--NAME` without a word
-abbrev pub flag : Text → Rule
-flag name = record (new_rule name) { long = Some name; action = Some SetTrue }
+-- the app of a command has the rule of the option, where the command takes it
+abbrev pub with_option : Text → App → TableOption → App
+with_option name app o = if takes name o then with_rule app (option_rule o) else app
 
--- a command with the options `--bound` and `--serial`, and this default of both
-abbrev pub bounded : Text → Text → App
-bounded name default =
-    with_rule (with_rule (new_app name) (number_option (codes "bound") 0 most_moves default))
-    (number_option (codes "serial") 1 most_moves default)
+-- the app of a command: it has the rules of the options that the command takes
+abbrev pub command_app : List TableOption → TableCommand → App
+command_app options c = fold (with_option c.name) (new_app c.name) options
 
--- a command with bounds, and with the options `--workers` and `--depth`
-abbrev pub shared_out : Text → Text → App
-shared_out name default =
-    with_rule
-    (with_rule (bounded name default) (number_option (codes "workers") 1 16 (codes "1")))
-    (optional_number (codes "depth") 0 8)
+-- the program has the command
+abbrev pub with_command : List TableOption → App → TableCommand → App
+with_command options app c = with_subcommand app (command_app options c).top
 
-abbrev pub compile_command : App
-compile_command = new_app (codes "compile")
-
-abbrev pub replay_command : App
-replay_command = new_app (codes "replay")
-
-abbrev pub trace_command : App
-trace_command = with_rule (new_app (codes "trace")) (flag (codes "setup"))
-
-abbrev pub draw_command : App
-draw_command =
-    with_rule
-    (with_rule (new_app (codes "draw")) (flag (codes "explain")))
-    (number_option (codes "serial") 1 most_moves (codes "40"))
-
-abbrev pub lint_command : App
-lint_command =
-    with_rule (new_app (codes "lint")) (number_option (codes "serial") 1 most_moves (codes "40"))
-
-abbrev pub explain_command : App
-explain_command =
-    with_rule
-    (with_rule (new_app (codes "explain"))
-    (number_option (codes "serial") 1 most_moves (codes "40")))
-    (flag (codes "spec"))
-
-abbrev pub spec_command : App
-spec_command = new_app (codes "spec")
-
-abbrev pub serial_command : App
-serial_command = bounded (codes "serial") (codes "40")
-
-abbrev pub check_command : App
-check_command = with_rule (shared_out (codes "check") (codes "40")) (flag (codes "spec"))
-
-abbrev pub judge_command : App
-judge_command = with_rule (bounded (codes "judge") (codes "40")) (flag (codes "spec"))
-
-abbrev pub conform_command : App
-conform_command = with_rule (new_app (codes "conform")) (flag (codes "show"))
-
-abbrev pub certify_command : App
-certify_command =
-    with_rule
-    (with_rule (shared_out (codes "certify") (codes "256"))
-    (number_option (codes "local") 0 16 (codes "0")))
-    nodes_option
-
-abbrev pub refute_command : App
-refute_command = new_app (codes "refute")
-
-abbrev pub shrink_command : App
-shrink_command = bounded (codes "shrink") (codes "40")
-
--- a campaign's options but for those that take a part of it
-abbrev pub sized_command : App
-sized_command =
-    with_rule
-    (with_rule
-    (with_rule
-    (with_rule (new_app (codes "campaign")) (optional_number (codes "bound") 0 most_moves))
-    (optional_number (codes "serial") 1 most_moves))
-    (optional_number (codes "threads") 1 8))
-    (number_option (codes "calls") 1 8 (codes "1"))
-
-abbrev pub campaign_command : App
-campaign_command =
-    with_rule
-    (with_rule
-    (with_rule
-    (with_rule
-    (with_rule
-    (with_rule (with_rule sized_command (flag (codes "by-thread")))
-    (long_option (codes "from") (codes "0")))
-    (long_option (codes "upto") (codes "18446744073709551615")))
-    (flag (codes "count")))
-    (flag (codes "certify")))
-    (flag (codes "all")))
-    (flag (codes "spec"))
-
--- the program, which takes the words behind its name, and wants a command
+-- the program without commands, which takes the words behind its name, and wants a command
 abbrev pub program : App
 program =
     record (new_app (codes "lineup")) {
-      top = record ((new_app (codes "lineup")).top)
-          { no_binary_name = true; subcommand_required = true };
+      top = record ((new_app (codes "lineup")).top) {
+        no_binary_name = true;
+        subcommand_required = true;
+        disable_help_subcommand = true;
+      };
     }
 
--- the program with the commands that play a schedule
-abbrev pub schedule_commands : App
-schedule_commands =
-    with_subcommand
-    (with_subcommand
-    (with_subcommand (with_subcommand program replay_command.top) trace_command.top)
-    draw_command.top)
-    explain_command.top
-
--- the program with the commands that look at one matrix
-abbrev pub single_commands : App
-single_commands =
-    with_subcommand
-    (with_subcommand
-    (with_subcommand
-    (with_subcommand
-    (with_subcommand (with_subcommand schedule_commands serial_command.top) spec_command.top)
-    check_command.top)
-    judge_command.top)
-    conform_command.top)
-    certify_command.top
+-- the app of a table: each command is a subcommand
+abbrev pub table_app : List TableCommand → List TableOption → App
+table_app commands options = fold (with_command options) program commands
 
 abbrev pub lineup : App
-lineup =
-    with_subcommand
-    (with_subcommand
-    (with_subcommand
-    (with_subcommand (with_subcommand single_commands refute_command.top) shrink_command.top)
-    campaign_command.top)
-    lint_command.top)
-    compile_command.top
+lineup = table_app commands options
+
+-- where the command is an app's, it takes the option too, if it is one that it takes
+abbrev pub AddsOption : {E : Type 0} → Text → Command → OptionRow → Result Command E → Type 0
+AddsOption name old row new =
+    (app : App) → IsApp app old → IfOk new (IsApp (with_option name app (option_said row)))
+
+-- where the program is an app's, it has the command too
+abbrev pub AddsCommand : {E : Type 0} → List OptionRow → Command → CommandRow → Result Command E
+    → Type 0
+AddsCommand rows old row new =
+    (app : App) → IsApp app old
+    → IfOk new (IsApp (with_command (options_said rows) app (command_said row)))
+
+-- the command is that of the row
+abbrev pub IsCommandOf : CommandRow → List OptionRow → Command → Type 0
+IsCommandOf row options = IsApp (command_app (options_said options) (command_said row))
+
+-- the program is that of the rows
+abbrev pub IsProgramOf : List CommandRow → List OptionRow → Command → Type 0
+IsProgramOf rows options = IsApp (table_app (commands_said rows) (options_said options))
 
 -- ---- what words ask for
 
@@ -456,7 +346,9 @@ lint_in rows = option_map Lint (limits_with (Some 0) (number_named (codes "seria
 -- what a command with these rows asks for
 abbrev pub request_by : Text → List Row → Option Request
 request_by name rows =
-    if bytes_eq name (codes "lint") then lint_in rows else option_map Ordered (order_by name rows)
+    if bytes_eq name (codes "help") then Some Help
+    else (if bytes_eq name (codes "lint") then lint_in rows
+    else option_map Ordered (order_by name rows))
 
 abbrev pub request_in : Option (Text × List Row) → Option Request
 request_in entered = option_and_then (λ e. request_by e.0 e.1) entered

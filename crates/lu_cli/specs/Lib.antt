@@ -6,6 +6,7 @@ pub mod Counted
 pub mod Drawing
 pub mod Explaining
 pub mod Failing
+pub mod Help
 pub mod Inputs
 pub mod Judging
 pub mod Linting
@@ -14,5 +15,6 @@ pub mod Outcomes
 pub mod Refusals
 pub mod Replies
 pub mod Shows
+pub mod Table
 pub mod Telling
 pub mod Texts

@@ -84,7 +84,7 @@ use Rattle.lu_cli.specs.declared.order.CampaignTrial.TheVariants.{Checked, Certi
 use Rattle.lu_cli.specs.declared.order.CampaignThreads.{CampaignThreads}
 use Rattle.lu_cli.specs.declared.order.CampaignThreads.TheVariants.{Alike, Own}
 use Rattle.lu_cli.specs.declared.order.Request.{Request}
-use Rattle.lu_cli.specs.declared.order.Request.TheVariants.{Lint, Ordered}
+use Rattle.lu_cli.specs.declared.order.Request.TheVariants.{Help, Lint, Ordered}
 use Rattle.lu_cli.specs.declared.order.BundleCommand.{BundleCommand}
 use Rattle.lu_cli.specs.declared.order.BundleCommand.TheVariants.{Replay, Trace, TraceFromSetup, Draw, DrawExplained, Explain, ExplainAgainst, Serial, Judge, JudgeAgainst, Conform, Spec, Check, CheckAgainst, Certify, Refute, Shrink, Campaign as Campaigning, CampaignAgainst, Compile}
 use Rattle.lu_cli.specs.declared.refusal.Refusal.{Refusal}
@@ -114,6 +114,7 @@ use Rattle.lu_recorded.specs.declared.recorded.Recorded.{Recorded}
 use Rattle.lu_cli.specs.Bundle.{bundle_parts}
 use Rattle.lu_cli.specs.Args.{most_long, request_said}
 use Rattle.lu_cli.specs.Counted.{AppendsCounted, GoesWell, IsUnfailed, Lent, new_of, old_of}
+use Rattle.lu_cli.specs.Help.{help_answer}
 use Rattle.lu_cli.specs.Inputs.{most_bytes}
 use Rattle.lu_report.specs.Limits.{Limits}
 pub use Rattle.lu_cli.specs.Outcomes.{Answer, refused, refused_on_line, infeasible, no_memory, no_command, no_device, no_worker, unsettled}
@@ -848,16 +849,20 @@ IsAnswerToOrder (Campaigning options) parts = IsCampaignOf options parts
 IsAnswerToOrder (CampaignAgainst options) parts = IsCampaignAgainstOf options parts
 IsAnswerToOrder Compile parts = IsCompileOf parts
 
--- the answer to what is asked for and the input, where that is not too long
-abbrev pub IsAnswerIn : Request → List ℕ → Answer → Type 0
-IsAnswerIn (Lint limits) input answer = IsLint limits input answer
-IsAnswerIn (Ordered order) input answer = IsAnswerToOrder order (bundle_parts input) answer
-
--- the answer to what is asked for and the whole input
-abbrev pub IsAnswerOf : Request → List ℕ → Answer → Type 0
-IsAnswerOf request input answer =
+-- such an answer to the input, where that is not too long
+abbrev pub ToInput : (List ℕ → Answer → Type 0) → List ℕ → Answer → Type 0
+ToInput IsAnswer input answer =
     MatchBool (nat_lt most_bytes (length input)) (answer ≡ refused (codes "B2"))
-    (IsAnswerIn request input answer)
+    (IsAnswer input answer)
+
+abbrev pub IsAnswerToParts : BundleCommand → List ℕ → Answer → Type 0
+IsAnswerToParts order input answer = IsAnswerToOrder order (bundle_parts input) answer
+
+-- the answer to what is asked for and the whole input; the help is the same whatever the input is
+abbrev pub IsAnswerOf : Request → List ℕ → Answer → Type 0
+IsAnswerOf Help input answer = answer ≡ help_answer
+IsAnswerOf (Lint limits) input answer = ToInput (IsLint limits) input answer
+IsAnswerOf (Ordered order) input answer = ToInput (IsAnswerToParts order) input answer
 
 -- the answer to what is asked for and what was read: the whole input where it is known, and else
 -- some bytes

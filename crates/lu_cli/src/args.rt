@@ -1,18 +1,19 @@
 //! What the command line asks for.
 
-ghost use Rattle.std.specs.Prelude.{◌≡◌, ◌≤◌, false, pos, IfOk, IsErrOf, Some, None};
-ghost use Rattle.clap.specs.Words.{found_of, new_app, rows_of, rule_of, subcommand_rows_of};
-ghost use Rattle.clap.specs.declared.builder.value_parser.ValueParser.TheVariants.{Signed};
+ghost use Rattle.std.specs.Prelude.{◌≡◌, false, IfOk, IsErrOf, Some, None};
+ghost use Rattle.clap.specs.Words.{found_of, rows_of, rule_of, subcommand_rows_of};
 ghost use Rattle.lu_cli.specs.declared.order.ArgsFault.TheVariants.{Refused};
 ghost use Rattle.lu_cli.specs.Args as spec;
-ghost use Rattle.lu_cli.specs.Args.{AddsCommand, AddsRule, IsApp, lineup, request_said};
+ghost use Rattle.lu_cli.specs.Args.{AddsCommand, AddsOption, IsApp, IsCommandOf, IsProgramOf, lineup, request_said};
 ghost use Rattle.lu_cli.specs.Orders.{choice_of};
+ghost use Rattle.lu_cli.specs.Table.{option_said};
 
 use crate::order::{
     ArgsFault, BundleCommand, CampaignOptions, CampaignPart, CampaignThreads, CampaignTrial,
     CertifyOptions, Request, Showing,
 };
-use clap::builder::{ValueParser, ValueParserFactory};
+use crate::table::{CommandRow, Kind, OptionRow, commands, options};
+use clap::builder::ValueParser;
 use clap::error::ErrorKind;
 use clap::{Arg, ArgAction, ArgMatches, Command};
 use lu_parallel::Options;
@@ -23,255 +24,105 @@ use std::convert::AsStr;
 /// How many looks of its watch the search of one worker lasts before there are more: a minute.
 const HEAD_START: u64 = 16_777_216;
 
-/// What reads a number from `least` to `most`.
-fn number_parser<'a>(least: u8, most: u16) -> ValueParser<'a>
-    requires { least ≤ most }
-    ensures { result ≡ Signed (pos least) (pos most) }
-{
-    clap::value_parser!(u16).range(least as i64..=most as i64)
-}
-
-/// An option `--NAME N`.
-fn number_option<'a>(
-    alloc: Global,
-    name: &'a str,
-    least: u8,
-    most: u16,
-    default: &'a str,
-) -> Arg<'a>
-    requires { least ≤ most }
-    ensures rule { rule_of result ≡
-        spec.number_option name.entry.now least most default.entry.now }
+/// The option of a row.
+fn option_of<'a>(alloc: Global, row: &OptionRow) -> Arg<'a>
+    ensures rule { rule_of result ≡ spec.option_rule (option_said row.now) }
     ensures local { result.global ≡ false }
 {
-    Arg::new(alloc, name)
-        .long(name)
-        .value_parser(number_parser(least, most))
-        .default_value(default)
+    let option = Arg::new(alloc, row.name).long(row.name);
+    let option = match row.kind {
+        Kind::Flag => return option.action(ArgAction::SetTrue),
+        Kind::Number { least, most } => {
+            option.value_parser(ValueParser::Signed(i64::from(least), i64::from(most)))
+        }
+        Kind::Long => option.value_parser(ValueParser::Unsigned(0, u64::MAX)),
+    };
+    match row.default {
+        None => option,
+        Some(default) => option.default_value(default),
+    }
 }
 
-/// An option `--NAME N` without a default.
-fn optional_number<'a>(alloc: Global, name: &'a str, least: u8, most: u16) -> Arg<'a>
-    requires { least ≤ most }
-    ensures rule { rule_of result ≡ spec.optional_number name.entry.now least most }
-    ensures local { result.global ≡ false }
+/// Whether the command with this name takes the option of a row.
+fn takes(name: &str, row: &OptionRow) -> bool
+    ensures { result ≡ spec.takes name.now (option_said row.now) }
 {
-    Arg::new(alloc, name)
-        .long(name)
-        .value_parser(number_parser(least, most))
+    row.commands.contains(&name)
 }
 
-/// An option `--NAME N` of any number of 64 bits.
-fn long_option<'a>(alloc: Global, name: &'a str, default: &'a str) -> Arg<'a>
-    ensures rule { rule_of result ≡ spec.long_option name.entry.now default.entry.now }
-    ensures local { result.global ≡ false }
-{
-    Arg::new(alloc, name)
-        .long(name)
-        .value_parser(clap::value_parser!(u64))
-        .default_value(default)
-}
-
-/// The option `--nodes N`, of a number from 1 to 4,294,967,295.
-fn nodes_option<'a>(alloc: Global) -> Arg<'a>
-    ensures rule { rule_of result ≡ spec.nodes_option }
-    ensures local { result.global ≡ false }
-{
-    Arg::new(alloc, "nodes")
-        .long("nodes")
-        .value_parser(clap::value_parser!(u32).range(1..=u32::MAX as i64))
-        .default_value("8388608")
-}
-
-/// An option `--NAME` without a word.
-fn flag<'a>(alloc: Global, name: &'a str) -> Arg<'a>
-    ensures rule { rule_of result ≡ spec.flag name.entry.now }
-    ensures local { result.global ≡ false }
-{
-    Arg::new(alloc, name).long(name).action(ArgAction::SetTrue)
-}
-
-/// A command with one more option, where the command could be made.
+/// A command with this name and the option of a row, if it takes that.
 fn with_option<'a>(
-    command: Result<Command<'a>, AllocError>,
-    option: Arg<'a>,
+    alloc: Global,
+    name: &str,
+    command: Command<'a>,
+    row: &OptionRow,
 ) -> Result<Command<'a>, AllocError>
-    requires local { option.global ≡ false }
-    ensures { AddsRule command.entry option.entry result }
+    ensures { AddsOption name.now command.entry row.now result }
 {
-    command?.arg(option)
+    if takes(name, row) {
+        command.arg(option_of(alloc, row))
+    } else {
+        Ok(command)
+    }
 }
 
-/// A program with one more command, where both could be made.
+/// The command of a row, with its options.
+fn command_of<'a>(
+    alloc: Global,
+    row: &CommandRow,
+    options: &[OptionRow],
+) -> Result<Command<'a>, AllocError>
+    ensures { IfOk result (IsCommandOf row.now options.now) }
+{
+    let mut command = Command::new(alloc, row.name);
+    for option in options {
+        command = with_option(alloc, row.name, command, option)?;
+    }
+    Ok(command)
+}
+
+/// A program with the command of a row.
 fn with_command<'a>(
-    program: Result<Command<'a>, AllocError>,
-    command: Result<Command<'a>, AllocError>,
-) -> Result<Command<'a>, AllocError>
-    ensures { AddsCommand program.entry command.entry result }
-{
-    program?.subcommand(command?)
-}
-
-/// A command without options.
-fn bare_command<'a>(alloc: Global, name: &'a str) -> Result<Command<'a>, AllocError>
-    ensures { IfOk result (IsApp (new_app name.entry.now)) }
-{
-    Ok(Command::new(alloc, name))
-}
-
-/// A command with the options `--bound` and `--serial`, and this default of both.
-fn with_bounds<'a>(
     alloc: Global,
-    name: &'a str,
-    default: &'a str,
+    program: Command<'a>,
+    row: &CommandRow,
+    options: &[OptionRow],
 ) -> Result<Command<'a>, AllocError>
-    ensures { IfOk result (IsApp (spec.bounded name.entry.now default.entry.now)) }
+    ensures { AddsCommand options.now program.entry row.now result }
 {
-    let command = bare_command(alloc, name);
-    let command = with_option(
-        command,
-        number_option(alloc, "bound", 0, MOST_MOVES, default),
-    );
-    with_option(
-        command,
-        number_option(alloc, "serial", 1, MOST_MOVES, default),
-    )
+    program.subcommand(command_of(alloc, row, options)?)
 }
 
-/// A command with bounds, and with the options `--workers` and `--depth`.
-fn with_workers<'a>(
+/// The program without its commands. It takes the words behind its name, and its `help` is a
+/// command of its own.
+fn bare_program<'a>(alloc: Global) -> Command<'a>
+    ensures { IsApp spec.program result }
+{
+    Command::new(alloc, "lineup")
+        .no_binary_name(true)
+        .subcommand_required(true)
+        .disable_help_subcommand(true)
+}
+
+/// The program of a table.
+fn program_of<'a>(
     alloc: Global,
-    name: &'a str,
-    default: &'a str,
+    rows: &[CommandRow],
+    options: &[OptionRow],
 ) -> Result<Command<'a>, AllocError>
-    ensures { IfOk result (IsApp (spec.shared_out name.entry.now default.entry.now)) }
+    ensures { IfOk result (IsProgramOf rows.now options.now) }
 {
-    let command = with_bounds(alloc, name, default);
-    let command = with_option(command, number_option(alloc, "workers", 1, 16, "1"));
-    with_option(command, optional_number(alloc, "depth", 0, 8))
-}
-
-fn explain_command<'a>(alloc: Global) -> Result<Command<'a>, AllocError>
-    ensures { IfOk result (IsApp spec.explain_command) }
-{
-    let command = bare_command(alloc, "explain");
-    let command = with_option(command, number_option(alloc, "serial", 1, MOST_MOVES, "40"));
-    with_option(command, flag(alloc, "spec"))
-}
-
-fn trace_command<'a>(alloc: Global) -> Result<Command<'a>, AllocError>
-    ensures { IfOk result (IsApp spec.trace_command) }
-{
-    with_option(bare_command(alloc, "trace"), flag(alloc, "setup"))
-}
-
-fn draw_command<'a>(alloc: Global) -> Result<Command<'a>, AllocError>
-    ensures { IfOk result (IsApp spec.draw_command) }
-{
-    let command = bare_command(alloc, "draw");
-    let command = with_option(command, flag(alloc, "explain"));
-    with_option(command, number_option(alloc, "serial", 1, MOST_MOVES, "40"))
-}
-
-fn check_command<'a>(alloc: Global) -> Result<Command<'a>, AllocError>
-    ensures { IfOk result (IsApp spec.check_command) }
-{
-    with_option(with_workers(alloc, "check", "40"), flag(alloc, "spec"))
-}
-
-fn certify_command<'a>(alloc: Global) -> Result<Command<'a>, AllocError>
-    ensures { IfOk result (IsApp spec.certify_command) }
-{
-    let command = with_option(
-        with_workers(alloc, "certify", "256"),
-        number_option(alloc, "local", 0, 16, "0"),
-    );
-    with_option(command, nodes_option(alloc))
-}
-
-fn judge_command<'a>(alloc: Global) -> Result<Command<'a>, AllocError>
-    ensures { IfOk result (IsApp spec.judge_command) }
-{
-    with_option(with_bounds(alloc, "judge", "40"), flag(alloc, "spec"))
-}
-
-fn conform_command<'a>(alloc: Global) -> Result<Command<'a>, AllocError>
-    ensures { IfOk result (IsApp spec.conform_command) }
-{
-    with_option(bare_command(alloc, "conform"), flag(alloc, "show"))
-}
-
-/// A campaign's options but for those that take a part of it.
-fn sized_command<'a>(alloc: Global) -> Result<Command<'a>, AllocError>
-    ensures { IfOk result (IsApp spec.sized_command) }
-{
-    let command = bare_command(alloc, "campaign");
-    let command = with_option(command, optional_number(alloc, "bound", 0, MOST_MOVES));
-    let command = with_option(command, optional_number(alloc, "serial", 1, MOST_MOVES));
-    let command = with_option(command, optional_number(alloc, "threads", 1, 8));
-    with_option(command, number_option(alloc, "calls", 1, 8, "1"))
-}
-
-fn campaign_command<'a>(alloc: Global) -> Result<Command<'a>, AllocError>
-    ensures { IfOk result (IsApp spec.campaign_command) }
-{
-    let command = with_option(sized_command(alloc), flag(alloc, "by-thread"));
-    let command = with_option(command, long_option(alloc, "from", "0"));
-    let command = with_option(command, long_option(alloc, "upto", "18446744073709551615"));
-    let command = with_option(command, flag(alloc, "count"));
-    let command = with_option(command, flag(alloc, "certify"));
-    let command = with_option(command, flag(alloc, "all"));
-    with_option(command, flag(alloc, "spec"))
-}
-
-/// The program without its commands. It takes the words behind its name.
-fn bare_program<'a>(alloc: Global) -> Result<Command<'a>, AllocError>
-    ensures { IfOk result (IsApp spec.program) }
-{
-    Ok(
-        Command::new(alloc, "lineup")
-            .no_binary_name(true)
-            .subcommand_required(true),
-    )
-}
-
-/// The program with the commands that look at one schedule.
-fn schedule_commands<'a>(alloc: Global) -> Result<Command<'a>, AllocError>
-    ensures { IfOk result (IsApp spec.schedule_commands) }
-{
-    let program = with_command(bare_program(alloc), bare_command(alloc, "replay"));
-    let program = with_command(program, trace_command(alloc));
-    let program = with_command(program, draw_command(alloc));
-    with_command(program, explain_command(alloc))
-}
-
-/// The program with the commands that look at one matrix.
-fn single_commands<'a>(alloc: Global) -> Result<Command<'a>, AllocError>
-    ensures { IfOk result (IsApp spec.single_commands) }
-{
-    let program = with_command(schedule_commands(alloc), with_bounds(alloc, "serial", "40"));
-    let program = with_command(program, bare_command(alloc, "spec"));
-    let program = with_command(program, check_command(alloc));
-    let program = with_command(program, judge_command(alloc));
-    let program = with_command(program, conform_command(alloc));
-    with_command(program, certify_command(alloc))
-}
-
-fn lint_command<'a>(alloc: Global) -> Result<Command<'a>, AllocError>
-    ensures { IfOk result (IsApp spec.lint_command) }
-{
-    let command = bare_command(alloc, "lint");
-    with_option(command, number_option(alloc, "serial", 1, MOST_MOVES, "40"))
+    let mut program = bare_program(alloc);
+    for row in rows {
+        program = with_command(alloc, program, row, options)?;
+    }
+    Ok(program)
 }
 
 fn lineup_command<'a>(alloc: Global) -> Result<Command<'a>, AllocError>
     ensures { IfOk result (IsApp lineup) }
 {
-    let program = with_command(single_commands(alloc), bare_command(alloc, "refute"));
-    let program = with_command(program, with_bounds(alloc, "shrink", "40"));
-    let program = with_command(program, campaign_command(alloc));
-    let program = with_command(program, lint_command(alloc));
-    with_command(program, bare_command(alloc, "compile"))
+    program_of(alloc, commands(), options())
 }
 
 fn number_named(given: &ArgMatches<'_>, name: &str) -> Option<u16>
@@ -617,10 +468,10 @@ fn lint_in(given: &ArgMatches<'_>) -> Option<Request>
 fn request_by(name: &str, given: &ArgMatches<'_>) -> Option<Request>
     ensures { result ≡ spec.request_by name.now (rows_of (found_of given.now)) }
 {
-    if name == "lint" {
-        lint_in(given)
-    } else {
-        order_by(name, given).map(Request::Ordered)
+    match name {
+        "help" => Some(Request::Help),
+        "lint" => lint_in(given),
+        _ => order_by(name, given).map(Request::Ordered),
     }
 }
 

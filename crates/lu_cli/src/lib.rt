@@ -13,6 +13,7 @@ mod counted;
 mod drawing;
 mod explaining;
 mod failing;
+mod help;
 mod input;
 mod judging;
 mod linting;
@@ -21,6 +22,7 @@ mod output;
 mod program;
 mod refusal;
 mod shown;
+mod table;
 mod texts;
 mod told;
 

@@ -80,6 +80,9 @@ pub enum Showing {
 /// What the words of a command line ask for.
 #[derive(Clone, Copy, Debug, PartialEq, Eq)]
 pub enum Request {
+    /// `lineup help`: say what the commands and their options are. No bundle is read.
+    Help,
+
     /// `lineup lint`: say every fault of a bundle in words. The bound of schedules is not used.
     Lint(Bounds),
 

@@ -1,6 +1,7 @@
 //! The whole program over a reader and a writer.
 
 ghost use Rattle.std.specs.Prelude.{◌≡◌, ◌≢◌, ◌<◌, ◌≤◌, ◌-◌, ◌^◌, ◌⊎◌, Some, None, IfOk, IsErrOf};
+ghost use Rattle.lu_cli.specs.declared.order.Request.TheVariants.{Help, Lint, Ordered};
 ghost use Rattle.lu_cli.specs.declared.program.Failure.TheVariants.{Memory};
 ghost use Rattle.lu_cli.specs.Args.{request_said};
 ghost use Rattle.lu_cli.specs.Counted.{IsUnfailed};
@@ -11,10 +12,12 @@ use crate::args::read_request;
 use crate::bundle::parts_in;
 use crate::commands::{carry_out, carry_out_alone, or_refusal};
 use crate::counted::Counted;
+use crate::help::answer_help;
 use crate::input::{InputFault, MOST_BYTES, read_input};
 use crate::linting::answer_lint;
-use crate::order::{ArgsFault, Request};
+use crate::order::{ArgsFault, BundleCommand, Request};
 use crate::output::write_text;
+use lu_report::Bounds;
 use std::alloc::{AllocError, Global};
 use std::convert::AsStr;
 use std::io::{Read, Write};
@@ -39,14 +42,35 @@ impl From<AllocError> for Failure {
     }
 }
 
-/// The answer to what is read.
-fn answer_in<X: AllocGlobal + Threads + Wait, R: Read>(
-    rt: &X,
-    request: Request,
+/// What `lint` answers to what is read.
+fn lint_read<R: Read>(
+    alloc: Global,
+    bounds: Bounds,
     input: &mut Counted<R>,
 ) -> Result<Answer, Failure>
     requires { input.old.failures < 2 ^ 64 - 1 }
-    ensures answer { IfOk result (IsAnswerFrom request (R.remaining input.old.inner)) }
+    ensures answer { IfOk result (IsAnswerFrom (Lint bounds) (R.remaining input.old.inner)) }
+    ensures blames_none { IfOk result (λ r. r ≢ no_device) }
+    ensures device { IsErrOf result Failure.Device → input.old.failures < input.new.failures }
+    ensures unfailed { IsErrOf result Failure.Device ⊎ IsUnfailed input.old input.new }
+{
+    let bundle = match read_input(alloc, input) {
+        Ok(bytes) => bytes,
+        Err(InputFault::TooLong) => return Ok(refused(alloc, "B2")?),
+        Err(InputFault::Device) => return Err(Failure::Device),
+        Err(InputFault::Memory) => return Err(Failure::Memory),
+    };
+    Ok(answer_lint(alloc, bounds, &bundle)?)
+}
+
+/// The answer to an order and to what is read.
+fn order_read<X: AllocGlobal + Threads + Wait, R: Read>(
+    rt: &X,
+    order: BundleCommand,
+    input: &mut Counted<R>,
+) -> Result<Answer, Failure>
+    requires { input.old.failures < 2 ^ 64 - 1 }
+    ensures answer { IfOk result (IsAnswerFrom (Ordered order) (R.remaining input.old.inner)) }
     ensures blames_none { IfOk result (λ r. r ≢ no_device) }
     ensures device { IsErrOf result Failure.Device → input.old.failures < input.new.failures }
     ensures unfailed { IsErrOf result Failure.Device ⊎ IsUnfailed input.old input.new }
@@ -57,12 +81,27 @@ fn answer_in<X: AllocGlobal + Threads + Wait, R: Read>(
         Err(InputFault::Device) => return Err(Failure::Device),
         Err(InputFault::Memory) => return Err(Failure::Memory),
     };
+    let parts = parts_in(rt.alloc(), &bundle)?;
+    Ok(or_refusal(rt.alloc(), carry_out(rt, order, &parts))?)
+}
+
+/// The answer to what is asked for, and to what is read for it: for the help nothing is read.
+fn answer_in<X: AllocGlobal + Threads + Wait, R: Read>(
+    rt: &X,
+    request: Request,
+    input: &mut Counted<R>,
+) -> Result<Answer, Failure>
+    requires { input.old.failures < 2 ^ 64 - 1 }
+    ensures answer { IfOk result (IsAnswerFrom request (R.remaining input.old.inner)) }
+    ensures blames_none { IfOk result (λ r. r ≢ no_device) }
+    ensures idle { request ≡ Help → input.new ≡ input.old }
+    ensures device { IsErrOf result Failure.Device → input.old.failures < input.new.failures }
+    ensures unfailed { IsErrOf result Failure.Device ⊎ IsUnfailed input.old input.new }
+{
     match request {
-        Request::Lint(bounds) => Ok(answer_lint(rt.alloc(), bounds, &bundle)?),
-        Request::Ordered(order) => {
-            let parts = parts_in(rt.alloc(), &bundle)?;
-            Ok(or_refusal(rt.alloc(), carry_out(rt, order, &parts))?)
-        }
+        Request::Help => Ok(answer_help(rt.alloc())?),
+        Request::Lint(bounds) => lint_read(rt.alloc(), bounds, input),
+        Request::Ordered(order) => order_read(rt, order, input),
     }
 }
 
@@ -78,6 +117,7 @@ fn answer_for<X: AllocGlobal + Threads + Wait, S: AsStr, R: Read>(
         request_said S.text words.now ≡ None → r ≡ no_command) }
     ensures blames_none { IfOk result (λ r. r ≢ no_device) }
     ensures early { request_said S.text words.now ≡ None → input.new ≡ input.old }
+    ensures idle { request_said S.text words.now ≡ Some Help → input.new ≡ input.old }
     ensures device { IsErrOf result Failure.Device → input.old.failures < input.new.failures }
     ensures unfailed { IsErrOf result Failure.Device ⊎ IsUnfailed input.old input.new }
 {
@@ -116,6 +156,8 @@ pub fn run<X: AllocGlobal + Threads + Wait, S: AsStr, R: Read, W: Write>(
     ensures refused { SaysNoCommand S.text words.now W.contents output result }
     // The command line is judged before anything is read.
     ensures early { request_said S.text words.now ≡ None → input.new ≡ input.old }
+    // For the help nothing is read.
+    ensures idle { request_said S.text words.now ≡ Some Help → input.new ≡ input.old }
     // A write that failed shows in the status.
     ensures unwritten { output.old.failures < output.new.failures → result ≡ 4 }
     // A read that failed is told.
@@ -144,6 +186,28 @@ fn say<W: Write>(output: &mut Counted<W>, text: &str, status: u8) -> u8
     }
 }
 
+/// What `lint` answers to a bundle.
+fn lint_alone(alloc: Global, bounds: Bounds, bundle: &[u8]) -> Result<Answer, AllocError>
+    ensures { IfOk result (IsAnswerOf (Lint bounds) bundle.now) }
+{
+    if bundle.len() > MOST_BYTES {
+        refused(alloc, "B2")
+    } else {
+        answer_lint(alloc, bounds, bundle)
+    }
+}
+
+/// The answer to an order and a bundle.
+fn order_alone(alloc: Global, order: BundleCommand, bundle: &[u8]) -> Result<Answer, AllocError>
+    ensures { IfOk result (IsAnswerOf (Ordered order) bundle.now) }
+{
+    if bundle.len() > MOST_BYTES {
+        return refused(alloc, "B2");
+    }
+    let parts = parts_in(alloc, bundle)?;
+    or_refusal(alloc, carry_out_alone(alloc, order, &parts))
+}
+
 /// The answer to what is asked for and a bundle. All is done on the calling thread.
 ///
 /// # Errors
@@ -152,15 +216,10 @@ fn say<W: Write>(output: &mut Counted<W>, text: &str, status: u8) -> u8
 pub fn answer_request(alloc: Global, request: Request, bundle: &[u8]) -> Result<Answer, AllocError>
     ensures { IfOk result (IsAnswerOf request bundle.now) }
 {
-    if bundle.len() > MOST_BYTES {
-        return refused(alloc, "B2");
-    }
     match request {
-        Request::Lint(bounds) => answer_lint(alloc, bounds, bundle),
-        Request::Ordered(order) => {
-            let parts = parts_in(alloc, bundle)?;
-            or_refusal(alloc, carry_out_alone(alloc, order, &parts))
-        }
+        Request::Help => answer_help(alloc),
+        Request::Lint(bounds) => lint_alone(alloc, bounds, bundle),
+        Request::Ordered(order) => order_alone(alloc, order, bundle),
     }
 }
 

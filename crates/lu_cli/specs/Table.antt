@@ -1,0 +1,156 @@
+-- The table: the commands, and their options.
+use Rattle.std.specs.Prelude.{ℕ, List, [], ◌∷◌, map, Option, Some, None, option_map, codes}
+use Rattle.clap.specs.Words.{Text}
+use Rattle.lu_text.specs.Lines.{texts}
+use Rattle.lu_cli.specs.declared.table.CommandRow.{CommandRow}
+use Rattle.lu_cli.specs.declared.table.Kind.{Kind}
+use Rattle.lu_cli.specs.declared.table.Kind.TheVariants.{Flag, Number, Long}
+use Rattle.lu_cli.specs.declared.table.OptionRow.{OptionRow}
+
+-- a command: its name, the parts of the bundle that it takes, and what it answers
+pub record TableCommand : Type 0 where
+  pub name : Text
+  pub parts : Text
+  pub words : Text
+
+-- an option: its name, the letter of its number, what it takes, what is taken where it is left out,
+-- what it is, and the names of the commands that take it
+pub record TableOption : Type 0 where
+  pub name : Text
+  pub letter : Text
+  pub kind : Kind
+  pub default : Option Text
+  pub words : Text
+  pub commands : List Text
+
+abbrev pub command : Text → Text → Text → TableCommand
+command name parts words = record { name = name; parts = parts; words = words }
+
+-- an option that takes a number
+abbrev pub number : Text → Text → Kind → Option Text → Text → List Text → TableOption
+number name letter kind default words commands = record {
+  name = name;
+  letter = letter;
+  kind = kind;
+  default = default;
+  words = words;
+  commands = commands;
+}
+
+-- an option that takes nothing
+abbrev pub flag : Text → Text → List Text → TableOption
+flag name words commands = number name [] Flag None words commands
+
+-- the commands, in the order of the help
+abbrev pub commands : List TableCommand
+commands =
+    command (codes "compile") (codes "source [any parts]")
+    (codes "the component in the place of its source")
+    ∷ command (codes "lint") (codes "component [matrix [more parts]]")
+    (codes "every fault, in words, and warnings")
+    ∷ command (codes "serial") (codes "component, matrix") (codes "the serial histories")
+    ∷ command (codes "check") (codes "component, matrix")
+    (codes "the report: pass, or the first fault")
+    ∷ command (codes "certify") (codes "component, matrix")
+    (codes "linearizable or not, for schedules of any length")
+    ∷ command (codes "judge") (codes "component, matrix, histories")
+    (codes "whether recorded histories have their witnesses")
+    ∷ command (codes "conform") (codes "component, matrix, histories")
+    (codes "whether the component shows recorded histories")
+    ∷ command (codes "explain") (codes "component, matrix, report")
+    (codes "why no serial history fits")
+    ∷ command (codes "draw") (codes "component, matrix, report")
+    (codes "the schedule as a picture (SVG)")
+    ∷ command (codes "trace") (codes "component, matrix, report") (codes "what each move does")
+    ∷ command (codes "replay") (codes "component, matrix, schedule")
+    (codes "its calls and returns")
+    ∷ command (codes "shrink") (codes "component, matrix") (codes "a smaller matrix that fails")
+    ∷ command (codes "campaign") (codes "component, matrix")
+    (codes "all small matrices over some calls")
+    ∷ command (codes "spec") (codes "component, matrix, specification")
+    (codes "a specification in its one spelling")
+    ∷ command (codes "refute") (codes ".., report, specification")
+    (codes "where a failing component does not meet it")
+    ∷ command (codes "help") [] (codes "this text")
+    ∷ []
+
+-- the options, in the order of the help; where commands differ in one, each of them has its own
+abbrev pub options : List TableOption
+options =
+    number (codes "bound") (codes "N") (Number 0 256) (Some (codes "40"))
+    (codes "the most moves of a schedule")
+    (codes "serial" ∷ codes "check" ∷ codes "judge" ∷ codes "shrink" ∷ [])
+    ∷ number (codes "bound") (codes "N") (Number 0 256) (Some (codes "256"))
+    (codes "the most moves of a schedule")
+    (codes "certify" ∷ [])
+    ∷ number (codes "bound") (codes "N") (Number 0 256) None
+    (codes "the most moves of a schedule, 40 without it and 256 with --certify")
+    (codes "campaign" ∷ [])
+    ∷ number (codes "serial") (codes "S") (Number 1 256) (Some (codes "40"))
+    (codes "the most moves of an operation that runs alone")
+    (codes "lint" ∷ codes "serial" ∷ codes "check" ∷ codes "judge" ∷ codes "explain"
+    ∷ codes "draw" ∷ codes "shrink" ∷ [])
+    ∷ number (codes "serial") (codes "S") (Number 1 256) (Some (codes "256"))
+    (codes "the most moves of an operation that runs alone")
+    (codes "certify" ∷ [])
+    ∷ number (codes "serial") (codes "S") (Number 1 256) None
+    (codes "the most moves of an operation that runs alone, 40 without it and 256 with --certify")
+    (codes "campaign" ∷ [])
+    ∷ number (codes "workers") (codes "W") (Number 1 16) (Some (codes "1"))
+    (codes "threads that search")
+    (codes "check" ∷ codes "certify" ∷ [])
+    ∷ number (codes "depth") (codes "D") (Number 0 8) None
+    (codes "the most moves of the pieces that they share; without it one alone first, then 4")
+    (codes "check" ∷ codes "certify" ∷ [])
+    ∷ number (codes "local") (codes "L") (Number 0 16) (Some (codes "0"))
+    (codes "local instructions that run with a move, where the component says fewer")
+    (codes "certify" ∷ [])
+    ∷ number (codes "nodes") (codes "N") (Number 1 4294967295) (Some (codes "8388608"))
+    (codes "the most nodes of a cut that are kept")
+    (codes "certify" ∷ [])
+    ∷ flag (codes "spec") (codes "by a specification, the third part")
+    (codes "check" ∷ codes "judge" ∷ [])
+    ∷ flag (codes "spec") (codes "by a specification, the fourth part") (codes "explain" ∷ [])
+    ∷ flag (codes "show") (codes "a schedule of each history too") (codes "conform" ∷ [])
+    ∷ flag (codes "explain") (codes "with the explanation") (codes "draw" ∷ [])
+    ∷ flag (codes "setup") (codes "from the setup on") (codes "trace" ∷ [])
+    ∷ number (codes "threads") (codes "T") (Number 1 8) None
+    (codes "threads of each matrix, 2 without it")
+    (codes "campaign" ∷ [])
+    ∷ number (codes "calls") (codes "C") (Number 1 8) (Some (codes "1"))
+    (codes "calls of each thread")
+    (codes "campaign" ∷ [])
+    ∷ flag (codes "by-thread") (codes "each thread draws from its own line; not with --threads")
+    (codes "campaign" ∷ [])
+    ∷ number (codes "from") (codes "I") Long (Some (codes "0"))
+    (codes "the first matrix, counted from 0")
+    (codes "campaign" ∷ [])
+    ∷ number (codes "upto") (codes "J") Long (Some (codes "18446744073709551615"))
+    (codes "the end of the matrices")
+    (codes "campaign" ∷ [])
+    ∷ flag (codes "count") (codes "how many matrices there are") (codes "campaign" ∷ [])
+    ∷ flag (codes "certify") (codes "certifies each matrix") (codes "campaign" ∷ [])
+    ∷ flag (codes "all") (codes "goes on behind one that is not linearizable; with --certify")
+    (codes "campaign" ∷ [])
+    ∷ flag (codes "spec") (codes "holds it against a component that is trusted, the third part")
+    (codes "campaign" ∷ [])
+    ∷ []
+
+-- ---- the table in memory
+
+-- what a row says of a command
+abbrev pub command_said : CommandRow → TableCommand
+command_said row = command row.name.now row.parts.now row.words.now
+
+abbrev pub commands_said : List CommandRow → List TableCommand
+commands_said = map command_said
+
+-- what a row says of an option
+abbrev pub option_said : OptionRow → TableOption
+option_said row =
+    number row.name.now row.letter.now row.kind (option_map (λ text. text.now) row.default)
+    row.words.now
+    (texts row.commands.now)
+
+abbrev pub options_said : List OptionRow → List TableOption
+options_said = map option_said
