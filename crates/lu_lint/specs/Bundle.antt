@@ -1,5 +1,5 @@
 -- The parts of a bundle, and what is said of it.
-use Rattle.std.specs.Prelude.{◌≡◌, ℕ, ◌+◌, Bool, Option, Some, None, IsPermutation, List, [], ◌∷◌, ◌++◌, map, take, drop, codes, ◌==◌, ◌&&◌, ◌||◌, not, if◌then◌else◌}
+use Rattle.std.specs.Prelude.{◌≡◌, ℕ, ◌+◌, Bool, Option, Some, None, IsPermutation, List, [], ◌∷◌, ◌++◌, map, take, drop, codes, ◌==◌, ◌&&◌, ◌||◌, not, if◌then◌else◌, Result, Vec}
 use Rattle.std.specs.List.{concat, list_all, slice_split}
 use Rattle.std.specs.List.Sorted.{IsStableByKey}
 use Rattle.std.specs.Ordering.{nat_cmp}
@@ -9,6 +9,7 @@ use Rattle.lu_text.specs.Faults.{meaning_of}
 use Rattle.lu_text.specs.Lines.{is_blank, kept_lines, lines_of}
 use Rattle.lu_component.specs.Component.{Declarations}
 use Rattle.lu_lang.specs.Grammar.{component_grammar}
+use Rattle.lu_lint.specs.declared.remark.Remark.{Remark}
 use Rattle.lu_lint.specs.declared.remark.Said.{Said}
 use Rattle.lu_lint.specs.declared.remark.Cause.TheVariants.{Separator}
 use Rattle.lu_test.specs.Matrix.{Matrix}
@@ -19,8 +20,8 @@ use Rattle.lu_lang.specs.Faulty.{Faulty}
 use Rattle.lu_lint.specs.Matrix.{matrix_lint}
 use Rattle.lu_lint.specs.declared.component.ReadComponent.{ReadComponent}
 use Rattle.lu_lint.specs.declared.component.ReadComponent.TheVariants as read
-use Rattle.lu_lint.specs.Outline.{faulty_of_lines, outline}
-use Rattle.lu_lint.specs.Said.{SaysFurther, above_next, said_of_text}
+use Rattle.lu_lint.specs.Outline.{faulty_of_lines, outline, read_of_lines}
+use Rattle.lu_lint.specs.Said.{SaysAndReads, SaysFurther, above_next, said_of_lines, said_of_text}
 use Rattle.lu_lint.specs.Warnings.{warnings_of_lines}
 use Rattle.lu_lint.specs.Runs.{RunsSaid}
 
@@ -76,10 +77,21 @@ outline_said f None above text = []
 outline_said f (Some c) above text =
     said_of_text (matrix_lint c (Some f)) above text
 
+-- what is said of a matrix behind a component with faults
+abbrev pub said_behind_faulty : Faulty → ℕ → List ℕ → List Said
+said_behind_faulty f above text = outline_said f (outline f.draft) above text
+
 -- what is said of a matrix by its component
 abbrev pub matrix_said : ReadComponent → ℕ → List ℕ → List Said
-matrix_said (read.Faulty f) above text = outline_said f (outline f.draft) above text
+matrix_said (read.Faulty f) above text = said_behind_faulty f above text
 matrix_said (read.Sound c) above text = said_of_text (matrix_lint c None) above text
+
+-- where it succeeds, the matrix is linted: that is said of it, and it is read, where it and its
+-- component have no fault
+abbrev pub LintsMatrix : {E Y Z : Type 0} → Result (Vec Remark Z × Option Matrix) E → Vec Remark Y
+    → ReadComponent → ℕ → List ℕ → Type 0
+LintsMatrix result before c above text =
+    SaysAndReads result before (matrix_said c above text) (matrix_read c text)
 
 -- the warnings of a component that is read, from these lines
 abbrev pub warnings_said : ReadComponent → List (List ℕ) → List Said
@@ -91,15 +103,26 @@ abbrev pub component_said : List ℕ → List Said
 component_said text =
     said_of_text component_lint 0 text ++ warnings_said (component_read text) (lines_of text)
 
--- what is said of the parts behind a component, before which so many lines stand: of the matrix, of
--- the parts behind that, and by runs
-abbrev pub BehindComponent : ℕ → ReadComponent → ℕ → List (List ℕ) → List Said → Type 0
-BehindComponent bound c above [] said = said ≡ []
-BehindComponent bound c above (matrix ∷ parts) said =
+-- where it succeeds, the lines of a component are linted: that is said of their faults, and they are
+-- read as that
+abbrev pub LintsComponentLines : {E Y Z : Type 0} → Result (Vec Remark Z × ReadComponent) E
+    → Vec Remark Y → List (List ℕ) → Type 0
+LintsComponentLines result before lines =
+    SaysAndReads result before (said_of_lines component_lint 0 lines) (read_of_lines lines)
+
+-- what is said on a matrix, before which so many lines stand: of it, of the parts behind it, and
+-- by runs
+abbrev pub OnMatrix : ℕ → ReadComponent → ℕ → List ℕ → List (List ℕ) → List Said → Type 0
+OnMatrix bound c above matrix parts said =
     (further : List Said) × (runs : List Said)
     × BehindMatrix (matrix_read c matrix) (above_next above matrix) parts further
     × RunsSaid bound c (matrix_read c matrix) above matrix runs
     × (said ≡ matrix_said c above matrix ++ (further ++ runs))
+
+-- what is said of the parts behind a component, before which so many lines stand
+abbrev pub BehindComponent : ℕ → ReadComponent → ℕ → List (List ℕ) → List Said → Type 0
+BehindComponent bound c above [] said = said ≡ []
+BehindComponent bound c above (matrix ∷ parts) said = OnMatrix bound c above matrix parts said
 
 -- what is said of the parts
 abbrev pub PartsSaid : ℕ → List (List ℕ) → List Said → Type 0

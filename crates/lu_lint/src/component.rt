@@ -3,13 +3,11 @@
 ghost use Rattle.std.specs.Prelude.{◌≡◌, true, IfOk, Some};
 ghost use Rattle.lu_lang.specs.Grammar.{component_grammar};
 ghost use Rattle.lu_lang.specs.Sound.{IsSoundDraft};
-ghost use Rattle.lu_lint.specs.Outline.{read_of_lines};
-ghost use Rattle.lu_lint.specs.Bundle.{component_read, component_said, warnings_said};
+ghost use Rattle.lu_lint.specs.Bundle.{LintsComponentLines, component_read, component_said, warnings_said};
 ghost use Rattle.lu_lint.specs.Component as spec;
-ghost use Rattle.lu_lint.specs.Component.{component_lint};
 ghost use Rattle.lu_text.specs.Results.{HasItems};
 ghost use Rattle.lu_lint.specs.Lint.{told_there};
-ghost use Rattle.lu_lint.specs.Said.{SaysAlso, SaysAndReads, said_of_lines, said_told};
+ghost use Rattle.lu_lint.specs.Said.{SaysAlso, SaysAndReads, said_told};
 ghost use Rattle.lu_lint.specs.declared.remark.FaultKind.TheVariants as part;
 ghost use Rattle.lu_text.specs.Lines.{texts};
 
@@ -227,8 +225,7 @@ fn read_lines(
     mut all: Vec<Remark>,
     lines: &[&[u8]],
 ) -> Result<(Vec<Remark>, ReadComponent), AllocError>
-    ensures { SaysAndReads result all (said_of_lines component_lint 0 (texts lines.now))
-        (read_of_lines (texts lines.now)) }
+    ensures { LintsComponentLines result all (texts lines.now) }
 {
     let mut draft = FaultyDraft::new(alloc);
     let mut sound = true;

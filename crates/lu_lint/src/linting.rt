@@ -3,7 +3,7 @@
 ghost use Rattle.std.specs.Prelude.{◌≡◌, ◌≤◌, ◌∷◌, IfOk, string_bytes};
 ghost use Rattle.std.specs.List.Sorted.{IsNonDecreasingBy};
 ghost use Rattle.lu_text.specs.Lines.{texts};
-ghost use Rattle.lu_lint.specs.Bundle.{BehindComponent, BundleSaid, IsSaidOf, PartsSaid};
+ghost use Rattle.lu_lint.specs.Bundle.{BehindComponent, BundleSaid, OnMatrix, IsSaidOf, PartsSaid};
 ghost use Rattle.lu_lint.specs.Messages.{remarks_text};
 ghost use Rattle.lu_lint.specs.Said as said;
 ghost use Rattle.lu_lint.specs.Said.{SaysSuch, said_of};
@@ -43,8 +43,7 @@ fn with_second(
 ) -> Result<Vec<Remark>, AllocError>
     requires some { 1 ≤ serial }
     requires few { serial ≤ 256 }
-    ensures { SaysSuch result all
-        (BehindComponent serial component.now above (text.now ∷ texts parts.now)) }
+    ensures { SaysSuch result all (OnMatrix serial component.now above text.now (texts parts.now)) }
 {
     let (all, matrix) = with_matrix(alloc, all, component, above, text)?;
     let behind = above_next(alloc, above, text)?;

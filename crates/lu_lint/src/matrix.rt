@@ -2,17 +2,15 @@
 
 ghost use Rattle.std.specs.Prelude.{◌≡◌, IfOk, IfSome, OnOk, []};
 ghost use Rattle.std.specs.Option.{unwrap_or};
-ghost use Rattle.std.specs.Result.{result_ok};
 ghost use Rattle.lu_component.specs.Component.{IsComponent};
 ghost use Rattle.lu_lint.specs.Lint.{told_here};
 ghost use Rattle.lu_lint.specs.Matrix as spec;
 ghost use Rattle.lu_lint.specs.Matrix.{fault_said, judged_by, lint_on};
-ghost use Rattle.lu_lint.specs.Bundle.{matrix_read, matrix_said, outline_said};
-ghost use Rattle.lu_lint.specs.Outline.{outline};
+ghost use Rattle.lu_lint.specs.Bundle.{LintsMatrix, said_behind_faulty};
 ghost use Rattle.lu_lint.specs.Runs.{AreTest};
-ghost use Rattle.lu_lint.specs.Said.{SaysAlso, SaysAndReads, said_of_lines, said_of_text, said_told};
+ghost use Rattle.lu_lint.specs.Said.{LintsLines, LintsText, SaysAlso, said_told};
 ghost use Rattle.lu_lint.specs.declared.remark.FaultKind.TheVariants as part;
-ghost use Rattle.lu_text.specs.Faults.{fault_in, going_on, meaning_of, meaning_of_lines};
+ghost use Rattle.lu_text.specs.Faults.{fault_in, going_on};
 ghost use Rattle.lu_test.specs.Matrix.{IsOf};
 ghost use Rattle.lu_test.specs.MatrixText.{IsDraft, finished, nothing, matrix_of as left_matrix};
 ghost use Rattle.lu_text.specs.Lines.{texts};
@@ -193,9 +191,7 @@ fn read_lines(
     above: usize,
     lines: &[&[u8]],
 ) -> Result<(Vec<Remark>, Option<Matrix>), AllocError>
-    ensures said { SaysAndReads result all
-        (said_of_lines (lint_on basis.now) above (texts lines.now))
-        (result_ok (meaning_of_lines (lint_on basis.now).grammar (texts lines.now))) }
+    ensures said { LintsLines result all (lint_on basis.now) above (texts lines.now) }
     ensures fits { IfOk result (λ (all, read). IfSome read (λ m. IsOf m basis.now.component.now)) }
 {
     let mut draft = no_lines(alloc);
@@ -231,8 +227,7 @@ fn read_text(
     above: usize,
     text: &[u8],
 ) -> Result<(Vec<Remark>, Option<Matrix>), AllocError>
-    ensures said { SaysAndReads result all (said_of_text (lint_on basis.now) above text.now)
-        (result_ok (meaning_of (lint_on basis.now).grammar text.now)) }
+    ensures said { LintsText result all (lint_on basis.now) above text.now }
     ensures fits { IfOk result (λ (all, read). IfSome read (λ m. IsOf m basis.now.component.now)) }
 {
     let lines = lines_of(alloc, text)?;
@@ -248,8 +243,7 @@ fn with_matrix_by(
     above: usize,
     text: &[u8],
 ) -> Result<Vec<Remark>, AllocError>
-    ensures { SaysAlso result all
-        (outline_said faulty.now (outline faulty.now.draft) above text.now) }
+    ensures { SaysAlso result all (said_behind_faulty faulty.now above text.now) }
 {
     match outline(alloc, &faulty.draft)? {
         None => Ok(all),
@@ -278,8 +272,7 @@ pub(crate) fn with_matrix(
     above: usize,
     text: &[u8],
 ) -> Result<(Vec<Remark>, Option<Matrix>), AllocError>
-    ensures said { SaysAndReads result all (matrix_said component.now above text.now)
-        (matrix_read component.now text.now) }
+    ensures said { LintsMatrix result all component.now above text.now }
     ensures fits { IfOk result (λ (all, read). AreTest component.now read) }
 {
     match component {
