@@ -56,7 +56,7 @@ module _ (c : Declarations) (matrix : Matrix) (limits : Limits) (settles : Settl
     told_well : FromEachStart c matrix (λ s. EndsWellOnFewNodes (IsMember members) s limits.nodes) → IsProved c matrix limits
     told_well is s at =
         let here = set s at in
-        (here.none, few_at s at (is s at).0, well_too (IsMember members) (IsSerialHistory s) (λ q y. (here.are q).0 y) (λ q y. (here.are q).1 y) s (is s at).1)
+        (here.none, (few_at s at (is s at).0, well_too (IsMember members) (IsSerialHistory s) (λ q y. (here.are q).0 y) (λ q y. (here.are q).1 y) s (is s at).1))
 
     told_badly : (moves : ℕ) → FromEachStart c matrix (λ s. IsEnding (IsMember members) limits.bound limits.nodes s (Badly moves)) → limits.bound < moves → moves ≤ most_moves → FailsBehind c limits matrix moves
     told_badly moves is more few = (more, few, λ s at. ((set s at).none, few_at s at ((is s at).1 more), shortest_at s at moves (is s at).0))
