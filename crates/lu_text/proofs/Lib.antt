@@ -7,3 +7,4 @@ pub mod Says
 pub mod Written
 pub mod WordText
 pub mod KeptLines
+pub mod Parts

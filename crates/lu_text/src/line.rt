@@ -8,7 +8,7 @@ ghost use Rattle.lu_text.specs.Lines.{texts, first_len, IsFirstLine};
 use crate::words::place_of;
 use std::alloc::{AllocError, Global};
 
-fn is_blank(byte: u8) -> bool
+pub(crate) fn is_blank(byte: u8) -> bool
     ensures { result ≡ spec.is_blank byte }
 {
     matches!(byte, b' ' | b'\t' | b'\r')
@@ -101,4 +101,22 @@ pub fn cut_line(text: &[u8]) -> (&[u8], &[u8])
     ensures some { 0 < length text.now → 0 < length result.0.now }
 {
     text.split_at(line_len(text))
+}
+
+/// The lines of a text, each with its LF; the last may lack it.
+///
+/// # Errors
+///
+/// There is no memory for the list of the lines.
+pub fn kept_lines(alloc: Global, text: &[u8]) -> Result<Vec<&[u8]>, AllocError>
+    ensures { IfOk result (λ lines. texts lines.items ≡ spec.kept_lines text.now) }
+{
+    let mut lines = Vec::new(alloc);
+    let mut rest = text;
+    while !rest.is_empty() {
+        let (line, after) = cut_line(rest);
+        lines.push(line)?;
+        rest = after;
+    }
+    Ok(lines)
 }
