@@ -18,7 +18,7 @@ use indexmap::IndexMap;
 use lu_component::Component;
 use lu_machine::Machine;
 use lu_recorded::Recorded;
-use lu_test::{MOST_MOVES, Matrix, Move, Schedule};
+use lu_test::{MOST_LISTED_MOVES, Matrix, Move, Schedule};
 use std::alloc::{AllocError, Global};
 
 /// How many stages are kept at most.
@@ -30,7 +30,7 @@ fn by_way(moves: Vec<Move>) -> Shown
     ensures short { length moves.items ≤ 4112 → result ≡ By moves.items }
     ensures long { 4112 < length moves.items → result ≡ Undecided }
 {
-    if moves.len() > MOST_MOVES {
+    if moves.len() > MOST_LISTED_MOVES {
         return Shown::Undecided;
     }
     Shown::By(Schedule::new(moves))

@@ -10,7 +10,7 @@ use crate::discovering::Discovery;
 use crate::exploring_states::explore;
 use crate::marking::{first_unmarked, mark_back};
 use lu_component::Component;
-use lu_test::{MOST_MOVES, Matrix, Schedule};
+use lu_test::{MOST_LISTED_MOVES, Matrix, Schedule};
 use std::alloc::{AllocError, Global};
 
 /// The moves by which the state at this place was discovered, if they are no more than a schedule
@@ -28,7 +28,7 @@ fn schedule_to(
     let mut moves = Vec::new(alloc);
     let mut at = place;
     while at > 0 {
-        if moves.len() == MOST_MOVES {
+        if moves.len() == MOST_LISTED_MOVES {
             return Ok(None);
         }
         let way = ways[at];

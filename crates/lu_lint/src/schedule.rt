@@ -10,7 +10,7 @@ ghost use Rattle.lu_text.specs.Lines.{texts};
 
 use crate::remark::{Cause, FaultKind, Remark, Said, line_below, with_remark};
 use crate::third_wording::{length_wording, move_wording, schedule_form_wording};
-use lu_test::{MOST_MOVES, ScheduleFault, move_in, schedule_words};
+use lu_test::{MOST_LISTED_MOVES, ScheduleFault, move_in, schedule_words};
 use std::alloc::{AllocError, Global};
 
 /// What is said of a fault of a schedule, on its first line.
@@ -50,7 +50,7 @@ fn with_length(
 ) -> Result<Vec<Remark>, AllocError>
     ensures { SaysAlso result all (schedule_said above (spec.length_faults (texts words.now))) }
 {
-    if words.len() <= MOST_MOVES {
+    if words.len() <= MOST_LISTED_MOVES {
         return Ok(all);
     }
     let text = length_wording(alloc, words.len())?;
@@ -76,10 +76,10 @@ fn with_each(
 fn first_words<'a, 'b>(words: &'b [&'a [u8]]) -> &'b [&'a [u8]]
     ensures { texts result.now ≡ take 4113 (texts words.now) }
 {
-    if words.len() <= MOST_MOVES {
+    if words.len() <= MOST_LISTED_MOVES {
         return words;
     }
-    words.split_at(MOST_MOVES + 1).0
+    words.split_at(MOST_LISTED_MOVES + 1).0
 }
 
 /// The remarks with those on the words of a schedule.

@@ -47,3 +47,6 @@ pub use position::Position;
 pub use setup::settles;
 pub use thread::{Activity, Frame, Thread, compute};
 pub use undo::Undo;
+
+/// The most moves that a bound of schedules or of serial runs may be.
+pub const MOST_MOVES: u16 = 256;

@@ -4,11 +4,9 @@ ghost use Rattle.std.specs.Prelude.{◌≡◌, ◌+◌, ◌<◌, ◌≤◌, ◌^
 ghost use Rattle.lu_machine.specs.Sums.{capped};
 ghost use Rattle.lu_orders.specs.Orders.{AreRows, AreWithOne, IsNumberOf, IsRow, IsWithOne, CountsUpTo, all_moves, interleavings, orders, orders_within};
 
+use lu_machine::MOST_MOVES;
 use std::alloc::{AllocError, Global};
 use std::marker::Model;
-
-/// The most moves in all for which orders within caps are counted.
-const MOST_MOVES: usize = 256;
 
 /// The numbers for so many moves of one thread, and each number of moves of another.
 #[derive(Debug, Drop)]
@@ -172,10 +170,10 @@ impl Orders {
         ensures number { IfSome result (λ n. n ≡ capped (orders_within left caps.now)) }
         ensures answers { left ≤ 256 → CountsUpTo self.now left → IsSome result }
     {
-        if left > MOST_MOVES {
+        if left > usize::from(MOST_MOVES) {
             return None;
         }
-        let mut row = [0; MOST_MOVES + 1];
+        let mut row = [0; MOST_MOVES as usize + 1];
         start(&mut row);
         for behind in 0..caps.len() {
             let cap = usize::from(caps[caps.len() - 1 - behind]);

@@ -3,10 +3,8 @@
 ghost use Rattle.std.specs.Prelude.{◌≡◌, ◌≤◌};
 ghost use Rattle.lu_report.specs.Limits.{limits_of, most_moves};
 
+use lu_machine::MOST_MOVES;
 use std::marker::Model;
-
-/// The most moves that a bound may be.
-pub const MOST_MOVES: u16 = 256;
 
 /// How far schedules and serial runs go.
 #[derive(Clone, Copy, Debug, PartialEq, Eq)]

@@ -5,9 +5,9 @@ ghost use Rattle.lu_report.specs.EveryLine as spec;
 ghost use Rattle.lu_report.specs.EveryLine.{IsFindingLine, IsJudgementLine, IsLineOf};
 ghost use Rattle.lu_report.specs.Forms.{IsEarlierLine, IsFailLine, IsNumberLine, IsScheduleLine, IsVersionLine};
 
-use crate::bounds::MOST_MOVES;
 use crate::line::{earlier_in, is_line, number_behind, version_in, why_in};
 use crate::version::Version;
+use lu_machine::MOST_MOVES;
 use lu_test::{ScheduleFault, read_schedule};
 use std::alloc::{AllocError, Global};
 

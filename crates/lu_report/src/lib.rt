@@ -20,10 +20,11 @@ mod report;
 mod version;
 mod writer;
 
-pub use bounds::{Bounds, MOST_MOVES};
+pub use bounds::Bounds;
 pub use fault::{ReportFault, ReportFaultKind};
 pub use faults::{ReportLineFault, report_faults};
 pub use form::LineForm;
+pub use lu_machine::MOST_MOVES;
 pub use reader::read_report;
 pub use report::{Finding, Report};
 pub use writer::write_report;

@@ -11,13 +11,12 @@ ghost use Rattle.lu_report.specs.Parts.{IsJudgement, most_moves};
 ghost use Rattle.lu_history.specs.Serial.{IsOutcome};
 ghost use Rattle.lu_report.specs.Forms.{AreBehind, AreConflict, AreCountLines, AreCountsOf, AreFinding, AreJudgement, AreNone, AreReport, AreRun, Cuts, GivesReport, HasNo, IsBehind, IsConflictOf, IsEarlierLine, IsFault, IsFindingOf, IsNumberLine, IsScheduleLine, IsVersionLine, SaysNumber, Spells, Stops};
 
-use crate::bounds::MOST_MOVES;
 use crate::fault::{ReportFault, ReportFaultKind};
 use crate::line::{earlier_in, is_line, number_behind, version_in, why_in};
 use crate::report::{Finding, Report};
 use crate::version::Version;
 use lu_history::SerialOutcome;
-use lu_machine::Counts;
+use lu_machine::{Counts, MOST_MOVES};
 use lu_test::{Schedule, ScheduleFault, read_schedule};
 use lu_text::{Fault, cut_line};
 use std::alloc::Global;

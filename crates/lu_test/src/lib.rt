@@ -20,7 +20,7 @@ pub use matrix_fault::{MatrixFault, MatrixFaultKind};
 pub use matrix_going::mended;
 pub use matrix_text::{Draft, end_fault, read_matrix};
 pub use matrix_writer::write_matrix;
-pub use schedule::{MOST_MOVES, Move, Schedule};
+pub use schedule::{MOST_LISTED_MOVES, Move, Schedule};
 pub use schedule_fault::ScheduleFault;
 pub use schedule_going::schedule_words;
 pub use schedule_text::{move_in, read_schedule, write_schedule};

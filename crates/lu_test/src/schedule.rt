@@ -6,7 +6,7 @@ ghost use Rattle.lu_test.specs.Schedule.{AreMoves};
 use std::marker::Model;
 
 /// The most moves that the text of a schedule has: 16 calls of one move, and 256 more.
-pub const MOST_MOVES: usize = 4112;
+pub const MOST_LISTED_MOVES: usize = 4112;
 
 /// One move of a run: the thread that makes it, 0 to 7, and which of its picks it takes, 0 to 7.
 #[derive(Clone, Copy, Debug, PartialEq, Eq)]

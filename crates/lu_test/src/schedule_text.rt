@@ -10,7 +10,7 @@ ghost use Rattle.lu_test.specs.Schedule.{AreMoves};
 ghost use Rattle.lu_test.specs.ScheduleText.{GivesSchedule, SpellsMoves, schedule_text, move_text, schedule_of, move_of, one_line};
 ghost use Rattle.lu_test.specs.ScheduleText as spec;
 
-use crate::schedule::{MOST_MOVES, Move, Schedule};
+use crate::schedule::{MOST_LISTED_MOVES, Move, Schedule};
 use crate::schedule_fault::ScheduleFault;
 use lu_text::{is_number, number_up_to, parts_of, place_of};
 use std::alloc::{AllocError, Global};
@@ -83,7 +83,7 @@ fn moves_of(alloc: Global, words: &[&[u8]]) -> Result<Schedule, ScheduleFault>
     let mut moves = Vec::new(alloc);
     for word in words {
         let next = move_in(word)?;
-        if moves.len() == MOST_MOVES {
+        if moves.len() == MOST_LISTED_MOVES {
             return Err(ScheduleFault::Limit);
         }
         moves.push(next)?;

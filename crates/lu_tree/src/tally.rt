@@ -4,12 +4,9 @@ ghost use Rattle.std.specs.Prelude.{◌≡◌, true, false, IfOk};
 ghost use Rattle.lu_tree.specs.Walks.{IsReadyToWalk};
 
 use crate::watch::Watch;
-use lu_machine::Counts;
+use lu_machine::{Counts, MOST_MOVES};
 use lu_test::Move;
 use std::alloc::{AllocError, Global};
-
-/// The most moves that a walk goes on by.
-const MOST_MOVES: usize = 256;
 
 /// The number of schedules that are passed before the watch is asked again.
 const UNASKED: u8 = 64;
@@ -32,7 +29,7 @@ impl WalkProgress {
     {
         Ok(WalkProgress {
             unasked: 0,
-            path: Vec::with_capacity(alloc, MOST_MOVES)?,
+            path: Vec::with_capacity(alloc, usize::from(MOST_MOVES))?,
         })
     }
 

@@ -17,8 +17,8 @@ returns-in_err-next c =
     let step = text_more words i _ (omega arith) in
     rw (p.1, p.2) (told c.in_err-next.field-0.0 (moves_of 0 (texts words)) (ends c.loop-word.moves.items _ _ c.in_err-next.field-0.0 _ _ e (rw step at c.loop-word.invariant.told)))
 
-pub returns-then-len-eq-MOST_MOVES : goal.returns-then-len-eq-MOST_MOVES
-returns-then-len-eq-MOST_MOVES c =
+pub returns-then-len-eq-MOST_LISTED_MOVES : goal.returns-then-len-eq-MOST_LISTED_MOVES
+returns-then-len-eq-MOST_LISTED_MOVES c =
     let words = c.args.words.now in
     let i = c.loop-word.word-index in
     let step = text_more words i _ (omega arith) in
