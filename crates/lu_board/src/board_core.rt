@@ -1,4 +1,6 @@
-//! The board as a pure machine of events.
+//! The board as a pure machine of events: what any workers do, in whatever order, is a list of
+//! events, so that a test goes through orders which no run of threads can be made to take.
+
 ghost use Rattle.std.specs.Prelude.{◌≡◌, [], ◌<◌, ◌≤◌, ◌^◌, ◌↔◌, IsTrue, true, OnOk, IfOk, IfErr, length, nat_eq};
 ghost use Rattle.lu_board.specs.declared.view.TheConstants.{MAX_PIECES, MAX_WORKERS};
 ghost use Rattle.lu_board.specs.declared.board_core.CoreEvent.TheVariants.{Claim, Look, Lower, Settle};

@@ -11,26 +11,16 @@ use Rattle.lu_serial.specs.Serial.{IsSerialHistory}
 use Rattle.lu_graph.specs.Hopeless.{HasFewStates, IsFirstLost}
 use Rattle.lu_graph.specs.Nodes.{EndsWellOnFewNodes, HasFewNodes, IsShortestBad}
 use Rattle.lu_report.specs.declared.report.Finding.{Finding}
-use Rattle.lu_report.specs.declared.report.Finding.TheVariants.{SerialCut, Nondeterministic, Fail, Pass}
 use Rattle.lu_report.specs.declared.report.Report.{Report}
 use Rattle.lu_report.specs.Limits.{most_moves}
 use Rattle.lu_replay.specs.Reports.{IsReport}
-pub use Rattle.lu_replay.specs.Confirmed.{IsFailure}
+pub use Rattle.lu_report.specs.Parts.{IsFailure, IsFullPass}
 use Rattle.lu_parallel.specs.Ranges.{Choice}
 use Rattle.lu_spec.specs.Beginnings.{Begins, Has}
 use Rattle.lu_refute.specs.Linearizable.{AreLengths}
 use Rattle.lu_certify.specs.declared.certificate.Certificate.{Certificate}
 use Rattle.lu_certify.specs.declared.limits.Limits.{Limits}
 use Rattle.lu_certify.specs.declared.certificate.Certificate.TheVariants.{Linearizable, Livelock, NotLinearizable, Undecided}
-
--- ---- kinds of findings
-
--- a pass, and no schedule was cut
-abbrev pub IsFullPass : Finding → Type 0
-IsFullPass (SerialCut u) = ⊥
-IsFullPass (Nondeterministic u before earlier) = ⊥
-IsFullPass (Fail u why) = ⊥
-IsFullPass (Pass counts) = counts.cut ≡ 0
 
 -- ---- the reports of all cuts
 

@@ -18,30 +18,6 @@ use lu_serial::{Learnt, learn};
 use lu_test::Matrix;
 use std::alloc::{AllocError, Global};
 
-/// Whether the report is a failure or nondeterministic.
-fn is_failure(report: &Report) -> bool
-    ensures { IsTrue result ↔ IsFailure report.now.finding }
-{
-    match report.finding() {
-        Finding::SerialCut(_) => false,
-        Finding::Nondeterministic { .. } => true,
-        Finding::Fail { .. } => true,
-        Finding::Pass(_) => false,
-    }
-}
-
-/// Whether the report is a pass, and no schedule was cut.
-fn is_full_pass(report: &Report) -> bool
-    ensures { IsTrue result ↔ IsFullPass report.now.finding }
-{
-    match report.finding() {
-        Finding::SerialCut(_) => false,
-        Finding::Nondeterministic { .. } => false,
-        Finding::Fail { .. } => false,
-        Finding::Pass(counts) => counts.cut == 0,
-    }
-}
-
 /// Whether an instruction leads back to one that stands before it, or to itself.
 fn leads_back(instrs: &[Instr]) -> bool {
     for place in 0..instrs.len() {
@@ -131,10 +107,10 @@ pub(crate) fn judge_checked(
     requires tried { was_tried ≡ true → IsLeftOpen component.now limits cut.now }
     ensures { IfOk result (IsJudged component.now limits cut.now) }
 {
-    if is_failure(&report) {
+    if report.is_failure() {
         return Ok(Judged::Failing(report));
     }
-    if is_full_pass(&report) {
+    if report.is_full_pass() {
         return Ok(Judged::Stands(Standing::FullPass));
     }
     match judge_first(alloc, !was_tried, component, cut, limits)? {

@@ -6,7 +6,7 @@ use Rattle.std.proofs.lemmas.Result.{IfOk-weaker}
 use Rattle.lu_test.specs.Matrix.{Matrix}
 use Rattle.lu_report.specs.declared.report.Report.{Report}
 use Rattle.lu_machine.specs.Starts.{AllEnd}
-use Rattle.lu_replay.specs.Confirmed.{IsPass}
+use Rattle.lu_report.specs.Parts.{IsPass}
 use Rattle.lu_replay.proofs.Determined.{one_report}
 use Rattle.lu_refine.specs.declared.campaigns.Campaign.{Campaign}
 use Rattle.lu_refine.specs.declared.campaigns.Campaign.TheVariants.{AllPass, First}

@@ -7,7 +7,7 @@ use Rattle.lu_machine.specs.Starts.{AllEnd}
 use Rattle.lu_report.specs.Limits.{IsSerialBound, most_moves}
 use Rattle.lu_report.specs.declared.report.Report.{Report}
 use Rattle.lu_replay.specs.Reports.{IsReport}
-use Rattle.lu_replay.specs.Confirmed.{IsPass}
+use Rattle.lu_report.specs.Parts.{IsPass}
 use Rattle.lu_refine.specs.declared.campaigns.Campaign.{Campaign}
 use Rattle.lu_refine.specs.declared.campaigns.Campaign.TheVariants.{AllPass, First}
 use Rattle.lu_refine.specs.declared.campaigns.CampaignFault.{CampaignFault}

@@ -5,7 +5,7 @@ use Rattle.lu_test.specs.declared.matrix.Call.{Call}
 use Rattle.lu_test.specs.Matrix.{Matrix, AreArguments, IsCallOf, IsOf}
 use Rattle.lu_report.specs.declared.report.Report.{Report}
 use Rattle.lu_replay.specs.Reports.{IsReport}
-use Rattle.lu_replay.specs.Confirmed.{IsPass}
+use Rattle.lu_report.specs.Parts.{IsPass}
 use Rattle.lu_refine.specs.declared.campaigns.Campaign.{Campaign}
 use Rattle.lu_refine.specs.declared.campaigns.Campaign.TheVariants.{AllPass, First}
 use Rattle.lu_refine.specs.declared.campaigns.CampaignFault.{CampaignFault}

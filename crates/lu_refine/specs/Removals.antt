@@ -3,7 +3,7 @@ use Rattle.std.specs.Prelude.{◌≡◌, ℕ, ◌<◌, ◌⊎◌, List, [], ◌�
 use Rattle.lu_component.specs.Component.{Declarations}
 use Rattle.lu_test.specs.Matrix.{Matrix, calls_of, without}
 use Rattle.lu_report.specs.declared.report.Report.{Report}
-pub use Rattle.lu_replay.specs.Confirmed.{IsFailure}
+pub use Rattle.lu_report.specs.Parts.{IsFailure}
 use Rattle.lu_replay.specs.Reports.{IsReport}
 use Rattle.lu_refine.specs.declared.shrink_fault.ShrinkFault.{ShrinkFault}
 use Rattle.lu_refine.specs.declared.shrink_fault.ShrinkFault.TheVariants.{NotFailing, Memory}

@@ -3,7 +3,7 @@
 ghost use Rattle.std.specs.Prelude.{◌≡◌, ◌<◌, ◌≤◌, ◌↔◌, IsTrue, IsOk, IfOk, IfErr, length, All, Any};
 ghost use Rattle.lu_test.specs.Matrix.{IsSetup};
 ghost use Rattle.lu_machine.specs.Starts.{AllEnd};
-ghost use Rattle.lu_replay.specs.Confirmed.{IsPass};
+ghost use Rattle.lu_report.specs.Parts.{IsPass};
 ghost use Rattle.lu_refine.specs.Choices.{AreEnough, choice_count};
 ghost use Rattle.lu_refine.specs.Campaigns.{AreCallsOf, HaveArguments, IsFoundOf, IsGrid, IsLimitFault, Runs};
 ghost use Rattle.lu_refine.specs.Roles.{AreWithinLimits, bases};
@@ -20,18 +20,6 @@ use std::alloc::{AllocError, Global};
 
 /// The most candidates of a thread.
 pub const MOST_CANDIDATES: usize = 8;
-
-/// Whether the report is a pass.
-fn is_pass(report: &Report) -> bool
-    ensures { IsTrue result ↔ IsPass report.now.finding }
-{
-    match report.finding() {
-        Finding::SerialCut(_) => false,
-        Finding::Nondeterministic { .. } => false,
-        Finding::Fail { .. } => false,
-        Finding::Pass(_) => true,
-    }
-}
 
 /// Whether some thread has candidates.
 fn are_some(candidates: &[Calls]) -> bool
@@ -191,7 +179,7 @@ pub fn campaign_slice(
         let choice = choice_at(alloc, bases, place)?;
         let matrix = fill(alloc, roles, choice.as_slice())?;
         let report = check_in_arena(alloc, component, &matrix, roles.bound, roles.serial)?;
-        if !is_pass(&report) {
+        if !report.is_pass() {
             return Ok(Campaign::First { matrix, report });
         }
     }

@@ -13,18 +13,6 @@ use lu_report::{Finding, Report};
 use lu_test::{Matrix, copy_matrix, remove};
 use std::alloc::{AllocError, Global};
 
-/// Whether the report is a failure or nondeterministic.
-fn is_failure(report: &Report) -> bool
-    ensures { IsTrue result ↔ IsFailure report.now.finding }
-{
-    match report.finding() {
-        Finding::SerialCut(_) => false,
-        Finding::Nondeterministic { .. } => true,
-        Finding::Fail { .. } => true,
-        Finding::Pass(_) => false,
-    }
-}
-
 /// The matrix without the first call, by thread and then by number, without which it still fails,
 /// and its report.
 fn take_least(
@@ -43,7 +31,7 @@ fn take_least(
         for k in 0..matrix.calls(t) {
             let smaller = remove(alloc, matrix, t, k)?;
             let report = check_in_arena(alloc, component, &smaller, bound, serial)?;
-            if is_failure(&report) {
+            if report.is_failure() {
                 return Ok(Some((smaller, report)));
             }
         }
@@ -77,7 +65,7 @@ pub fn shrink(
     ensures fault { IfErr result (IsShrinkFault component.now matrix.now bound serial) }
 {
     let report = check_in_arena(alloc, component, matrix, bound, serial)?;
-    if !is_failure(&report) {
+    if !report.is_failure() {
         return Err(ShrinkFault::NotFailing(report));
     }
     let mut shrunk = (copy_matrix(alloc, matrix)?, report);

@@ -9,7 +9,8 @@ use Rattle.lu_machine.proofs.Starting.{other_start, start_there}
 use Rattle.lu_history.specs.declared.serial.SerialOp.{SerialOp}
 use Rattle.lu_report.specs.declared.report.Finding.{Finding}
 use Rattle.lu_report.specs.declared.report.Finding.TheVariants.{SerialCut, Nondeterministic, Fail, Pass}
-use Rattle.lu_replay.specs.Confirmed.{IsPass, IsShown, IsShownWith}
+use Rattle.lu_replay.specs.Confirmed.{IsShown, IsShownWith}
+use Rattle.lu_report.specs.Parts.{IsPass}
 use Rattle.lu_replay.proofs.RunsAnew.{report_shown}
 use Rattle.lu_refute.specs.Linearizable.{IsLinearizable}
 use Rattle.lu_refute.specs.Whole.{IsSeriallyWhole, made_calls}

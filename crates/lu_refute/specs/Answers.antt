@@ -14,7 +14,7 @@ use Rattle.lu_report.specs.declared.report.Finding.{Finding}
 use Rattle.lu_report.specs.declared.report.Finding.TheVariants.{SerialCut, Nondeterministic, Fail, Pass}
 use Rattle.lu_report.specs.declared.report.Report.{Report}
 use Rattle.lu_replay.specs.Confirmed.{IsConfirmed}
-pub use Rattle.lu_replay.specs.Confirmed.{IsFailure}
+pub use Rattle.lu_report.specs.Parts.{IsFailure}
 use Rattle.lu_refute.specs.declared.fault.RefuteFault.{RefuteFault}
 use Rattle.lu_refute.specs.declared.fault.RefuteFault.TheVariants.{NotShown, Memory}
 use Rattle.lu_refute.specs.Linearizable.{Refutes}

@@ -25,18 +25,6 @@ use lu_trie::Trie;
 use lu_witness::{Verdict, verdict};
 use std::alloc::{AllocError, Global};
 
-/// Whether the finding is a failure or nondeterminism.
-fn is_failure(finding: &Finding) -> bool
-    ensures { IsTrue result ↔ IsFailure finding.now }
-{
-    match finding {
-        Finding::SerialCut(_) => false,
-        Finding::Nondeterministic { .. } => true,
-        Finding::Fail { .. } => true,
-        Finding::Pass(_) => false,
-    }
-}
-
 /// Whether a run that stands so, with this verdict, is ended and not good.
 fn is_bad(status: Status, verdict: Verdict) -> bool
     ensures { IsTrue result ↔ ((status ≢ Running) × (verdict ≢ Good)) }
@@ -169,7 +157,7 @@ pub fn refute(
     let Some(serial) = report.serial() else {
         return Err(RefuteFault::NotShown);
     };
-    if !is_failure(report.finding()) || !confirm(alloc, component, matrix, report)? {
+    if !report.is_failure() || !confirm(alloc, component, matrix, report)? {
         return Err(RefuteFault::NotShown);
     }
     Ok(answer_to(alloc, component, matrix, report, serial, spec)?)

@@ -39,7 +39,8 @@ use Rattle.lu_report.specs.declared.report.Finding.TheVariants.{SerialCut, Nonde
 use Rattle.lu_report.specs.declared.report.Report.{Report}
 use Rattle.lu_replay.specs.Replays.{PlaysToStatus, IsInfeasibleAt}
 use Rattle.lu_replay.specs.Reports.{IsFinding, IsFindingAgainst, IsReport, IsReportAgainst}
-use Rattle.lu_replay.specs.Confirmed.{IsBadFor, IsConfirmed, IsConfirmedAgainst, IsShown, IsShownAgainst, IsShownWith, IsPass, IsReason}
+use Rattle.lu_replay.specs.Confirmed.{IsBadFor, IsConfirmed, IsConfirmedAgainst, IsShown, IsShownAgainst, IsShownWith, IsReason}
+use Rattle.lu_report.specs.Parts.{IsPass}
 use Rattle.lu_replay.proofs.Determined.{cut_no_conflict, conflict_same}
 use Rattle.lu_replay.proofs.Playing.{replay_or_fault}
 use Rattle.lu_replay.proofs.Sets.{bad_alike, bad_back, why_alike}

@@ -62,19 +62,6 @@ IsConfirmedAgainst Set c matrix r =
     (r.local ≡ c.local) × (r.serial ≡ None)
     × FromEachStart c matrix (λ s. IsShownAgainst Set s r.bound r.finding)
 
-abbrev pub IsPass : Finding → Type 0
-IsPass (SerialCut u) = ⊥
-IsPass (Nondeterministic u before earlier) = ⊥
-IsPass (Fail u why) = ⊥
-IsPass (Pass counts) = Unit {0}
-
--- a failure, or nondeterminism
-abbrev pub IsFailure : Finding → Type 0
-IsFailure (SerialCut u) = ⊥
-IsFailure (Nondeterministic u before earlier) = Unit {0}
-IsFailure (Fail u why) = Unit {0}
-IsFailure (Pass counts) = ⊥
-
 -- a run that ended so, with this verdict, fails for this reason
 abbrev pub IsReason : Status → Verdict → Why → Type 0
 IsReason end verdict Complete = (end ≡ status.Complete) × (verdict ≡ NoWitness)

@@ -14,7 +14,8 @@ use Rattle.lu_witness.specs.Witnesses.{IsMember}
 use Rattle.lu_report.specs.declared.report.Report.{Report}
 use Rattle.lu_replay.specs.Replays.{PlaysToStatus, IsInfeasibleAt}
 use Rattle.lu_replay.specs.Reports.{IsReport, IsReportAgainst}
-use Rattle.lu_replay.specs.Confirmed.{IsConfirmed, IsConfirmedAgainst, IsPass}
+use Rattle.lu_replay.specs.Confirmed.{IsConfirmed, IsConfirmedAgainst}
+use Rattle.lu_report.specs.Parts.{IsPass}
 
 -- a schedule shows one history and one status
 abbrev pub OneReplay : Type 0

@@ -1,5 +1,5 @@
 -- What a report holds, and its limits.
-use Rattle.std.specs.Prelude.{ℕ, ◌≤◌, List, Option, Some, None, IfSome, IfNone}
+use Rattle.std.specs.Prelude.{◌≡◌, ℕ, ◌≤◌, List, Option, Some, None, IfSome, IfNone}
 use Rattle.lu_test.specs.declared.schedule.Move.{Move}
 use Rattle.lu_witness.specs.declared.judgement.Why.{Why}
 use Rattle.lu_witness.specs.declared.judgement.Why.TheVariants.{Complete, Stuck}
@@ -49,6 +49,27 @@ IsJudgement (SerialCut u) = ⊥
 IsJudgement (Nondeterministic u before earlier) = ⊥
 IsJudgement (Fail u why) = Unit {0}
 IsJudgement (Pass counts) = Unit {0}
+
+-- what is found is a pass
+abbrev pub IsPass : Finding → Type 0
+IsPass (SerialCut u) = ⊥
+IsPass (Nondeterministic u before earlier) = ⊥
+IsPass (Fail u why) = ⊥
+IsPass (Pass counts) = Unit {0}
+
+-- a failure, or nondeterminism
+abbrev pub IsFailure : Finding → Type 0
+IsFailure (SerialCut u) = ⊥
+IsFailure (Nondeterministic u before earlier) = Unit {0}
+IsFailure (Fail u why) = Unit {0}
+IsFailure (Pass counts) = ⊥
+
+-- a pass, and no schedule was cut
+abbrev pub IsFullPass : Finding → Type 0
+IsFullPass (SerialCut u) = ⊥
+IsFullPass (Nondeterministic u before earlier) = ⊥
+IsFullPass (Fail u why) = ⊥
+IsFullPass (Pass counts) = counts.cut ≡ 0
 
 -- the schedule that shows it; of a pass none
 abbrev pub shown_schedule : Finding → Option (List Move)

@@ -135,6 +135,7 @@ pub fn report_faults(alloc: Global, lines: &[&[u8]]) -> Result<Vec<ReportLineFau
         form = next_wanted(version, form, line);
     }
     let fault = missing(form, lines.len() + 1);
+    // For the proof: what this returns is looked at before it is returned.
     let faults = with_fault(faults, fault)?;
     Ok(faults)
 }

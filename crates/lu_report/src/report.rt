@@ -1,7 +1,7 @@
 //! Reports of checks.
 
-ghost use Rattle.std.specs.Prelude.{◌≡◌, ◌≤◌, None, Some, IfNone, IfSome};
-ghost use Rattle.lu_report.specs.Parts.{IsJudgement, IsSerialBound, IsWithin, most_moves, parts_of, shown_schedule};
+ghost use Rattle.std.specs.Prelude.{◌≡◌, ◌≤◌, ◌↔◌, None, Some, IfNone, IfSome, IsTrue};
+ghost use Rattle.lu_report.specs.Parts.{IsFailure, IsFullPass, IsJudgement, IsPass, IsSerialBound, IsWithin, most_moves, parts_of, shown_schedule};
 
 use lu_history::SerialOutcome;
 use lu_machine::Counts;
@@ -141,6 +141,30 @@ impl Report {
         ensures judged { IfNone self.now.serial (IsJudgement self.now.finding) }
     {
         &self.finding
+    }
+
+    /// Whether a failure was found, or nondeterminism.
+    pub fn is_failure(&self) -> bool
+        ensures { IsTrue result ↔ IsFailure self.now.finding }
+    {
+        matches!(
+            self.finding,
+            Finding::Nondeterministic { .. } | Finding::Fail { .. }
+        )
+    }
+
+    /// Whether a pass was found.
+    pub fn is_pass(&self) -> bool
+        ensures { IsTrue result ↔ IsPass self.now.finding }
+    {
+        matches!(self.finding, Finding::Pass(_))
+    }
+
+    /// Whether a pass was found, and no schedule was cut.
+    pub fn is_full_pass(&self) -> bool
+        ensures { IsTrue result ↔ IsFullPass self.now.finding }
+    {
+        matches!(&self.finding, Finding::Pass(counts) if counts.cut == 0)
     }
 
     /// What was found, without the rest of the report.

@@ -56,6 +56,7 @@ fn left_by(
     match taken_in(alloc, matrix, &draft.set, line)? {
         None => Ok(draft),
         Some(history) => {
+            // For the proof: what this returns is looked at before it is returned.
             let next = with_history(draft, history)?;
             Ok(next)
         }
@@ -163,6 +164,7 @@ pub fn spec_faults(
 {
     let (first, rest) = cut_line(text);
     let faults = with_fault(Vec::new(alloc), first_fault(first))?;
+    // For the proof: what this returns is looked at before it is returned.
     let faults = with_faults(alloc, matrix, faults, rest)?;
     Ok(faults)
 }

@@ -95,6 +95,7 @@ fn collect_free_line(
         return Ok(FreeDraft { begun, ..draft });
     }
     let entries = entries_said(alloc, matrix, &draft.kept, words, number)?;
+    // For the proof: what this returns is looked at before it is returned.
     let next = with_entries(alloc, draft, &entries, begun)?;
     Ok(next)
 }

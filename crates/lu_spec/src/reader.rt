@@ -104,6 +104,7 @@ fn read_line(
     ensures fault { Refuses matrix.now draft.set draft.last.items line.now number result }
 {
     let history = next_history(alloc, matrix, &draft, line, number)?;
+    // For the proof: what this returns is looked at before it is returned.
     let next = with_history(draft, history)?;
     Ok(next)
 }

@@ -11,7 +11,7 @@ use Rattle.lu_history.specs.declared.serial.SerialOp.{SerialOp}
 use Rattle.lu_serial.specs.Offences.{IsFirstConflict, IsFirstCut, IsOutside, IsSetOf}
 use Rattle.lu_witness.specs.Witnesses.{IsMember}
 use Rattle.lu_report.specs.declared.report.Report.{Report}
-use Rattle.lu_replay.specs.Confirmed.{IsPass}
+use Rattle.lu_report.specs.Parts.{IsPass}
 use Rattle.lu_replay.specs.Reports.{IsReportAgainst}
 use Rattle.lu_refine.specs.ByThread.{Asked, CanAsk, role_matrix}
 use Rattle.lu_refine.specs.Roles.{AreWithinLimits}

@@ -3,7 +3,7 @@
 ghost use Rattle.std.specs.Prelude.{◌≤◌, ◌↔◌, IsTrue, IfOk, IfErr};
 ghost use Rattle.lu_machine.specs.Starts.{CanRun};
 ghost use Rattle.lu_report.specs.Limits.{IsSerialBound, most_moves};
-ghost use Rattle.lu_replay.specs.Confirmed.{IsPass};
+ghost use Rattle.lu_report.specs.Parts.{IsPass};
 ghost use Rattle.lu_refine.specs.ByThread.{IsRolesFault, asked_of};
 ghost use Rattle.lu_survey.specs.Comparing.{CanCompare, IsCompared, IsComparedOf, IsDifferenceBy, IsDifferenceIfAny};
 
@@ -16,18 +16,6 @@ use lu_serial::{Learnt, first_outside, learn};
 use lu_test::Matrix;
 use lu_trie::Trie;
 use std::alloc::{AllocError, Global};
-
-/// Whether the report is a pass.
-fn is_pass(report: &Report) -> bool
-    ensures { IsTrue result ↔ IsPass report.now.finding }
-{
-    match report.finding() {
-        Finding::SerialCut(_) => false,
-        Finding::Nondeterministic { .. } => false,
-        Finding::Fail { .. } => false,
-        Finding::Pass(_) => true,
-    }
-}
 
 /// How the component differs on the matrix from this set, or none where it agrees.
 fn differ_from(
@@ -47,7 +35,7 @@ fn differ_from(
         Some(schedule) => Ok(Some(Difference::Serially(schedule))),
         None => {
             let report = check_one_against(alloc, component, matrix, &set, bound)?;
-            if is_pass(&report) {
+            if report.is_pass() {
                 return Ok(None);
             }
             Ok(Some(Difference::Concurrently(report)))

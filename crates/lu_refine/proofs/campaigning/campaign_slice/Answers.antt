@@ -2,7 +2,7 @@ use Rattle.std.proofs.Common.{rules, arith, ◌≡◌, ◌-◌, ℕ, List, refl,
 use Rattle.std.specs.Prelude.{min}
 use Rattle.lu_test.specs.Matrix.{Matrix, IsOf}
 use Rattle.lu_replay.specs.Reports.{IsReport}
-use Rattle.lu_replay.specs.Confirmed.{IsPass}
+use Rattle.lu_report.specs.Parts.{IsPass}
 use Rattle.lu_machine.specs.Starts.{CanRun}
 use Rattle.lu_refine.specs.Choices.{ArePositions, IsChoiceIn, choice_count, place_in}
 use Rattle.lu_refine.specs.Roles.{AreWithinLimits, bases, rows_matrix}

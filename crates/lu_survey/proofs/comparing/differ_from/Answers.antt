@@ -1,5 +1,5 @@
 use Rattle.std.proofs.Common.{subst}
-use Rattle.lu_replay.specs.Confirmed.{IsPass}
+use Rattle.lu_report.specs.Parts.{IsPass}
 use Rattle.lu_serial.specs.Offences.{IsFirstOutside}
 use Rattle.lu_survey.proofs.comparing.differ_from.Goals as goal
 
