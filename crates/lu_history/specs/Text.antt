@@ -4,12 +4,9 @@ use Rattle.std.specs.Fmt.{decimal}
 use Rattle.std.specs.List.{flat_map}
 use Rattle.lu_machine.specs.declared.event.Event.{Event}
 use Rattle.lu_machine.specs.declared.event.Event.TheVariants.{Call, Return}
-use Rattle.lu_machine.specs.declared.event.Outcome.{Outcome}
-use Rattle.lu_machine.specs.declared.event.Outcome.TheVariants.{Ret, Trap}
-
-abbrev pub outcome_text : Outcome → List ℕ
-outcome_text (Ret n) = codes "ret " ++ decimal n
-outcome_text Trap = codes "trap"
+pub use Rattle.lu_machine.specs.Events.{outcome_text}
+use Rattle.lu_history.specs.declared.serial.SerialOutcome.{SerialOutcome}
+use Rattle.lu_history.specs.declared.serial.SerialOutcome.TheVariants as serial
 
 -- thread and number of the call, with a space between
 abbrev pub operation_text : ℕ → ℕ → List ℕ
@@ -24,3 +21,9 @@ event_text (Return t k outcome) =
 -- a line for each event
 abbrev pub history_text : List Event → List ℕ
 history_text h = flat_map event_text h
+
+-- how an operation of a serial history ended, as it stands in a text
+abbrev pub serial_outcome_text : SerialOutcome → List ℕ
+serial_outcome_text (serial.Ret n) = codes "ret " ++ decimal n
+serial_outcome_text serial.Trap = codes "trap"
+serial_outcome_text serial.Stuck = codes "stuck"

@@ -5,7 +5,7 @@ ghost use Rattle.lu_text.specs.Writing.{Writes};
 ghost use Rattle.lu_history.specs.Text.{event_text, history_text};
 
 use crate::history::History;
-use lu_machine::{Event, Outcome};
+use lu_machine::Event;
 use std::alloc::{AllocError, Global};
 
 /// Adds an event's line at the end of a text.
@@ -14,16 +14,7 @@ fn write_event(text: &mut String, event: Event) -> Result<(), AllocError>
 {
     match event {
         Event::Call { t, k } => writeln!(text, "call {t} {k}")?,
-        Event::Return {
-            t,
-            k,
-            outcome: Outcome::Ret(number),
-        } => writeln!(text, "return {t} {k} ret {number}")?,
-        Event::Return {
-            t,
-            k,
-            outcome: Outcome::Trap,
-        } => writeln!(text, "return {t} {k} trap")?,
+        Event::Return { t, k, outcome } => writeln!(text, "return {t} {k} {outcome}")?,
     }
     Ok(())
 }

@@ -41,7 +41,8 @@ use Rattle.lu_witness.specs.Witnesses.{entries}
 use Rattle.lu_explain.specs.declared.explanation.Reason.{Reason}
 use Rattle.lu_explain.specs.declared.explanation.Reason.TheVariants.{After, Outcome, Nothing}
 use Rattle.lu_explain.specs.Explanations.{Explained, reason_of}
-use Rattle.lu_explain.specs.Lines.{call_words as call_behind, operation_words, nothing_words, outcome_words as ended_words, why_not, stuck_last}
+use Rattle.lu_history.specs.Text.{serial_outcome_text as ended_words}
+use Rattle.lu_explain.specs.Lines.{call_words as call_behind, operation_words, nothing_words, why_not, stuck_last}
 use Rattle.lu_replay.specs.Text.{replay_text, status_text}
 use Rattle.lu_trace.specs.declared.wording.Wording.{Wording}
 use Rattle.lu_trace.specs.declared.wording.Wording.TheVariants.{Component}

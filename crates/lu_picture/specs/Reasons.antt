@@ -10,7 +10,8 @@ use Rattle.lu_history.specs.declared.serial.SerialOutcome.TheVariants.{Stuck}
 use Rattle.lu_history.specs.Parts.{as_serial}
 use Rattle.lu_witness.specs.Witnesses.{entries}
 use Rattle.lu_explain.specs.Explanations.{Explained, reason_of}
-use Rattle.lu_explain.specs.Lines.{outcome_words as ended_words, why_not}
+use Rattle.lu_history.specs.Text.{serial_outcome_text as ended_words}
+use Rattle.lu_explain.specs.Lines.{why_not}
 use Rattle.lu_picture.specs.declared.mark.End.{End}
 
 -- ---- numbers in the order

@@ -7,7 +7,6 @@ ghost use Rattle.lu_picture.specs.Shapes as spec;
 
 use crate::places::pitch;
 use lu_machine::{Event, Machine, Outcome};
-use lu_trace::write_call_text;
 use std::alloc::{AllocError, Global};
 
 /// The number of letters of the longest outcome, `ret 4294967295`.
@@ -17,10 +16,7 @@ const OUTCOME_LETTERS: usize = 14;
 pub(crate) fn write_outcome(text: &mut String, outcome: Outcome) -> Result<(), AllocError>
     ensures { Writes result text.old text.new (outcome_text outcome) }
 {
-    match outcome {
-        Outcome::Ret(value) => write!(text, "ret {value}"),
-        Outcome::Trap => text.push_str("trap"),
-    }
+    write!(text, "{outcome}")
 }
 
 /// Adds call `k` of thread `t`, as the matrix has it.
@@ -34,7 +30,7 @@ pub(crate) fn write_call(
 {
     let matrix = machine.matrix();
     if k < matrix.calls(t) {
-        write_call_text(text, machine.component(), matrix.call(t, k))
+        lu_test::write_call(text, machine.component().operations(), matrix.call(t, k))
     } else {
         Ok(())
     }

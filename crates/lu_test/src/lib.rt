@@ -19,7 +19,7 @@ pub use matrix::{Arguments, Call, Calls, MOST_CALLS, MOST_CALLS_OF_THREAD, MOST_
 pub use matrix_fault::{MatrixFault, MatrixFaultKind};
 pub use matrix_going::mended;
 pub use matrix_text::{Draft, end_fault, read_matrix};
-pub use matrix_writer::write_matrix;
+pub use matrix_writer::{write_call, write_matrix};
 pub use schedule::{MOST_LISTED_MOVES, Move, Schedule};
 pub use schedule_fault::ScheduleFault;
 pub use schedule_going::schedule_words;

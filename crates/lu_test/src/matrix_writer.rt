@@ -37,7 +37,13 @@ fn put_arguments(text: &mut String, arguments: &[u32]) -> Result<(), AllocError>
     Ok(())
 }
 
-fn put_call(text: &mut String, operations: &[Op], call: &Call) -> Result<(), AllocError>
+/// Adds a call of one of these operations at the end of a text, as a matrix has it: its name and its
+/// arguments, with spaces between them.
+///
+/// # Errors
+///
+/// Memory was refused.
+pub fn write_call(text: &mut String, operations: &[Op], call: &Call) -> Result<(), AllocError>
     ensures { Writes result text.old text.new (spec.call_text operations.now call.now) }
 {
     put_name(text, operations, call.op)?;
@@ -49,7 +55,7 @@ fn put_other(text: &mut String, operations: &[Op], call: &Call) -> Result<(), Al
     ensures { Writes result text.old text.new (spec.other_text operations.now call.now) }
 {
     text.push(';')?;
-    put_call(text, operations, call)
+    write_call(text, operations, call)
 }
 
 fn put_others(text: &mut String, operations: &[Op], calls: &[Call]) -> Result<(), AllocError>
@@ -68,7 +74,7 @@ fn put_calls(text: &mut String, operations: &[Op], calls: &[Call]) -> Result<(),
         [] => Ok(()),
         [first, others @ ..] => {
             text.push(' ')?;
-            put_call(text, operations, first)?;
+            write_call(text, operations, first)?;
             put_others(text, operations, others)
         }
     }

@@ -26,7 +26,7 @@ mod wording;
 
 pub use fault::TraceFault;
 pub use laws::trace_laws;
-pub use lines::{write_call_text, write_step};
+pub use lines::write_step;
 pub use setup::{write_trace_from_setup, write_worded_trace_from_setup};
 pub use tracing::{write_trace, write_worded_trace};
 pub use waiting::write_awaited;

@@ -2,7 +2,6 @@
 
 ghost use Rattle.std.specs.Prelude.{◌≡◌};
 ghost use Rattle.lu_text.specs.Writing.{Writes};
-ghost use Rattle.lu_test.specs.MatrixText.{argument_text, arguments_text, call_text, operation_name};
 ghost use Rattle.lu_trace.specs.Lines as spec;
 ghost use Rattle.lu_trace.specs.Lines.{component_line, labelled_instr, labelled_line, told_by};
 
@@ -175,50 +174,12 @@ pub(crate) fn write_instr_text(
     }
 }
 
-/// Adds the name of an operation, by its number. No call of a component names one that is not
-/// there.
-fn write_name(text: &mut String, component: &Component, op: u8) -> Result<(), AllocError>
-    ensures { Writes result text.old text.new (operation_name component.now.operations op) }
-{
-    match component.operation(op) {
-        None => Ok(()),
-        Some(op) => text.push_str(op.name.as_str()),
-    }
-}
-
-fn write_argument(text: &mut String, argument: u32) -> Result<(), AllocError>
-    ensures { Writes result text.old text.new (argument_text argument) }
-{
-    write!(text, " {argument}")
-}
-
-fn write_arguments(text: &mut String, arguments: &[u32]) -> Result<(), AllocError>
-    ensures { Writes result text.old text.new (arguments_text arguments.now) }
-{
-    for argument in arguments {
-        write_argument(text, *argument)?;
-    }
-    Ok(())
-}
-
-/// Adds the words of a call, as a matrix has them.
-pub fn write_call_text(
-    text: &mut String,
-    component: &Component,
-    call: &Call,
-) -> Result<(), AllocError>
-    ensures { Writes result text.old text.new (call_text component.now.operations call.now) }
-{
-    write_name(text, component, call.op)?;
-    write_arguments(text, call.args.as_slice())
-}
-
 /// Adds a call, as a matrix has it.
 fn write_call(text: &mut String, component: &Component, call: &Call) -> Result<(), AllocError>
     ensures { Writes result text.old text.new (spec.call_words component.now call.now) }
 {
     text.push_str("call ")?;
-    write_call_text(text, component, call)
+    lu_test::write_call(text, component.operations(), call)
 }
 
 /// Adds the next call of an idle thread that has made `done` of them, where one is left.
