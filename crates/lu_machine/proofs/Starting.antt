@@ -1,7 +1,7 @@
 -- Where a run starts: in one state, and somewhere exactly where the setup settles.
-use Rattle.std.proofs.Common.{◌≡◌, ℕ, zero, suc, ◌+◌, ◌<◌, ◌≤◌, ◌⊎◌, Bool, true, false, List, [], ◌∷◌, ◌++◌, length, replicate, map, get_or, Option, Some, None, slice_get, refl, sym, ◌∙◌, ap, subst, inl, inr, add-one, arith}
+use Rattle.std.proofs.Common.{◌≡◌, ℕ, zero, suc, ◌+◌, ◌<◌, ◌≤◌, ◌⊎◌, Bool, true, false, List, [], ◌∷◌, ◌++◌, length, replicate, map, get_or, Option, Some, None, slice_get, refl, sym, ◌∙◌, ap, subst, inl, inr, add-one, arith, rules}
 use Rattle.std.specs.Prelude.{MatchOption}
-use Rattle.std.proofs.lemmas.Bool.{cases_lt, lt-ltb}
+use Rattle.std.proofs.lemmas.Bool.{cases_eq, cases_lt, lt-ltb}
 use Rattle.lu_component.specs.Component.{Declarations}
 use Rattle.lu_test.specs.declared.matrix.Call.{Call}
 use Rattle.lu_test.specs.declared.schedule.Move.{Move}
@@ -15,12 +15,12 @@ use Rattle.lu_machine.specs.declared.program.Agenda.{Agenda}
 use Rattle.lu_machine.specs.declared.program.Task.{Task}
 use Rattle.lu_machine.specs.Layout.{IsLaidOut}
 use Rattle.lu_machine.specs.States.{State, call_count, first_cell, is_open, progress, progress_of}
-use Rattle.lu_machine.specs.Steps.{IsFeasible, Step}
+use Rattle.lu_machine.specs.Steps.{IsFeasible, Step, picks_of}
 use Rattle.lu_machine.specs.Runs.{Leads, with_event}
-use Rattle.lu_machine.specs.Starts.{AllEnd, CanRun, IsFirstOpen, IsStart, IsUnsettledAt, Makes, MakesAll, SetsUp, Settles, at_rest, empty_state, first_move}
+use Rattle.lu_machine.specs.Starts.{AllEnd, CanRun, IsFirstOpen, IsFirstUnsettled, IsStart, IsUnsettledAt, Makes, MakesAll, SetsUp, Settles, at_rest, empty_state, first_move}
 use Rattle.lu_machine.proofs.Keeping.{step_moved}
 use Rattle.lu_machine.proofs.Progress.{Way, opens, goes_on, ends, step_goes}
-use Rattle.lu_machine.proofs.StepLaws.{step_feasible, step_same}
+use Rattle.lu_machine.proofs.StepLaws.{feasible_step, step_feasible, step_same}
 use Rattle.lu_machine.proofs.Paths.{leads_on}
 
 -- ---- how far a thread is
@@ -122,12 +122,6 @@ start_same c matrix a b p q =
     let same = makes_all_same c matrix.setup (length matrix.setup) p.end q.end p.made q.made in
     p.is ∙ (ap (λ (x : State). at_rest c matrix x.cells x.locks) same ∙ sym q.is)
 
-pub start_there : (c : Declarations) (matrix : Matrix) → Settles c matrix → (s : State) × IsStart c matrix s
-start_there c matrix h = (at_rest c matrix h.end.cells h.end.locks, record { end = h.end; made = h.made; is = refl })
-
-pub settled_start : (c : Declarations) (matrix : Matrix) (s : State) → IsStart c matrix s → Settles c matrix
-settled_start c matrix s is = record { end = is.end; made = is.made }
-
 pub setups_alike : (c : Declarations) (matrix other : Matrix) (a b : State) → matrix.setup ≡ other.setup → IsStart c matrix a → IsStart c other b → (a.cells ≡ b.cells) × (a.locks ≡ b.locks)
 setups_alike c matrix other a b e p q =
     let there : SetsUp c matrix q.end = subst (λ (x : List Call). MakesAll c x (length x) q.end) (sym e) q.made in
@@ -158,7 +152,7 @@ unsettled_before c matrix k n end h less all =
     h.open_still b.end (subst (λ x. Makes x k b.end) same b.makes)
 
 pub never_both : (c : Declarations) (matrix : Matrix) (k : ℕ) → IsUnsettledAt c matrix k → Settles c matrix → ⊥
-never_both c matrix k h settles = unsettled_before c matrix k (length matrix.setup) settles.end h h.there settles.made
+never_both c matrix k h settles = settles k h
 
 pub one_unsettled : (c : Declarations) (matrix : Matrix) (i j : ℕ) → IsUnsettledAt c matrix i → IsUnsettledAt c matrix j → i ≡ j
 one_unsettled c matrix i j p q =
@@ -169,6 +163,160 @@ one_unsettled c matrix i j p q =
         | inr over ↦ omega arith
       ]
     ]
+
+-- ---- whether a setup settles
+
+-- where all these calls were made, each of them ends
+pub made_end : (c : Declarations) (calls : List Call) (end : State) → MakesAll c calls (length calls) end → AllEnd c calls
+made_end c calls end made k h =
+    let b = before c calls (length calls) k end h.there made in
+    let same = makes_all_same c calls k b.before h.before b.made h.made in
+    h.open_still b.end (subst (λ x. Makes x k b.end) same b.makes)
+
+-- at most n moves of thread 0, each with pick 0, lead from s to a state where call k has ended
+record Reaches (n k : ℕ) (s : State) : Type 0 where
+  moves : ℕ
+  few : moves ≤ n
+  end : State
+  history : List Event
+  leads : Leads s (replicate moves first_move) end history
+  ended : progress end ≡ (k + 1, false) ∷ []
+
+-- this is how one thread stands once call k has ended, or not
+ended_or_not : (k : ℕ) (ps : List (ℕ × Bool)) → (ps ≡ (k + 1, false) ∷ []) ⊎ (ps ≡ (k + 1, false) ∷ [] → ⊥)
+ended_or_not k [] = inr (λ e. search (rules, e))
+ended_or_not k ((done, true) ∷ ps) = inr (λ e. search (rules, e))
+ended_or_not k ((done, false) ∷ p ∷ ps) = inr (λ e. search (rules, e))
+ended_or_not k ((done, false) ∷ []) =
+    elim (cases_eq done (k + 1)) [
+      | inl is ↦ inl (ap (λ n. (n, false) ∷ []) is)
+      | inr not ↦ inr (λ e. not (ap (λ (xs : List (ℕ × Bool)). (get_or xs 0 (0, false)).0) e))
+    ]
+
+-- a move is feasible or not
+feasible_or_not : (s : State) (m : Move) → IsFeasible s m ⊎ (IsFeasible s m → ⊥)
+feasible_or_not s m =
+    elim (cases_lt m.pick (picks_of s m.thread)) [
+      | inl less ↦ inl less
+      | inr past ↦ inr (λ less. omega (arith, less, past))
+    ]
+
+-- from where a move leads
+reaches_on : (n k : ℕ) (s new : State) (event : Option Event) → Step s first_move new event → Reaches n k new → Reaches (suc n) k s
+reaches_on n k s new event step r = record {
+  moves = suc r.moves;
+  few = omega (arith, r.few);
+  end = r.end;
+  history = with_event event r.history;
+  leads = (new, event, r.history, step, r.leads, refl);
+  ended = r.ended;
+}
+
+-- the moves after the first
+reaches_after : (n k : ℕ) (s new : State) (event : Option Event) → Step s first_move new event → (progress s ≡ (k + 1, false) ∷ [] → ⊥) → Reaches (suc n) k s → Reaches n k new
+reaches_after n k s new event step open_here r = by_moves r.moves r.few r.leads
+  where
+    by_moves : (m : ℕ) → m ≤ suc n → Leads s (replicate m first_move) r.end r.history → Reaches n k new
+    by_moves zero few leads = absurd (open_here (ap progress (sym leads.0) ∙ r.ended))
+    by_moves (suc m) few leads =
+        let same = step_same s first_move leads.0 new leads.1 event leads.3 step in
+        record {
+          moves = m;
+          few = omega (arith, few);
+          end = r.end;
+          history = leads.2;
+          leads = subst (λ x. Leads x (replicate m first_move) r.end leads.2) same.0 leads.4;
+          ended = r.ended;
+        }
+
+-- where it has not ended, the first of them is feasible
+first_feasible : (n k : ℕ) (s : State) → (progress s ≡ (k + 1, false) ∷ [] → ⊥) → Reaches n k s → IsFeasible s first_move
+first_feasible n k s open_here r = by_moves r.moves r.leads
+  where
+    by_moves : (m : ℕ) → Leads s (replicate m first_move) r.end r.history → IsFeasible s first_move
+    by_moves zero leads = absurd (open_here (ap progress (sym leads.0) ∙ r.ended))
+    by_moves (suc m) leads = step_feasible s first_move leads.0 leads.1 leads.3
+
+-- no move at all leads on
+none_reaches : (k : ℕ) (s : State) → (progress s ≡ (k + 1, false) ∷ [] → ⊥) → Reaches 0 k s → ⊥
+none_reaches k s open_here r = by_moves r.moves r.few r.leads
+  where
+    by_moves : (m : ℕ) → m ≤ 0 → Leads s (replicate m first_move) r.end r.history → ⊥
+    by_moves zero few leads = open_here (ap progress (sym leads.0) ∙ r.ended)
+    by_moves (suc m) few leads = omega (arith, few)
+
+-- it has ended
+reaches_here : (n k : ℕ) (s : State) → progress s ≡ (k + 1, false) ∷ [] → Reaches n k s
+reaches_here n k s ended = record { moves = 0; few = omega arith; end = s; history = []; leads = (refl, refl); ended = ended }
+
+reaches_or_not : (n k : ℕ) (s : State) → Reaches n k s ⊎ (Reaches n k s → ⊥)
+reaches_or_not zero k s =
+    elim (ended_or_not k (progress s)) [
+      | inl ended ↦ inl (reaches_here 0 k s ended)
+      | inr open_here ↦ inr (none_reaches k s open_here)
+    ]
+reaches_or_not (suc n) k s =
+    elim (ended_or_not k (progress s)) [
+      | inl ended ↦ inl (reaches_here (suc n) k s ended)
+      | inr open_here ↦ elim (feasible_or_not s first_move) [
+        | inr blocked ↦ inr (λ r. blocked (first_feasible (suc n) k s open_here r))
+        | inl feasible ↦
+            (let go = feasible_step s first_move feasible in
+            elim (reaches_or_not n k go.0) [
+              | inl r ↦ inl (reaches_on n k s go.0 go.1 go.2 r)
+              | inr none ↦ inr (λ r. none (reaches_after n k s go.0 go.1 go.2 open_here r))
+            ])
+      ]
+    ]
+
+-- a call is made, or it does not end
+makes_or_not : (s : State) (k : ℕ) → ((end : State) × Makes s k end) ⊎ ((end : State) → Makes s k end → ⊥)
+makes_or_not s k =
+    elim (feasible_or_not s first_move) [
+      | inr blocked ↦ inr (λ end makes. blocked (step_feasible s first_move makes.leads.0 makes.leads.1 makes.leads.3))
+      | inl feasible ↦
+          (let go = feasible_step s first_move feasible in
+          elim (reaches_or_not 256 k go.0) [
+            | inl r ↦ inl (
+              r.end,
+              record {
+                moves = r.moves;
+                few = r.few;
+                history = with_event go.1 r.history;
+                leads = (go.0, go.1, r.history, go.2, r.leads, refl);
+                ended = r.ended;
+              },
+            )
+            | inr none ↦ inr (λ end makes.
+                (let same = step_same s first_move makes.leads.0 go.0 makes.leads.1 go.1 makes.leads.3 go.2 in
+                none (record {
+                  moves = makes.moves;
+                  few = makes.few;
+                  end = end;
+                  history = makes.leads.2;
+                  leads = subst (λ x. Leads x (replicate makes.moves first_move) end makes.leads.2) same.0 makes.leads.4;
+                  ended = makes.ended;
+                })))
+          ])
+    ]
+
+-- where each of these calls ends, the first k are made
+all_made : (c : Declarations) (calls : List Call) → AllEnd c calls → (k : ℕ) → k ≤ length calls → (end : State) × MakesAll c calls k end
+all_made c calls all zero few = (empty_state c (alone calls), refl)
+all_made c calls all (suc k) few =
+    let b = all_made c calls all k (omega (arith, few)) in
+    elim (makes_or_not b.0 k) [
+      | inl makes ↦ (makes.0, (b.0, b.1, makes.1))
+      | inr none ↦ absurd (all k (record { there = omega (arith, few); before = b.0; made = b.1; open_still = none }))
+    ]
+
+pub start_there : (c : Declarations) (matrix : Matrix) → Settles c matrix → (s : State) × IsStart c matrix s
+start_there c matrix h =
+    let made = all_made c matrix.setup h (length matrix.setup) (omega arith) in
+    (at_rest c matrix made.0.cells made.0.locks, record { end = made.0; made = made.1; is = refl })
+
+pub settled_start : (c : Declarations) (matrix : Matrix) (s : State) → IsStart c matrix s → Settles c matrix
+settled_start c matrix s is = made_end c matrix.setup is.end is.made
 
 -- ---- a call, move after move
 
@@ -333,7 +481,7 @@ settles_too c matrix other h e = subst (AllEnd c) (sym e) h
 
 -- the empty setup settles
 pub none_settles : (c : Declarations) (matrix : Matrix) → matrix.setup ≡ [] → Settles c matrix
-none_settles c matrix e = subst (AllEnd c) (sym e) (record { end = empty_state c (alone []); made = refl })
+none_settles c matrix e = subst (AllEnd c) (sym e) (λ k h. omega (arith, h.there))
 
 -- so a matrix of the component can run that has the setup of one that can
 pub can_run_too : (c : Declarations) (matrix other : Matrix) → CanRun c matrix → IsOf other c → other.setup ≡ matrix.setup → CanRun c other
@@ -350,6 +498,17 @@ sets_up c matrix m old new result one is made settles =
     by_result : (r : Option ℕ) → MatchOption r (MakesAll c matrix.setup (length matrix.setup) new) (IsFirstOpen c matrix.setup) → SetsUp c matrix new
     by_result None h = h
     by_result (Some k) h = absurd (never_both c matrix k h settles)
+
+-- it says whether the setup settles
+pub settles_or : (c : Declarations) (matrix m : Matrix) (old new : State) (result : Option ℕ) → m ≡ alone matrix.setup → old ≡ empty_state c m
+    → MatchOption result (MakesAll old.component (calls_of old.matrix 0) (call_count old 0) new) (IsFirstOpen old.component (calls_of old.matrix 0)) → IsFirstUnsettled c matrix result
+settles_or c matrix m old new result one is made =
+    let whole : old ≡ empty_state c (alone matrix.setup) = is ∙ ap (empty_state c) one in
+    by_result result (subst (λ (x : State). MatchOption result (MakesAll x.component (calls_of x.matrix 0) (call_count x 0) new) (IsFirstOpen x.component (calls_of x.matrix 0))) whole made)
+  where
+    by_result : (r : Option ℕ) → MatchOption r (MakesAll c matrix.setup (length matrix.setup) new) (IsFirstOpen c matrix.setup) → IsFirstUnsettled c matrix r
+    by_result None h = made_end c matrix.setup new h
+    by_result (Some k) h = h
 
 -- its cells and locks are as many as those of another machine of the component
 pub laid_out_too : (c d : Declarations) (m n : Matrix) (spans others : List Span) (rows before : List (List Task)) (agendas behind : List Agenda) (cells now : List ℕ) (locks free : List (Option ℕ)) (threads ts : List Thread) → d ≡ c → IsLaidOut c m spans rows agendas cells locks threads → IsLaidOut d n others before behind now free ts → IsLaidOut c m spans rows agendas now free threads

@@ -3,6 +3,7 @@ pub mod States
 pub mod Steps
 pub mod Ends
 pub mod Starts
+pub mod Tests
 pub mod Events
 pub mod Runs
 pub mod Order

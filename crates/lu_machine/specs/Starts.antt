@@ -62,21 +62,20 @@ pub record IsStart (c : Declarations) (matrix : Matrix) (s : State) : Type 0 whe
   pub made : SetsUp c matrix end
   pub is : s ≡ at_rest c matrix end.cells end.locks
 
--- each of these calls ends within 256 moves after it
-pub record AllEnd (c : Declarations) (calls : List Call) : Type 0 where
-  pub end : State
-  pub made : MakesAll c calls (length calls) end
-
--- each call of the setup ends
-abbrev pub Settles : Declarations → Matrix → Type 0
-Settles c matrix = AllEnd c matrix.setup
-
 -- call k of these is the first that does not end within 256 moves after it
 pub record IsFirstOpen (c : Declarations) (calls : List Call) (k : ℕ) : Type 0 where
   pub there : k < length calls
   pub before : State
   pub made : MakesAll c calls k before
   pub open_still : (end : State) → Makes before k end → ⊥
+
+-- each of these calls ends within 256 moves after it: none is the first that does not
+abbrev pub AllEnd : Declarations → List Call → Type 0
+AllEnd c calls = (k : ℕ) → IsFirstOpen c calls k → ⊥
+
+-- each call of the setup ends
+abbrev pub Settles : Declarations → Matrix → Type 0
+Settles c matrix = AllEnd c matrix.setup
 
 -- none where all these calls were made, which leads to the state `end`; else the first that does
 -- not end

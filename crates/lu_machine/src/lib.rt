@@ -11,7 +11,8 @@
 //! that one alone.
 //!
 //! A run starts after the calls of the matrix's setup, which thread 0 makes alone, each pick 0.
-//! [`settles`] says whether each of them ends.
+//! [`settles`] says whether each of them ends. A component with a matrix whose setup settles is a
+//! [`Test`].
 //!
 //! A search makes a move by [`Machine::apply`] and takes it back by [`Machine::undo`]. None of the
 //! calls but [`Machine::start`] and [`settles`] takes memory.
@@ -35,6 +36,7 @@ mod position;
 mod program;
 mod setup;
 mod span;
+mod test;
 mod thread;
 mod undo;
 
@@ -45,6 +47,7 @@ pub use laws::{local_laws, step_laws};
 pub use machine::Machine;
 pub use position::Position;
 pub use setup::settles;
+pub use test::Test;
 pub use thread::{Activity, Frame, Thread, compute};
 pub use undo::Undo;
 

@@ -6,7 +6,9 @@ use Rattle.lu_test.specs.Matrix.{Matrix}
 use Rattle.lu_machine.specs.declared.event.Status.{Status}
 use Rattle.lu_machine.specs.declared.event.Status.TheVariants as status
 use Rattle.lu_machine.specs.States.{State}
-use Rattle.lu_machine.specs.Starts.{FromEachStart, IsStart}
+use Rattle.lu_machine.specs.declared.test.Test.{Test}
+use Rattle.lu_machine.specs.Starts.{FromEachStart}
+use Rattle.lu_machine.specs.Tests.{FromEachStartOf, IsStartOf}
 use Rattle.lu_history.specs.declared.serial.SerialOp.{SerialOp}
 use Rattle.lu_serial.specs.Serial.{IsSerialHistory}
 use Rattle.lu_serial.specs.Offences.{NoOffence, IsFirstCut, IsFirstConflict, IsLearnt}
@@ -78,23 +80,26 @@ abbrev pub IsBadAs : (List SerialOp → Type 0) → State → Claim → Type 0
 IsBadAs Set s claim = IsBadFor Set s claim.bound claim.schedule.now claim.why
 
 -- whether the schedule is bad for the set with these members, as it is claimed
-abbrev pub SaysBad : {E : Type 0} → Declarations → Matrix → List (List SerialOp) → Claim
-    → Result Bool E → Type 0
-SaysBad c matrix members claim result =
-    FromEachStart c matrix (λ s. SaysWhether result (IsBadAs (IsMember members) s claim))
+abbrev pub SaysBad : {E : Type 0} → Test → List (List SerialOp) → Claim → Result Bool E → Type 0
+SaysBad test members claim result =
+    FromEachStartOf test (λ s. SaysWhether result (IsBadAs (IsMember members) s claim))
 
 -- whether the finding is shown, where the serial runs came to this
-abbrev pub SaysShown : {A E : Type 0} → Declarations → Matrix → Learnt A → ℕ → Finding
-    → Result Bool E → Type 0
-SaysShown c matrix learnt bound f result =
-    (s : State) (serial : ℕ) → IsStart c matrix s → IsLearnt s serial learnt
+abbrev pub SaysShown : {A E : Type 0} → Test → Learnt A → ℕ → Finding → Result Bool E → Type 0
+SaysShown test learnt bound f result =
+    (s : State) (serial : ℕ) → IsStartOf test s → IsLearnt s serial learnt
     → SaysWhether result (IsShown s bound serial f)
 
+-- whether what the report says is shown, with this bound of serial runs
+abbrev pub SaysShownWith : {E : Type 0} → Test → Report → ℕ → Result Bool E → Type 0
+SaysShownWith test r serial result =
+    SaysWhether result (IsShownWith test.component.now test.matrix.now r serial)
+
 -- whether the finding is shown against the set with these members
-abbrev pub SaysShownBy : {E : Type 0} → Declarations → Matrix → List (List SerialOp) → ℕ
-    → Finding → Result Bool E → Type 0
-SaysShownBy c matrix members bound f result =
-    FromEachStart c matrix (λ s. SaysWhether result (IsShownAgainst (IsMember members) s bound f))
+abbrev pub SaysShownBy : {E : Type 0} → Test → List (List SerialOp) → ℕ → Finding → Result Bool E
+    → Type 0
+SaysShownBy test members bound f result =
+    FromEachStartOf test (λ s. SaysWhether result (IsShownAgainst (IsMember members) s bound f))
 
 -- whether the report is confirmed against the set with these members
 abbrev pub SaysConfirmedAgainst : {E : Type 0} → Declarations → Matrix → List (List SerialOp)

@@ -4,13 +4,13 @@ ghost use Rattle.std.specs.Prelude.{◌≡◌, ◌↔◌, IsTrue};
 ghost use Rattle.lu_machine.specs.Starts.{CanRun};
 ghost use Rattle.lu_serial.specs.declared.learning.Learnt.TheVariants.{Cut, Conflict};
 ghost use Rattle.lu_report.specs.Limits.{IsSerialBound};
-ghost use Rattle.lu_replay.specs.Confirmed.{IsConfirmed, IsReason, IsShownWith, SaysBad, SaysConfirmedAgainst, SaysShown, SaysShownBy, SaysWhether};
+ghost use Rattle.lu_replay.specs.Confirmed.{IsConfirmed, IsReason, SaysBad, SaysConfirmedAgainst, SaysShown, SaysShownBy, SaysShownWith, SaysWhether};
 
 use crate::fault::ReplayFault;
 use crate::player::replay;
 use lu_component::Component;
 use lu_history::SerialOutcome;
-use lu_machine::Status;
+use lu_machine::{Status, Test};
 use lu_report::{Finding, Report};
 use lu_serial::{Learnt, learn};
 use lu_test::{Matrix, Schedule};
@@ -78,18 +78,16 @@ struct Claim<'a> {
 /// Whether what is claimed of a schedule holds for the set of the tree.
 fn holds<T: SerialTree>(
     alloc: Global,
-    component: &Component,
-    matrix: &Matrix,
+    test: Test<'_>,
     tree: &T,
     claim: Claim<'_>,
 ) -> Result<bool, AllocError>
-    requires { CanRun component.now matrix.now }
-    ensures { SaysBad component.now matrix.now (T.members tree.now) claim.entry result }
+    ensures { SaysBad test.entry (T.members tree.now) claim.entry result }
 {
     if claim.schedule.moves().len() > usize::from(claim.bound) {
         return Ok(false);
     }
-    match replay(alloc, component, matrix, claim.schedule) {
+    match replay(alloc, test.component, test.matrix, claim.schedule) {
         Ok(shown) => {
             let verdict = verdict(tree, &shown.history);
             Ok(is_reason(shown.status, verdict, claim.why))
@@ -102,14 +100,12 @@ fn holds<T: SerialTree>(
 /// Whether what was found is shown by what the serial runs show, and by a run of its schedule.
 fn is_shown(
     alloc: Global,
-    component: &Component,
-    matrix: &Matrix,
+    test: Test<'_>,
     bound: u16,
     learnt: &Learnt<Global>,
     finding: &Finding,
 ) -> Result<bool, AllocError>
-    requires { CanRun component.now matrix.now }
-    ensures { SaysShown component.now matrix.now learnt.now bound finding.now result }
+    ensures { SaysShown test.entry learnt.now bound finding.now result }
 {
     match finding {
         Finding::SerialCut(schedule) => Ok(is_cut(learnt, schedule)),
@@ -126,7 +122,7 @@ fn is_shown(
                     schedule,
                     why,
                 };
-                holds(alloc, component, matrix, &set, claim)
+                holds(alloc, test, &set, claim)
             }
             Learnt::Cut(_) => Ok(false),
             Learnt::Conflict { .. } => Ok(false),
@@ -136,36 +132,27 @@ fn is_shown(
 }
 
 /// Whether what was found is shown, with this bound of serial runs.
-fn shows(
-    alloc: Global,
-    component: &Component,
-    matrix: &Matrix,
-    report: &Report,
-    serial: u16,
-) -> Result<bool, AllocError>
-    requires of { CanRun component.now matrix.now }
-    requires range { IsSerialBound serial }
-    ensures { SaysWhether result (IsShownWith component.now matrix.now report.now serial) }
+fn shows(alloc: Global, test: Test<'_>, report: &Report, serial: u16) -> Result<bool, AllocError>
+    requires { IsSerialBound serial }
+    ensures { SaysShownWith test.entry report.now serial result }
 {
     if let Finding::Pass(_) = report.finding() {
         return Ok(false);
     }
-    let learnt = learn(alloc, alloc, component, matrix, serial)?;
+    let learnt = learn(alloc, alloc, test.component, test.matrix, serial)?;
     let bound = report.bound();
-    is_shown(alloc, component, matrix, bound, &learnt, report.finding())
+    is_shown(alloc, test, bound, &learnt, report.finding())
 }
 
 /// Whether what was found is shown by a run of its schedule, judged against the set of the tree.
 fn is_shown_against<T: SerialTree>(
     alloc: Global,
-    component: &Component,
-    matrix: &Matrix,
+    test: Test<'_>,
     bound: u16,
     tree: &T,
     finding: &Finding,
 ) -> Result<bool, AllocError>
-    requires { CanRun component.now matrix.now }
-    ensures { SaysShownBy component.now matrix.now (T.members tree.now) bound finding.now result }
+    ensures { SaysShownBy test.entry (T.members tree.now) bound finding.now result }
 {
     match finding {
         Finding::SerialCut(_) => Ok(false),
@@ -177,7 +164,7 @@ fn is_shown_against<T: SerialTree>(
                 schedule,
                 why,
             };
-            holds(alloc, component, matrix, tree, claim)
+            holds(alloc, test, tree, claim)
         }
         Finding::Pass(_) => Ok(false),
     }
@@ -209,12 +196,13 @@ pub fn confirm(
     requires { CanRun component.now matrix.now }
     ensures { SaysWhether result (IsConfirmed component.now matrix.now report.now) }
 {
+    let test = Test { component, matrix };
     if !says_local(component, report) {
         return Ok(false);
     }
     match report.serial() {
         None => Ok(false),
-        Some(serial) => shows(alloc, component, matrix, report, serial),
+        Some(serial) => shows(alloc, test, report, serial),
     }
 }
 
@@ -238,13 +226,14 @@ pub fn confirm_against<T: SerialTree>(
     requires { CanRun component.now matrix.now }
     ensures { SaysConfirmedAgainst component.now matrix.now (T.members tree.now) report.now result }
 {
+    let test = Test { component, matrix };
     if !says_local(component, report) {
         return Ok(false);
     }
     match report.serial() {
         None => {
             let bound = report.bound();
-            is_shown_against(alloc, component, matrix, bound, tree, report.finding())
+            is_shown_against(alloc, test, bound, tree, report.finding())
         }
         Some(_) => Ok(false),
     }

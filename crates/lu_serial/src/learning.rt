@@ -12,6 +12,7 @@ use crate::node::SerialNode;
 use crate::walk::{EarlyEnd, HistoryVisitor, WalkState, walk};
 use lu_component::Component;
 use lu_history::{SerialOp, SerialOutcome};
+use lu_machine::Test;
 use lu_test::{Matrix, Schedule};
 use lu_trie::Trie;
 use std::alloc::{AllocError, Allocator, Global};
@@ -80,7 +81,7 @@ pub fn learn<A: Allocator + Clone>(
     ensures learnt { FromEachStart component.now matrix.now (λ s. IfOk result (IsLearnt s bound)) }
     ensures limits { IsComponent component.now × IsMatrix matrix.now }
 {
-    let node = SerialNode::start(alloc, component, matrix)?;
+    let node = SerialNode::start(alloc, Test { component, matrix })?;
     let path = Vec::new(alloc);
     let set = Trie::new(set_alloc);
     let mut walk_state = WalkState {

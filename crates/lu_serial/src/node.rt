@@ -1,18 +1,15 @@
 //! A node of the tree of serial schedules.
 
 ghost use Rattle.std.specs.Prelude.{◌≡◌, ◌↔◌, [], IsTrue, IfOk};
-ghost use Rattle.lu_component.specs.Component.{IsComponent};
-ghost use Rattle.lu_test.specs.Matrix.{IsMatrix};
 ghost use Rattle.lu_machine.specs.Ends.{HasMove};
-ghost use Rattle.lu_machine.specs.Starts.{CanRun, IsStart};
+ghost use Rattle.lu_machine.specs.Tests.{IsWithinLimits, IsStartOf};
 ghost use Rattle.lu_machine.specs.Steps.{IsFeasible};
 ghost use Rattle.lu_machine.specs.Undoes.{CanTake, restored};
 ghost use Rattle.lu_serial.specs.Walks.{AreTurns, HasEntered, HasLeft, HasCountRoom, HasMoved, HasSerialMove, IsFull, IsOpenIn, open_after};
 
-use lu_component::Component;
 use lu_history::{SerialOp, SerialOutcome};
-use lu_machine::{Event, Machine, Status, Undo};
-use lu_test::{Matrix, Move};
+use lu_machine::{Event, Machine, Status, Test, Undo};
+use lu_test::Move;
 use std::alloc::{AllocError, Global};
 
 /// The open operation: its thread, and how many moves it has taken after its call.
@@ -31,18 +28,13 @@ pub(crate) struct SerialNode<'a> {
 
 impl<'a> SerialNode<'a> {
     /// The start of a run.
-    pub(crate) fn start(
-        alloc: Global,
-        component: &'a Component,
-        matrix: &'a Matrix,
-    ) -> Result<SerialNode<'a>, AllocError>
-        requires { CanRun component.now matrix.now }
-        ensures machine { IfOk result (λ node. IsStart component.now matrix.now node.machine) }
+    pub(crate) fn start(alloc: Global, test: Test<'a>) -> Result<SerialNode<'a>, AllocError>
+        ensures machine { IfOk result (λ node. IsStartOf test.entry node.machine) }
         ensures entries { IfOk result (λ node. node.entries.items ≡ []) }
-        ensures limits { IsComponent component.now × IsMatrix matrix.now }
+        ensures limits { IsWithinLimits test.entry }
     {
         Ok(SerialNode {
-            machine: Machine::start(alloc, component, matrix)?,
+            machine: Machine::start(alloc, test.component, test.matrix)?,
             entries: Vec::new(alloc),
         })
     }

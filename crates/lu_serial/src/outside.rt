@@ -10,6 +10,7 @@ use crate::node::SerialNode;
 use crate::walk::{EarlyEnd, HistoryVisitor, WalkState, walk};
 use lu_component::Component;
 use lu_history::SerialOp;
+use lu_machine::Test;
 use lu_test::{Matrix, Schedule};
 use lu_trie::Trie;
 use std::alloc::{AllocError, Allocator, Global};
@@ -54,7 +55,7 @@ pub fn first_outside<A: Allocator>(
     requires few { bound ≤ 256 }
     ensures { FindsOutside component.now matrix.now bound set.now result }
 {
-    let node = SerialNode::start(alloc, component, matrix)?;
+    let node = SerialNode::start(alloc, Test { component, matrix })?;
     let path = Vec::new(alloc);
     let mut walk_state = WalkState {
         node,

@@ -5,7 +5,8 @@ use Rattle.lu_test.specs.declared.schedule.Move.{Move}
 use Rattle.lu_test.specs.Matrix.{Matrix}
 use Rattle.lu_machine.specs.States.{State}
 use Rattle.lu_machine.specs.Ends.{IsEnded}
-use Rattle.lu_machine.specs.Starts.{CanRun, IsStart}
+use Rattle.lu_machine.specs.Starts.{IsStart}
+use Rattle.lu_machine.specs.Tests.{IsStartOf}
 use Rattle.lu_machine.specs.Schedules.{BeginsWith, Reaches, IsSchedule, AreAll}
 use Rattle.lu_history.specs.declared.serial.SerialOp.{SerialOp}
 use Rattle.lu_witness.specs.Caches.{Remembered}
@@ -69,13 +70,11 @@ MayFindOver c matrix members cache from bound result =
 abbrev pub MayFind : {E : Type 0} → SearchSpace → List (List SerialOp) → List Move
     → Result Found E → Type 0
 MayFind space members from result =
-    (s : State) → IsStart space.component.now space.matrix.now s
+    (s : State) → IsStartOf space.test s
     → IfOk result (IsFoundWatched (IsMember members) s space.bound (Below from))
 
--- the space can be searched below a schedule: the matrix can be run, and the schedule has no more
--- moves than the bound
+-- the space can be searched below a schedule, which has no more moves than the bound
 pub record CanSearch (space : SearchSpace) (from : List Move) : Type 0 where
-  pub run : CanRun space.component.now space.matrix.now
   pub few : space.bound ≤ 256
   pub short : length from ≤ space.bound
-  pub leads : (s : State) → IsStart space.component.now space.matrix.now s → IsSchedule s from
+  pub leads : (s : State) → IsStartOf space.test s → IsSchedule s from

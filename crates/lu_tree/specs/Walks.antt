@@ -8,7 +8,7 @@ use Rattle.lu_machine.specs.Ends.{HasMove, IsComplete, IsStuck, IsEnded}
 use Rattle.lu_machine.specs.Order.{IsSmaller}
 use Rattle.lu_machine.specs.Runs.{Leads, with_event}
 use Rattle.lu_machine.specs.Schedules.{AreNumbers, IsEndedWithin, IsSchedule, Reaches}
-use Rattle.lu_machine.specs.Starts.{IsStart}
+use Rattle.lu_machine.specs.Tests.{IsStartOf}
 use Rattle.lu_history.specs.declared.serial.SerialOp.{SerialOp}
 use Rattle.lu_witness.specs.declared.judgement.Why.{Why}
 use Rattle.lu_witness.specs.Goodness.{Any, IsGoodAt, IsWhyAt, AreGood}
@@ -128,10 +128,10 @@ IsTakenBack event old new = (h : List Event) → IsLongerBy event h old → new 
 -- the moves are a schedule of what is searched
 abbrev pub IsScheduleIn : SearchSpace → List Move → Type 0
 IsScheduleIn space u =
-    (s : State) → IsStart space.component.now space.matrix.now s → IsSchedule s u
+    (s : State) → IsStartOf space.test s → IsSchedule s u
 
 -- the schedule leads to the node from the start
 abbrev pub LeadsToNode : {T Place : Type 0} → SearchSpace → List Move → Node T Place → Type 0
 LeadsToNode space u node =
-    (s : State) → IsStart space.component.now space.matrix.now s
+    (s : State) → IsStartOf space.test s
     → Leads s u node.machine node.trail.history

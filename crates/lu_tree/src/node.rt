@@ -1,22 +1,19 @@
 //! A node of the tree of schedules.
 
 ghost use Rattle.std.specs.Prelude.{◌≡◌, false, [], IfOk, IsTrue, List};
-ghost use Rattle.lu_component.specs.Component.{IsComponent};
-ghost use Rattle.lu_test.specs.Matrix.{IsMatrix};
 ghost use Rattle.lu_machine.specs.declared.event.Event.{Event};
 ghost use Rattle.lu_machine.specs.Ends.{IsEnded};
-ghost use Rattle.lu_machine.specs.Starts.{CanRun, IsStart};
 ghost use Rattle.lu_machine.specs.States.{progress};
 ghost use Rattle.lu_machine.specs.Steps.{IsFeasible, Step};
+ghost use Rattle.lu_machine.specs.Tests.{IsStartOf, IsWithinLimits};
 ghost use Rattle.lu_machine.specs.Undoes.{CanTake, restored};
 ghost use Rattle.lu_history.specs.Standing.{Agree};
 ghost use Rattle.lu_witness.specs.Caches.{SameButEntries};
 ghost use Rattle.lu_tree.specs.Walks.{IsBadEnd, IsGoodComplete, IsGoodEnd, IsLongerBy, IsTakenBack};
 
-use lu_component::Component;
 use lu_judge::Trail;
-use lu_machine::{Machine, Status, Undo};
-use lu_test::{Matrix, Move};
+use lu_machine::{Machine, Status, Test, Undo};
+use lu_test::Move;
 use lu_trie::SerialTree;
 use lu_witness::{Cache, Verdict, Why};
 use std::alloc::{AllocError, Global};
@@ -32,18 +29,16 @@ impl<'a, 't, T: SerialTree> Node<'a, 't, T> {
     /// The start of a run, whose histories are judged over the tree.
     pub(crate) fn start(
         alloc: Global,
-        component: &'a Component,
-        matrix: &'a Matrix,
+        test: Test<'a>,
         tree: &'t T,
     ) -> Result<Node<'a, 't, T>, AllocError>
-        requires { CanRun component.now matrix.now }
-        ensures machine { IfOk result (λ node. IsStart component.now matrix.now node.machine) }
+        ensures machine { IfOk result (λ node. IsStartOf test.entry node.machine) }
         ensures history { IfOk result (λ node. node.trail.history ≡ []) }
         ensures tree { IfOk result (λ node. node.trail.tree ≡ tree.entry.now) }
-        ensures limits { IsComponent component.now × IsMatrix matrix.now }
+        ensures limits { IsWithinLimits test.entry }
     {
         Ok(Node {
-            machine: Machine::start(alloc, component, matrix)?,
+            machine: Machine::start(alloc, test.component, test.matrix)?,
             trail: Trail::new(alloc, tree)?,
         })
     }

@@ -8,9 +8,10 @@ ghost use Rattle.lu_machine.specs.Ends.{IsEnded};
 ghost use Rattle.lu_machine.specs.States.{State, progress};
 ghost use Rattle.lu_machine.specs.Schedules.{IsSchedule};
 ghost use Rattle.lu_machine.specs.Starts.{CanRun, IsStart};
+ghost use Rattle.lu_machine.specs.Tests.{IsWithinLimits};
 ghost use Rattle.lu_history.specs.Standing.{Agree};
 ghost use Rattle.lu_witness.specs.Caches.{SameButEntries};
-ghost use Rattle.lu_tree.specs.Tables.{AreRunTables};
+ghost use Rattle.lu_tree.specs.Tables.{AreTablesOf};
 ghost use Rattle.lu_tree.specs.Trees.{CanSearch, FindsBelow, MayFind, MayFindOver, is_abandoned};
 ghost use Rattle.lu_tree.specs.Walked.{IsBadFound};
 ghost use Rattle.lu_tree.specs.Walks.{IsScheduleIn, LeadsToNode};
@@ -24,6 +25,7 @@ use crate::tally::WalkProgress;
 use crate::walk::walk;
 use crate::watch::{Unwatched, Watch};
 use lu_component::Component;
+use lu_machine::Test;
 use lu_test::{Matrix, Move, Schedule};
 use lu_trie::SerialTree;
 use lu_witness::Cache;
@@ -38,14 +40,13 @@ fn node_after<'a, 't, T: SerialTree>(
     tree: &'t T,
     schedule: &[Move],
 ) -> Result<Node<'a, 't, T>, AllocError>
-    requires of { CanRun space.now.component.now space.now.matrix.now }
-    requires leads { IsScheduleIn space.now schedule.now }
+    requires { IsScheduleIn space.now schedule.now }
     ensures leads { IfOk result (LeadsToNode space.now schedule.now) }
     ensures agree { IfOk result (λ node. Agree (progress node.machine) node.trail.history) }
     ensures tree { IfOk result (λ node. node.trail.tree ≡ tree.entry.now) }
-    ensures limits { IsComponent space.now.component.now × IsMatrix space.now.matrix.now }
+    ensures limits { IsWithinLimits space.now.test }
 {
-    let mut node = Node::start(space.alloc, space.component, space.matrix, tree)?;
+    let mut node = Node::start(space.alloc, space.test, tree)?;
     for next in schedule {
         node.enter::<true>(*next);
     }
@@ -102,13 +103,13 @@ pub fn search_with<'t, T: SerialTree, W: Watch>(
     watch: &mut W,
 ) -> Result<Found, AllocError>
     requires of { CanSearch space.now from.now }
-    requires tables { AreRunTables space.now.component.now space.now.matrix.now tables.now }
+    requires tables { AreTablesOf space.now.test tables.now }
     requires running { W.is_stopped watch.old ≡ false }
     ensures found { MayFind space.now (T.members cache.old.tree) from.now result }
     ensures base { W.base watch.new ≡ W.base watch.old }
     ensures cache { SameButEntries cache.old cache.new }
     ensures stopped { W.is_stopped watch.new ≡ is_abandoned result }
-    ensures limits { IsComponent space.now.component.now × IsMatrix space.now.matrix.now }
+    ensures limits { IsWithinLimits space.now.test }
 {
     let moves = from.moves();
     let mut node = node_after(space, cache.tree(), moves)?;
@@ -158,8 +159,7 @@ pub fn search_watched<'t, T: SerialTree, W: Watch>(
 {
     let space = SearchSpace {
         alloc,
-        component,
-        matrix,
+        test: Test { component, matrix },
         bound,
     };
     let tables = Tables::new(alloc, component, matrix, bound)?;
@@ -191,8 +191,7 @@ pub fn search<T: SerialTree>(
 {
     let space = SearchSpace {
         alloc,
-        component,
-        matrix,
+        test: Test { component, matrix },
         bound,
     };
     let tables = Tables::new(alloc, component, matrix, bound)?;

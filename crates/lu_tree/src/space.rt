@@ -1,7 +1,6 @@
 //! What is searched.
 
-use lu_component::Component;
-use lu_test::Matrix;
+use lu_machine::Test;
 use std::alloc::Global;
 
 /// What is searched, and how far: the schedules of a component and a matrix.
@@ -10,11 +9,8 @@ pub struct SearchSpace<'a> {
     /// Where a search takes its memory from.
     pub alloc: Global,
 
-    /// The component.
-    pub component: &'a Component,
-
-    /// The matrix, which has to be one of the component.
-    pub matrix: &'a Matrix,
+    /// The component and the matrix.
+    pub test: Test<'a>,
 
     /// The most moves of a schedule, 0 to 256.
     pub bound: u16,

@@ -12,24 +12,24 @@ use Rattle.lu_replay.proofs.confirming.is_shown.Goals as goal
 
 pub returns-in-SerialCut : goal.returns-in-SerialCut
 returns-in-SerialCut c =
-    λ (s : State) (serial : ℕ) (is : IsStart c.args.component.now c.args.matrix.now s) (learnt : IsLearnt s serial c.args.learnt.now).
+    λ (s : State) (serial : ℕ) (is : IsStart c.args.test.component.now c.args.test.matrix.now s) (learnt : IsLearnt s serial c.args.learnt.now).
     rw c.in-SerialCut.is (
       λ e. subst (IsLearnt s serial) (c.is_cut.ensures.0 e) learnt,
-      λ first. c.is_cut.ensures.1 (learnt_cut c.args.component.now c.args.matrix.now s is serial c.args.learnt.now c.in-SerialCut.schedule learnt first),
+      λ first. c.is_cut.ensures.1 (learnt_cut c.args.test.component.now c.args.test.matrix.now s is serial c.args.learnt.now c.in-SerialCut.schedule learnt first),
     )
 
 pub returns-in-Nondeterministic : goal.returns-in-Nondeterministic
 returns-in-Nondeterministic c =
-    λ (s : State) (serial : ℕ) (is : IsStart c.args.component.now c.args.matrix.now s) (learnt : IsLearnt s serial c.args.learnt.now).
+    λ (s : State) (serial : ℕ) (is : IsStart c.args.test.component.now c.args.test.matrix.now s) (learnt : IsLearnt s serial c.args.learnt.now).
     let n = c.in-Nondeterministic in
     rw c.in-Nondeterministic.is (
       λ e. subst (IsLearnt s serial) (c.is_conflict.ensures.0 e) learnt,
-      λ first. c.is_conflict.ensures.1 (learnt_conflict c.args.component.now c.args.matrix.now s is serial c.args.learnt.now n.schedule n.before n.earlier learnt first),
+      λ first. c.is_conflict.ensures.1 (learnt_conflict c.args.test.component.now c.args.test.matrix.now s is serial c.args.learnt.now n.schedule n.before n.earlier learnt first),
     )
 
 pub returns-in-Set : goal.returns-in-Set
 returns-in-Set c =
-    λ (s : State) (serial : ℕ) (is : IsStart c.args.component.now c.args.matrix.now s) (learnt : IsLearnt s serial c.args.learnt.now).
+    λ (s : State) (serial : ℕ) (is : IsStart c.args.test.component.now c.args.test.matrix.now s) (learnt : IsLearnt s serial c.args.learnt.now).
     let set = subst (IsLearnt s serial) c.in-Set.is learnt in
     rw c.in-Fail.is
     (IfOk-weaker c.holds.result
@@ -40,12 +40,12 @@ returns-in-Set c =
 
 pub returns-in-Cut : goal.returns-in-Cut
 returns-in-Cut c =
-    λ (s : State) (serial : ℕ) (is : IsStart c.args.component.now c.args.matrix.now s) (learnt : IsLearnt s serial c.args.learnt.now).
+    λ (s : State) (serial : ℕ) (is : IsStart c.args.test.component.now c.args.test.matrix.now s) (learnt : IsLearnt s serial c.args.learnt.now).
     let first = subst (IsLearnt s serial) c.in-Cut.is learnt in
     rw c.in-Fail.is (offence_shows_none s c.args.bound serial c.in-Fail.schedule c.in-Cut.field-0 c.in-Fail.why first.0)
 
 pub returns-in-Conflict : goal.returns-in-Conflict
 returns-in-Conflict c =
-    λ (s : State) (serial : ℕ) (is : IsStart c.args.component.now c.args.matrix.now s) (learnt : IsLearnt s serial c.args.learnt.now).
+    λ (s : State) (serial : ℕ) (is : IsStart c.args.test.component.now c.args.test.matrix.now s) (learnt : IsLearnt s serial c.args.learnt.now).
     let first = subst (IsLearnt s serial) c.in-Conflict.is learnt in
     rw c.in-Fail.is (offence_shows_none s c.args.bound serial c.in-Fail.schedule c.in-Conflict.schedule c.in-Fail.why first.0)

@@ -10,17 +10,17 @@ use Rattle.lu_tree.proofs.searching.node_after.Goals as goal
 
 pub enter-requires-clause-feasible : goal.enter-requires-clause-feasible
 enter-requires-clause-feasible g c =
-    let there = start_there c.args.space.now.component.now c.args.space.now.matrix.now c.requires.of.settles in
+    let there = start_there c.args.space.now.test.component.now c.args.space.now.test.matrix.now c.args.space.now.test.can_run.settles in
     let start : State = there.0 in
     let within : c.loop-next.next-index < length c.args.schedule.now = omega arith in
     let zero_move : Move = record { thread = 0; pick = 0 } in
-    let all = c.requires.leads start there.1 in
+    let all = c.requires start there.1 in
     goes_on_feasible start c.args.schedule.now all.end all.history all.leads c.loop-next.next-index zero_move within c.loop-next.node.machine c.loop-next.node.trail.history (c.loop-next.invariant.leads start there.1)
 
 pub loop-next-init : goal.loop-next-init
 loop-next-init g c = record {
-  leads = λ s is. (start_same c.args.space.now.component.now c.args.space.now.matrix.now c.in_ok-node.node.machine s c.in_ok-node.ensures.machine is, c.in_ok-node.ensures.history);
-  agree = rw c.in_ok-node.ensures.history (start_agrees c.args.space.now.component.now c.args.space.now.matrix.now c.in_ok-node.node.machine c.in_ok-node.ensures.machine);
+  leads = λ s is. (start_same c.args.space.now.test.component.now c.args.space.now.test.matrix.now c.in_ok-node.node.machine s c.in_ok-node.ensures.machine is, c.in_ok-node.ensures.history);
+  agree = rw c.in_ok-node.ensures.history (start_agrees c.args.space.now.test.component.now c.args.space.now.test.matrix.now c.in_ok-node.node.machine c.in_ok-node.ensures.machine);
   tree = c.in_ok-node.ensures.tree;
 }
 

@@ -7,7 +7,7 @@ use Rattle.lu_tree.proofs.searching.node_after.Given as goal
 
 abbrev pub invariant-loop-next : goal.invariant-loop-next
 invariant-loop-next g l = record {
-  leads : (s : State) → IsStart l.space.component.now l.space.matrix.now s → Leads s (take l.next-index l.schedule) l.node.machine l.node.trail.history;
+  leads : (s : State) → IsStart l.space.test.component.now l.space.test.matrix.now s → Leads s (take l.next-index l.schedule) l.node.machine l.node.trail.history;
   agree : Agree (progress l.node.machine) l.node.trail.history;
   tree : l.node.trail.tree ≡ l.tree;
 }

@@ -31,7 +31,7 @@ returns-in-Some-clause-found g c = λ s is.
 
 pub walk-walked-requires-clause-serves : goal.walk-walked-requires-clause-serves
 walk-walked-requires-clause-serves g c =
-    let there = start_there c.args.space.now.component.now c.args.space.now.matrix.now c.requires.of.run.settles in
+    let there = start_there c.args.space.now.test.component.now c.args.space.now.test.matrix.now c.args.space.now.test.can_run.settles in
     let start : State = there.0 in
     let moves = c.moves-moves.result.now in
     let node = c.in_ok-node.node in
@@ -41,16 +41,16 @@ walk-walked-requires-clause-serves g c =
 
 pub walk-walked-requires-clause-dead : goal.walk-walked-requires-clause-dead
 walk-walked-requires-clause-dead g c =
-    let there = start_there c.args.space.now.component.now c.args.space.now.matrix.now c.requires.of.run.settles in
+    let there = start_there c.args.space.now.test.component.now c.args.space.now.test.matrix.now c.args.space.now.test.can_run.settles in
     let start : State = there.0 in
     let node = c.in_ok-node.node in
-    let begins : start.component ≡ c.args.space.now.component.now = ap (λ (x : State). x.component) there.1.is in
-    let component : node.machine.component ≡ c.args.space.now.component.now = leads_component start c.moves-moves.result.now node.machine node.trail.history (c.in_ok-node.ensures.leads start there.1) ∙ begins in
+    let begins : start.component ≡ c.args.space.now.test.component.now = ap (λ (x : State). x.component) there.1.is in
+    let component : node.machine.component ≡ c.args.space.now.test.component.now = leads_component start c.moves-moves.result.now node.machine node.trail.history (c.in_ok-node.ensures.leads start there.1) ∙ begins in
     subst (λ x. IsDeadTable x c.args.tables.now.dead) (sym component) c.requires.tables.1
 
 pub found_bad-requires-clause-ended : goal.found_bad-requires-clause-ended
 found_bad-requires-clause-ended g c =
-    let there = start_there c.args.space.now.component.now c.args.space.now.matrix.now c.requires.of.run.settles in
+    let there = start_there c.args.space.now.test.component.now c.args.space.now.test.matrix.now c.args.space.now.test.can_run.settles in
     let start : State = there.0 in
     let moves = c.moves-moves.result.now in
     let node = c.in_ok-node.node in
@@ -66,7 +66,7 @@ found_bad-requires-clause-ended g c =
 
 pub found_bad-requires-clause-moves : goal.found_bad-requires-clause-moves
 found_bad-requires-clause-moves g c =
-    let there = start_there c.args.space.now.component.now c.args.space.now.matrix.now c.requires.of.run.settles in
+    let there = start_there c.args.space.now.test.component.now c.args.space.now.test.matrix.now c.args.space.now.test.can_run.settles in
     let start : State = there.0 in
     let moves = c.moves-moves.result.now in
     let node = c.in_ok-node.node in
@@ -80,7 +80,7 @@ found_bad-requires-clause-moves g c =
     let first : IsFirstAt Set start c.args.space.now.bound (Below c.args.from.now) (c.args.from.now ++ reverse path) end last = walk_stopped Set start c.args.space.now.bound left c.args.from.now moves node.machine node.trail.history c.moves-moves.ensures.moves all (c.in_ok-node.ensures.leads start there.1) path end last (c.in_default.ensures.stops refl running) in
     let few = c.requires.of.few in
     let short : length (c.args.from.now ++ reverse path) ≤ c.args.space.now.bound = first.short in
-    let are : AreMoves (c.args.from.now ++ reverse path) = schedule_moves c.args.space.now.component.now c.args.space.now.matrix.now start c.in_ok-node.ensures.limits.0 c.in_ok-node.ensures.limits.1 there.1 (c.args.from.now ++ reverse path) end last first.leads (omega arith) in
+    let are : AreMoves (c.args.from.now ++ reverse path) = schedule_moves c.args.space.now.test.component.now c.args.space.now.test.matrix.now start c.in_ok-node.ensures.limits.0 c.in_ok-node.ensures.limits.1 there.1 (c.args.from.now ++ reverse path) end last first.leads (omega arith) in
     subst (λ u. AreMoves (u ++ reverse path)) (sym c.moves-moves.ensures.moves) are
 
 pub returns-clause-found : goal.returns-clause-found
