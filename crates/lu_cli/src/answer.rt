@@ -1,15 +1,19 @@
 //! Answers: texts with their exit statuses.
 
-ghost use Rattle.std.specs.Prelude.{◌≡◌, ◌++◌, IfOk, IfErr, IfSome, OnOk, Some, string_bytes};
+ghost use Rattle.std.specs.Prelude.{◌≡◌, IfOk, IfSome, OnOk, Some, string_bytes};
+ghost use Rattle.lu_test.specs.Matrix.{IsOf};
 ghost use Rattle.lu_survey.specs.Comparing.{IsComparedOf};
 ghost use Rattle.lu_survey.specs.Surveys.{AreShownOf, IsShownOf};
 ghost use Rattle.lu_text.specs.Results.{Builds};
 ghost use Rattle.lu_text.specs.Writing.{Writes};
-ghost use Rattle.lu_test.specs.Matrix.{IsOf};
 ghost use Rattle.lu_certify.specs.Certificates.{NamesCutOf};
-ghost use Rattle.lu_cli.specs.Refusals.{refusal_answer, refused_in_history};
-ghost use Rattle.lu_cli.specs.Replies as spec;
-ghost use Rattle.lu_cli.specs.Replies.{IsListed, PushesFirst, ShowsBelow, run_verdict, tally_line, two_texts};
+ghost use Rattle.lu_cli.specs.Refusals.{SaysResult, refusal_answer, refused_in_history};
+ghost use Rattle.lu_cli.specs.Campaigning as campaigning;
+ghost use Rattle.lu_cli.specs.Campaigning.{PushesFirst, ShowsBelow, tally_line};
+ghost use Rattle.lu_cli.specs.Comparing.{all_agree, comparison_answer, difference_answer, run_verdict};
+ghost use Rattle.lu_cli.specs.Outcomes as outcomes;
+ghost use Rattle.lu_cli.specs.Shows as spec;
+ghost use Rattle.lu_cli.specs.Shows.{IsListed, two_texts};
 
 use crate::refusal::Refusal;
 use crate::texts::Fault as TextsFault;
@@ -45,7 +49,7 @@ impl Model for Answer {
 
 /// A refusal, for this reason.
 pub fn refused(alloc: Global, why: &str) -> Result<Answer, AllocError>
-    ensures { IfOk result (λ answer. answer ≡ spec.refused why.now) }
+    ensures { IfOk result (λ answer. answer ≡ outcomes.refused why.now) }
 {
     Ok(Answer {
         text: format!(in alloc; "refused {why}\n")?,
@@ -55,7 +59,7 @@ pub fn refused(alloc: Global, why: &str) -> Result<Answer, AllocError>
 
 /// A refusal for a fault of this code, on this line.
 fn refused_on_line(alloc: Global, code: &str, line: usize) -> Result<Answer, AllocError>
-    ensures { IfOk result (λ answer. answer ≡ spec.refused_on_line code.now line) }
+    ensures { IfOk result (λ answer. answer ≡ outcomes.refused_on_line code.now line) }
 {
     Ok(Answer {
         text: format!(in alloc; "refused {code} line {line}\n")?,
@@ -80,7 +84,7 @@ fn refused_in_history(
 
 /// That the move at this index is infeasible.
 pub fn infeasible(alloc: Global, index: usize) -> Result<Answer, AllocError>
-    ensures { IfOk result (λ answer. answer ≡ spec.infeasible index) }
+    ensures { IfOk result (λ answer. answer ≡ outcomes.infeasible index) }
 {
     Ok(Answer {
         text: format!(in alloc; "infeasible {index}\n")?,
@@ -183,7 +187,7 @@ pub fn show_certificate(
 
 /// That all matrices of a campaign pass, and how many there are.
 pub fn show_count(alloc: Global, count: u64) -> Result<Answer, AllocError>
-    ensures { IfOk result (λ answer. answer ≡ spec.all_pass count) }
+    ensures { IfOk result (λ answer. answer ≡ campaigning.all_pass count) }
 {
     Ok(Answer {
         text: format!(in alloc; "campaign pass {count}\n")?,
@@ -193,7 +197,7 @@ pub fn show_count(alloc: Global, count: u64) -> Result<Answer, AllocError>
 
 /// That on all matrices of a campaign the component is linearizable, and how many there are.
 pub fn show_linearizable(alloc: Global, count: u64) -> Result<Answer, AllocError>
-    ensures { IfOk result (λ answer. answer ≡ spec.all_linearizable count) }
+    ensures { IfOk result (λ answer. answer ≡ campaigning.all_linearizable count) }
 {
     Ok(Answer {
         text: format!(in alloc; "campaign linearizable {count}\n")?,
@@ -245,7 +249,7 @@ fn push_first(
 
 /// 1 where a certificate of a survey says that something fails, else 3 where one is undecided.
 fn survey_status(survey: &Survey) -> u8
-    ensures { result ≡ spec.survey_status survey.now }
+    ensures { result ≡ campaigning.survey_status survey.now }
 {
     if survey.not_linearizable.count > 0 || survey.livelock.count > 0 {
         1
@@ -266,7 +270,7 @@ fn push_tally(text: &mut String, kind: &str, count: u64) -> Result<(), AllocErro
 
 /// How many matrices have a certificate of each kind.
 fn survey_head(alloc: Global, survey: &Survey) -> Result<String, AllocError>
-    ensures { IfOk result (λ text. string_bytes text ≡ spec.survey_head survey.now) }
+    ensures { IfOk result (λ text. string_bytes text ≡ campaigning.survey_head survey.now) }
 {
     let mut text = String::from_str(alloc, "campaign certified\n")?;
     push_tally(&mut text, "linearizable", survey.linearizable.count)?;
@@ -283,7 +287,7 @@ pub fn show_survey(
     survey: &Survey,
 ) -> Result<Answer, AllocError>
     requires { AreShownOf component.now survey.now }
-    ensures { IfOk result (spec.ShowsSurvey component.now survey.now) }
+    ensures { IfOk result (campaigning.ShowsSurvey component.now survey.now) }
 {
     let mut text = survey_head(alloc, survey)?;
     push_first(alloc, component, &survey.not_linearizable.first, &mut text)?;
@@ -297,7 +301,7 @@ pub fn show_survey(
 
 /// That on all matrices of a campaign the component agrees with the trusted one.
 fn show_agreement(alloc: Global, count: u64) -> Result<Answer, AllocError>
-    ensures { IfOk result (λ answer. answer ≡ spec.all_agree count) }
+    ensures { IfOk result (λ answer. answer ≡ all_agree count) }
 {
     Ok(Answer {
         text: format!(in alloc; "campaign agrees {count}\n")?,
@@ -330,7 +334,7 @@ fn show_difference(
     difference: &Difference,
 ) -> Result<Answer, AllocError>
     requires { IsOf matrix.now component.now }
-    ensures { Builds result (spec.difference_answer component.now matrix.now difference.now) }
+    ensures { Builds result (difference_answer component.now matrix.now difference.now) }
 {
     match difference {
         Difference::TrustedCut(schedule) => {
@@ -364,7 +368,7 @@ pub fn show_comparison(
 ) -> Result<Answer, AllocError>
     requires { IsComparedOf component.now found.now }
     ensures { IfOk result (λ answer.
-        answer ≡ spec.comparison_answer component.now found.now) }
+        answer ≡ comparison_answer component.now found.now) }
 {
     match found {
         Comparison::AllAgree(count) => show_agreement(alloc, *count),
@@ -376,7 +380,7 @@ pub fn show_comparison(
 
 /// A number, on a line of its own.
 pub fn show_number(alloc: Global, number: u64) -> Result<Answer, AllocError>
-    ensures { IfOk result (λ answer. answer ≡ spec.numbered number) }
+    ensures { IfOk result (λ answer. answer ≡ campaigning.numbered number) }
 {
     Ok(Answer {
         text: format!(in alloc; "{number}\n")?,
@@ -413,7 +417,7 @@ pub fn show_schedule(
 
 /// That call number `call` of the setup does not end.
 fn answer_unsettled(alloc: Global, call: u8) -> Result<Answer, AllocError>
-    ensures { IfOk result (λ answer. answer ≡ spec.unsettled call) }
+    ensures { IfOk result (λ answer. answer ≡ outcomes.unsettled call) }
 {
     Ok(Answer {
         text: format!(in alloc; "refused U1 call {call}\n")?,
@@ -423,7 +427,7 @@ fn answer_unsettled(alloc: Global, call: u8) -> Result<Answer, AllocError>
 
 /// That the start of a worker's thread was refused.
 fn no_worker(alloc: Global) -> Result<Answer, AllocError>
-    ensures { IfOk result (λ answer. answer ≡ spec.no_worker) }
+    ensures { IfOk result (λ answer. answer ≡ outcomes.no_worker) }
 {
     Ok(Answer {
         text: String::from_str(alloc, "refused K2\n")?,
@@ -483,5 +487,22 @@ pub fn show_refusal(alloc: Global, refusal: Refusal) -> Result<Answer, AllocErro
             },
         )
         | Refusal::Memory => Err(AllocError),
+    }
+}
+
+/// The answer, or what is said of the refusal.
+///
+/// # Errors
+///
+/// `AllocError` where memory was refused, now or before.
+pub(crate) fn or_refusal(
+    alloc: Global,
+    carried: Result<Answer, Refusal>,
+) -> Result<Answer, AllocError>
+    ensures { IfOk result (SaysResult carried) }
+{
+    match carried {
+        Ok(answer) => Ok(answer),
+        Err(refusal) => show_refusal(alloc, refusal),
     }
 }

@@ -1,41 +1,34 @@
 //! What is answered to campaigns.
 
-ghost use Rattle.std.specs.Prelude.{◌≡◌, Ok, IfErr, IfOk};
-ghost use Rattle.lu_text.specs.Faults.{meaning_of};
-ghost use Rattle.lu_lang.specs.Grammar.{component_grammar};
+ghost use Rattle.std.specs.Prelude.{◌≡◌, IfOk};
 ghost use Rattle.lu_text.specs.Lines.{texts};
 ghost use Rattle.lu_test.specs.Matrix.{IsSetup};
 ghost use Rattle.lu_machine.specs.Starts.{AllEnd, CanRun};
 ghost use Rattle.lu_refine.specs.Campaigns.{AreCallsOf, HaveArguments, IsFoundOf};
 ghost use Rattle.lu_refine.specs.Roles.{AllCallsOf, AllHaveArguments};
 ghost use Rattle.lu_refine.specs.ByThread.{CanAsk, asked_of};
-ghost use Rattle.lu_cli.specs.declared.order.CampaignThreads.TheVariants.{Own};
 ghost use Rattle.lu_survey.specs.Certified.{IsCertifiedOf};
-ghost use Rattle.lu_survey.specs.Comparing.{CanCompare, HasSameOperations};
 ghost use Rattle.lu_cli.specs.Refusals.{Answered};
-ghost use Rattle.lu_cli.specs.Replies as spec;
-ghost use Rattle.lu_cli.specs.Replies.{ComparesAlike, ComparesLists, ComparesNumbers, ComparesSettled, ComparesWith, IsTriedAll, IsTriedPart, IsTriedSame, IsTrustedRefusal};
+ghost use Rattle.lu_cli.specs.Campaigning as spec;
+ghost use Rattle.lu_cli.specs.Campaigning.{IsTriedAll, IsTriedPart, IsTriedSame};
+ghost use Rattle.lu_cli.specs.declared.request.CampaignThreads.TheVariants.{Own};
 
 use crate::answer::{
-    Answer, show_certified, show_comparison, show_count, show_linearizable, show_matrix,
-    show_number, show_survey,
+    Answer, show_certified, show_count, show_linearizable, show_matrix, show_number, show_survey,
 };
-use crate::order::{CampaignOptions, CampaignPart, CampaignThreads, CampaignTrial};
 use crate::refusal::Refusal;
-use crate::texts::{Fault, read_texts};
+use crate::request::{CampaignOptions, CampaignPart, CampaignThreads, CampaignTrial};
+use crate::texts::read_texts;
 use lu_certify::DEFAULT_NODES;
 use lu_component::Component;
-use lu_lang::read_component;
 use lu_machine::settles;
 use lu_refine::{
     Campaign, CampaignFault, Roles, campaign, campaign_by_thread, campaign_slice, count_matrices,
     same_lists,
 };
-use lu_survey::{
-    CertifiedCampaign, certify_slice, compare_slice, have_same_operations, survey_slice,
-};
+use lu_survey::{CertifiedCampaign, certify_slice, survey_slice};
 use lu_test::{Call, Calls, Matrix};
-use lu_text::{exactly_three, exactly_two};
+use lu_text::exactly_two;
 use std::alloc::{AllocError, Global};
 
 /// How many matrices there are, where all pass; or the first that does not, with its report.
@@ -82,7 +75,7 @@ fn try_matrices(
 /// What the campaign in which each thread has its own candidates finds.
 fn try_by_thread(alloc: Global, roles: Roles<'_>) -> Result<Answer, Refusal>
     requires { CanAsk (asked_of roles) }
-    ensures { Answered (spec.IsByThreadAnswer (asked_of roles.entry)) result }
+    ensures { Answered (spec.IsCheckedWhole (asked_of roles.entry)) result }
 {
     let found = campaign_by_thread(alloc, roles)?;
     Ok(show_found(alloc, roles.component, &found)?)
@@ -91,7 +84,7 @@ fn try_by_thread(alloc: Global, roles: Roles<'_>) -> Result<Answer, Refusal>
 /// What the matrices of that campaign with the numbers `from` to `upto - 1` show.
 fn try_slice(alloc: Global, roles: Roles<'_>, from: u64, upto: u64) -> Result<Answer, Refusal>
     requires { CanAsk (asked_of roles) }
-    ensures { Answered (spec.IsSliceReply (asked_of roles.entry) from upto) result }
+    ensures { Answered (spec.IsCheckedNumbers (asked_of roles.entry) from upto) result }
 {
     let found = campaign_slice(alloc, roles, from, upto)?;
     Ok(show_found(alloc, roles.component, &found)?)
@@ -119,14 +112,14 @@ fn show_certificates(
 /// What the certificates of the matrices with the numbers `from` to `upto - 1` say.
 fn certify_numbers(alloc: Global, roles: Roles<'_>, from: u64, upto: u64) -> Result<Answer, Refusal>
     requires { CanAsk (asked_of roles) }
-    ensures { Answered (spec.IsCertifiedReply (asked_of roles.entry) from upto) result }
+    ensures { Answered (spec.IsCertifiedNumbers (asked_of roles.entry) from upto) result }
 {
     let found = certify_slice(alloc, roles, DEFAULT_NODES, from, upto)?;
     Ok(show_certificates(alloc, roles.component, &found)?)
 }
 
 /// How many matrices that campaign has.
-fn count_all(alloc: Global, candidates: &[Calls], calls: u8) -> Result<Answer, Refusal>
+pub(crate) fn count_all(alloc: Global, candidates: &[Calls], calls: u8) -> Result<Answer, Refusal>
     ensures { Answered (spec.IsCountAnswer candidates.now calls) result }
 {
     let count = count_matrices(alloc, candidates, calls)?;
@@ -136,7 +129,7 @@ fn count_all(alloc: Global, candidates: &[Calls], calls: u8) -> Result<Answer, R
 /// What is answered where the matrices are checked.
 fn check_part(alloc: Global, roles: Roles<'_>, part: CampaignPart) -> Result<Answer, Refusal>
     requires { CanAsk (asked_of roles) }
-    ensures { Answered (spec.IsAnswerToPart part (asked_of roles.entry)) result }
+    ensures { Answered (spec.IsCheckedPart part (asked_of roles.entry)) result }
 {
     match part {
         CampaignPart::Whole => try_by_thread(alloc, roles),
@@ -160,7 +153,7 @@ fn certify_part(alloc: Global, roles: Roles<'_>, part: CampaignPart) -> Result<A
 /// How many of the matrices with the numbers `from` to `upto - 1` have a certificate of each kind.
 fn survey_numbers(alloc: Global, roles: Roles<'_>, from: u64, upto: u64) -> Result<Answer, Refusal>
     requires { CanAsk (asked_of roles) }
-    ensures { Answered (spec.IsSurveyReply (asked_of roles.entry) from upto) result }
+    ensures { Answered (spec.IsSurveyedNumbers (asked_of roles.entry) from upto) result }
 {
     let survey = survey_slice(alloc, roles, DEFAULT_NODES, from, upto)?;
     Ok(show_survey(alloc, roles.component, &survey)?)
@@ -174,40 +167,6 @@ fn survey_part(alloc: Global, roles: Roles<'_>, part: CampaignPart) -> Result<An
     match part {
         CampaignPart::Whole => survey_numbers(alloc, roles, 0, u64::MAX),
         CampaignPart::Slice { from, upto } => survey_numbers(alloc, roles, from, upto),
-        CampaignPart::Count => count_all(alloc, roles.candidates, roles.calls),
-    }
-}
-
-/// How the component differs from a trusted one on the matrices with the numbers `from` to
-/// `upto - 1`.
-fn compare_numbers(
-    alloc: Global,
-    roles: Roles<'_>,
-    trusted: &Component,
-    from: u64,
-    upto: u64,
-) -> Result<Answer, Refusal>
-    requires { CanCompare (asked_of roles) trusted.now }
-    ensures { ComparesNumbers trusted.entry.now roles.entry from upto result }
-{
-    let found = compare_slice(alloc, roles, trusted, from, upto)?;
-    Ok(show_comparison(alloc, roles.component, &found)?)
-}
-
-/// What is answered where the component is held against a trusted one.
-fn compare_part(
-    alloc: Global,
-    roles: Roles<'_>,
-    trusted: &Component,
-    part: CampaignPart,
-) -> Result<Answer, Refusal>
-    requires { CanCompare (asked_of roles) trusted.now }
-    ensures { Answered
-        (spec.IsComparedPart trusted.entry.now part (asked_of roles.entry)) result }
-{
-    match part {
-        CampaignPart::Whole => compare_numbers(alloc, roles, trusted, 0, u64::MAX),
-        CampaignPart::Slice { from, upto } => compare_numbers(alloc, roles, trusted, from, upto),
         CampaignPart::Count => count_all(alloc, roles.candidates, roles.calls),
     }
 }
@@ -322,7 +281,7 @@ fn try_lines(
     options: CampaignOptions,
 ) -> Result<Answer, Refusal>
     requires { CanRun component.now matrix.now }
-    ensures { Answered (spec.IsCampaignBy Own component.now options matrix.now) result }
+    ensures { Answered (spec.IsCampaignByThreads Own component.now options matrix.now) result }
 {
     try_lists(alloc, component, matrix.setup(), matrix.as_slice(), options)
 }
@@ -335,7 +294,7 @@ fn try_matrix(
     options: CampaignOptions,
 ) -> Result<Answer, Refusal>
     requires { CanRun component.now matrix.now }
-    ensures { Answered (spec.IsCampaignFrom component.now options matrix.now) result }
+    ensures { Answered (spec.IsCampaignOfMatrix component.now options matrix.now) result }
 {
     match options.threads {
         CampaignThreads::Alike(threads) => {
@@ -352,147 +311,9 @@ pub(crate) fn answer_campaign(
     options: CampaignOptions,
     parts: &[&[u8]],
 ) -> Result<Answer, Refusal>
-    ensures { Answered (spec.IsCampaignOf options (texts parts.now)) result }
+    ensures { Answered (spec.IsAnswerToCampaign options (texts parts.now)) result }
 {
     let (component, matrix) = exactly_two(parts).ok_or(Refusal::Parts)?;
     let case = read_texts(alloc, component, matrix)?;
     try_matrix(alloc, &case.component, &case.matrix, options)
-}
-
-/// What is answered against a trusted component, where each thread has its own candidates.
-fn compare_lists(
-    alloc: Global,
-    component: &Component,
-    trusted: &Component,
-    setup: &Calls,
-    candidates: &[Calls],
-    options: CampaignOptions,
-) -> Result<Answer, Refusal>
-    requires setup { IsSetup setup.now }
-    requires setup_of { AreCallsOf component.now setup.now }
-    requires settles { AllEnd component.now setup.now }
-    requires trusted_settles { AllEnd trusted.now setup.now }
-    requires operations { HasSameOperations component.now trusted.now }
-    requires of { AllCallsOf component.now candidates.now }
-    requires arguments { AllHaveArguments candidates.now }
-    ensures { ComparesLists trusted.now component.now setup.now candidates.now options result }
-{
-    let roles = Roles {
-        component,
-        setup,
-        candidates,
-        calls: options.calls,
-        bound: options.bounds.bound(),
-        serial: options.bounds.serial(),
-    };
-    compare_part(alloc, roles, trusted, options.part)
-}
-
-/// What is answered against a trusted component, where so many threads have the same candidates.
-fn compare_alike(
-    alloc: Global,
-    component: &Component,
-    trusted: &Component,
-    matrix: &Matrix,
-    threads: u8,
-    options: CampaignOptions,
-) -> Result<Answer, Refusal>
-    requires runs { CanRun component.now matrix.now }
-    requires trusted_runs { CanRun trusted.now matrix.now }
-    requires operations { HasSameOperations component.now trusted.now }
-    ensures { ComparesAlike trusted.now component.now threads options matrix.now result }
-{
-    match matrix.as_slice() {
-        [candidates] => {
-            let lists = same_lists(alloc, candidates.as_slice(), threads)?;
-            compare_lists(alloc, component, trusted, matrix.setup(), &lists, options)
-        }
-        _ => Err(Refusal::Campaign(CampaignFault::Candidates)),
-    }
-}
-
-/// What is answered to a matrix of the component and of the trusted one.
-fn compare_matrix(
-    alloc: Global,
-    component: &Component,
-    trusted: &Component,
-    matrix: &Matrix,
-    options: CampaignOptions,
-) -> Result<Answer, Refusal>
-    requires runs { CanRun component.now matrix.now }
-    requires trusted_runs { CanRun trusted.now matrix.now }
-    requires operations { HasSameOperations component.now trusted.now }
-    ensures { Answered
-        (spec.IsComparedFrom trusted.now component.now options matrix.now) result }
-{
-    match options.threads {
-        CampaignThreads::Alike(threads) => {
-            compare_alike(alloc, component, trusted, matrix, threads, options)
-        }
-        CampaignThreads::Own => {
-            let (setup, lists) = (matrix.setup(), matrix.as_slice());
-            compare_lists(alloc, component, trusted, setup, lists, options)
-        }
-    }
-}
-
-/// What is answered where the trusted component has the operations of the other one: the setup has
-/// to settle with it too.
-fn compare_settled(
-    alloc: Global,
-    component: &Component,
-    trusted: &Component,
-    matrix: &Matrix,
-    options: CampaignOptions,
-) -> Result<Answer, Refusal>
-    requires runs { CanRun component.now matrix.now }
-    requires operations { HasSameOperations component.now trusted.now }
-    ensures { ComparesSettled trusted.now component.now options matrix.now result }
-{
-    match settles(alloc, trusted, matrix)? {
-        Some(call) => Err(Refusal::Texts(Fault::Setup(call))),
-        None => compare_matrix(alloc, component, trusted, matrix, options),
-    }
-}
-
-/// The trusted component.
-fn read_trusted(alloc: Global, text: &[u8]) -> Result<Component, Refusal>
-    ensures read { IfOk result (λ t. meaning_of component_grammar text.now ≡ Ok t) }
-    ensures refused { IfErr result (IsTrustedRefusal text.now) }
-{
-    match read_component(alloc, text) {
-        Ok(trusted) => Ok(trusted),
-        Err(fault) => Err(Refusal::Texts(Fault::Component(fault))),
-    }
-}
-
-/// What is answered to the text of a trusted component.
-fn compare_with(
-    alloc: Global,
-    component: &Component,
-    matrix: &Matrix,
-    options: CampaignOptions,
-    trusted: &[u8],
-) -> Result<Answer, Refusal>
-    requires { CanRun component.now matrix.now }
-    ensures { ComparesWith trusted.now component.now options matrix.now result }
-{
-    let trusted = read_trusted(alloc, trusted)?;
-    if !have_same_operations(component, &trusted) {
-        return Err(Refusal::Operations);
-    }
-    compare_settled(alloc, component, &trusted, matrix, options)
-}
-
-/// `lineup campaign --spec`: component, matrix, and a component that is trusted.
-pub(crate) fn answer_campaign_against(
-    alloc: Global,
-    options: CampaignOptions,
-    parts: &[&[u8]],
-) -> Result<Answer, Refusal>
-    ensures { Answered (spec.IsCampaignAgainstOf options (texts parts.now)) result }
-{
-    let (component, matrix, trusted) = exactly_three(parts).ok_or(Refusal::Parts)?;
-    let case = read_texts(alloc, component, matrix)?;
-    compare_with(alloc, &case.component, &case.matrix, options, trusted)
 }

@@ -1,4 +1,4 @@
-//! Why an order is refused.
+//! Why a command is refused.
 
 ghost use Rattle.std.specs.Prelude.{◌≡◌};
 ghost use Rattle.lu_cli.specs.declared.refusal.Refusal.TheVariants.{Memory};
@@ -14,7 +14,7 @@ use lu_spec::SpecFault;
 use lu_test::ScheduleFault;
 use std::alloc::AllocError;
 
-/// Why there is no other answer to an order.
+/// Why there is no other answer to a command.
 #[derive(Clone, Copy)]
 pub(crate) enum Refusal {
     /// `B1`: the bundle has another number of parts.
