@@ -1,35 +1,155 @@
 //! What is answered to campaigns.
 
-ghost use Rattle.std.specs.Prelude.{◌≡◌, IfOk};
+ghost use Rattle.std.specs.Prelude.{◌≡◌, IfOk, IfSome, OnOk, string_bytes};
 ghost use Rattle.lu_text.specs.Lines.{texts};
-ghost use Rattle.lu_test.specs.Matrix.{IsSetup};
+ghost use Rattle.lu_text.specs.Writing.{Writes};
+ghost use Rattle.lu_test.specs.Matrix.{IsOf, IsSetup};
 ghost use Rattle.lu_machine.specs.Starts.{AllEnd, CanRun};
 ghost use Rattle.lu_refine.specs.Campaigns.{AreCallsOf, HaveArguments, IsFoundOf};
 ghost use Rattle.lu_refine.specs.Roles.{AllCallsOf, AllHaveArguments};
 ghost use Rattle.lu_refine.specs.ByThread.{CanAsk, asked_of};
+ghost use Rattle.lu_certify.specs.Certificates.{NamesCutOf};
 ghost use Rattle.lu_survey.specs.Certified.{IsCertifiedOf};
+ghost use Rattle.lu_survey.specs.Surveys.{AreShownOf, IsShownOf};
 ghost use Rattle.lu_cli.specs.Refusals.{Answered};
 ghost use Rattle.lu_cli.specs.Campaigning as spec;
-ghost use Rattle.lu_cli.specs.Campaigning.{IsTriedAll, IsTriedPart, IsTriedSame};
+ghost use Rattle.lu_cli.specs.Campaigning.{IsTriedAll, IsTriedPart, IsTriedSame, PushesFirst, ShowsBelow, tally_line};
 ghost use Rattle.lu_cli.specs.declared.request.CampaignThreads.TheVariants.{Own};
 
-use crate::answer::{
-    Answer, show_certified, show_count, show_linearizable, show_matrix, show_number, show_survey,
-};
+use crate::answer::{Answer, show_certificate, show_matrix};
 use crate::refusal::Refusal;
 use crate::request::{CampaignOptions, CampaignPart, CampaignThreads, CampaignTrial};
 use crate::texts::read_texts;
-use lu_certify::DEFAULT_NODES;
+use lu_certify::{Certificate, DEFAULT_NODES};
 use lu_component::Component;
-use lu_machine::settles;
 use lu_refine::{
     Campaign, CampaignFault, Roles, campaign, campaign_by_thread, campaign_slice, count_matrices,
     same_lists,
 };
-use lu_survey::{CertifiedCampaign, certify_slice, survey_slice};
-use lu_test::{Call, Calls, Matrix};
+use lu_survey::{CertifiedCampaign, CertifiedMatrix, Survey, certify_slice, survey_slice};
+use lu_test::{Call, Calls, Matrix, write_matrix};
 use lu_text::exactly_two;
 use std::alloc::{AllocError, Global};
+
+/// A number, on a line of its own.
+fn show_number(alloc: Global, number: u64) -> Result<Answer, AllocError>
+    ensures { IfOk result (λ answer. answer ≡ spec.numbered number) }
+{
+    Ok(Answer {
+        text: format!(in alloc; "{number}\n")?,
+        status: 0,
+    })
+}
+
+/// That all matrices of a campaign pass, and how many there are.
+fn show_count(alloc: Global, count: u64) -> Result<Answer, AllocError>
+    ensures { IfOk result (λ answer. answer ≡ spec.all_pass count) }
+{
+    Ok(Answer {
+        text: format!(in alloc; "campaign pass {count}\n")?,
+        status: 0,
+    })
+}
+
+/// That on all matrices of a campaign the component is linearizable, and how many there are.
+fn show_linearizable(alloc: Global, count: u64) -> Result<Answer, AllocError>
+    ensures { IfOk result (λ answer. answer ≡ spec.all_linearizable count) }
+{
+    Ok(Answer {
+        text: format!(in alloc; "campaign linearizable {count}\n")?,
+        status: 0,
+    })
+}
+
+/// The text of a matrix, and what its certificate says.
+fn show_certified(
+    alloc: Global,
+    component: &Component,
+    matrix: &Matrix,
+    certificate: &Certificate,
+) -> Result<Answer, AllocError>
+    requires matrix { IsOf matrix.now component.now }
+    requires cut { NamesCutOf component.now certificate.now }
+    ensures { ShowsBelow component.now matrix.now certificate.now result }
+{
+    let shown = show_certificate(alloc, component, certificate)?;
+    let mut text = write_matrix(alloc, component, matrix)?;
+    text.push_str("---\n")?;
+    text.push_str(shown.text.as_str())?;
+    Ok(Answer {
+        text,
+        status: shown.status,
+    })
+}
+
+/// The first matrix of a kind, with its certificate, behind the text.
+fn push_first(
+    alloc: Global,
+    component: &Component,
+    first: &Option<CertifiedMatrix>,
+    text: &mut String,
+) -> Result<(), AllocError>
+    requires { IfSome first.now (IsShownOf component.now) }
+    ensures { OnOk result (PushesFirst component.now first.now text.old text.new) }
+{
+    match first {
+        None => Ok(()),
+        Some(one) => {
+            let shown = show_certified(alloc, component, &one.matrix, &one.certificate)?;
+            text.push_str("---\n")?;
+            text.push_str(shown.text.as_str())?;
+            Ok(())
+        }
+    }
+}
+
+/// 1 where a certificate of a survey says that something fails, else 3 where one is undecided.
+fn survey_status(survey: &Survey) -> u8
+    ensures { result ≡ spec.survey_status survey.now }
+{
+    if survey.not_linearizable.count > 0 || survey.livelock.count > 0 {
+        1
+    } else if survey.undecided.count > 0 {
+        3
+    } else {
+        0
+    }
+}
+
+/// How many matrices have a certificate of a kind, on a line behind the text.
+fn push_tally(text: &mut String, kind: &str, count: u64) -> Result<(), AllocError>
+    ensures { Writes result text.old text.new (tally_line kind.now count) }
+{
+    writeln!(text, "{kind} {count}")?;
+    Ok(())
+}
+
+/// How many matrices have a certificate of each kind.
+fn survey_head(alloc: Global, survey: &Survey) -> Result<String, AllocError>
+    ensures { IfOk result (λ text. string_bytes text ≡ spec.survey_head survey.now) }
+{
+    let mut text = String::from_str(alloc, "campaign certified\n")?;
+    push_tally(&mut text, "linearizable", survey.linearizable.count)?;
+    push_tally(&mut text, "not linearizable", survey.not_linearizable.count)?;
+    push_tally(&mut text, "livelock", survey.livelock.count)?;
+    push_tally(&mut text, "undecided", survey.undecided.count)?;
+    Ok(text)
+}
+
+/// How many matrices have a certificate of each kind, and the first of each kind but linearizable.
+fn show_survey(alloc: Global, component: &Component, survey: &Survey) -> Result<Answer, AllocError>
+    requires { AreShownOf component.now survey.now }
+    ensures { IfOk result (spec.ShowsSurvey component.now survey.now) }
+{
+    let mut text = survey_head(alloc, survey)?;
+    push_first(alloc, component, &survey.not_linearizable.first, &mut text)?;
+    push_first(alloc, component, &survey.livelock.first, &mut text)?;
+    push_first(alloc, component, &survey.undecided.first, &mut text)?;
+    Ok(Answer {
+        text,
+        status: survey_status(survey),
+    })
+}
 
 /// How many matrices there are, where all pass; or the first that does not, with its report.
 fn show_found(alloc: Global, component: &Component, found: &Campaign) -> Result<Answer, AllocError>

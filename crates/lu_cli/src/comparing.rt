@@ -4,17 +4,18 @@ ghost use Rattle.std.specs.Prelude.{◌≡◌, IfErr, IfOk, Ok};
 ghost use Rattle.lu_text.specs.Faults.{meaning_of};
 ghost use Rattle.lu_lang.specs.Grammar.{component_grammar};
 ghost use Rattle.lu_text.specs.Lines.{texts};
-ghost use Rattle.lu_test.specs.Matrix.{IsSetup};
+ghost use Rattle.lu_text.specs.Results.{Builds};
+ghost use Rattle.lu_test.specs.Matrix.{IsOf, IsSetup};
 ghost use Rattle.lu_machine.specs.Starts.{AllEnd, CanRun};
 ghost use Rattle.lu_refine.specs.Campaigns.{AreCallsOf};
 ghost use Rattle.lu_refine.specs.Roles.{AllCallsOf, AllHaveArguments};
 ghost use Rattle.lu_refine.specs.ByThread.{asked_of};
-ghost use Rattle.lu_survey.specs.Comparing.{CanCompare, HasSameOperations};
+ghost use Rattle.lu_survey.specs.Comparing.{CanCompare, HasSameOperations, IsComparedOf};
 ghost use Rattle.lu_cli.specs.Refusals.{Answered};
 ghost use Rattle.lu_cli.specs.Comparing as spec;
-ghost use Rattle.lu_cli.specs.Comparing.{ComparesAlike, ComparesLists, ComparesNumbers, ComparesSettled, ComparesWith, IsTrustedRefusal};
+ghost use Rattle.lu_cli.specs.Comparing.{ComparesAlike, ComparesLists, ComparesNumbers, ComparesSettled, ComparesWith, IsTrustedRefusal, all_agree, comparison_answer, difference_answer, run_verdict};
 
-use crate::answer::{Answer, show_comparison};
+use crate::answer::{Answer, show_schedule, verdict, write_both};
 use crate::campaigning::count_all;
 use crate::refusal::Refusal;
 use crate::request::{CampaignOptions, CampaignPart, CampaignThreads};
@@ -23,10 +24,89 @@ use lu_component::Component;
 use lu_lang::read_component;
 use lu_machine::settles;
 use lu_refine::{CampaignFault, Roles, same_lists};
-use lu_survey::{compare_slice, have_same_operations};
-use lu_test::{Calls, Matrix};
+use lu_survey::{Comparison, Difference, compare_slice, have_same_operations};
+use lu_test::{Calls, Matrix, Schedule};
 use lu_text::exactly_three;
-use std::alloc::Global;
+use std::alloc::{AllocError, Global};
+
+/// That on all matrices of a campaign the component agrees with the trusted one.
+fn show_agreement(alloc: Global, count: u64) -> Result<Answer, AllocError>
+    ensures { IfOk result (λ answer. answer ≡ all_agree count) }
+{
+    Ok(Answer {
+        text: format!(in alloc; "campaign agrees {count}\n")?,
+        status: 0,
+    })
+}
+
+/// A verdict, with the matrix and a schedule of it.
+fn show_run(
+    alloc: Global,
+    component: &Component,
+    matrix: &Matrix,
+    schedule: &Schedule,
+    words: &str,
+    status: u8,
+) -> Result<Answer, AllocError>
+    requires { IsOf matrix.now component.now }
+    ensures { Builds result
+        (run_verdict words.now component.now matrix.now schedule.now status) }
+{
+    let shown = show_schedule(alloc, component, matrix, schedule)?;
+    verdict(alloc, words, shown.text.as_str(), status)
+}
+
+/// How a component differs on a matrix from a trusted one.
+fn show_difference(
+    alloc: Global,
+    component: &Component,
+    matrix: &Matrix,
+    difference: &Difference,
+) -> Result<Answer, AllocError>
+    requires { IsOf matrix.now component.now }
+    ensures { Builds result (difference_answer component.now matrix.now difference.now) }
+{
+    match difference {
+        Difference::TrustedCut(schedule) => {
+            show_run(alloc, component, matrix, schedule, "trusted serial-cut", 3)
+        }
+        Difference::TrustedConflict { schedule, .. } => {
+            show_run(
+                alloc,
+                component,
+                matrix,
+                schedule,
+                "trusted nondeterministic",
+                3,
+            )
+        }
+        Difference::Serially(schedule) => {
+            show_run(alloc, component, matrix, schedule, "differs serially", 1)
+        }
+        Difference::Concurrently(report) => {
+            let text = write_both(alloc, component, matrix, report)?;
+            verdict(alloc, "differs concurrently", text.as_str(), 1)
+        }
+    }
+}
+
+/// What a comparison with a trusted component finds.
+fn show_comparison(
+    alloc: Global,
+    component: &Component,
+    found: &Comparison,
+) -> Result<Answer, AllocError>
+    requires { IsComparedOf component.now found.now }
+    ensures { IfOk result (λ answer.
+        answer ≡ comparison_answer component.now found.now) }
+{
+    match found {
+        Comparison::AllAgree(count) => show_agreement(alloc, *count),
+        Comparison::First { matrix, difference } => {
+            show_difference(alloc, component, matrix, difference)
+        }
+    }
+}
 
 /// How the component differs from a trusted one on the matrices with the numbers `from` to
 /// `upto - 1`.

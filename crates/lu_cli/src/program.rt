@@ -8,7 +8,7 @@ ghost use Rattle.lu_cli.specs.Counted.{IsUnfailed};
 ghost use Rattle.lu_cli.specs.Outcomes.{no_command, no_device};
 ghost use Rattle.lu_cli.specs.Program.{IsAnswerToWords, IsAnswerToRead, IsAnswerToInput, SaysAnswer, SaysNoCommand, Sends, TellsElse, TellsUnread};
 
-use crate::answer::{Answer, or_refusal, refused};
+use crate::answer::{Answer, refused};
 use crate::args::read_request;
 use crate::bundle::parts_in;
 use crate::commands::{carry_out, carry_out_alone};
@@ -17,6 +17,7 @@ use crate::help::answer_help;
 use crate::input::{InputFault, MOST_BYTES, read_input};
 use crate::linting::answer_lint;
 use crate::output::write_text;
+use crate::refusal::or_refusal;
 use crate::request::{ArgsFault, BundleCommand, Request};
 use lu_report::Bounds;
 use std::alloc::{AllocError, Global};
