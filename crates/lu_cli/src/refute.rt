@@ -5,7 +5,7 @@ ghost use Rattle.lu_machine.specs.Starts.{CanRun};
 ghost use Rattle.lu_spec.specs.Specs.{AreOf};
 ghost use Rattle.lu_cli.specs.Refusals.{Answered};
 ghost use Rattle.lu_cli.specs.Refute as spec;
-ghost use Rattle.lu_cli.specs.Refute.{IsRefuted, IsRefutedTexts};
+ghost use Rattle.lu_cli.specs.Refute.{IsRefuted, RefutesTexts};
 
 use crate::answer::{Answer, show_schedule};
 use crate::refusal::Refusal;
@@ -44,7 +44,7 @@ fn refute_texts(
     specification: &[u8],
 ) -> Result<Answer, Refusal>
     requires { CanRun component.now matrix.now }
-    ensures { Answered (IsRefutedTexts component.now matrix.now report.now specification.now) result }
+    ensures { RefutesTexts component.now matrix.now report.now specification.now result }
 {
     let report = read_report(alloc, report)?;
     let specification = read_spec(alloc, matrix, specification)?;

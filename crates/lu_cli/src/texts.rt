@@ -207,20 +207,13 @@ pub fn check_texts_against<X: Threads + Wait>(
     alloc: Global,
     component: &[u8],
     matrix: &[u8],
-    specification: &[u8],
+    spec: &[u8],
     options: Options,
 ) -> Result<String, Fault>
-    ensures report { IfOk result (IsReportTextAgainst component.now matrix.now specification.now options) }
-    ensures fault { IfErr result (IsCheckAgainstFault component.now matrix.now specification.now options) }
+    ensures report { IfOk result (IsReportTextAgainst component.now matrix.now spec.now options) }
+    ensures fault { IfErr result (IsCheckAgainstFault component.now matrix.now spec.now options) }
 {
     let case = read_texts(alloc, component, matrix)?;
-    let report = report_against(
-        rt,
-        alloc,
-        &case.component,
-        &case.matrix,
-        specification,
-        options,
-    )?;
+    let report = report_against(rt, alloc, &case.component, &case.matrix, spec, options)?;
     Ok(write_report(alloc, &report)?)
 }
