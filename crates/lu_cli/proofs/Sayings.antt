@@ -132,9 +132,15 @@ some_long : (IsAnswer : List ℕ → Answer → Type 0) (answer : Answer) → ((
 some_long IsAnswer answer some is = (some.0, tt, refused_as_long IsAnswer some.0 answer some.1 is)
 
 -- more came than is read
-pub answer_long : (IsAnswer : List ℕ → Answer → Type 0) (known : Option (List ℕ)) (answer : Answer) → IfSome known (λ all. 1048576 < length all) → answer ≡ refused (codes "B2") → (input : List ℕ) × IfSome known (λ all. input ≡ all) × ToInput IsAnswer input answer
+answer_long : (IsAnswer : List ℕ → Answer → Type 0) (known : Option (List ℕ)) (answer : Answer) → IfSome known (λ all. 1048576 < length all) → answer ≡ refused (codes "B2") → (input : List ℕ) × IfSome known (λ all. input ≡ all) × ToInput IsAnswer input answer
 answer_long IsAnswer (Some all) answer long is = (all, refl, refused_as_long IsAnswer all answer long is)
 answer_long IsAnswer None answer long is = some_long IsAnswer answer (longer 1048576) is
+
+-- what is too long for a request that reads
+pub request_long : (request : Request) (known : Option (List ℕ)) (answer : Answer) → request ≢ Help → IfSome known (λ all. 1048576 < length all) → answer ≡ refused (codes "B2") → IsAnswerToRead request known answer
+request_long Help known answer reads long is = absurd (reads refl)
+request_long (Lint limits) known answer reads long is = answer_long (IsLint limits) known answer long is
+request_long (Bundle command) known answer reads long is = answer_long (IsAnswerToBundle command) known answer long is
 
 -- the help, whatever would be read
 pub help_from : (known : Option (List ℕ)) (answer : Answer) → answer ≡ help_answer → IsAnswerToRead Help known answer
@@ -594,7 +600,7 @@ run_view_else run.Picture how c m u answer is = drawn_else how None c m u answer
 view_else : (shown : RunView) (parts : List (List ℕ)) (answer : Answer) → IsAnswerToTraceOrDraw shown parts answer → IsElse answer
 view_else shown parts answer is = alone_or_else (view_of_failure shown) (IsShownBehind shown) parts answer (λ behind. behind_else parts (IsRunShown shown) answer (λ how c m u more. run_view_else shown how c m u answer more) behind) is
 
-pub command_else : (command : BundleCommand) (parts : List (List ℕ)) (answer : Answer) → IsAnswerToCommand command parts answer → IsElse answer
+command_else : (command : BundleCommand) (parts : List (List ℕ)) (answer : Answer) → IsAnswerToCommand command parts answer → IsElse answer
 command_else Replay parts answer is = three_else parts IsReplayed answer (λ c m u more. replayed_else c m u answer more) is
 command_else Trace parts answer is = view_else run.Trace parts answer is
 command_else TraceFromSetup parts answer is = view_else run.TraceFromSetup parts answer is
@@ -630,7 +636,7 @@ source_linted_else limits source parts answer is = go (component_meant source) i
     go (Ok c) (said, remarks, tells, are, e) = marked_else answer (list_any (λ r. is_fault r.said.cause) (below_source source c remarks)) (ap (λ (a : Answer). a.status) e)
     go (Err fault) (text, tells, e) = status_else answer 2 (ap (λ (a : Answer). a.status) e) (λ f. omega arith)
 
-pub lint_else : (limits : Limits) (bundle : List ℕ) (answer : Answer) → IsLint limits bundle answer → IsElse answer
+lint_else : (limits : Limits) (bundle : List ℕ) (answer : Answer) → IsLint limits bundle answer → IsElse answer
 lint_else limits bundle answer is = go (bundle_parts bundle) is
   where
     by : (first : List ℕ) (parts : List (List ℕ)) (b : Bool) → MatchBool b (IsSourceLinted limits first parts answer) (IsLinted limits bundle answer) → IsElse answer
@@ -648,7 +654,7 @@ input_else : (IsAnswer : List ℕ → Answer → Type 0) (long : Bool) (input : 
 input_else IsAnswer true input answer other is = refused_else (codes "B2") answer is
 input_else IsAnswer false input answer other is = other is
 
-pub help_else : (answer : Answer) → answer ≡ help_answer → answer ≢ no_device
+help_else : (answer : Answer) → answer ≡ help_answer → answer ≢ no_device
 help_else answer is = status_else answer 0 (ap (λ (a : Answer). a.status) is) (λ e. omega arith)
 
 request_else : (request : Request) (input : List ℕ) (answer : Answer) → IsAnswerToInput request input answer → IsElse answer
@@ -656,11 +662,16 @@ request_else Help input answer is = help_else answer is
 request_else (Lint limits) input answer is = input_else (IsLint limits) (nat_lt 1048576 (length input)) input answer (lint_else limits input answer) is
 request_else (Bundle command) input answer is = input_else (IsAnswerToBundle command) (nat_lt 1048576 (length input)) input answer (bundle_else command input answer) is
 
-pub answer_else : (request : Request) (known : Option (List ℕ)) (answer : Answer) → IsAnswerToRead request known answer → answer ≢ no_device
+answer_else : (request : Request) (known : Option (List ℕ)) (answer : Answer) → IsAnswerToRead request known answer → answer ≢ no_device
 answer_else request known answer is = request_else request is.0 answer is.2
 
-pub refused_command_else : (answer : Answer) → answer ≡ no_command → answer ≢ no_device
+refused_command_else : (answer : Answer) → answer ≡ no_command → answer ≢ no_device
 refused_command_else answer is = status_else answer 2 (ap (λ (a : Answer). a.status) is) (λ e. omega arith)
+
+-- what is answered to words
+pub words_else : (said : Option Request) (known : Option (List ℕ)) (answer : Answer) → ((request : Request) → said ≡ Some request → IsAnswerToRead request known answer) → (said ≡ None → answer ≡ no_command) → answer ≢ no_device
+words_else (Some request) known answer is refused = answer_else request known answer (is request refl)
+words_else None known answer is refused = refused_command_else answer (refused refl)
 
 pub memory_else : no_memory ≢ no_device
 memory_else = text_else no_memory 109 refl (λ e. omega arith)

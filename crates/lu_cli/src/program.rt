@@ -1,12 +1,13 @@
 //! The whole program over a reader and a writer.
 
-ghost use Rattle.std.specs.Prelude.{◌≡◌, ◌≢◌, ◌<◌, ◌≤◌, ◌-◌, ◌^◌, ◌⊎◌, Some, None, IfOk, IsErrOf};
-ghost use Rattle.lu_cli.specs.declared.request.Request.TheVariants.{Help, Lint, Bundle};
+ghost use Rattle.std.specs.Prelude.{◌≡◌, ◌≢◌, ◌<◌, ◌≤◌, ◌-◌, ◌^◌, ◌⊎◌, length, Some, None, IfOk, IsErrOf};
+ghost use Rattle.lu_cli.specs.declared.request.Request.TheVariants.{Bundle, Help, Lint};
 ghost use Rattle.lu_cli.specs.declared.program.Failure.TheVariants.{Memory};
 ghost use Rattle.lu_cli.specs.Args.{request_said};
 ghost use Rattle.lu_cli.specs.Counted.{IsUnfailed};
-ghost use Rattle.lu_cli.specs.Outcomes.{no_command, no_device};
-ghost use Rattle.lu_cli.specs.Program.{IsAnswerToWords, IsAnswerToRead, IsAnswerToInput, SaysAnswer, SaysNoCommand, Sends, TellsElse, TellsUnread};
+ghost use Rattle.lu_cli.specs.Inputs.{most_bytes};
+ghost use Rattle.lu_cli.specs.Outcomes.{no_command};
+ghost use Rattle.lu_cli.specs.Program.{IsAnswerToInput, IsAnswerToRead, IsAnswerToWords, SaysAnswer, SaysNoCommand, Sends, TellsElse, TellsUnread};
 
 use crate::answer::{Answer, refused};
 use crate::args::read_request;
@@ -44,47 +45,43 @@ impl From<AllocError> for Failure {
     }
 }
 
-/// What `lint` answers to what is read.
-fn lint_read<R: Read>(
-    alloc: Global,
-    bounds: Bounds,
-    input: &mut Counted<R>,
-) -> Result<Answer, Failure>
-    requires { input.old.failures < 2 ^ 64 - 1 }
-    ensures answer { IfOk result (IsAnswerToRead (Lint bounds) (R.remaining input.old.inner)) }
-    ensures blames_none { IfOk result (λ r. r ≢ no_device) }
-    ensures device { IsErrOf result Failure.Device → input.old.failures < input.new.failures }
-    ensures unfailed { IsErrOf result Failure.Device ⊎ IsUnfailed input.old input.new }
+/// The answer to a request, and to a bundle that is not too long.
+fn answer_bundle<X: AllocGlobal + Threads + Wait>(
+    rt: &X,
+    request: Request,
+    bundle: &[u8],
+) -> Result<Answer, AllocError>
+    requires { length bundle.now ≤ most_bytes }
+    ensures { IfOk result (IsAnswerToInput request bundle.now) }
 {
-    let bundle = match read_input(alloc, input) {
-        Ok(bytes) => bytes,
-        Err(InputFault::TooLong) => return Ok(refused(alloc, "B2")?),
-        Err(InputFault::Device) => return Err(Failure::Device),
-        Err(InputFault::Memory) => return Err(Failure::Memory),
-    };
-    Ok(answer_lint(alloc, bounds, &bundle)?)
+    match request {
+        Request::Help => answer_help(rt.alloc()),
+        Request::Lint(bounds) => answer_lint(rt.alloc(), bounds, bundle),
+        Request::Bundle(command) => {
+            let parts = parts_in(rt.alloc(), bundle)?;
+            or_refusal(rt.alloc(), carry_out(rt, command, &parts))
+        }
+    }
 }
 
-/// The answer to a command and to what is read.
-fn command_read<X: AllocGlobal + Threads + Wait, R: Read>(
+/// The answer to a request, and to what is read for it.
+fn answer_read<X: AllocGlobal + Threads + Wait, R: Read>(
     rt: &X,
-    command: BundleCommand,
+    request: Request,
     input: &mut Counted<R>,
 ) -> Result<Answer, Failure>
-    requires { input.old.failures < 2 ^ 64 - 1 }
-    ensures answer { IfOk result (IsAnswerToRead (Bundle command) (R.remaining input.old.inner)) }
-    ensures blames_none { IfOk result (λ r. r ≢ no_device) }
+    requires calls { input.old.failures < 2 ^ 64 - 1 }
+    requires reads { request ≢ Help }
+    ensures answer { IfOk result (IsAnswerToRead request (R.remaining input.old.inner)) }
     ensures device { IsErrOf result Failure.Device → input.old.failures < input.new.failures }
     ensures unfailed { IsErrOf result Failure.Device ⊎ IsUnfailed input.old input.new }
 {
-    let bundle = match read_input(rt.alloc(), input) {
-        Ok(bytes) => bytes,
-        Err(InputFault::TooLong) => return Ok(refused(rt.alloc(), "B2")?),
-        Err(InputFault::Device) => return Err(Failure::Device),
-        Err(InputFault::Memory) => return Err(Failure::Memory),
-    };
-    let parts = parts_in(rt.alloc(), &bundle)?;
-    Ok(or_refusal(rt.alloc(), carry_out(rt, command, &parts))?)
+    match read_input(rt.alloc(), input) {
+        Ok(bundle) => Ok(answer_bundle(rt, request, &bundle)?),
+        Err(InputFault::TooLong) => Ok(refused(rt.alloc(), "B2")?),
+        Err(InputFault::Device) => Err(Failure::Device),
+        Err(InputFault::Memory) => Err(Failure::Memory),
+    }
 }
 
 /// The answer to what is asked for, and to what is read for it: for the help nothing is read.
@@ -95,15 +92,13 @@ fn answer_in<X: AllocGlobal + Threads + Wait, R: Read>(
 ) -> Result<Answer, Failure>
     requires { input.old.failures < 2 ^ 64 - 1 }
     ensures answer { IfOk result (IsAnswerToRead request (R.remaining input.old.inner)) }
-    ensures blames_none { IfOk result (λ r. r ≢ no_device) }
     ensures idle { request ≡ Help → input.new ≡ input.old }
     ensures device { IsErrOf result Failure.Device → input.old.failures < input.new.failures }
     ensures unfailed { IsErrOf result Failure.Device ⊎ IsUnfailed input.old input.new }
 {
     match request {
         Request::Help => Ok(answer_help(rt.alloc())?),
-        Request::Lint(bounds) => lint_read(rt.alloc(), bounds, input),
-        Request::Bundle(command) => command_read(rt, command, input),
+        Request::Lint(_) | Request::Bundle(_) => answer_read(rt, request, input),
     }
 }
 
@@ -117,7 +112,6 @@ fn answer_for<X: AllocGlobal + Threads + Wait, S: AsStr, R: Read>(
     ensures answer { IfOk result (IsAnswerToWords S.text words.now (R.remaining input.old.inner)) }
     ensures refused { IfOk result (λ r.
         request_said S.text words.now ≡ None → r ≡ no_command) }
-    ensures blames_none { IfOk result (λ r. r ≢ no_device) }
     ensures early { request_said S.text words.now ≡ None → input.new ≡ input.old }
     ensures idle { request_said S.text words.now ≡ Some Help → input.new ≡ input.old }
     ensures device { IsErrOf result Failure.Device → input.old.failures < input.new.failures }
@@ -132,8 +126,7 @@ fn answer_for<X: AllocGlobal + Threads + Wait, S: AsStr, R: Read>(
 
 /// That the command line is refused.
 fn refuse_command(alloc: Global) -> Result<Answer, AllocError>
-    ensures answer { IfOk result (λ r. r ≡ no_command) }
-    ensures blames_none { IfOk result (λ r. r ≢ no_device) }
+    ensures { IfOk result (λ r. r ≡ no_command) }
 {
     refused(alloc, "command line")
 }
