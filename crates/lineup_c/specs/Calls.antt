@@ -3,10 +3,11 @@ use Rattle.std.specs.Prelude.{◌≡◌, ◌⊎◌, ℕ, List, length, take, All
 use Rattle.std.specs.Str.{IsUtf8}
 use denote.Ref.{Bor}
 use Rattle.lu_text.specs.Lines.{texts, words_of}
-use Rattle.lu_cli.specs.declared.order.Request.{Request}
+use Rattle.lu_cli.specs.declared.request.Request.{Request}
 use Rattle.lu_cli.specs.Args.{request_of}
-use Rattle.lu_cli.specs.Replies.{Answer, IsAnswerOf, no_memory, refused}
-use Rattle.lu_cli.specs.Replies.{IsTextOfSchedule}
+use Rattle.lu_cli.specs.Outcomes.{Answer, no_memory, refused}
+use Rattle.lu_cli.specs.Program.{IsAnswerToInput}
+use Rattle.lu_cli.specs.Shown.{IsTextOfSchedule}
 use Rattle.lu_cli.specs.Texts.{AreSettled}
 use Rattle.lu_component.specs.Component.{Declarations}
 use Rattle.lu_test.specs.declared.schedule.Move.{Move}
@@ -34,7 +35,7 @@ no_stack = refused (codes "stack")
 abbrev pub IsAnswerWithin : Request → List ℕ → ℕ → Answer → Type 0
 IsAnswerWithin request bundle stack answer =
     MatchBool (nat_lt stack (stack_for request)) (answer ≡ no_stack)
-    (IsAnswerOf request bundle answer)
+    (IsAnswerToInput request bundle answer)
 
 -- so it is where the words ask for something
 abbrev pub IsAnswerToWords : List (List ℕ) → List ℕ → ℕ → Answer → Type 0

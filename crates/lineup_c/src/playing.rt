@@ -3,7 +3,7 @@
 ghost use Rattle.std.specs.Prelude.{◌≡◌, ◌++◌, [], IfOk, OnOk};
 ghost use Rattle.lu_machine.specs.Runs.{Leads, with_event};
 ghost use Rattle.lu_machine.specs.Starts.{CanRun};
-ghost use Rattle.lu_cli.specs.Replies.{IsOfReport, IsTextOfSchedule};
+ghost use Rattle.lu_cli.specs.Shown.{IsOfReport, IsTextOfSchedule};
 ghost use Rattle.lineup_c.specs.Calls.{TellsNumbersAfter, TellsStateOf};
 ghost use Rattle.lineup_c.specs.Numbers.{TellsRun};
 

@@ -15,10 +15,10 @@ fn stack_within(bound: u16, serial: u16) -> usize
 }
 
 /// The same of a command: by the bounds that it is given, or by the greatest.
-fn stack_of_order(order: &BundleCommand) -> usize
-    ensures { result ≡ spec.stack_of_order order.now }
+fn stack_of_command(command: &BundleCommand) -> usize
+    ensures { result ≡ spec.stack_of_command command.now }
 {
-    match order {
+    match command {
         BundleCommand::Replay
         | BundleCommand::ExplainAgainst
         | BundleCommand::JudgeAgainst
@@ -52,6 +52,6 @@ pub(crate) fn stack_for(request: &Request) -> usize
     match request {
         Request::Help => stack_within(0, 0),
         Request::Lint(bounds) => stack_within(0, bounds.serial()),
-        Request::Ordered(order) => stack_of_order(order),
+        Request::Bundle(command) => stack_of_command(command),
     }
 }

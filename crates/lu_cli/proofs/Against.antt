@@ -10,11 +10,13 @@ use Rattle.lu_parallel.specs.declared.fault.CheckFault.TheVariants as check
 use Rattle.lu_cli.specs.declared.texts.Fault.{Fault as TextsFault}
 use Rattle.lu_cli.specs.declared.texts.Fault.TheVariants.{Component, Matrix, Setup, Spec, Check}
 use Rattle.lu_cli.specs.Refusals.{texts_answer}
-use Rattle.lu_cli.specs.Replies.{Answer, IsCheckAgainstFrom, reported}
-use Rattle.lu_cli.specs.Texts.{IsFaultAgainst, IsReportRead}
+use Rattle.lu_cli.specs.Check.{IsCheckedAgainstText}
+use Rattle.lu_cli.specs.Outcomes.{Answer}
+use Rattle.lu_cli.specs.Shows.{reported}
+use Rattle.lu_cli.specs.Texts.{IsFaultOfSpec, IsReportAgainstText}
 
 module _ (c : Declarations) (m : AMatrix) (spec : List ℕ) (choice : Choice) where
-  pub against_refused : (fault : TextsFault) → IsFaultAgainst c m spec choice fault → IfSome (texts_answer fault) (IsCheckAgainstFrom c m choice spec)
+  pub against_refused : (fault : TextsFault) → IsFaultOfSpec c m spec choice fault → IfSome (texts_answer fault) (IsCheckedAgainstText c m choice spec)
   against_refused (Component fault) is = absurd is
   against_refused (Matrix fault) is = absurd is
   against_refused (Setup k) is = absurd is
@@ -23,5 +25,5 @@ module _ (c : Declarations) (m : AMatrix) (spec : List ℕ) (choice : Choice) wh
   against_refused (Check check.Memory) is = tt
   against_refused (Check check.Worker) is = inl (is.0, is.1, inr (λ e. (let blamed = is.2 e in absurd cc), refl))
 
-  pub against_reported : (r : Parts) (answer : Answer) → IsReportRead c m spec choice r → answer ≡ reported r → IsCheckAgainstFrom c m choice spec answer
+  pub against_reported : (r : Parts) (answer : Answer) → IsReportAgainstText c m spec choice r → answer ≡ reported r → IsCheckedAgainstText c m choice spec answer
   against_reported r answer is e = inl (is.0, is.1, inl (r, is.2, e))

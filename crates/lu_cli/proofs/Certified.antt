@@ -3,11 +3,11 @@ use Rattle.std.proofs.Common.{◌≡◌, refl, inr}
 use Rattle.std.specs.Prelude.{IfSome}
 use Rattle.lu_component.specs.Component.{Declarations}
 use Rattle.lu_test.specs.Matrix.{Matrix}
-use Rattle.lu_cli.specs.declared.order.CertifyOptions.{CertifyOptions}
+use Rattle.lu_cli.specs.declared.request.CertifyOptions.{CertifyOptions}
 use Rattle.lu_parallel.specs.declared.fault.CheckFault.{CheckFault}
 use Rattle.lu_parallel.specs.declared.fault.CheckFault.TheVariants.{Memory, Worker}
 use Rattle.lu_cli.specs.Refusals.{worker_answer}
-use Rattle.lu_cli.specs.Replies.{IsCertified}
+use Rattle.lu_cli.specs.Certify.{IsCertified}
 
 pub certified_refused : (c : Declarations) (m : Matrix) (asked : CertifyOptions) (fault : CheckFault) → (asked.options.workers ≡ 1 → fault ≡ Memory) → IfSome (worker_answer fault) (IsCertified c m asked)
 certified_refused c m asked Memory alone = tt

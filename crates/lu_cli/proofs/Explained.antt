@@ -20,13 +20,15 @@ use Rattle.lu_report.specs.Parts.{Parts}
 use Rattle.lu_report.specs.declared.fault.ReportFaultKind.{ReportFaultKind}
 use Rattle.lu_report.specs.Forms.{IsFault, Spells}
 use Rattle.lu_replay.specs.Replays.{PlaysToStatus}
-use Rattle.lu_cli.specs.declared.explaining.Target.{Target}
-use Rattle.lu_cli.specs.declared.explaining.Target.TheVariants as target
+use Rattle.lu_cli.specs.declared.explanation.Target.{Target}
+use Rattle.lu_cli.specs.declared.explanation.Target.TheVariants as target
 use Rattle.lu_cli.specs.declared.refusal.Refusal.{Refusal}
 use Rattle.lu_cli.specs.declared.refusal.Refusal.TheVariants as refusal
 use Rattle.lu_cli.specs.Refusals.{refusal_answer, schedule_answer}
-use Rattle.lu_cli.specs.Explaining.{is_report}
-use Rattle.lu_cli.specs.Replies.{Answer, IsTextOfSchedule, IsShownRefusal, IsTarget, IsTargetRefusal, ToReport, ToSchedule, ToShown, ToTarget, or_schedule}
+use Rattle.lu_cli.specs.Explaining.{IsTarget, IsTargetRefusal, ToTarget, is_report}
+use Rattle.lu_cli.specs.Outcomes.{Answer}
+use Rattle.lu_cli.specs.Reading.{ToReport, ToSchedule}
+use Rattle.lu_cli.specs.Shown.{IsTextOfSchedule, IsShownRefusal, ToShown, or_schedule}
 use Rattle.lu_cli.proofs.Refuted.{report_refused}
 
 -- what shows something is a schedule from each start

@@ -1,6 +1,6 @@
 pub mod Known
 pub mod Lines
-pub mod Orders
+pub mod Requests
 pub mod Sayings
 pub mod Reported
 pub mod Refuted

@@ -5,7 +5,8 @@ use Rattle.std.specs.List.{concat, slice_split, onto_first}
 use Rattle.std.proofs.lemmas.List.{append-nil, length-append, length-take-le, length-map, take_at}
 use Rattle.std.proofs.lemmas.List.Splits.{length-slice_split, slice_split-cons_yes, slice_split-cons_no}
 use Rattle.lu_text.specs.Lines.{kept_lines}
-use Rattle.lu_cli.specs.Bundle.{is_separator, parts_by}
+use Rattle.lu_cli.specs.Bundle.{parts_by}
+use Rattle.lu_lint.specs.Bundle.{is_separator}
 
 -- ---- parts
 

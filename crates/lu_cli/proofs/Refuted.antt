@@ -23,7 +23,8 @@ use Rattle.lu_cli.specs.declared.refusal.Refusal.{Refusal}
 use Rattle.lu_cli.specs.declared.texts.Fault.{Fault as TextsFault}
 use Rattle.lu_cli.specs.declared.texts.Fault.TheVariants as variant
 use Rattle.lu_cli.specs.Refusals.{Answered, SaysResult, line_answer, refusal_answer, texts_answer}
-use Rattle.lu_cli.specs.Replies.{Answer, ToGiven, ToReport, ToSpec, ToTexts}
+use Rattle.lu_cli.specs.Outcomes.{Answer}
+use Rattle.lu_cli.specs.Reading.{ToGiven, ToReport, ToSpec, ToTexts}
 use Rattle.lu_cli.specs.Texts.{AreSettled, IsFaultOfTexts}
 
 -- the calls of a cut are the component's

@@ -44,53 +44,69 @@ use Rattle.lu_survey.specs.declared.certified_campaign.CertifiedCampaign.TheVari
 use Rattle.lu_refine.specs.declared.campaigns.Campaign.TheVariants.{AllPass, First}
 use Rattle.lu_certify.specs.declared.certificate.Certificate.{Certificate}
 use Rattle.lu_certify.specs.declared.certificate.Certificate.TheVariants.{Linearizable, NotLinearizable, Livelock, Undecided}
-use Rattle.lu_cli.specs.declared.order.CampaignOptions.{CampaignOptions}
-use Rattle.lu_cli.specs.declared.order.CampaignTrial.{CampaignTrial}
-use Rattle.lu_cli.specs.declared.order.CampaignTrial.TheVariants.{Checked, Certified, Surveyed}
+use Rattle.lu_cli.specs.declared.request.CampaignOptions.{CampaignOptions}
+use Rattle.lu_cli.specs.declared.request.CampaignTrial.{CampaignTrial}
+use Rattle.lu_cli.specs.declared.request.CampaignTrial.TheVariants.{Checked, Certified, Surveyed}
 use Rattle.lu_cli.specs.declared.failing.View.{View}
 use Rattle.lu_cli.specs.declared.failing.View.TheVariants as view
 use Rattle.lu_cli.specs.Args.{most_long}
-use Rattle.lu_cli.specs.Failing.{IsShownAlone, ShowsByView, ShowsFailing, ShowsRun, below, failure, in_words, shown_parts, view_of_failure}
-use Rattle.lu_cli.specs.declared.order.CampaignPart.{CampaignPart}
-use Rattle.lu_cli.specs.declared.order.CampaignPart.TheVariants.{Whole, Slice, Count}
-use Rattle.lu_cli.specs.declared.order.CampaignThreads.{CampaignThreads}
-use Rattle.lu_cli.specs.declared.order.CampaignThreads.TheVariants.{Alike, Own}
-use Rattle.lu_cli.specs.declared.order.Request.{Request}
-use Rattle.lu_cli.specs.declared.order.Request.TheVariants.{Help, Lint, Ordered}
-use Rattle.lu_cli.specs.declared.order.BundleCommand.{BundleCommand}
-use Rattle.lu_cli.specs.declared.order.BundleCommand.TheVariants.{Replay, Trace, TraceFromSetup, Draw, DrawExplained, Explain, ExplainAgainst, Serial, Judge, JudgeAgainst, Conform, Spec, Check, CheckAgainst, Certify, Refute, Shrink, Campaign as Campaigning, CampaignAgainst, Compile}
+use Rattle.lu_cli.specs.Failing.{AloneOr, IsShownAlone, ShowsByView, ShowsFailing, ShowsRun, below, failure, in_words, view_of_failure}
+use Rattle.lu_cli.specs.Shown.{IsRunShown, IsAnswerToTraceOrDraw, IsShownBehind, ToShown, or_schedule, shown_parts}
+use Rattle.lu_cli.specs.declared.request.CampaignPart.{CampaignPart}
+use Rattle.lu_cli.specs.declared.request.CampaignPart.TheVariants.{Whole, Slice, Count}
+use Rattle.lu_cli.specs.declared.request.CampaignThreads.{CampaignThreads}
+use Rattle.lu_cli.specs.declared.request.CampaignThreads.TheVariants.{Alike, Own}
+use Rattle.lu_cli.specs.declared.request.Request.{Request}
+use Rattle.lu_cli.specs.declared.request.Request.TheVariants.{Help, Lint, Bundle}
+use Rattle.lu_cli.specs.declared.request.BundleCommand.{BundleCommand}
+use Rattle.lu_cli.specs.declared.request.BundleCommand.TheVariants.{Replay, Trace, TraceFromSetup, Draw, DrawExplained, Explain, ExplainAgainst, Serial, Judge, JudgeAgainst, Conform, Spec, Check, CheckAgainst, Certify, Refute, Shrink, Campaign as Campaigning, CampaignAgainst, Compile}
 use Rattle.lu_trace.specs.declared.wording.Wording.{Wording}
 use Rattle.lu_source_text.specs.Begins.{is_source}
 use Rattle.lu_source_text.specs.declared.fault.SourceFaultKind.{SourceFaultKind}
 use Rattle.lu_cli.specs.Linting.{IsFaulted, IsLint, IsLinted, IsLintedBehind, IsLintedBy, IsSourceLinted, below_source}
 use Rattle.lu_cli.specs.Telling.{IsWordingOf}
-use Rattle.lu_cli.specs.declared.explaining.Presentation.{Presentation}
-use Rattle.lu_cli.specs.declared.explaining.Presenting.{Presenting}
-use Rattle.lu_cli.specs.declared.explaining.Presentation.TheVariants.{Words, Picture}
+use Rattle.lu_cli.specs.declared.explanation.Presentation.{Presentation}
+use Rattle.lu_cli.specs.declared.explanation.Presenting.{Presenting}
+use Rattle.lu_cli.specs.declared.explanation.Presentation.TheVariants.{Words, Picture}
 use Rattle.lu_explain.specs.Explanations.{Explained}
 use Rattle.lu_lint.specs.Said.{is_fault}
 use Rattle.std.specs.List.{list_any}
-use Rattle.lu_cli.specs.Drawing.{IsDrawnWith}
-use Rattle.lu_cli.specs.declared.explaining.Target.{Target}
-use Rattle.lu_cli.specs.declared.explaining.Target.TheVariants as target
-use Rattle.lu_cli.specs.Explaining.{IsExplained, IsExplainedBy, IsExplainedSchedule, IsExplainedSerially, IsPicturedBy, IsPresentedAs, IsPresentedBy, ToEnded, ToFinding, is_report, limits_for, status_by, unexplained}
+use Rattle.lu_cli.specs.Drawing.{IsDrawn, IsDrawnExplained}
+use Rattle.lu_cli.specs.declared.explanation.Target.{Target}
+use Rattle.lu_cli.specs.declared.explanation.Target.TheVariants as target
+use Rattle.lu_cli.specs.Explaining.{IsAnswerToExplainAgainst, IsExplainBehind, IsAnswerToExplain, IsExplainedAgainstText, IsExplainedText, ToTarget, is_report, limits_for, view_of}
+use Rattle.lu_cli.specs.Explanation.{IsExplainedTarget, IsExplainedHistory, IsExplainedSchedule, IsExplainedSerially, IsPicturedHistory, IsPresentedAs, IsPresentedHistory, ToEnded, ToFinding, status_by, unexplained}
 use Rattle.lu_recorded.specs.declared.recorded.Recorded.{Recorded}
 use Rattle.lu_recorded.specs.Codes.{recorded_code_of}
-use Rattle.lu_cli.specs.Judging.{IsJudgedBy, ToRecorded, four_parts, three_parts}
+use Rattle.lu_cli.specs.Judging.{IsAnswerToJudgeAgainst, IsAnswerToJudge, IsJudgedAgainstTexts, IsJudgedByMembers, IsJudgedSerially, IsJudgedTexts, four_parts, three_parts}
+use Rattle.lu_cli.specs.Reading.{ToComponent, ToGiven, ToMatrix, ToParts, ToRecorded, ToReport, ToSchedule, ToSettled, ToSpec, ToTexts, ToTold, ToValue}
 use Rattle.lu_source_text.specs.Kinds.{code_of as source_code_of}
 use Rattle.lu_source_text.specs.Readers.{component_meant}
-use Rattle.lu_cli.specs.Compiling.{IsCompiledBundle}
-use Rattle.lu_cli.specs.Conforming.{IsConformed, IsConformedTexts}
+use Rattle.lu_cli.specs.Compiling.{IsAnswerToCompile, IsCompiledBundle}
+use Rattle.lu_cli.specs.Conforming.{IsAnswerToConform, IsConformed, IsConformedTexts}
 use Rattle.lu_conform.specs.declared.shown.Conformance.TheVariants.{Conforms, NoneShows, Undecided as Undetermined}
-use Rattle.lu_cli.specs.declared.order.CertifyOptions.{CertifyOptions}
-use Rattle.lu_cli.specs.declared.order.Showing.{Showing}
-use Rattle.lu_cli.specs.declared.order.Showing.TheVariants.{Count as CountAlone, Schedules}
+use Rattle.lu_cli.specs.declared.request.CertifyOptions.{CertifyOptions}
+use Rattle.lu_cli.specs.declared.request.Showing.{Showing}
+use Rattle.lu_cli.specs.declared.request.Showing.TheVariants.{Count as CountAlone, Schedules}
 use Rattle.lu_cli.specs.Bundle.{bundle_parts}
 use Rattle.lu_cli.specs.Help.{help_answer}
 use Rattle.lu_report.specs.Limits.{Limits}
 use Rattle.lu_cli.specs.declared.failing.RunView.{RunView}
 use Rattle.lu_cli.specs.declared.failing.RunView.TheVariants as run
-use Rattle.lu_cli.specs.Replies.{AloneOr, IsRunShown, IsShowOf, IsShownBehind, Answer, Answers, IsAnswerFrom, IsAnswerOf, IsAnswerToAlike, IsAnswerToOrder, IsAnswerToPart, IsAnswerToParts, IsAnswerToTrial, IsByThreadAnswer, IsCampaignAgainstOf, IsCampaignAlike, IsCampaignBy, IsCampaignFrom, IsCertified, IsCertifiedPart, IsCertifiedReply, IsCheckAgainstFrom, IsCheckAgainstOf, IsChecked, IsCheckedAgainst, IsCollected, IsComparedAlike, IsComparedBy, IsComparedFrom, IsComparedPart, IsComparisonReply, IsCompileOf, IsConformOf, IsCountAnswer, IsDrawn, IsExplainAgainstOf, IsExplainBehind, IsExplainOf, IsExplainedAgainst, IsExplainedText, IsJudgeAgainstOf, IsJudgeOf, IsJudgedAgainstTexts, IsJudgedSerially, IsJudgedTexts, IsRefuteOf, IsRefuted, IsRefutedBy, IsReplayed, IsRunSerially, IsShrinkAnswer, IsSliceReply, IsSpecOf, IsSurveyReply, IsSurveyedPart, IsTraced, IsTracedFromSetup, IsTriedAll, IsTriedPart, ShowsCertificate, ShowsCertified, Tells, ToComponent, ToGiven, ToInput, ToMatrix, ToParts, ToReport, ToSchedule, ToSettled, ToShown, ToSpec, ToTarget, ToTexts, ToTold, ToTrusted, ToValue, comparison_answer, found_answer, lists_of, no_command, no_device, no_memory, or_schedule, refused, reported, status_of, survey_status, two_texts, view_of, with_matrix, with_schedule}
+use Rattle.lu_cli.specs.Campaigning.{IsAnswerToAlike, IsCheckedPart, IsAnswerToTrial, IsCheckedWhole, IsCampaignAlike, IsCampaignByThreads, IsCampaignOfMatrix, IsCertifiedPart, IsCertifiedNumbers, IsCountAnswer, IsCheckedNumbers, IsSurveyedNumbers, IsSurveyedPart, IsTriedAll, IsTriedPart, ShowsCertified, found_answer, lists_of, survey_status}
+use Rattle.lu_cli.specs.Certify.{IsCertified}
+use Rattle.lu_cli.specs.Check.{IsCheckedAgainstText, IsAnswerToCheckAgainst, IsChecked, IsCheckedAgainst}
+use Rattle.lu_cli.specs.Commands.{IsAnswerToCommand}
+use Rattle.lu_cli.specs.Comparing.{IsAnswerToCampaignAgainst, IsComparedAlike, IsComparedByThreads, IsComparedMatrix, IsComparedPart, IsComparedNumbers, ToTrusted, comparison_answer}
+use Rattle.lu_cli.specs.Outcomes.{Answer, no_command, no_device, no_memory, refused}
+use Rattle.lu_cli.specs.Program.{Answers, IsAnswerToRead, IsAnswerToInput, IsAnswerToBundle, Tells, ToInput}
+use Rattle.lu_cli.specs.Refute.{IsAnswerToRefute, IsRefuted, IsRefutedTexts}
+use Rattle.lu_cli.specs.Replay.{IsReplayed}
+use Rattle.lu_cli.specs.Serial.{IsRunSerially}
+use Rattle.lu_cli.specs.Shows.{ShowsCertificate, reported, status_of, two_texts, with_matrix, with_schedule}
+use Rattle.lu_cli.specs.Shrink.{ShowsShrunk}
+use Rattle.lu_cli.specs.Spec.{IsCollected, IsAnswerToSpec}
+use Rattle.lu_cli.specs.Trace.{IsTraced, IsTracedFromSetup}
 
 -- an answer that was made and said
 pub said : (IsAnswer : Answer → Type 0) (answer : Answer) (text : List ℕ) (old new : Option (List ℕ)) (status : ℕ) → IsAnswer answer → text ≡ answer.text → Appends old new text × (status ≡ answer.status) → Answers IsAnswer old new status
@@ -99,7 +115,7 @@ said IsAnswer answer text old new status is t h = inl (answer, is, (subst (Appen
 -- ---- answers to what was read
 
 -- the input was read whole
-pub answer_whole : (request : Request) (known : Option (List ℕ)) (input : List ℕ) (answer : Answer) → IfSome known (λ all. input ≡ all) → IsAnswerOf request input answer → IsAnswerFrom request known answer
+pub answer_whole : (request : Request) (known : Option (List ℕ)) (input : List ℕ) (answer : Answer) → IfSome known (λ all. input ≡ all) → IsAnswerToInput request input answer → IsAnswerToRead request known answer
 answer_whole request known input answer all is = (input, all, is)
 
 too_long : (input : List ℕ) → 1048576 < length input → nat_lt 1048576 (length input) ≡ true
@@ -116,12 +132,18 @@ some_long : (IsAnswer : List ℕ → Answer → Type 0) (answer : Answer) → ((
 some_long IsAnswer answer some is = (some.0, tt, refused_as_long IsAnswer some.0 answer some.1 is)
 
 -- more came than is read
-pub answer_long : (IsAnswer : List ℕ → Answer → Type 0) (known : Option (List ℕ)) (answer : Answer) → IfSome known (λ all. 1048576 < length all) → answer ≡ refused (codes "B2") → (input : List ℕ) × IfSome known (λ all. input ≡ all) × ToInput IsAnswer input answer
+answer_long : (IsAnswer : List ℕ → Answer → Type 0) (known : Option (List ℕ)) (answer : Answer) → IfSome known (λ all. 1048576 < length all) → answer ≡ refused (codes "B2") → (input : List ℕ) × IfSome known (λ all. input ≡ all) × ToInput IsAnswer input answer
 answer_long IsAnswer (Some all) answer long is = (all, refl, refused_as_long IsAnswer all answer long is)
 answer_long IsAnswer None answer long is = some_long IsAnswer answer (longer 1048576) is
 
+-- what is too long for a request that reads
+pub request_long : (request : Request) (known : Option (List ℕ)) (answer : Answer) → request ≢ Help → IfSome known (λ all. 1048576 < length all) → answer ≡ refused (codes "B2") → IsAnswerToRead request known answer
+request_long Help known answer reads long is = absurd (reads refl)
+request_long (Lint limits) known answer reads long is = answer_long (IsLint limits) known answer long is
+request_long (Bundle command) known answer reads long is = answer_long (IsAnswerToBundle command) known answer long is
+
 -- the help, whatever would be read
-pub help_from : (known : Option (List ℕ)) (answer : Answer) → answer ≡ help_answer → IsAnswerFrom Help known answer
+pub help_from : (known : Option (List ℕ)) (answer : Answer) → answer ≡ help_answer → IsAnswerToRead Help known answer
 help_from (Some all) answer is = (all, refl, is)
 help_from None answer is = ([], tt, is)
 
@@ -165,7 +187,7 @@ from_setup_else : (how : Wording) (c : Declarations) (m : Matrix) (u : List Move
 from_setup_else how c m u answer (inl is) = status_else answer 0 (ap (λ (a : Answer). a.status) is.2) (λ e. omega arith)
 from_setup_else how c m u answer (inr is) = status_else answer 1 (ap (λ (a : Answer). a.status) is.2) (λ e. omega arith)
 
-drawn_else : (how : Wording) (why : Option Explained) (c : Declarations) (m : Matrix) (u : List Move) (answer : Answer) → IsDrawnWith how why c m u answer → IsElse answer
+drawn_else : (how : Wording) (why : Option Explained) (c : Declarations) (m : Matrix) (u : List Move) (answer : Answer) → IsDrawnExplained how why c m u answer → IsElse answer
 drawn_else how why c m u answer (inl is) = status_else answer 0 (ap (λ (a : Answer). a.status) is.2) (λ e. omega arith)
 drawn_else how why c m u answer (inr is) = status_else answer 1 (ap (λ (a : Answer). a.status) is.2) (λ e. omega arith)
 
@@ -288,7 +310,7 @@ alone_or_else view IsShown parts answer h is = go (exactly_two parts) is
 matrix_else : (c : Declarations) (m : Matrix) (r : Parts) (answer : Answer) → answer ≡ with_matrix c m r → IsElse answer
 matrix_else c m r answer is = status_else answer (status_of r.finding) (ap (λ (a : Answer). a.status) is) (status_of_else r.finding)
 
-shrink_else : (c : Declarations) (m : Matrix) (limits : Limits) (answer : Answer) → IsShrinkAnswer c m limits answer → IsElse answer
+shrink_else : (c : Declarations) (m : Matrix) (limits : Limits) (answer : Answer) → ShowsShrunk c m limits answer → IsElse answer
 shrink_else c m limits answer (inl is) = matrix_else c is.0 is.1 answer is.3
 shrink_else c m limits answer (inr is) = reported_else is.0 answer is.3
 
@@ -308,21 +330,21 @@ given_else : (m : Matrix) (text : List ℕ) (IsAnswer : List (List SerialOp) →
 given_else m text IsAnswer answer h (inl is) = h is.0 is.2
 given_else m text IsAnswer answer h (inr is) = refused_else (spec_code_of is.0 ++ codes " line " ++ decimal is.1) answer is.3
 
-refute_else : (c : Declarations) (m : Matrix) (report spec : List ℕ) (answer : Answer) → IsRefutedBy c m report spec answer → IsElse answer
+refute_else : (c : Declarations) (m : Matrix) (report spec : List ℕ) (answer : Answer) → IsRefutedTexts c m report spec answer → IsElse answer
 refute_else c m report spec answer is =
     report_else report (λ r. ToSpec m spec (IsRefuted c m r)) answer
     (λ r more. spec_else m spec (IsRefuted c m r) answer (λ members last. refuted_else c m r members answer last) more) is
 
-spec_parts_else : (choice : Choice) (parts : List (List ℕ)) (answer : Answer) → IsCheckAgainstOf choice parts answer → IsElse answer
+spec_parts_else : (choice : Choice) (parts : List (List ℕ)) (answer : Answer) → IsAnswerToCheckAgainst choice parts answer → IsElse answer
 spec_parts_else choice parts answer is =
-    parts_else (exactly_three parts) (λ p. ToTexts p.0 p.1 (λ c m. IsCheckAgainstFrom c m choice p.2)) answer
-    (λ p more. texts_else p.0 p.1 (λ c m. IsCheckAgainstFrom c m choice p.2) answer
+    parts_else (exactly_three parts) (λ p. ToTexts p.0 p.1 (λ c m. IsCheckedAgainstText c m choice p.2)) answer
+    (λ p more. texts_else p.0 p.1 (λ c m. IsCheckedAgainstText c m choice p.2) answer
     (λ c m from. given_else m p.2 (IsCheckedAgainst c m choice) answer (λ members last. against_else c m choice members answer last) from) more) is
 
-four_else : (parts : List (List ℕ)) (answer : Answer) → IsRefuteOf parts answer → IsElse answer
+four_else : (parts : List (List ℕ)) (answer : Answer) → IsAnswerToRefute parts answer → IsElse answer
 four_else parts answer is =
-    parts_else (exactly_four parts) (λ p. ToTexts p.0 p.1 (λ c m. IsRefutedBy c m p.2 p.3)) answer
-    (λ p more. texts_else p.0 p.1 (λ c m. IsRefutedBy c m p.2 p.3) answer (λ c m from. refute_else c m p.2 p.3 answer from) more) is
+    parts_else (exactly_four parts) (λ p. ToTexts p.0 p.1 (λ c m. IsRefutedTexts c m p.2 p.3)) answer
+    (λ p more. texts_else p.0 p.1 (λ c m. IsRefutedTexts c m p.2 p.3) answer (λ c m from. refute_else c m p.2 p.3 answer from) more) is
 
 unexplained_else : (why schedule : List ℕ) (answer : Answer) → answer ≡ unexplained why schedule → IsElse answer
 unexplained_else why schedule answer is = status_else answer 1 (ap (λ (a : Answer). a.status) is) (λ e. omega arith)
@@ -332,7 +354,7 @@ status_by_else Good e = omega arith
 status_by_else NoWitness e = omega arith
 status_by_else (NoWitnessFor t) e = omega arith
 
-by_else : (members : List (List SerialOp)) (c : Declarations) (m : Matrix) (u : List Move) (h : List Event) (answer : Answer) → IsExplainedBy members c m u h answer → IsElse answer
+by_else : (members : List (List SerialOp)) (c : Declarations) (m : Matrix) (u : List Move) (h : List Event) (answer : Answer) → IsExplainedHistory members c m u h answer → IsElse answer
 by_else members c m u h answer is = status_else answer (status_by is.2) (ap (λ (a : Answer). a.status) is.6) (status_by_else is.2)
 
 ended_else : (status : Status) (IsAnswer : Answer → Type 0) (answer : Answer) → (IsAnswer answer → IsElse answer) → ToEnded status IsAnswer answer → IsElse answer
@@ -340,18 +362,18 @@ ended_else Running IsAnswer answer h is = unexplained_else (codes "running") [] 
 ended_else Complete IsAnswer answer h is = h is
 ended_else Stuck IsAnswer answer h is = h is
 
-pictured_else : (how : Wording) (members : List (List SerialOp)) (c : Declarations) (m : Matrix) (u : List Move) (h : List Event) (answer : Answer) → IsPicturedBy how members c m u h answer → IsElse answer
+pictured_else : (how : Wording) (members : List (List SerialOp)) (c : Declarations) (m : Matrix) (u : List Move) (h : List Event) (answer : Answer) → IsPicturedHistory how members c m u h answer → IsElse answer
 pictured_else how members c m u h answer (e, shown, is) = drawn_else how (Some e) c m u answer is
 
 presented_as_else : (by : Presentation) (how : Wording) (members : List (List SerialOp)) (c : Declarations) (m : Matrix) (u : List Move) (h : List Event) (answer : Answer) → IsPresentedAs by how members c m u h answer → IsElse answer
 presented_as_else Words how members c m u h answer is = by_else members c m u h answer is
 presented_as_else Picture how members c m u h answer is = pictured_else how members c m u h answer is
 
-presented_else : (by : Presenting) (members : List (List SerialOp)) (c : Declarations) (m : Matrix) (u : List Move) (h : List Event) (answer : Answer) → IsPresentedBy by members c m u h answer → IsElse answer
+presented_else : (by : Presenting) (members : List (List SerialOp)) (c : Declarations) (m : Matrix) (u : List Move) (h : List Event) (answer : Answer) → IsPresentedHistory by members c m u h answer → IsElse answer
 presented_else by members c m u h answer is = presented_as_else by.by by.how members c m u h answer is
 
 explained_else : (by : Presenting) (members : List (List SerialOp)) (c : Declarations) (m : Matrix) (u : List Move) (answer : Answer) → IsExplainedSchedule by members c m u answer → IsElse answer
-explained_else by members c m u answer (inl is) = ended_else is.1 (IsPresentedBy by members c m u is.0) answer (presented_else by members c m u is.0 answer) is.3
+explained_else by members c m u answer (inl is) = ended_else is.1 (IsPresentedHistory by members c m u is.0) answer (presented_else by members c m u is.0 answer) is.3
 explained_else by members c m u answer (inr is) = status_else answer 1 (ap (λ (a : Answer). a.status) is.2) (λ e. omega arith)
 
 finding_else : (IsAnswer : List Move → Answer → Type 0) (f : Finding) (answer : Answer) → ((u : List Move) → IsAnswer u answer → IsElse answer) → ToFinding IsAnswer f answer → IsElse answer
@@ -360,7 +382,7 @@ finding_else IsAnswer (Nondeterministic u before earlier) answer h is = unexplai
 finding_else IsAnswer (Fail u why) answer h is = h u is
 finding_else IsAnswer (Pass counts) answer h is = unexplained_else (codes "pass") [] answer is
 
-explanation_else : (by : Presenting) (members : List (List SerialOp)) (c : Declarations) (m : Matrix) (t : Target) (answer : Answer) → IsExplained by members c m t answer → IsElse answer
+explanation_else : (by : Presenting) (members : List (List SerialOp)) (c : Declarations) (m : Matrix) (t : Target) (answer : Answer) → IsExplainedTarget by members c m t answer → IsElse answer
 explanation_else by members c m (target.Schedule u) answer is = explained_else by members c m u answer is
 explanation_else by members c m (target.Report r) answer is = finding_else (IsExplainedSchedule by members c m) r.finding answer (λ u more. explained_else by members c m u answer more) is
 
@@ -381,15 +403,15 @@ explain_behind_else by limits parts answer is =
     (λ p more. told_else p.0 p.1 (λ how c m. IsExplainedText (in_words by how) limits c m p.2) answer
     (λ how c m from. target_else p.2 (λ t. IsExplainedSerially (in_words by how) (limits_for limits t) c m t) answer (λ t last. serially_else (in_words by how) (limits_for limits t) c m t answer last) from) more) is
 
-explain_else : (by : Presentation) (limits : Limits) (parts : List (List ℕ)) (answer : Answer) → IsExplainOf by limits parts answer → IsElse answer
+explain_else : (by : Presentation) (limits : Limits) (parts : List (List ℕ)) (answer : Answer) → IsAnswerToExplain by limits parts answer → IsElse answer
 explain_else by limits parts answer is = alone_or_else (view_of by) (IsExplainBehind by limits) parts answer (explain_behind_else by limits parts answer) is
 
-explain_against_else : (parts : List (List ℕ)) (answer : Answer) → IsExplainAgainstOf parts answer → IsElse answer
+explain_against_else : (parts : List (List ℕ)) (answer : Answer) → IsAnswerToExplainAgainst parts answer → IsElse answer
 explain_against_else parts answer is =
-    parts_else (exactly_four parts) (λ p. ToTold p.0 p.1 (λ how c m. IsExplainedAgainst how c m p.2 p.3)) answer
-    (λ p more. told_else p.0 p.1 (λ how c m. IsExplainedAgainst how c m p.2 p.3) answer
-    (λ how c m from. target_else p.2 (λ t. ToGiven m p.3 (λ members. IsExplained (in_words Words how) members c m t)) answer
-    (λ t read. given_else m p.3 (λ members. IsExplained (in_words Words how) members c m t) answer (λ members last. explanation_else (in_words Words how) members c m t answer last) read) from) more) is
+    parts_else (exactly_four parts) (λ p. ToTold p.0 p.1 (λ how c m. IsExplainedAgainstText how c m p.2 p.3)) answer
+    (λ p more. told_else p.0 p.1 (λ how c m. IsExplainedAgainstText how c m p.2 p.3) answer
+    (λ how c m from. target_else p.2 (λ t. ToGiven m p.3 (λ members. IsExplainedTarget (in_words Words how) members c m t)) answer
+    (λ t read. given_else m p.3 (λ members. IsExplainedTarget (in_words Words how) members c m t) answer (λ members last. explanation_else (in_words Words how) members c m t answer last) read) from) more) is
 
 found_else : (c : Declarations) (found : Campaign) (answer : Answer) → answer ≡ found_answer c found → IsElse answer
 found_else c (AllPass count) answer is = status_else answer 0 (ap (λ (a : Answer). a.status) is) (λ e. omega arith)
@@ -399,11 +421,11 @@ campaign_else : (c : Declarations) (options : CampaignOptions) (setup candidates
 campaign_else c options setup candidates threads answer (inl is) = found_else c is.0 answer is.2
 campaign_else c options setup candidates threads answer (inr is) = refused_else _ answer is.3
 
-by_thread_else : (asked : Asked) (answer : Answer) → IsByThreadAnswer asked answer → IsElse answer
+by_thread_else : (asked : Asked) (answer : Answer) → IsCheckedWhole asked answer → IsElse answer
 by_thread_else asked answer (inl is) = found_else asked.component is.0 answer is.2
 by_thread_else asked answer (inr is) = refused_else _ answer is.3
 
-slice_else : (asked : Asked) (from upto : ℕ) (answer : Answer) → IsSliceReply asked from upto answer → IsElse answer
+slice_else : (asked : Asked) (from upto : ℕ) (answer : Answer) → IsCheckedNumbers asked from upto answer → IsElse answer
 slice_else asked from upto answer (inl is) = found_else asked.component is.0 answer is.2
 slice_else asked from upto answer (inr is) = refused_else _ answer is.3
 
@@ -415,7 +437,7 @@ certified_shown_else : (c : Declarations) (found : CertifiedCampaign) (answer : 
 certified_shown_else c (AllLinearizable count) answer is = status_else answer 0 (ap (λ (a : Answer). a.status) is) (λ e. omega arith)
 certified_shown_else c (NotAll matrix certificate) answer (shown, shows, is) = status_else answer shown.status (ap (λ (a : Answer). a.status) is) (certificate_status c certificate shown shows)
 
-certified_reply_else : (asked : Asked) (from upto : ℕ) (answer : Answer) → IsCertifiedReply asked from upto answer → IsElse answer
+certified_reply_else : (asked : Asked) (from upto : ℕ) (answer : Answer) → IsCertifiedNumbers asked from upto answer → IsElse answer
 certified_reply_else asked from upto answer (inl is) = certified_shown_else asked.component is.0 answer is.2
 certified_reply_else asked from upto answer (inr is) = refused_else _ answer is.3
 
@@ -430,7 +452,7 @@ no_fourth false false e = omega arith
 survey_status_else : (s : Survey) → survey_status s ≡ 4 → ⊥
 survey_status_else s = no_fourth (nat_lt 0 s.not_linearizable.count || nat_lt 0 s.livelock.count) (nat_lt 0 s.undecided.count)
 
-survey_reply_else : (asked : Asked) (from upto : ℕ) (answer : Answer) → IsSurveyReply asked from upto answer → IsElse answer
+survey_reply_else : (asked : Asked) (from upto : ℕ) (answer : Answer) → IsSurveyedNumbers asked from upto answer → IsElse answer
 survey_reply_else asked from upto answer (inl (s, surveyed, shows)) = status_else answer (survey_status s) (ap (λ (a : Answer). a.status) shows.6) (survey_status_else s)
 survey_reply_else asked from upto answer (inr is) = refused_else _ answer is.3
 
@@ -446,7 +468,7 @@ comparison_status c (Differs m (TrustedConflict u before earlier)) e = omega ari
 comparison_status c (Differs m (Serially u)) e = omega arith
 comparison_status c (Differs m (Concurrently r)) e = omega arith
 
-comparison_else : (trusted : Declarations) (asked : Asked) (from upto : ℕ) (answer : Answer) → IsComparisonReply trusted asked from upto answer → IsElse answer
+comparison_else : (trusted : Declarations) (asked : Asked) (from upto : ℕ) (answer : Answer) → IsComparedNumbers trusted asked from upto answer → IsElse answer
 comparison_else trusted asked from upto answer (inl (found, compared, is)) = status_else answer (comparison_answer asked.component found).status (ap (λ (a : Answer). a.status) is) (comparison_status asked.component found)
 comparison_else trusted asked from upto answer (inr is) = refused_else _ answer is.3
 
@@ -460,7 +482,7 @@ compared_alike_else trusted c threads options setup [] answer is = refused_else 
 compared_alike_else trusted c threads options setup (candidates ∷ []) answer is = compared_part_else trusted options.part (lists_of c setup (replicate threads candidates) options) answer is
 compared_alike_else trusted c threads options setup (a ∷ b ∷ m) answer is = refused_else (codes "G2") answer is
 
-compared_by_else : (threads : CampaignThreads) (trusted c : Declarations) (options : CampaignOptions) (m : Matrix) (answer : Answer) → IsComparedBy threads trusted c options m answer → IsElse answer
+compared_by_else : (threads : CampaignThreads) (trusted c : Declarations) (options : CampaignOptions) (m : Matrix) (answer : Answer) → IsComparedByThreads threads trusted c options m answer → IsElse answer
 compared_by_else (Alike threads) trusted c options m answer is = compared_alike_else trusted c threads options m.setup m.threads answer is
 compared_by_else Own trusted c options m answer is = compared_part_else trusted options.part (lists_of c m.setup m.threads options) answer is
 
@@ -469,7 +491,7 @@ certified_part_else Whole asked answer is = certified_reply_else asked 0 most_lo
 certified_part_else (Slice from upto) asked answer is = certified_reply_else asked from upto answer is
 certified_part_else Count asked answer is = count_else asked.candidates asked.calls answer is
 
-part_else : (part : CampaignPart) (asked : Asked) (answer : Answer) → IsAnswerToPart part asked answer → IsElse answer
+part_else : (part : CampaignPart) (asked : Asked) (answer : Answer) → IsCheckedPart part asked answer → IsElse answer
 part_else Whole asked answer is = by_thread_else asked answer is
 part_else (Slice from upto) asked answer is = slice_else asked from upto answer is
 part_else Count asked answer is = count_else asked.candidates asked.calls answer is
@@ -494,7 +516,7 @@ candidates_else c threads options setup [] answer is = refused_else (codes "G2")
 candidates_else c threads options setup (candidates ∷ []) answer is = alike_else options.trial options.part c options setup candidates threads answer is
 candidates_else c threads options setup (a ∷ b ∷ m) answer is = refused_else (codes "G2") answer is
 
-matrices_else : (threads : CampaignThreads) (c : Declarations) (options : CampaignOptions) (m : Matrix) (answer : Answer) → IsCampaignBy threads c options m answer → IsElse answer
+matrices_else : (threads : CampaignThreads) (c : Declarations) (options : CampaignOptions) (m : Matrix) (answer : Answer) → IsCampaignByThreads threads c options m answer → IsElse answer
 matrices_else (Alike threads) c options m answer is = candidates_else c threads options m.setup m.threads answer is
 matrices_else Own c options m answer is = lists_else options.trial options.part (lists_of c m.setup m.threads options) answer is
 
@@ -502,12 +524,12 @@ collected_else : (m : Matrix) (text : List ℕ) (answer : Answer) → IsCollecte
 collected_else m text answer (inl is) = status_else answer 0 (ap (λ (a : Answer). a.status) is.2.2) (λ e. omega arith)
 collected_else m text answer (inr is) = refused_else (spec_code_of is.0 ++ codes " line " ++ decimal is.1) answer is.3
 
-collected_parts_else : (parts : List (List ℕ)) (answer : Answer) → IsSpecOf parts answer → IsElse answer
+collected_parts_else : (parts : List (List ℕ)) (answer : Answer) → IsAnswerToSpec parts answer → IsElse answer
 collected_parts_else parts answer is =
     parts_else (exactly_three parts) (λ p. ToTexts p.0 p.1 (λ c m. IsCollected m p.2)) answer
     (λ p more. texts_else p.0 p.1 (λ c m. IsCollected m p.2) answer (λ c m last. collected_else m p.2 answer last) more) is
 
-judged_else : (members : List (List SerialOp)) (c : Declarations) (m : Matrix) (all : List Recorded) (answer : Answer) → IsJudgedBy members c m all answer → IsElse answer
+judged_else : (members : List (List SerialOp)) (c : Declarations) (m : Matrix) (all : List Recorded) (answer : Answer) → IsJudgedByMembers members c m all answer → IsElse answer
 judged_else members c m all answer (None, found, is) = status_else answer 0 (ap (λ (a : Answer). a.status) is) (λ e. omega arith)
 judged_else members c m all answer (Some n, found, is) = status_else answer 1 (ap (λ (a : Answer). a.status) is.2.2) (λ e. omega arith)
 
@@ -519,18 +541,18 @@ judged_serially_else : (c : Declarations) (m : Matrix) (limits : Limits) (all : 
 judged_serially_else c m limits all answer (inl is) = judged_else is.2 c m all answer is.7
 judged_serially_else c m limits all answer (inr is) = reported_else is.0 answer is.3
 
-judge_else : (limits : Limits) (parts : List (List ℕ)) (answer : Answer) → IsJudgeOf limits parts answer → IsElse answer
+judge_else : (limits : Limits) (parts : List (List ℕ)) (answer : Answer) → IsAnswerToJudge limits parts answer → IsElse answer
 judge_else limits parts answer is =
     parts_else (three_parts parts) (λ p. ToTexts p.0 p.1 (λ c m. IsJudgedTexts c m limits p.2)) answer
     (λ p more. texts_else p.0 p.1 (λ c m. IsJudgedTexts c m limits p.2) answer
     (λ c m from. recorded_else m p.2 (IsJudgedSerially c m limits) answer (λ all last. judged_serially_else c m limits all answer last) from) more) is
 
-judge_against_else : (parts : List (List ℕ)) (answer : Answer) → IsJudgeAgainstOf parts answer → IsElse answer
+judge_against_else : (parts : List (List ℕ)) (answer : Answer) → IsAnswerToJudgeAgainst parts answer → IsElse answer
 judge_against_else parts answer is =
     parts_else (four_parts parts) (λ p. ToTexts p.0 p.1 (λ c m. IsJudgedAgainstTexts c m p.2 p.3)) answer
     (λ p more. texts_else p.0 p.1 (λ c m. IsJudgedAgainstTexts c m p.2 p.3) answer
-    (λ c m from. given_else m p.2 (λ members. ToRecorded m p.3 (IsJudgedBy members c m)) answer
-    (λ members read. recorded_else m p.3 (IsJudgedBy members c m) answer (λ all last. judged_else members c m all answer last) read) from) more) is
+    (λ c m from. given_else m p.2 (λ members. ToRecorded m p.3 (IsJudgedByMembers members c m)) answer
+    (λ members read. recorded_else m p.3 (IsJudgedByMembers members c m) answer (λ all last. judged_else members c m all answer last) read) from) more) is
 
 conformed_else : (c : Declarations) (m : Matrix) (showing : Showing) (all : List Recorded) (answer : Answer) → IsConformed c m showing all answer → IsElse answer
 conformed_else c m CountAlone all answer (Conforms schedules, found, is) = status_else answer 0 (ap (λ (a : Answer). a.status) is) (λ e. omega arith)
@@ -538,7 +560,7 @@ conformed_else c m Schedules all answer (Conforms schedules, found, is) = status
 conformed_else c m showing all answer (NoneShows n, found, is) = status_else answer 1 (ap (λ (a : Answer). a.status) is.2) (λ e. omega arith)
 conformed_else c m showing all answer (Undetermined n, found, is) = status_else answer 3 (ap (λ (a : Answer). a.status) is) (λ e. omega arith)
 
-conform_else : (showing : Showing) (parts : List (List ℕ)) (answer : Answer) → IsConformOf showing parts answer → IsElse answer
+conform_else : (showing : Showing) (parts : List (List ℕ)) (answer : Answer) → IsAnswerToConform showing parts answer → IsElse answer
 conform_else showing parts answer is =
     parts_else (three_parts parts) (λ p. ToTexts p.0 p.1 (λ c m. IsConformedTexts c m showing p.2)) answer
     (λ p more. texts_else p.0 p.1 (λ c m. IsConformedTexts c m showing p.2) answer
@@ -553,13 +575,13 @@ trusted_else text c m IsAnswer answer h is =
     ])
     is
 
-campaign_against_else : (options : CampaignOptions) (parts : List (List ℕ)) (answer : Answer) → IsCampaignAgainstOf options parts answer → IsElse answer
+campaign_against_else : (options : CampaignOptions) (parts : List (List ℕ)) (answer : Answer) → IsAnswerToCampaignAgainst options parts answer → IsElse answer
 campaign_against_else options parts answer is =
-    parts_else (exactly_three parts) (λ p. ToTexts p.0 p.1 (λ c m. ToTrusted p.2 c m (λ trusted. IsComparedFrom trusted c options m))) answer
-    (λ p more. texts_else p.0 p.1 (λ c m. ToTrusted p.2 c m (λ trusted. IsComparedFrom trusted c options m)) answer
-    (λ c m from. trusted_else p.2 c m (λ trusted. IsComparedFrom trusted c options m) answer (λ trusted last. compared_by_else options.threads trusted c options m answer last) from) more) is
+    parts_else (exactly_three parts) (λ p. ToTexts p.0 p.1 (λ c m. ToTrusted p.2 c m (λ trusted. IsComparedMatrix trusted c options m))) answer
+    (λ p more. texts_else p.0 p.1 (λ c m. ToTrusted p.2 c m (λ trusted. IsComparedMatrix trusted c options m)) answer
+    (λ c m from. trusted_else p.2 c m (λ trusted. IsComparedMatrix trusted c options m) answer (λ trusted last. compared_by_else options.threads trusted c options m answer last) from) more) is
 
-compile_else : (parts : List (List ℕ)) (answer : Answer) → IsCompileOf parts answer → IsElse answer
+compile_else : (parts : List (List ℕ)) (answer : Answer) → IsAnswerToCompile parts answer → IsElse answer
 compile_else [] answer is = refused_else (codes "B1") answer is
 compile_else (source ∷ parts) answer is =
     value_else source_code_of (component_meant source) (λ c. IsCompiledBundle c parts) answer
@@ -575,30 +597,30 @@ run_view_else run.Trace how c m u answer is = traced_else how c m u answer is
 run_view_else run.TraceFromSetup how c m u answer is = from_setup_else how c m u answer is
 run_view_else run.Picture how c m u answer is = drawn_else how None c m u answer is
 
-view_else : (shown : RunView) (parts : List (List ℕ)) (answer : Answer) → IsShowOf shown parts answer → IsElse answer
+view_else : (shown : RunView) (parts : List (List ℕ)) (answer : Answer) → IsAnswerToTraceOrDraw shown parts answer → IsElse answer
 view_else shown parts answer is = alone_or_else (view_of_failure shown) (IsShownBehind shown) parts answer (λ behind. behind_else parts (IsRunShown shown) answer (λ how c m u more. run_view_else shown how c m u answer more) behind) is
 
-pub order_else : (order : BundleCommand) (parts : List (List ℕ)) (answer : Answer) → IsAnswerToOrder order parts answer → IsElse answer
-order_else Replay parts answer is = three_else parts IsReplayed answer (λ c m u more. replayed_else c m u answer more) is
-order_else Trace parts answer is = view_else run.Trace parts answer is
-order_else TraceFromSetup parts answer is = view_else run.TraceFromSetup parts answer is
-order_else Draw parts answer is = view_else run.Picture parts answer is
-order_else (DrawExplained limits) parts answer is = explain_else Picture limits parts answer is
-order_else (Explain limits) parts answer is = explain_else Words limits parts answer is
-order_else ExplainAgainst parts answer is = explain_against_else parts answer is
-order_else (Serial limits) parts answer is = two_else parts (λ c m. IsRunSerially c m limits) answer (λ c m more. serial_else c m limits answer more) is
-order_else (Judge limits) parts answer is = judge_else limits parts answer is
-order_else JudgeAgainst parts answer is = judge_against_else parts answer is
-order_else (Conform showing) parts answer is = conform_else showing parts answer is
-order_else Spec parts answer is = collected_parts_else parts answer is
-order_else (Check choice) parts answer is = two_else parts (λ c m. IsChecked c m choice) answer (λ c m more. checked_else c m choice answer more) is
-order_else (CheckAgainst choice) parts answer is = spec_parts_else choice parts answer is
-order_else (Certify asked) parts answer is = two_else parts (λ c m. IsCertified c m asked) answer (λ c m more. certified_else c m asked answer more) is
-order_else Refute parts answer is = four_else parts answer is
-order_else (Shrink limits) parts answer is = two_else parts (λ c m. IsShrinkAnswer c m limits) answer (λ c m more. shrink_else c m limits answer more) is
-order_else Compile parts answer is = compile_else parts answer is
-order_else (CampaignAgainst options) parts answer is = campaign_against_else options parts answer is
-order_else (Campaigning options) parts answer is = two_else parts (λ c m. IsCampaignFrom c options m) answer (λ c m more. matrices_else options.threads c options m answer more) is
+command_else : (command : BundleCommand) (parts : List (List ℕ)) (answer : Answer) → IsAnswerToCommand command parts answer → IsElse answer
+command_else Replay parts answer is = three_else parts IsReplayed answer (λ c m u more. replayed_else c m u answer more) is
+command_else Trace parts answer is = view_else run.Trace parts answer is
+command_else TraceFromSetup parts answer is = view_else run.TraceFromSetup parts answer is
+command_else Draw parts answer is = view_else run.Picture parts answer is
+command_else (DrawExplained limits) parts answer is = explain_else Picture limits parts answer is
+command_else (Explain limits) parts answer is = explain_else Words limits parts answer is
+command_else ExplainAgainst parts answer is = explain_against_else parts answer is
+command_else (Serial limits) parts answer is = two_else parts (λ c m. IsRunSerially c m limits) answer (λ c m more. serial_else c m limits answer more) is
+command_else (Judge limits) parts answer is = judge_else limits parts answer is
+command_else JudgeAgainst parts answer is = judge_against_else parts answer is
+command_else (Conform showing) parts answer is = conform_else showing parts answer is
+command_else Spec parts answer is = collected_parts_else parts answer is
+command_else (Check choice) parts answer is = two_else parts (λ c m. IsChecked c m choice) answer (λ c m more. checked_else c m choice answer more) is
+command_else (CheckAgainst choice) parts answer is = spec_parts_else choice parts answer is
+command_else (Certify asked) parts answer is = two_else parts (λ c m. IsCertified c m asked) answer (λ c m more. certified_else c m asked answer more) is
+command_else Refute parts answer is = four_else parts answer is
+command_else (Shrink limits) parts answer is = two_else parts (λ c m. ShowsShrunk c m limits) answer (λ c m more. shrink_else c m limits answer more) is
+command_else Compile parts answer is = compile_else parts answer is
+command_else (CampaignAgainst options) parts answer is = campaign_against_else options parts answer is
+command_else (Campaigning options) parts answer is = two_else parts (λ c m. IsCampaignOfMatrix c options m) answer (λ c m more. matrices_else options.threads c options m answer more) is
 
 marked_else : (answer : Answer) (b : Bool) → answer.status ≡ (if b then 2 else 0) → IsElse answer
 marked_else answer true e = status_else answer 2 e (λ f. omega arith)
@@ -614,7 +636,7 @@ source_linted_else limits source parts answer is = go (component_meant source) i
     go (Ok c) (said, remarks, tells, are, e) = marked_else answer (list_any (λ r. is_fault r.said.cause) (below_source source c remarks)) (ap (λ (a : Answer). a.status) e)
     go (Err fault) (text, tells, e) = status_else answer 2 (ap (λ (a : Answer). a.status) e) (λ f. omega arith)
 
-pub lint_else : (limits : Limits) (bundle : List ℕ) (answer : Answer) → IsLint limits bundle answer → IsElse answer
+lint_else : (limits : Limits) (bundle : List ℕ) (answer : Answer) → IsLint limits bundle answer → IsElse answer
 lint_else limits bundle answer is = go (bundle_parts bundle) is
   where
     by : (first : List ℕ) (parts : List (List ℕ)) (b : Bool) → MatchBool b (IsSourceLinted limits first parts answer) (IsLinted limits bundle answer) → IsElse answer
@@ -625,26 +647,31 @@ lint_else limits bundle answer is = go (bundle_parts bundle) is
     go [] is = linted_else limits bundle answer is
     go (first ∷ parts) is = by first parts (is_source first) is
 
-ordered_else : (order : BundleCommand) (input : List ℕ) (answer : Answer) → IsAnswerToParts order input answer → IsElse answer
-ordered_else order input answer is = order_else order (bundle_parts input) answer is
+bundle_else : (command : BundleCommand) (input : List ℕ) (answer : Answer) → IsAnswerToBundle command input answer → IsElse answer
+bundle_else command input answer is = command_else command (bundle_parts input) answer is
 
 input_else : (IsAnswer : List ℕ → Answer → Type 0) (long : Bool) (input : List ℕ) (answer : Answer) → (IsAnswer input answer → IsElse answer) → MatchBool long (answer ≡ refused (codes "B2")) (IsAnswer input answer) → IsElse answer
 input_else IsAnswer true input answer other is = refused_else (codes "B2") answer is
 input_else IsAnswer false input answer other is = other is
 
-pub help_else : (answer : Answer) → answer ≡ help_answer → answer ≢ no_device
+help_else : (answer : Answer) → answer ≡ help_answer → answer ≢ no_device
 help_else answer is = status_else answer 0 (ap (λ (a : Answer). a.status) is) (λ e. omega arith)
 
-request_else : (request : Request) (input : List ℕ) (answer : Answer) → IsAnswerOf request input answer → IsElse answer
+request_else : (request : Request) (input : List ℕ) (answer : Answer) → IsAnswerToInput request input answer → IsElse answer
 request_else Help input answer is = help_else answer is
 request_else (Lint limits) input answer is = input_else (IsLint limits) (nat_lt 1048576 (length input)) input answer (lint_else limits input answer) is
-request_else (Ordered order) input answer is = input_else (IsAnswerToParts order) (nat_lt 1048576 (length input)) input answer (ordered_else order input answer) is
+request_else (Bundle command) input answer is = input_else (IsAnswerToBundle command) (nat_lt 1048576 (length input)) input answer (bundle_else command input answer) is
 
-pub answer_else : (request : Request) (known : Option (List ℕ)) (answer : Answer) → IsAnswerFrom request known answer → answer ≢ no_device
+answer_else : (request : Request) (known : Option (List ℕ)) (answer : Answer) → IsAnswerToRead request known answer → answer ≢ no_device
 answer_else request known answer is = request_else request is.0 answer is.2
 
-pub command_else : (answer : Answer) → answer ≡ no_command → answer ≢ no_device
-command_else answer is = status_else answer 2 (ap (λ (a : Answer). a.status) is) (λ e. omega arith)
+refused_command_else : (answer : Answer) → answer ≡ no_command → answer ≢ no_device
+refused_command_else answer is = status_else answer 2 (ap (λ (a : Answer). a.status) is) (λ e. omega arith)
+
+-- what is answered to words
+pub words_else : (said : Option Request) (known : Option (List ℕ)) (answer : Answer) → ((request : Request) → said ≡ Some request → IsAnswerToRead request known answer) → (said ≡ None → answer ≡ no_command) → answer ≢ no_device
+words_else (Some request) known answer is refused = answer_else request known answer (is request refl)
+words_else None known answer is refused = refused_command_else answer (refused refl)
 
 pub memory_else : no_memory ≢ no_device
 memory_else = text_else no_memory 109 refl (λ e. omega arith)

@@ -12,26 +12,25 @@ use Rattle.clap.specs.declared.builder.command.Command.{Command}
 use Rattle.clap.specs.declared.builder.command.Command.TheViews.{out-Command}
 use Rattle.clap.specs.declared.builder.value_parser.ValueParser.TheVariants as vp
 use Rattle.clap.specs.declared.error.kind.ErrorKind.{ErrorKind}
-use Rattle.lu_cli.specs.declared.order.CampaignOptions.{CampaignOptions}
-use Rattle.lu_cli.specs.declared.order.CampaignPart.{CampaignPart}
-use Rattle.lu_cli.specs.declared.order.CampaignPart.TheVariants.{Whole, Slice, Count}
-use Rattle.lu_cli.specs.declared.order.CampaignThreads.{CampaignThreads}
-use Rattle.lu_cli.specs.declared.order.CampaignThreads.TheVariants.{Alike, Own}
-use Rattle.lu_cli.specs.declared.order.CampaignTrial.{CampaignTrial}
-use Rattle.lu_cli.specs.declared.order.CampaignTrial.TheVariants.{Checked, Certified, Surveyed}
-use Rattle.lu_cli.specs.declared.order.CertifyOptions.{CertifyOptions}
-use Rattle.lu_cli.specs.declared.order.Request.{Request}
-use Rattle.lu_cli.specs.declared.order.Showing.TheVariants as showing
-use Rattle.lu_cli.specs.declared.order.Request.TheVariants.{Help, Lint, Ordered}
-use Rattle.lu_cli.specs.declared.order.BundleCommand.{BundleCommand}
-use Rattle.lu_cli.specs.declared.order.BundleCommand.TheVariants.{Replay, Trace, TraceFromSetup, Draw, DrawExplained, Explain, ExplainAgainst, Serial, Judge, JudgeAgainst, Conform, Spec, Check, CheckAgainst, Certify, Refute, Shrink, Campaign, CampaignAgainst, Compile}
+use Rattle.lu_cli.specs.declared.request.CampaignOptions.{CampaignOptions}
+use Rattle.lu_cli.specs.declared.request.CampaignPart.{CampaignPart}
+use Rattle.lu_cli.specs.declared.request.CampaignPart.TheVariants.{Whole, Slice, Count}
+use Rattle.lu_cli.specs.declared.request.CampaignThreads.{CampaignThreads}
+use Rattle.lu_cli.specs.declared.request.CampaignThreads.TheVariants.{Alike, Own}
+use Rattle.lu_cli.specs.declared.request.CampaignTrial.{CampaignTrial}
+use Rattle.lu_cli.specs.declared.request.CampaignTrial.TheVariants.{Checked, Certified, Surveyed}
+use Rattle.lu_cli.specs.declared.request.CertifyOptions.{CertifyOptions}
+use Rattle.lu_cli.specs.declared.request.Request.{Request}
+use Rattle.lu_cli.specs.declared.request.Showing.TheVariants as showing
+use Rattle.lu_cli.specs.declared.request.Request.TheVariants.{Help, Lint, Bundle}
+use Rattle.lu_cli.specs.declared.request.BundleCommand.{BundleCommand}
+use Rattle.lu_cli.specs.declared.request.BundleCommand.TheVariants.{Replay, Trace, TraceFromSetup, Draw, DrawExplained, Explain, ExplainAgainst, Serial, Judge, JudgeAgainst, Conform, Spec, Check, CheckAgainst, Certify, Refute, Shrink, Campaign, CampaignAgainst, Compile}
 use Rattle.lu_cli.specs.declared.table.CommandRow.{CommandRow}
 use Rattle.lu_cli.specs.declared.table.Kind.{Kind}
 use Rattle.lu_cli.specs.declared.table.Kind.TheVariants.{Flag, Number, Long}
 use Rattle.lu_cli.specs.declared.table.OptionRow.{OptionRow}
-use Rattle.lu_cli.specs.Orders.{choice_of}
 use Rattle.lu_cli.specs.Table.{TableCommand, TableOption, command_said, commands, commands_said, option_said, options, options_said}
-use Rattle.lu_report.specs.Limits.{Limits, limits_of, most_moves}
+use Rattle.lu_report.specs.Limits.{Limits, lies, limits_of, most_moves}
 use Rattle.lu_parallel.specs.Ranges.{Choice, choice, with_head_start}
 
 -- the greatest number of 64 bits
@@ -165,6 +164,12 @@ head_start = 16777216
 abbrev pub choice_for : ℕ → ℕ → ℕ → Option ℕ → Choice
 choice_for bound serial workers None = with_head_start head_start (choice bound serial workers 4)
 choice_for bound serial workers (Some depth) = choice bound serial workers depth
+
+-- the options of a check, where they are in range
+abbrev pub choice_of : Choice → Option Choice
+choice_of c =
+    if lies 0 c.bound most_moves &&
+    (lies 1 c.serial most_moves && (lies 1 c.workers 16 && lies 0 c.depth 8)) then Some c else None
 
 abbrev pub choice_with : Option ℕ → Option ℕ → Option ℕ → Option ℕ → Option Choice
 choice_with (Some bound) (Some serial) (Some workers) depth =
@@ -321,8 +326,8 @@ abbrev pub campaign_in : List Row → Option BundleCommand
 campaign_in rows =
     option_map (campaign_order (flag_in (codes "spec") rows)) (campaign_options_in rows)
 
-abbrev pub order_by : Text → List Row → Option BundleCommand
-order_by name rows =
+abbrev pub command_by : Text → List Row → Option BundleCommand
+command_by name rows =
     if bytes_eq name (codes "replay") then Some Replay
     else (if bytes_eq name (codes "trace") then Some (trace_in rows)
     else (if bytes_eq name (codes "draw") then draw_in rows
@@ -348,7 +353,7 @@ abbrev pub request_by : Text → List Row → Option Request
 request_by name rows =
     if bytes_eq name (codes "help") then Some Help
     else (if bytes_eq name (codes "lint") then lint_in rows
-    else option_map Ordered (order_by name rows))
+    else option_map Bundle (command_by name rows))
 
 abbrev pub request_in : Option (Text × List Row) → Option Request
 request_in entered = option_and_then (λ e. request_by e.0 e.1) entered

@@ -1,18 +1,15 @@
 -- What `compile` answers.
-use Rattle.std.specs.Prelude.{◌≡◌, ◌⊎◌, ℕ, List, ◌++◌, All, Option, Some, None, Vec, codes}
-use Rattle.std.specs.List.{flat_map}
-use Rattle.std.specs.Str.{IsUtf8}
-use denote.Ref.{Bor}
-use Rattle.lu_text.specs.declared.fault.Fault.{Fault}
-use Rattle.lu_text.specs.Faults.{IsUnlessMemory}
-use Rattle.lu_text.specs.Lines.{texts}
+use Rattle.std.specs.Prelude.{◌≡◌, ℕ, List, All, Option, Some, None, Vec, codes, ◌++◌, ◌⊎◌, [], ◌∷◌}
 use Rattle.lu_component.specs.Component.{Declarations}
-use Rattle.lu_lang.specs.ComponentText.{component_text}
-use Rattle.lu_source_text.specs.declared.fault.SourceFaultKind.{SourceFaultKind}
+use Rattle.std.specs.List.{flat_map}
+use Rattle.lu_source_text.specs.Kinds.{code_of as source_code_of}
 use Rattle.lu_source_text.specs.Readers.{component_meant}
-use Rattle.lu_cli.specs.declared.refusal.Refusal.{Refusal}
-use Rattle.lu_cli.specs.declared.refusal.Refusal.TheVariants as refusal
+use denote.Ref.{Bor}
+use Rattle.lu_text.specs.Lines.{texts}
+use Rattle.std.specs.Str.{IsUtf8}
+use Rattle.lu_lang.specs.ComponentText.{component_text}
 use Rattle.lu_cli.specs.Outcomes.{Answer, refused}
+use Rattle.lu_cli.specs.Reading.{ToValue}
 
 -- the same texts as strings; none where one is no UTF-8
 abbrev pub AreStrings : {Z : Type 0} → List (List ℕ) → Option (Vec (Bor (List ℕ)) Z) → Type 0
@@ -40,8 +37,11 @@ IsCompiledBundle c parts answer =
     (answer ≡ compiled_bundle c parts)
     ⊎ ((All IsUtf8 parts → ⊥) × (answer ≡ refused (codes "B3")))
 
--- why a source is refused
-abbrev pub IsSourceRefusal : List ℕ → Refusal → Type 0
-IsSourceRefusal text refused =
-    (fault : Fault SourceFaultKind) × IsUnlessMemory fault (component_meant text)
-    × (refused ≡ refusal.Source fault)
+-- the source is compiled, and the other parts stay as they are
+abbrev pub IsCompiledWith : List ℕ → List (List ℕ) → Answer → Type 0
+IsCompiledWith source parts =
+    ToValue source_code_of (component_meant source) (λ c. IsCompiledBundle c parts)
+
+abbrev pub IsAnswerToCompile : List (List ℕ) → Answer → Type 0
+IsAnswerToCompile [] answer = answer ≡ refused (codes "B1")
+IsAnswerToCompile (source ∷ parts) answer = IsCompiledWith source parts answer

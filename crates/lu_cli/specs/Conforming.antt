@@ -1,22 +1,23 @@
 -- What `conform` answers.
-use Rattle.std.specs.Prelude.{◌≡◌, ◌<◌, ℕ, ◌++◌, List, length, Some, Result, codes, slice_get}
+use Rattle.std.specs.Prelude.{ℕ, ◌++◌, List, codes, length, ◌<◌, ◌≡◌, Some, slice_get, Result}
 use Rattle.std.specs.Fmt.{decimal}
-use Rattle.std.specs.List.{flat_map}
 use Rattle.lu_component.specs.Component.{Declarations}
 use Rattle.lu_test.specs.declared.schedule.Move.{Move}
 use Rattle.lu_test.specs.Matrix.{Matrix}
 use Rattle.lu_test.specs.ScheduleText.{schedule_text}
+use Rattle.std.specs.List.{flat_map}
 use Rattle.lu_recorded.specs.declared.recorded.Recorded.{Recorded}
 use Rattle.lu_recorded.specs.Reasons.{recorded_text}
 use Rattle.lu_conform.specs.declared.shown.Conformance.{Conformance}
 use Rattle.lu_conform.specs.declared.shown.Conformance.TheVariants.{Conforms, NoneShows, Undecided}
 use Rattle.lu_conform.specs.Conforming.{IsConformance}
-use Rattle.lu_cli.specs.Judging.{ToRecorded}
-use Rattle.lu_cli.specs.Outcomes.{Answer}
-use Rattle.lu_cli.specs.Refusals.{Answered}
 use Rattle.lu_cli.specs.declared.refusal.Refusal.{Refusal}
-use Rattle.lu_cli.specs.declared.order.Showing.{Showing}
-use Rattle.lu_cli.specs.declared.order.Showing.TheVariants.{Count, Schedules}
+use Rattle.lu_cli.specs.Judging.{three_parts}
+use Rattle.lu_cli.specs.Refusals.{Answered}
+use Rattle.lu_cli.specs.Outcomes.{Answer}
+use Rattle.lu_cli.specs.Reading.{ToRecorded, ToParts, ToTexts}
+use Rattle.lu_cli.specs.declared.request.Showing.{Showing}
+use Rattle.lu_cli.specs.declared.request.Showing.TheVariants.{Count, Schedules}
 
 -- so many histories are shown
 abbrev pub passes : ℕ → List ℕ
@@ -72,3 +73,7 @@ IsConformedTexts c m showing texts = ToRecorded m texts (IsConformed c m showing
 abbrev pub ConformsTexts : Declarations → Matrix → Showing → List (List ℕ) → Result Answer Refusal
     → Type 0
 ConformsTexts c m showing texts result = Answered (IsConformedTexts c m showing texts) result
+
+abbrev pub IsAnswerToConform : Showing → List (List ℕ) → Answer → Type 0
+IsAnswerToConform showing parts =
+    ToParts (three_parts parts) (λ p. ToTexts p.0 p.1 (λ c m. IsConformedTexts c m showing p.2))

@@ -1,127 +1,59 @@
--- What `explain` answers.
-use Rattle.std.specs.Prelude.{◌≡◌, ◌⊎◌, ℕ, List, [], ◌++◌, Option, Some, None, Result, IfOk, codes, Bool, nat_eq}
-use Rattle.std.specs.List.{starts_with}
+-- What `explain` and `draw --explain` answer.
+use Rattle.std.specs.Prelude.{ℕ, List, codes, Bool, nat_eq, MatchBool, ◌≡◌, Ok, Option, Some, None, Result}
+use Rattle.lu_text.specs.declared.fault.Fault.{Fault}
+use Rattle.lu_text.specs.Words.{exactly_four}
 use Rattle.lu_component.specs.Component.{Declarations}
 use Rattle.lu_test.specs.declared.schedule.Move.{Move}
+use Rattle.lu_test.specs.declared.schedule_fault.ScheduleFault.{ScheduleFault}
+use Rattle.lu_test.specs.ScheduleText.{schedule_of, IsScheduleUnlessMemory}
 use Rattle.lu_test.specs.Matrix.{Matrix}
-pub use Rattle.lu_test.specs.ScheduleText.{schedule_text}
-use Rattle.lu_machine.specs.declared.event.Event.{Event}
-use Rattle.lu_machine.specs.declared.event.Status.{Status}
-use Rattle.lu_machine.specs.declared.event.Status.TheVariants.{Running, Complete, Stuck}
-use Rattle.lu_machine.specs.States.{State}
-use Rattle.lu_machine.specs.Starts.{FromEachStart, IsStart}
-use Rattle.lu_history.specs.declared.serial.SerialOp.{SerialOp}
-use Rattle.lu_serial.specs.Offences.{IsSetOf}
-use Rattle.lu_witness.specs.declared.judgement.Verdict.{Verdict}
-use Rattle.lu_witness.specs.declared.judgement.Verdict.TheVariants.{Good, NoWitness, NoWitnessFor}
-use Rattle.lu_witness.specs.Witnesses.{IsMember, IsVerdict}
-use Rattle.lu_report.specs.declared.report.Finding.{Finding}
-use Rattle.lu_report.specs.declared.report.Finding.TheVariants.{SerialCut, Nondeterministic, Fail, Pass}
-use Rattle.lu_report.specs.Limits.{Limits}
-pub use Rattle.lu_report.specs.Parts.{IsOfOffence}
-use Rattle.lu_replay.specs.Replays.{IsInfeasibleAt, PlaysToStatus}
-use Rattle.lu_replay.specs.Reports.{IsFinding}
-use Rattle.lu_explain.specs.Blocks.{IsTextFor, run_of}
-use Rattle.lu_explain.specs.EventMoves.{AreEventMoves}
-use Rattle.lu_explain.specs.Explanations.{Explained}
+use Rattle.lu_report.specs.Parts.{Parts}
+use Rattle.lu_report.specs.declared.fault.ReportFaultKind.{ReportFaultKind}
+use Rattle.lu_report.specs.Forms.{Spells, IsFault}
+use Rattle.std.specs.List.{starts_with}
 use Rattle.lu_trace.specs.declared.wording.Wording.{Wording}
-use Rattle.lu_cli.specs.declared.explaining.Presentation.{Presentation}
-use Rattle.lu_cli.specs.declared.explaining.Presenting.{Presenting}
-use Rattle.lu_cli.specs.declared.explaining.Presentation.TheVariants.{Words, Picture}
-use Rattle.lu_cli.specs.Drawing.{IsDrawnWith, IsShownExplanation}
-use Rattle.lu_cli.specs.declared.explaining.ShownSchedule.{ShownSchedule}
-use Rattle.lu_cli.specs.declared.explaining.Target.{Target}
-use Rattle.lu_cli.specs.declared.explaining.Target.TheVariants as target
-use Rattle.lu_cli.specs.Outcomes.{Answer, infeasible}
+use Rattle.lu_report.specs.Limits.{Limits}
+use Rattle.lu_cli.specs.declared.refusal.Refusal.{Refusal}
+use Rattle.lu_cli.specs.declared.refusal.Refusal.TheVariants as refusal
+use Rattle.lu_cli.specs.declared.failing.View.{View}
+use Rattle.lu_cli.specs.declared.failing.View.TheVariants as view
+use Rattle.lu_cli.specs.Failing.{in_words, AloneOr}
+use Rattle.lu_cli.specs.Refusals.{Answered}
+use Rattle.lu_cli.specs.Outcomes.{Answer, refused}
+use Rattle.lu_cli.specs.Explanation.{IsExplainedSerially, IsExplainedTarget}
+use Rattle.lu_cli.specs.Reading.{ToSchedule, ToReport, ToParts, ToTold, ToGiven}
+use Rattle.lu_cli.specs.Shown.{shown_parts}
+use Rattle.lu_cli.specs.declared.explanation.Presentation.{Presentation}
+use Rattle.lu_cli.specs.declared.explanation.Presentation.TheVariants.{Words, Picture}
+use Rattle.lu_cli.specs.declared.explanation.Presenting.{Presenting}
+use Rattle.lu_cli.specs.declared.explanation.Target.{Target}
+use Rattle.lu_cli.specs.declared.explanation.Target.TheVariants as target
 
--- why nothing is explained, with a schedule that shows it, or none
-abbrev pub unexplained : List ℕ → List ℕ → Answer
-unexplained why schedule =
-    record { text = codes "explain " ++ why ++ codes "\n" ++ schedule; status = 1 }
+-- ---- what is explained
 
-abbrev pub status_by : Verdict → ℕ
-status_by Good = 0
-status_by NoWitness = 1
-status_by (NoWitnessFor t) = 1
+-- the text begins as a report does
+abbrev pub is_report : List ℕ → Bool
+is_report text = starts_with nat_eq text (codes "lineup")
 
--- the history of an ended schedule, explained by these serial histories
-abbrev pub IsExplainedBy : List (List SerialOp) → Declarations → Matrix → List Move → List Event
-    → Answer → Type 0
-IsExplainedBy members c m u h answer =
-    (moves : List ℕ) × (text : List ℕ) × (verdict : Verdict)
-    × AreEventMoves c m u moves × IsTextFor (IsMember members) (run_of c m h moves) text
-    × IsVerdict (IsMember members) h verdict
-    × (answer ≡ record { text = text; status = status_by verdict })
+-- the answer to a text of a schedule or of a report: its refusal, or what is answered to it
+abbrev pub ToTarget : List ℕ → (Target → Answer → Type 0) → Answer → Type 0
+ToTarget text IsAnswer answer =
+    MatchBool (is_report text) (ToReport text (λ r. IsAnswer (target.Report r)) answer)
+    (ToSchedule (schedule_of text) (λ u. IsAnswer (target.Schedule u)) answer)
 
--- the same as a picture
-abbrev pub IsPicturedBy : Wording → List (List SerialOp) → Declarations → Matrix → List Move
-    → List Event → Answer → Type 0
-IsPicturedBy how members c m u h answer =
-    (e : Explained) × IsShownExplanation members h e × IsDrawnWith how (Some e) c m u answer
+-- what is read of such a text
+abbrev pub IsTarget : List ℕ → Target → Type 0
+IsTarget text t =
+    MatchBool (is_report text) ((r : Parts) × Spells text r × (t ≡ target.Report r))
+    ((u : List Move) × (schedule_of text ≡ Ok u) × (t ≡ target.Schedule u))
 
--- by an explanation, or as a picture in these words
-abbrev pub IsPresentedAs : Presentation → Wording → List (List SerialOp) → Declarations → Matrix
-    → List Move → List Event → Answer → Type 0
-IsPresentedAs Words how = IsExplainedBy
-IsPresentedAs Picture how = IsPicturedBy how
-
-abbrev pub IsPresentedBy : Presenting → List (List SerialOp) → Declarations → Matrix → List Move
-    → List Event → Answer → Type 0
-IsPresentedBy shown = IsPresentedAs shown.by shown.how
-
--- a finding that is no failure explains nothing
-abbrev pub ToFinding : (List Move → Answer → Type 0) → Finding → Answer → Type 0
-ToFinding IsAnswer (SerialCut u) answer =
-    answer ≡ unexplained (codes "serial-cut") (schedule_text u)
-ToFinding IsAnswer (Nondeterministic u before earlier) answer =
-    answer ≡ unexplained (codes "nondeterministic") (schedule_text u)
-ToFinding IsAnswer (Fail u why) answer = IsAnswer u answer
-ToFinding IsAnswer (Pass counts) answer = answer ≡ unexplained (codes "pass") []
-
--- a schedule that has not ended explains nothing
-abbrev pub ToEnded : Status → (Answer → Type 0) → Answer → Type 0
-ToEnded Running IsAnswer answer = answer ≡ unexplained (codes "running") []
-ToEnded Complete IsAnswer answer = IsAnswer answer
-ToEnded Stuck IsAnswer answer = IsAnswer answer
-
--- a schedule, explained by these serial histories, or where it is infeasible
-abbrev pub IsExplainedSchedule : Presenting → List (List SerialOp) → Declarations → Matrix
-    → List Move → Answer → Type 0
-IsExplainedSchedule by members c m u answer =
-    ((h : List Event) × (status : Status) × PlaysToStatus c m u h status
-    × ToEnded status (IsPresentedBy by members c m u h) answer)
-    ⊎ ((i : ℕ) × IsInfeasibleAt c m u i × (answer ≡ infeasible i))
-
--- a schedule, or that of a report
-abbrev pub IsExplained : Presenting → List (List SerialOp) → Declarations → Matrix → Target
-    → Answer → Type 0
-IsExplained by members c m (target.Schedule u) = IsExplainedSchedule by members c m u
-IsExplained by members c m (target.Report r) =
-    ToFinding (IsExplainedSchedule by members c m) r.finding
-
--- what a check finds, with any bound of schedules, where a serial run offends
-abbrev pub IsOffenceOf : Declarations → Matrix → ℕ → Finding → Type 0
-IsOffenceOf c m serial f =
-    IsOfOffence f × ((bound : ℕ) → FromEachStart c m (λ s. IsFinding s bound serial f))
-
--- by the serial histories, where no serial run offends; else that one does
-abbrev pub BySerialRuns : Declarations → Matrix → ℕ → (List (List SerialOp) → Answer → Type 0)
-    → Answer → Type 0
-BySerialRuns c m serial IsAnswer answer =
-    ((s : State) × (members : List (List SerialOp)) × IsStart c m s × IsSetOf s serial members
-    × IsAnswer members answer)
-    ⊎ ((f : Finding) × IsOffenceOf c m serial f × ToFinding (λ v a. ⊥) f answer)
-
-abbrev pub IsExplainedSerially : Presenting → Limits → Declarations → Matrix → Target → Answer
-    → Type 0
-IsExplainedSerially by limits c m explained =
-    BySerialRuns c m limits.serial (λ members. IsExplained by members c m explained)
-
--- so it is of the result, where there is one
-abbrev pub ExplainsSerially : {E : Type 0} → Presenting → Limits → Declarations → Matrix → Target
-    → Result Answer E → Type 0
-ExplainsSerially by limits c m explained result =
-    IfOk result (IsExplainedSerially by limits c m explained)
+-- why it is refused
+abbrev pub IsTargetRefusal : List ℕ → Refusal → Type 0
+IsTargetRefusal text refused =
+    MatchBool (is_report text)
+    ((fault : Fault ReportFaultKind) × IsFault text fault × (refused ≡ refusal.Report fault))
+    ((fault : ScheduleFault) × IsScheduleUnlessMemory fault (schedule_of text)
+    × (refused ≡ refusal.Schedule fault))
 
 -- the bound of serial runs that the report has, else the one that is asked for
 abbrev pub serial_of : Limits → Option ℕ → Limits
@@ -133,48 +65,42 @@ abbrev pub limits_for : Limits → Target → Limits
 limits_for limits (target.Schedule u) = limits
 limits_for limits (target.Report r) = serial_of limits r.serial
 
--- ---- by the serial histories of a tree, which `members` gives
+-- ---- by the serial runs
 
--- the schedule leads to what is shown
-abbrev pub IsPlayed : Declarations → Matrix → ShownSchedule → Type 0
-IsPlayed c m run = PlaysToStatus c m run.schedule.now run.shown.now.history run.shown.now.status
+-- the schedule or the report is read, and explained by the serial runs: a report by its own bound
+abbrev pub IsExplainedText : Presenting → Limits → Declarations → Matrix → List ℕ → Answer
+    → Type 0
+IsExplainedText by limits c m text =
+    ToTarget text (λ t. IsExplainedSerially by (limits_for limits t) c m t)
 
--- the answer, where there is one, explains the history of an ended schedule
-abbrev pub ExplainsRun : {T E : Type 0} → (T → List (List SerialOp)) → T → Declarations → Matrix
-    → ShownSchedule → Result Answer E → Type 0
-ExplainsRun members tree c m run result =
-    IfOk result (IsExplainedBy (members tree) c m run.schedule.now run.shown.now.history)
+-- the results are so
+abbrev pub ExplainsText : Presenting → Limits → Declarations → Matrix → List ℕ
+    → Result Answer Refusal → Type 0
+ExplainsText by limits c m text = Answered (IsExplainedText by limits c m text)
 
--- it is a picture of it in these words
-abbrev pub PicturesRun : {T E : Type 0} → Wording → (T → List (List SerialOp)) → T → Declarations
-    → Matrix → ShownSchedule → Result Answer E → Type 0
-PicturesRun how members tree c m run result =
-    IfOk result (IsPicturedBy how (members tree) c m run.schedule.now run.shown.now.history)
+abbrev pub IsExplainBehind : Presentation → Limits → List (List ℕ) → Answer → Type 0
+IsExplainBehind by limits parts =
+    ToParts (shown_parts parts)
+    (λ p. ToTold p.0 p.1 (λ how c m. IsExplainedText (in_words by how) limits c m p.2))
 
--- it presents it so
-abbrev pub Presents : {T E : Type 0} → Presenting → (T → List (List SerialOp)) → T → Declarations
-    → Matrix → ShownSchedule → Result Answer E → Type 0
-Presents by members tree c m run result =
-    IfOk result (IsPresentedBy by (members tree) c m run.schedule.now run.shown.now.history)
+abbrev pub view_of : Presentation → View
+view_of Words = view.Explanation
+view_of Picture = view.ExplainedPicture
 
--- it explains a schedule
-abbrev pub ExplainsSchedule : {T E : Type 0} → Presenting → (T → List (List SerialOp)) → T
-    → Declarations → Matrix → List Move → Result Answer E → Type 0
-ExplainsSchedule by members tree c m u result =
-    IfOk result (IsExplainedSchedule by (members tree) c m u)
+abbrev pub IsAnswerToExplain : Presentation → Limits → List (List ℕ) → Answer → Type 0
+IsAnswerToExplain by limits = AloneOr (view_of by) (IsExplainBehind by limits)
 
--- the schedule of a finding
-abbrev pub ExplainsFinding : {T E : Type 0} → Presenting → (T → List (List SerialOp)) → T
-    → Declarations → Matrix → Finding → Result Answer E → Type 0
-ExplainsFinding by members tree c m f result =
-    IfOk result (ToFinding (IsExplainedSchedule by (members tree) c m) f)
+-- ---- by a specification
 
--- a schedule, or that of a report
-abbrev pub ExplainsTarget : {T E : Type 0} → Presenting → (T → List (List SerialOp)) → T
-    → Declarations → Matrix → Target → Result Answer E → Type 0
-ExplainsTarget by members tree c m explained result =
-    IfOk result (IsExplained by (members tree) c m explained)
+-- the schedule or the report is read first, and then the specification
+abbrev pub IsExplainedAgainstText : Wording → Declarations → Matrix → List ℕ → List ℕ → Answer → Type 0
+IsExplainedAgainstText how c m text spec =
+    ToTarget text (λ t. ToGiven m spec (λ members. IsExplainedTarget (in_words Words how) members c m t))
 
--- the text begins as a report does
-abbrev pub is_report : List ℕ → Bool
-is_report text = starts_with nat_eq text (codes "lineup")
+abbrev pub ExplainsAgainst : Wording → Declarations → Matrix → List ℕ → List ℕ
+    → Result Answer Refusal → Type 0
+ExplainsAgainst how c m text spec = Answered (IsExplainedAgainstText how c m text spec)
+
+abbrev pub IsAnswerToExplainAgainst : List (List ℕ) → Answer → Type 0
+IsAnswerToExplainAgainst parts =
+    ToParts (exactly_four parts) (λ p. ToTold p.0 p.1 (λ how c m. IsExplainedAgainstText how c m p.2 p.3))

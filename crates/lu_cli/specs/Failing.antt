@@ -1,67 +1,34 @@
 -- What `explain`, `trace` and `draw` show of a component and a matrix alone: what fails, by their
 -- certificate.
-use Rattle.std.specs.Prelude.{◌≡◌, ℕ, List, [], ◌∷◌, ◌++◌, Bool, ◌||◌, Option, Some, None, MatchOption, Result, IfOk, String, string_bytes, codes, if◌then◌else◌}
-use denote.Ref.{Bor}
-use Rattle.std.specs.Option.{option_map}
-use Rattle.std.specs.Str.{bytes_eq}
+use Rattle.std.specs.Prelude.{ℕ, List, ◌++◌, codes, ◌≡◌, Result, IfOk, String, string_bytes, MatchOption}
+use Rattle.lu_text.specs.Words.{exactly_two}
 use Rattle.lu_component.specs.Component.{Declarations}
 use Rattle.lu_test.specs.declared.schedule.Move.{Move}
 use Rattle.lu_test.specs.Matrix.{Matrix}
 use Rattle.lu_machine.specs.Starts.{CanRun}
 use Rattle.lu_report.specs.declared.report.Finding.{Finding}
-use Rattle.lu_report.specs.Limits.{most_moves}
 use Rattle.lu_report.specs.Parts.{Parts, shown_schedule}
-use Rattle.lu_certify.specs.declared.certificate.Certificate.{Certificate}
-use Rattle.lu_certify.specs.declared.certificate.Certificate.TheVariants.{Linearizable, NotLinearizable, Livelock, Undecided}
 use Rattle.lu_graph.specs.Nodes.{default_nodes}
+use Rattle.lu_certify.specs.declared.certificate.Certificate.{Certificate}
+use Rattle.lu_trace.specs.declared.wording.Wording.{Wording}
+use Rattle.lu_report.specs.Limits.{most_moves}
+use Rattle.lu_certify.specs.declared.certificate.Certificate.TheVariants.{Linearizable, NotLinearizable, Livelock, Undecided}
 use Rattle.lu_certify.specs.declared.limits.Limits.{Limits}
 use Rattle.lu_certify.specs.Certificates.{IsCertificate}
-use Rattle.lu_trace.specs.declared.wording.Wording.{Wording}
-use Rattle.lu_cli.specs.declared.explaining.Presentation.{Presentation}
-use Rattle.lu_cli.specs.declared.explaining.Presenting.{Presenting}
-use Rattle.lu_cli.specs.declared.explaining.Presentation.TheVariants.{Words, Picture as Marked}
 use Rattle.lu_cli.specs.declared.failing.View.{View}
+use Rattle.lu_cli.specs.declared.failing.View.TheVariants as view
+use Rattle.lu_cli.specs.declared.failing.View.TheVariants.{Trace, TraceFromSetup, Picture, Explanation, ExplainedPicture}
 use Rattle.lu_cli.specs.declared.failing.RunView.{RunView}
 use Rattle.lu_cli.specs.declared.failing.RunView.TheVariants as run
-use Rattle.lu_cli.specs.declared.failing.View.TheVariants.{Explanation, Trace, TraceFromSetup, Picture, ExplainedPicture}
-use Rattle.lu_cli.specs.Explaining.{BySerialRuns, IsExplainedSchedule, ToFinding}
+use Rattle.lu_cli.specs.Shows.{two_texts, ShowsCertificate, with_schedule}
 use Rattle.lu_cli.specs.Outcomes.{Answer}
-use Rattle.lu_cli.specs.Shows.{IsDrawn, IsTraced, IsTracedFromSetup, ShowsCertificate, two_texts, with_schedule}
-
--- ---- the parts of a bundle
-
--- the line before a matrix and what shows something on it: that of a certificate, or of a campaign
--- that compares
-abbrev pub is_verdict : List ℕ → Bool
-is_verdict text =
-    bytes_eq text (codes "not linearizable\n")
-    || (bytes_eq text (codes "livelock\n")
-    || (bytes_eq text (codes "undecided\n")
-    || (bytes_eq text (codes "differs serially\n")
-    || bytes_eq text (codes "differs concurrently\n"))))
-
--- these three, where the part before them is such a line
-abbrev pub behind_verdict : List ℕ → List ℕ × List ℕ × List ℕ → Option (List ℕ × List ℕ × List ℕ)
-behind_verdict verdict parts = if is_verdict verdict then Some parts else None
-
--- A component, a matrix, and a schedule or a report. Matrix and report may stand as a certificate
--- has them, behind its verdict, and that behind the matrix of which it is.
-abbrev pub shown_parts : List (List ℕ) → Option (List ℕ × List ℕ × List ℕ)
-shown_parts [] = None
-shown_parts (c ∷ []) = None
-shown_parts (c ∷ m ∷ []) = None
-shown_parts (c ∷ m ∷ r ∷ []) = Some (c, m, r)
-shown_parts (c ∷ verdict ∷ m ∷ r ∷ []) = behind_verdict verdict (c, m, r)
-shown_parts (c ∷ whole ∷ verdict ∷ m ∷ r ∷ []) = behind_verdict verdict (c, m, r)
-shown_parts (a ∷ b ∷ c ∷ d ∷ e ∷ f ∷ parts) = None
-
--- so it is of what is lent
-abbrev pub AreShownParts : List (List ℕ)
-    → Option (Bor (List ℕ) × Bor (List ℕ) × Bor (List ℕ)) → Type 0
-AreShownParts parts lent =
-    option_map (λ p. (p.0.now, p.1.now, p.2.now)) lent ≡ shown_parts parts
-
--- ---- what fails
+use Rattle.lu_cli.specs.Drawing.{IsDrawn}
+use Rattle.lu_cli.specs.Explanation.{BySerialRuns, IsExplainedSchedule, ToFinding}
+use Rattle.lu_cli.specs.Reading.{ToTold}
+use Rattle.lu_cli.specs.Trace.{IsTraced, IsTracedFromSetup}
+use Rattle.lu_cli.specs.declared.explanation.Presentation.{Presentation}
+use Rattle.lu_cli.specs.declared.explanation.Presentation.TheVariants.{Words, Picture as Marked}
+use Rattle.lu_cli.specs.declared.explanation.Presenting.{Presenting}
 
 -- a text, with that of an answer below it
 abbrev pub below : List ℕ → Answer → List ℕ
@@ -151,3 +118,9 @@ abbrev pub IsShownAlone : View → Wording → Declarations → Matrix → Answe
 IsShownAlone view how c m answer =
     (certificate : Certificate) × IsCertificate c m widest certificate
     × ShowsByView view how c certificate answer
+
+-- of a component and a matrix alone what fails is shown so; of more parts what stands behind them
+abbrev pub AloneOr : View → (List (List ℕ) → Answer → Type 0) → List (List ℕ) → Answer → Type 0
+AloneOr view IsShown parts answer =
+    MatchOption (exactly_two parts) (IsShown parts answer)
+    (λ p. ToTold p.0 p.1 (IsShownAlone view) answer)

@@ -1,23 +1,27 @@
 -- What `judge` answers.
-use Rattle.std.specs.Prelude.{◌≡◌, ◌⊎◌, ℕ, ◌++◌, List, ◌∷◌, length, Option, Some, None, Result, IfOk, codes, slice_get}
+use Rattle.std.specs.Prelude.{ℕ, ◌++◌, codes, List, ◌≡◌, length, Option, Some, None, slice_get, ◌∷◌, ◌⊎◌, Result, IfOk}
 use Rattle.std.specs.Fmt.{decimal}
+use Rattle.lu_text.specs.Words.{Word}
+use Rattle.lu_component.specs.Component.{Declarations}
+use Rattle.lu_test.specs.Matrix.{Matrix}
+use Rattle.lu_machine.specs.States.{State}
+use Rattle.lu_machine.specs.Starts.{IsStart}
+use Rattle.lu_history.specs.declared.serial.SerialOp.{SerialOp}
+use Rattle.lu_serial.specs.Offences.{NoOffence}
+use Rattle.lu_witness.specs.Witnesses.{IsMember}
+use Rattle.lu_spec.specs.Beginnings.{IsClosureOf}
+use Rattle.lu_recorded.specs.declared.recorded.Recorded.{Recorded}
+use Rattle.lu_report.specs.Limits.{Limits}
 use denote.Ref.{Bor}
 use Rattle.std.specs.Option.{option_map}
 use Rattle.lu_text.specs.Lines.{texts}
-use Rattle.lu_text.specs.Words.{Word}
-use Rattle.lu_text.specs.declared.fault.Fault.TheVariants.{At}
-use Rattle.lu_component.specs.Component.{Declarations}
-use Rattle.lu_test.specs.Matrix.{Matrix}
-use Rattle.lu_history.specs.declared.serial.SerialOp.{SerialOp}
-use Rattle.lu_witness.specs.Witnesses.{IsMember}
-use Rattle.lu_recorded.specs.declared.recorded.Recorded.{Recorded}
-use Rattle.lu_recorded.specs.declared.fault.RecordedFaultKind.{RecordedFaultKind}
-use Rattle.lu_recorded.specs.Bundled.{AreRead, IsFirstRefused}
-use Rattle.lu_recorded.specs.Codes.{recorded_code_of}
 use Rattle.lu_recorded.specs.Judged.{TellsUnwitnessed}
 use Rattle.lu_recorded.specs.Reasons.{IsReason, recorded_text}
+use Rattle.lu_cli.specs.declared.refusal.Refusal.{Refusal}
+use Rattle.lu_cli.specs.Refusals.{Answered}
 use Rattle.lu_cli.specs.Outcomes.{Answer}
-use Rattle.lu_cli.specs.Refusals.{refused_in_history}
+use Rattle.lu_cli.specs.Reading.{ToRecorded, ToParts, ToTexts, ToGiven}
+use Rattle.lu_cli.specs.Serial.{AreSerial, IsOffenceReported}
 
 -- so many histories have their witnesses
 abbrev pub all_witnessed : ℕ → Answer
@@ -46,20 +50,13 @@ Tells members c m all (Some n) answer =
     × IsShown members c m n recorded answer
 
 -- the recorded histories, judged by these serial histories
-abbrev pub IsJudgedBy : List (List SerialOp) → Declarations → Matrix → List Recorded → Answer
+abbrev pub IsJudgedByMembers : List (List SerialOp) → Declarations → Matrix → List Recorded → Answer
     → Type 0
-IsJudgedBy members c m all answer =
+IsJudgedByMembers members c m all answer =
     (found : Option ℕ) × TellsUnwitnessed (IsMember members) all found
     × Tells members c m all found answer
 
--- the answer to texts of recorded histories: the fault of the first that has one, or what is
--- answered to all
-abbrev pub ToRecorded : Matrix → List (List ℕ) → (List Recorded → Answer → Type 0) → Answer → Type 0
-ToRecorded m texts IsAnswer answer =
-    ((all : List Recorded) × AreRead m texts all × IsAnswer all answer)
-    ⊎ ((i : ℕ) × (kind : RecordedFaultKind) × (n : ℕ)
-    × IsFirstRefused m texts (record { number = i; fault = At kind n })
-    × (answer ≡ refused_in_history (recorded_code_of kind) i n))
+-- ---- the parts of a bundle
 
 -- the first two parts, and those behind them, where there are some
 abbrev pub three_parts : List Word → Option (Word × Word × List Word)
@@ -80,6 +77,36 @@ abbrev pub seen_as_four : Option (Bor Word × Bor Word × Bor Word × Bor (List 
     → Option (Word × Word × Word × List Word)
 seen_as_four parts = option_map (λ p. (p.0.now, p.1.now, p.2.now, texts p.3.now)) parts
 
+-- ---- by the serial runs
+
+-- where there is no serial offence, judged by all beginnings of the serial histories; else the
+-- report of the least offence
+abbrev pub IsJudgedSerially : Declarations → Matrix → Limits → List Recorded → Answer → Type 0
+IsJudgedSerially c m limits all answer =
+    ((s : State) × (histories : List (List SerialOp)) × (members : List (List SerialOp))
+    × IsStart c m s × NoOffence s limits.serial × AreSerial s histories
+    × IsClosureOf histories members × IsJudgedByMembers members c m all answer)
+    ⊎ IsOffenceReported c m limits answer
+
+-- the recorded histories are read, and then judged by the serial runs
+abbrev pub IsJudgedTexts : Declarations → Matrix → Limits → List (List ℕ) → Answer → Type 0
+IsJudgedTexts c matrix limits texts = ToRecorded matrix texts (IsJudgedSerially c matrix limits)
+
+abbrev pub IsAnswerToJudge : Limits → List (List ℕ) → Answer → Type 0
+IsAnswerToJudge limits parts =
+    ToParts (three_parts parts) (λ p. ToTexts p.0 p.1 (λ c m. IsJudgedTexts c m limits p.2))
+
+-- ---- by a specification
+
+-- the specification is read first, and then the recorded histories, which are judged by it
+abbrev pub IsJudgedAgainstTexts : Declarations → Matrix → List ℕ → List (List ℕ) → Answer → Type 0
+IsJudgedAgainstTexts c matrix spec texts =
+    ToGiven matrix spec (λ members. ToRecorded matrix texts (IsJudgedByMembers members c matrix))
+
+abbrev pub IsAnswerToJudgeAgainst : List (List ℕ) → Answer → Type 0
+IsAnswerToJudgeAgainst parts =
+    ToParts (four_parts parts) (λ p. ToTexts p.0 p.1 (λ c m. IsJudgedAgainstTexts c m p.2 p.3))
+
 -- ---- in memory, unless it ran out
 
 abbrev pub ShowsFirst : {E : Type 0} → List (List SerialOp) → Declarations → Matrix → ℕ → Recorded
@@ -88,4 +115,14 @@ ShowsFirst members c m n recorded result = IfOk result (IsShown members c m n re
 
 abbrev pub JudgesBy : {E : Type 0} → List (List SerialOp) → Declarations → Matrix → List Recorded
     → Result Answer E → Type 0
-JudgesBy members c m all result = IfOk result (IsJudgedBy members c m all)
+JudgesBy members c m all result = IfOk result (IsJudgedByMembers members c m all)
+
+-- that is answered, or a refusal that is
+abbrev pub JudgesTexts : Declarations → Matrix → Limits → List (List ℕ) → Result Answer Refusal
+    → Type 0
+JudgesTexts c matrix limits texts result = Answered (IsJudgedTexts c matrix limits texts) result
+
+abbrev pub JudgesTextsAgainst : Declarations → Matrix → List ℕ → List (List ℕ)
+    → Result Answer Refusal → Type 0
+JudgesTextsAgainst c matrix spec texts result =
+    Answered (IsJudgedAgainstTexts c matrix spec texts) result

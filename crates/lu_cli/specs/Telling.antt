@@ -1,21 +1,24 @@
 -- What is told of a component or of a source, and in which words.
 use Rattle.std.specs.Prelude.{◌≡◌, ◌⊎◌, ℕ, Bool, true, false, List, MatchBool, Ok}
+use Rattle.lu_text.specs.declared.fault.Fault.{Fault}
+use Rattle.lu_text.specs.Faults.{IsUnlessMemory}
 use Rattle.lu_text.specs.Lines.{lines_of, texts}
 use Rattle.lu_component.specs.Component.{Declarations}
 use Rattle.lu_lang.specs.Labels.{labels_of}
+use Rattle.lu_source_text.specs.declared.fault.SourceFaultKind.{SourceFaultKind}
 use Rattle.lu_source_text.specs.Begins.{is_source}
 use Rattle.lu_source_text.specs.Origins.{AreOrigins}
 use Rattle.lu_source_text.specs.Readers.{component_meant}
 use Rattle.lu_trace.specs.declared.wording.Wording.{Wording}
 use Rattle.lu_trace.specs.declared.wording.Wording.TheVariants.{Component, Labelled, Source}
 use Rattle.lu_cli.specs.declared.refusal.Refusal.{Refusal}
+use Rattle.lu_cli.specs.declared.refusal.Refusal.TheVariants as refusal
 use Rattle.lu_cli.specs.declared.refusal.Refusal.TheVariants.{Memory, Texts}
 use Rattle.lu_cli.specs.declared.texts.Fault.{Fault as TextsFault}
 use Rattle.lu_cli.specs.declared.told.SourceWords.{SourceWords}
 use Rattle.lu_cli.specs.declared.told.Words.{Words}
 use Rattle.lu_cli.specs.declared.told.Words.TheVariants as told_by
 use Rattle.lu_cli.specs.declared.told.Told.{Told}
-use Rattle.lu_cli.specs.Compiling.{IsSourceRefusal}
 use Rattle.lu_cli.specs.Texts.{AreSettled, IsFaultOfMatrix, IsFaultOfTexts, IsSettledMatrix}
 
 -- A component is told in its own words, with the labels of its text, and one that was compiled from
@@ -28,6 +31,12 @@ IsWordingOf text (Source lines origins) =
     × AreOrigins (lines_of text) origins.now
 
 -- ---- in memory
+
+-- why a source is refused
+abbrev pub IsSourceRefusal : List ℕ → Refusal → Type 0
+IsSourceRefusal text refused =
+    (fault : Fault SourceFaultKind) × IsUnlessMemory fault (component_meant text)
+    × (refused ≡ refusal.Source fault)
 
 -- the source's lines, and where the instructions come from
 abbrev pub AreWordsOf : List ℕ → SourceWords → Type 0

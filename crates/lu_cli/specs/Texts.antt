@@ -46,8 +46,8 @@ IsReportOfTexts component matrix choice r =
     × IsReport c m choice.bound choice.serial r
 
 -- its text
-abbrev pub IsReportOf : {Z : Type 0} → List ℕ → List ℕ → Choice → String Z → Type 0
-IsReportOf component matrix choice text =
+abbrev pub IsReportText : {Z : Type 0} → List ℕ → List ℕ → Choice → String Z → Type 0
+IsReportText component matrix choice text =
     (r : Parts) × IsReportOfTexts component matrix choice r × (string_bytes text ≡ report_text r)
 
 -- the fault of the first text that has one; or the number of the first call of the setup that does
@@ -78,48 +78,46 @@ IsCheckFault component matrix choice (Check fault) =
 -- ---- against a specification
 
 -- the text lists histories of the matrix, and r is the one report against their set
-abbrev pub IsReportRead : Declarations → AMatrix → List ℕ → Choice → Parts → Type 0
-IsReportRead c m spec choice r =
+abbrev pub IsReportAgainstText : Declarations → AMatrix → List ℕ → Choice → Parts → Type 0
+IsReportAgainstText c m spec choice r =
     (members : List (List SerialOp)) × IsGivenAs m spec members
     × IsReportAgainst (IsMember members) c m choice.bound r
 
 -- the fault of the specification's text; of the check, want of memory, or a thread that could not
 -- start
-abbrev pub IsFaultAgainst : Declarations → AMatrix → List ℕ → Choice → TextsFault → Type 0
-IsFaultAgainst c m spec choice (Component fault) = ⊥
-IsFaultAgainst c m spec choice (Matrix fault) = ⊥
-IsFaultAgainst c m spec choice (Setup k) = ⊥
-IsFaultAgainst c m spec choice (Spec fault) = IsGivenFault m spec fault
-IsFaultAgainst c m spec choice (Check fault) =
+abbrev pub IsFaultOfSpec : Declarations → AMatrix → List ℕ → Choice → TextsFault → Type 0
+IsFaultOfSpec c m spec choice (Component fault) = ⊥
+IsFaultOfSpec c m spec choice (Matrix fault) = ⊥
+IsFaultOfSpec c m spec choice (Setup k) = ⊥
+IsFaultOfSpec c m spec choice (Spec fault) = IsGivenFault m spec fault
+IsFaultOfSpec c m spec choice (Check fault) =
     (members : List (List SerialOp)) × IsGivenAs m spec members
     × (choice.workers ≡ 1 → fault ≡ Memory)
 
 -- the text of the one report of the component and the matrix of two texts against the specification
 -- of a third
-abbrev pub IsReportReadOf : List ℕ → List ℕ → List ℕ → Choice → List ℕ → Type 0
-IsReportReadOf component matrix spec choice text =
+abbrev pub IsReportTextAgainst : {Z : Type 0} → List ℕ → List ℕ → List ℕ → Choice → String Z
+    → Type 0
+IsReportTextAgainst component matrix spec choice text =
     (c : Declarations) × (m : AMatrix) × AreSettled component matrix c m
-    × ((r : Parts) × IsReportRead c m spec choice r × (text ≡ report_text r))
-
-abbrev pub IsReportIn : {Z : Type 0} → List ℕ → List ℕ → List ℕ → Choice → String Z → Type 0
-IsReportIn component matrix spec choice text =
-    IsReportReadOf component matrix spec choice (string_bytes text)
+    × ((r : Parts) × IsReportAgainstText c m spec choice r
+    × (string_bytes text ≡ report_text r))
 
 -- where the first two texts are those of a component and a matrix whose setup settles, this is the
 -- fault
 abbrev pub IsFaultOnceSettled : List ℕ → List ℕ → List ℕ → Choice → TextsFault → Type 0
 IsFaultOnceSettled component matrix spec choice fault =
     (c : Declarations) × (m : AMatrix) × AreSettled component matrix c m
-    × IsFaultAgainst c m spec choice fault
+    × IsFaultOfSpec c m spec choice fault
 
 -- the fault of the first text that has one, or of the setup; or that of the check
-abbrev pub IsFaultIn : List ℕ → List ℕ → List ℕ → Choice → TextsFault → Type 0
-IsFaultIn component matrix spec choice (Component fault) =
+abbrev pub IsCheckAgainstFault : List ℕ → List ℕ → List ℕ → Choice → TextsFault → Type 0
+IsCheckAgainstFault component matrix spec choice (Component fault) =
     IsFaultOfTexts component matrix (Component fault)
-IsFaultIn component matrix spec choice (Matrix fault) =
+IsCheckAgainstFault component matrix spec choice (Matrix fault) =
     IsFaultOfTexts component matrix (Matrix fault)
-IsFaultIn component matrix spec choice (Setup k) = IsFaultOfTexts component matrix (Setup k)
-IsFaultIn component matrix spec choice (Spec fault) =
+IsCheckAgainstFault component matrix spec choice (Setup k) = IsFaultOfTexts component matrix (Setup k)
+IsCheckAgainstFault component matrix spec choice (Spec fault) =
     IsFaultOnceSettled component matrix spec choice (Spec fault)
-IsFaultIn component matrix spec choice (Check fault) =
+IsCheckAgainstFault component matrix spec choice (Check fault) =
     IsFaultOnceSettled component matrix spec choice (Check fault)

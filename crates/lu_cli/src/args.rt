@@ -2,13 +2,12 @@
 
 ghost use Rattle.std.specs.Prelude.{◌≡◌, false, IfOk, IsErrOf, Some, None};
 ghost use Rattle.clap.specs.Words.{found_of, rows_of, rule_of, subcommand_rows_of};
-ghost use Rattle.lu_cli.specs.declared.order.ArgsFault.TheVariants.{Refused};
+ghost use Rattle.lu_cli.specs.declared.request.ArgsFault.TheVariants.{Refused};
 ghost use Rattle.lu_cli.specs.Args as spec;
-ghost use Rattle.lu_cli.specs.Args.{AddsCommand, AddsOption, IsApp, IsCommandOf, IsProgramOf, lineup, request_said};
-ghost use Rattle.lu_cli.specs.Orders.{choice_of};
+ghost use Rattle.lu_cli.specs.Args.{AddsCommand, AddsOption, IsApp, IsCommandOf, IsProgramOf, choice_of, lineup, request_said};
 ghost use Rattle.lu_cli.specs.Table.{option_said};
 
-use crate::order::{
+use crate::request::{
     ArgsFault, BundleCommand, CampaignOptions, CampaignPart, CampaignThreads, CampaignTrial,
     CertifyOptions, Request, Showing,
 };
@@ -433,9 +432,9 @@ fn explain_in(given: &ArgMatches<'_>) -> Option<BundleCommand>
     Some(explain_order(bounds, flag_in(given, "spec")))
 }
 
-/// The order of a command's name and of what is given to the command.
-fn order_by(name: &str, given: &ArgMatches<'_>) -> Option<BundleCommand>
-    ensures { result ≡ spec.order_by name.now (rows_of (found_of given.now)) }
+/// The request of a command's name and of what is given to the command.
+fn command_by(name: &str, given: &ArgMatches<'_>) -> Option<BundleCommand>
+    ensures { result ≡ spec.command_by name.now (rows_of (found_of given.now)) }
 {
     match name {
         "replay" => Some(BundleCommand::Replay),
@@ -471,7 +470,7 @@ fn request_by(name: &str, given: &ArgMatches<'_>) -> Option<Request>
     match name {
         "help" => Some(Request::Help),
         "lint" => lint_in(given),
-        _ => order_by(name, given).map(Request::Ordered),
+        _ => command_by(name, given).map(Request::Bundle),
     }
 }
 

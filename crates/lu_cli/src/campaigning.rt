@@ -1,42 +1,155 @@
 //! What is answered to campaigns.
 
-ghost use Rattle.std.specs.Prelude.{◌≡◌, Ok, IfErr, IfOk};
-ghost use Rattle.lu_text.specs.Faults.{meaning_of};
-ghost use Rattle.lu_lang.specs.Grammar.{component_grammar};
+ghost use Rattle.std.specs.Prelude.{◌≡◌, IfOk, IfSome, OnOk, string_bytes};
 ghost use Rattle.lu_text.specs.Lines.{texts};
-ghost use Rattle.lu_test.specs.Matrix.{IsSetup};
+ghost use Rattle.lu_text.specs.Writing.{Writes};
+ghost use Rattle.lu_test.specs.Matrix.{IsOf, IsSetup};
 ghost use Rattle.lu_machine.specs.Starts.{AllEnd, CanRun};
 ghost use Rattle.lu_refine.specs.Campaigns.{AreCallsOf, HaveArguments, IsFoundOf};
 ghost use Rattle.lu_refine.specs.Roles.{AllCallsOf, AllHaveArguments};
 ghost use Rattle.lu_refine.specs.ByThread.{CanAsk, asked_of};
-ghost use Rattle.lu_cli.specs.declared.order.CampaignThreads.TheVariants.{Own};
+ghost use Rattle.lu_certify.specs.Certificates.{NamesCutOf};
 ghost use Rattle.lu_survey.specs.Certified.{IsCertifiedOf};
-ghost use Rattle.lu_survey.specs.Comparing.{CanCompare, HasSameOperations};
+ghost use Rattle.lu_survey.specs.Surveys.{AreShownOf, IsShownOf};
 ghost use Rattle.lu_cli.specs.Refusals.{Answered};
-ghost use Rattle.lu_cli.specs.Replies as spec;
-ghost use Rattle.lu_cli.specs.Replies.{ComparesAlike, ComparesLists, ComparesNumbers, ComparesSettled, ComparesWith, IsTriedAll, IsTriedPart, IsTriedSame, IsTrustedRefusal};
+ghost use Rattle.lu_cli.specs.Campaigning as spec;
+ghost use Rattle.lu_cli.specs.Campaigning.{IsTriedAll, IsTriedPart, IsTriedSame, PushesFirst, ShowsBelow, tally_line};
+ghost use Rattle.lu_cli.specs.declared.request.CampaignThreads.TheVariants.{Own};
 
-use crate::answer::{
-    Answer, show_certified, show_comparison, show_count, show_linearizable, show_matrix,
-    show_number, show_survey,
-};
-use crate::order::{CampaignOptions, CampaignPart, CampaignThreads, CampaignTrial};
+use crate::answer::{Answer, show_certificate, show_matrix};
 use crate::refusal::Refusal;
-use crate::texts::{Fault, read_texts};
-use lu_certify::DEFAULT_NODES;
+use crate::request::{CampaignOptions, CampaignPart, CampaignThreads, CampaignTrial};
+use crate::texts::read_texts;
+use lu_certify::{Certificate, DEFAULT_NODES};
 use lu_component::Component;
-use lu_lang::read_component;
-use lu_machine::settles;
 use lu_refine::{
     Campaign, CampaignFault, Roles, campaign, campaign_by_thread, campaign_slice, count_matrices,
     same_lists,
 };
-use lu_survey::{
-    CertifiedCampaign, certify_slice, compare_slice, have_same_operations, survey_slice,
-};
-use lu_test::{Call, Calls, Matrix};
-use lu_text::{exactly_three, exactly_two};
+use lu_survey::{CertifiedCampaign, CertifiedMatrix, Survey, certify_slice, survey_slice};
+use lu_test::{Call, Calls, Matrix, write_matrix};
+use lu_text::exactly_two;
 use std::alloc::{AllocError, Global};
+
+/// A number, on a line of its own.
+fn show_number(alloc: Global, number: u64) -> Result<Answer, AllocError>
+    ensures { IfOk result (λ answer. answer ≡ spec.numbered number) }
+{
+    Ok(Answer {
+        text: format!(in alloc; "{number}\n")?,
+        status: 0,
+    })
+}
+
+/// That all matrices of a campaign pass, and how many there are.
+fn show_count(alloc: Global, count: u64) -> Result<Answer, AllocError>
+    ensures { IfOk result (λ answer. answer ≡ spec.all_pass count) }
+{
+    Ok(Answer {
+        text: format!(in alloc; "campaign pass {count}\n")?,
+        status: 0,
+    })
+}
+
+/// That on all matrices of a campaign the component is linearizable, and how many there are.
+fn show_linearizable(alloc: Global, count: u64) -> Result<Answer, AllocError>
+    ensures { IfOk result (λ answer. answer ≡ spec.all_linearizable count) }
+{
+    Ok(Answer {
+        text: format!(in alloc; "campaign linearizable {count}\n")?,
+        status: 0,
+    })
+}
+
+/// The text of a matrix, and what its certificate says.
+fn show_certified(
+    alloc: Global,
+    component: &Component,
+    matrix: &Matrix,
+    certificate: &Certificate,
+) -> Result<Answer, AllocError>
+    requires matrix { IsOf matrix.now component.now }
+    requires cut { NamesCutOf component.now certificate.now }
+    ensures { ShowsBelow component.now matrix.now certificate.now result }
+{
+    let shown = show_certificate(alloc, component, certificate)?;
+    let mut text = write_matrix(alloc, component, matrix)?;
+    text.push_str("---\n")?;
+    text.push_str(shown.text.as_str())?;
+    Ok(Answer {
+        text,
+        status: shown.status,
+    })
+}
+
+/// The first matrix of a kind, with its certificate, behind the text.
+fn push_first(
+    alloc: Global,
+    component: &Component,
+    first: &Option<CertifiedMatrix>,
+    text: &mut String,
+) -> Result<(), AllocError>
+    requires { IfSome first.now (IsShownOf component.now) }
+    ensures { OnOk result (PushesFirst component.now first.now text.old text.new) }
+{
+    match first {
+        None => Ok(()),
+        Some(one) => {
+            let shown = show_certified(alloc, component, &one.matrix, &one.certificate)?;
+            text.push_str("---\n")?;
+            text.push_str(shown.text.as_str())?;
+            Ok(())
+        }
+    }
+}
+
+/// 1 where a certificate of a survey says that something fails, else 3 where one is undecided.
+fn survey_status(survey: &Survey) -> u8
+    ensures { result ≡ spec.survey_status survey.now }
+{
+    if survey.not_linearizable.count > 0 || survey.livelock.count > 0 {
+        1
+    } else if survey.undecided.count > 0 {
+        3
+    } else {
+        0
+    }
+}
+
+/// How many matrices have a certificate of a kind, on a line behind the text.
+fn push_tally(text: &mut String, kind: &str, count: u64) -> Result<(), AllocError>
+    ensures { Writes result text.old text.new (tally_line kind.now count) }
+{
+    writeln!(text, "{kind} {count}")?;
+    Ok(())
+}
+
+/// How many matrices have a certificate of each kind.
+fn survey_head(alloc: Global, survey: &Survey) -> Result<String, AllocError>
+    ensures { IfOk result (λ text. string_bytes text ≡ spec.survey_head survey.now) }
+{
+    let mut text = String::from_str(alloc, "campaign certified\n")?;
+    push_tally(&mut text, "linearizable", survey.linearizable.count)?;
+    push_tally(&mut text, "not linearizable", survey.not_linearizable.count)?;
+    push_tally(&mut text, "livelock", survey.livelock.count)?;
+    push_tally(&mut text, "undecided", survey.undecided.count)?;
+    Ok(text)
+}
+
+/// How many matrices have a certificate of each kind, and the first of each kind but linearizable.
+fn show_survey(alloc: Global, component: &Component, survey: &Survey) -> Result<Answer, AllocError>
+    requires { AreShownOf component.now survey.now }
+    ensures { IfOk result (spec.ShowsSurvey component.now survey.now) }
+{
+    let mut text = survey_head(alloc, survey)?;
+    push_first(alloc, component, &survey.not_linearizable.first, &mut text)?;
+    push_first(alloc, component, &survey.livelock.first, &mut text)?;
+    push_first(alloc, component, &survey.undecided.first, &mut text)?;
+    Ok(Answer {
+        text,
+        status: survey_status(survey),
+    })
+}
 
 /// How many matrices there are, where all pass; or the first that does not, with its report.
 fn show_found(alloc: Global, component: &Component, found: &Campaign) -> Result<Answer, AllocError>
@@ -82,7 +195,7 @@ fn try_matrices(
 /// What the campaign in which each thread has its own candidates finds.
 fn try_by_thread(alloc: Global, roles: Roles<'_>) -> Result<Answer, Refusal>
     requires { CanAsk (asked_of roles) }
-    ensures { Answered (spec.IsByThreadAnswer (asked_of roles.entry)) result }
+    ensures { Answered (spec.IsCheckedWhole (asked_of roles.entry)) result }
 {
     let found = campaign_by_thread(alloc, roles)?;
     Ok(show_found(alloc, roles.component, &found)?)
@@ -91,7 +204,7 @@ fn try_by_thread(alloc: Global, roles: Roles<'_>) -> Result<Answer, Refusal>
 /// What the matrices of that campaign with the numbers `from` to `upto - 1` show.
 fn try_slice(alloc: Global, roles: Roles<'_>, from: u64, upto: u64) -> Result<Answer, Refusal>
     requires { CanAsk (asked_of roles) }
-    ensures { Answered (spec.IsSliceReply (asked_of roles.entry) from upto) result }
+    ensures { Answered (spec.IsCheckedNumbers (asked_of roles.entry) from upto) result }
 {
     let found = campaign_slice(alloc, roles, from, upto)?;
     Ok(show_found(alloc, roles.component, &found)?)
@@ -119,14 +232,14 @@ fn show_certificates(
 /// What the certificates of the matrices with the numbers `from` to `upto - 1` say.
 fn certify_numbers(alloc: Global, roles: Roles<'_>, from: u64, upto: u64) -> Result<Answer, Refusal>
     requires { CanAsk (asked_of roles) }
-    ensures { Answered (spec.IsCertifiedReply (asked_of roles.entry) from upto) result }
+    ensures { Answered (spec.IsCertifiedNumbers (asked_of roles.entry) from upto) result }
 {
     let found = certify_slice(alloc, roles, DEFAULT_NODES, from, upto)?;
     Ok(show_certificates(alloc, roles.component, &found)?)
 }
 
 /// How many matrices that campaign has.
-fn count_all(alloc: Global, candidates: &[Calls], calls: u8) -> Result<Answer, Refusal>
+pub(crate) fn count_all(alloc: Global, candidates: &[Calls], calls: u8) -> Result<Answer, Refusal>
     ensures { Answered (spec.IsCountAnswer candidates.now calls) result }
 {
     let count = count_matrices(alloc, candidates, calls)?;
@@ -136,7 +249,7 @@ fn count_all(alloc: Global, candidates: &[Calls], calls: u8) -> Result<Answer, R
 /// What is answered where the matrices are checked.
 fn check_part(alloc: Global, roles: Roles<'_>, part: CampaignPart) -> Result<Answer, Refusal>
     requires { CanAsk (asked_of roles) }
-    ensures { Answered (spec.IsAnswerToPart part (asked_of roles.entry)) result }
+    ensures { Answered (spec.IsCheckedPart part (asked_of roles.entry)) result }
 {
     match part {
         CampaignPart::Whole => try_by_thread(alloc, roles),
@@ -160,7 +273,7 @@ fn certify_part(alloc: Global, roles: Roles<'_>, part: CampaignPart) -> Result<A
 /// How many of the matrices with the numbers `from` to `upto - 1` have a certificate of each kind.
 fn survey_numbers(alloc: Global, roles: Roles<'_>, from: u64, upto: u64) -> Result<Answer, Refusal>
     requires { CanAsk (asked_of roles) }
-    ensures { Answered (spec.IsSurveyReply (asked_of roles.entry) from upto) result }
+    ensures { Answered (spec.IsSurveyedNumbers (asked_of roles.entry) from upto) result }
 {
     let survey = survey_slice(alloc, roles, DEFAULT_NODES, from, upto)?;
     Ok(show_survey(alloc, roles.component, &survey)?)
@@ -174,40 +287,6 @@ fn survey_part(alloc: Global, roles: Roles<'_>, part: CampaignPart) -> Result<An
     match part {
         CampaignPart::Whole => survey_numbers(alloc, roles, 0, u64::MAX),
         CampaignPart::Slice { from, upto } => survey_numbers(alloc, roles, from, upto),
-        CampaignPart::Count => count_all(alloc, roles.candidates, roles.calls),
-    }
-}
-
-/// How the component differs from a trusted one on the matrices with the numbers `from` to
-/// `upto - 1`.
-fn compare_numbers(
-    alloc: Global,
-    roles: Roles<'_>,
-    trusted: &Component,
-    from: u64,
-    upto: u64,
-) -> Result<Answer, Refusal>
-    requires { CanCompare (asked_of roles) trusted.now }
-    ensures { ComparesNumbers trusted.entry.now roles.entry from upto result }
-{
-    let found = compare_slice(alloc, roles, trusted, from, upto)?;
-    Ok(show_comparison(alloc, roles.component, &found)?)
-}
-
-/// What is answered where the component is held against a trusted one.
-fn compare_part(
-    alloc: Global,
-    roles: Roles<'_>,
-    trusted: &Component,
-    part: CampaignPart,
-) -> Result<Answer, Refusal>
-    requires { CanCompare (asked_of roles) trusted.now }
-    ensures { Answered
-        (spec.IsComparedPart trusted.entry.now part (asked_of roles.entry)) result }
-{
-    match part {
-        CampaignPart::Whole => compare_numbers(alloc, roles, trusted, 0, u64::MAX),
-        CampaignPart::Slice { from, upto } => compare_numbers(alloc, roles, trusted, from, upto),
         CampaignPart::Count => count_all(alloc, roles.candidates, roles.calls),
     }
 }
@@ -322,7 +401,7 @@ fn try_lines(
     options: CampaignOptions,
 ) -> Result<Answer, Refusal>
     requires { CanRun component.now matrix.now }
-    ensures { Answered (spec.IsCampaignBy Own component.now options matrix.now) result }
+    ensures { Answered (spec.IsCampaignByThreads Own component.now options matrix.now) result }
 {
     try_lists(alloc, component, matrix.setup(), matrix.as_slice(), options)
 }
@@ -335,7 +414,7 @@ fn try_matrix(
     options: CampaignOptions,
 ) -> Result<Answer, Refusal>
     requires { CanRun component.now matrix.now }
-    ensures { Answered (spec.IsCampaignFrom component.now options matrix.now) result }
+    ensures { Answered (spec.IsCampaignOfMatrix component.now options matrix.now) result }
 {
     match options.threads {
         CampaignThreads::Alike(threads) => {
@@ -352,147 +431,9 @@ pub(crate) fn answer_campaign(
     options: CampaignOptions,
     parts: &[&[u8]],
 ) -> Result<Answer, Refusal>
-    ensures { Answered (spec.IsCampaignOf options (texts parts.now)) result }
+    ensures { Answered (spec.IsAnswerToCampaign options (texts parts.now)) result }
 {
     let (component, matrix) = exactly_two(parts).ok_or(Refusal::Parts)?;
     let case = read_texts(alloc, component, matrix)?;
     try_matrix(alloc, &case.component, &case.matrix, options)
-}
-
-/// What is answered against a trusted component, where each thread has its own candidates.
-fn compare_lists(
-    alloc: Global,
-    component: &Component,
-    trusted: &Component,
-    setup: &Calls,
-    candidates: &[Calls],
-    options: CampaignOptions,
-) -> Result<Answer, Refusal>
-    requires setup { IsSetup setup.now }
-    requires setup_of { AreCallsOf component.now setup.now }
-    requires settles { AllEnd component.now setup.now }
-    requires trusted_settles { AllEnd trusted.now setup.now }
-    requires operations { HasSameOperations component.now trusted.now }
-    requires of { AllCallsOf component.now candidates.now }
-    requires arguments { AllHaveArguments candidates.now }
-    ensures { ComparesLists trusted.now component.now setup.now candidates.now options result }
-{
-    let roles = Roles {
-        component,
-        setup,
-        candidates,
-        calls: options.calls,
-        bound: options.bounds.bound(),
-        serial: options.bounds.serial(),
-    };
-    compare_part(alloc, roles, trusted, options.part)
-}
-
-/// What is answered against a trusted component, where so many threads have the same candidates.
-fn compare_alike(
-    alloc: Global,
-    component: &Component,
-    trusted: &Component,
-    matrix: &Matrix,
-    threads: u8,
-    options: CampaignOptions,
-) -> Result<Answer, Refusal>
-    requires runs { CanRun component.now matrix.now }
-    requires trusted_runs { CanRun trusted.now matrix.now }
-    requires operations { HasSameOperations component.now trusted.now }
-    ensures { ComparesAlike trusted.now component.now threads options matrix.now result }
-{
-    match matrix.as_slice() {
-        [candidates] => {
-            let lists = same_lists(alloc, candidates.as_slice(), threads)?;
-            compare_lists(alloc, component, trusted, matrix.setup(), &lists, options)
-        }
-        _ => Err(Refusal::Campaign(CampaignFault::Candidates)),
-    }
-}
-
-/// What is answered to a matrix of the component and of the trusted one.
-fn compare_matrix(
-    alloc: Global,
-    component: &Component,
-    trusted: &Component,
-    matrix: &Matrix,
-    options: CampaignOptions,
-) -> Result<Answer, Refusal>
-    requires runs { CanRun component.now matrix.now }
-    requires trusted_runs { CanRun trusted.now matrix.now }
-    requires operations { HasSameOperations component.now trusted.now }
-    ensures { Answered
-        (spec.IsComparedFrom trusted.now component.now options matrix.now) result }
-{
-    match options.threads {
-        CampaignThreads::Alike(threads) => {
-            compare_alike(alloc, component, trusted, matrix, threads, options)
-        }
-        CampaignThreads::Own => {
-            let (setup, lists) = (matrix.setup(), matrix.as_slice());
-            compare_lists(alloc, component, trusted, setup, lists, options)
-        }
-    }
-}
-
-/// What is answered where the trusted component has the operations of the other one: the setup has
-/// to settle with it too.
-fn compare_settled(
-    alloc: Global,
-    component: &Component,
-    trusted: &Component,
-    matrix: &Matrix,
-    options: CampaignOptions,
-) -> Result<Answer, Refusal>
-    requires runs { CanRun component.now matrix.now }
-    requires operations { HasSameOperations component.now trusted.now }
-    ensures { ComparesSettled trusted.now component.now options matrix.now result }
-{
-    match settles(alloc, trusted, matrix)? {
-        Some(call) => Err(Refusal::Texts(Fault::Setup(call))),
-        None => compare_matrix(alloc, component, trusted, matrix, options),
-    }
-}
-
-/// The trusted component.
-fn read_trusted(alloc: Global, text: &[u8]) -> Result<Component, Refusal>
-    ensures read { IfOk result (λ t. meaning_of component_grammar text.now ≡ Ok t) }
-    ensures refused { IfErr result (IsTrustedRefusal text.now) }
-{
-    match read_component(alloc, text) {
-        Ok(trusted) => Ok(trusted),
-        Err(fault) => Err(Refusal::Texts(Fault::Component(fault))),
-    }
-}
-
-/// What is answered to the text of a trusted component.
-fn compare_with(
-    alloc: Global,
-    component: &Component,
-    matrix: &Matrix,
-    options: CampaignOptions,
-    trusted: &[u8],
-) -> Result<Answer, Refusal>
-    requires { CanRun component.now matrix.now }
-    ensures { ComparesWith trusted.now component.now options matrix.now result }
-{
-    let trusted = read_trusted(alloc, trusted)?;
-    if !have_same_operations(component, &trusted) {
-        return Err(Refusal::Operations);
-    }
-    compare_settled(alloc, component, &trusted, matrix, options)
-}
-
-/// `lineup campaign --spec`: component, matrix, and a component that is trusted.
-pub(crate) fn answer_campaign_against(
-    alloc: Global,
-    options: CampaignOptions,
-    parts: &[&[u8]],
-) -> Result<Answer, Refusal>
-    ensures { Answered (spec.IsCampaignAgainstOf options (texts parts.now)) result }
-{
-    let (component, matrix, trusted) = exactly_three(parts).ok_or(Refusal::Parts)?;
-    let case = read_texts(alloc, component, matrix)?;
-    compare_with(alloc, &case.component, &case.matrix, options, trusted)
 }

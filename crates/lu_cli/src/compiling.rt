@@ -6,9 +6,9 @@ ghost use Rattle.lu_text.specs.Results.{Builds};
 ghost use Rattle.lu_text.specs.Writing.{Writes};
 ghost use Rattle.lu_source_text.specs.Readers.{component_meant};
 ghost use Rattle.lu_cli.specs.Compiling as spec;
-ghost use Rattle.lu_cli.specs.Compiling.{AreStrings, IsCompiledBundle, IsSourceRefusal};
+ghost use Rattle.lu_cli.specs.Compiling.{AreStrings, IsAnswerToCompile, IsCompiledBundle, IsCompiledWith};
+ghost use Rattle.lu_cli.specs.Telling.{IsSourceRefusal};
 ghost use Rattle.lu_cli.specs.Refusals.{Answered};
-ghost use Rattle.lu_cli.specs.Replies.{IsCompileOf, IsCompiledWith};
 
 use crate::answer::{Answer, refused};
 use crate::refusal::Refusal;
@@ -90,7 +90,7 @@ fn compile_parts(alloc: Global, source: &[u8], parts: &[&[u8]]) -> Result<Answer
 
 /// `lineup compile`: a source, and any parts.
 pub(crate) fn answer_compile(alloc: Global, parts: &[&[u8]]) -> Result<Answer, Refusal>
-    ensures { Answered (IsCompileOf (texts parts.now)) result }
+    ensures { Answered (IsAnswerToCompile (texts parts.now)) result }
 {
     let Some((source, rest)) = parts.split_first() else {
         return Err(Refusal::Parts);

@@ -4,14 +4,13 @@ ghost use Rattle.std.specs.Prelude.{◌≡◌, IfOk, string_bytes};
 ghost use Rattle.lu_text.specs.Lines.{texts};
 ghost use Rattle.lu_machine.specs.Starts.{CanRun};
 ghost use Rattle.lu_cli.specs.Conforming as spec;
-ghost use Rattle.lu_cli.specs.Conforming.{ConformsTexts, IsConformed, TellsConformance};
+ghost use Rattle.lu_cli.specs.Conforming.{ConformsTexts, IsAnswerToConform, IsConformed, TellsConformance};
 ghost use Rattle.lu_cli.specs.Refusals.{Answered};
-ghost use Rattle.lu_cli.specs.Replies.{IsConformOf};
 
 use crate::answer::Answer;
 use crate::judging::three_parts;
-use crate::order::Showing;
 use crate::refusal::Refusal;
+use crate::request::Showing;
 use crate::texts::read_texts;
 use lu_component::Component;
 use lu_conform::{Conformance, conformance};
@@ -118,7 +117,7 @@ pub(crate) fn answer_conform(
     showing: Showing,
     parts: &[&[u8]],
 ) -> Result<Answer, Refusal>
-    ensures { Answered (IsConformOf showing (texts parts.now)) result }
+    ensures { Answered (IsAnswerToConform showing (texts parts.now)) result }
 {
     let (component, matrix, histories) = three_parts(parts).ok_or(Refusal::Parts)?;
     let case = read_texts(alloc, component, matrix)?;

@@ -3,7 +3,7 @@
 ghost use Rattle.std.specs.Prelude.{IfErr, IfOk};
 ghost use Rattle.lu_machine.specs.Starts.{CanRun};
 ghost use Rattle.lu_trace.specs.Traces.{IsTraceFault};
-ghost use Rattle.lu_cli.specs.Drawing.{IsDrawnOf, Pictures};
+ghost use Rattle.lu_cli.specs.Drawing.{IsDrawnLent, Pictures};
 
 use crate::answer::{Answer, infeasible};
 use lu_component::Component;
@@ -39,7 +39,7 @@ pub(crate) fn draw(
     why: Option<&Explanation>,
 ) -> Result<Answer, AllocError>
     requires { CanRun component.now matrix.now }
-    ensures { IfOk result (IsDrawnOf how.entry why.entry component.now matrix.now schedule.now) }
+    ensures { IfOk result (IsDrawnLent how.entry why.entry component.now matrix.now schedule.now) }
 {
     match picture(alloc, how, component, matrix, schedule, why) {
         Ok(text) => Ok(Answer { text, status: 0 }),

@@ -9,14 +9,14 @@ ghost use Rattle.lu_cli.specs.Refusals.{Answered};
 ghost use Rattle.lu_cli.specs.Failing as spec;
 ghost use Rattle.lu_certify.specs.Certificates.{NamesCutOf};
 ghost use Rattle.lu_cli.specs.Failing.{CanRunCut, ShowsFailure, ShowsRunBelow};
-ghost use Rattle.lu_cli.specs.Replies.{ToTold};
+ghost use Rattle.lu_cli.specs.Reading.{ToTold};
 
 use crate::answer::{Answer, show_certificate, show_schedule, write_both};
-use crate::commands::{trace, trace_from_setup};
 use crate::drawing::draw;
-use crate::explaining::{Presentation, Presenting, explain_finding_serially};
+use crate::explanation::{Presentation, Presenting, explain_finding_serially};
 use crate::refusal::Refusal;
 use crate::told::read_told;
+use crate::trace::{trace, trace_from_setup};
 use lu_certify::{Certificate, DEFAULT_NODES, Limits, certify};
 use lu_component::Component;
 use lu_report::{Finding, MOST_MOVES, Report};

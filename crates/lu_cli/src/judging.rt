@@ -2,21 +2,19 @@
 
 ghost use Rattle.std.specs.Prelude.{◌≡◌, IfOk};
 ghost use Rattle.lu_text.specs.Lines.{texts};
-ghost use Rattle.lu_test.specs.Matrix.{IsMatrix};
 ghost use Rattle.lu_machine.specs.Starts.{CanRun};
-ghost use Rattle.lu_report.specs.Parts.{IsOfOffence};
 ghost use Rattle.lu_cli.specs.Judging as spec;
-ghost use Rattle.lu_cli.specs.Judging.{JudgesBy, ShowsFirst, four_parts, seen_as_four, seen_as_three, three_parts};
+ghost use Rattle.lu_cli.specs.Judging.{IsAnswerToJudgeAgainst, IsAnswerToJudge, IsJudgedSerially, JudgesBy, JudgesTexts, JudgesTextsAgainst, ShowsFirst, four_parts, seen_as_four, seen_as_three, three_parts};
 ghost use Rattle.lu_cli.specs.Refusals.{Answered};
-ghost use Rattle.lu_cli.specs.Replies.{IsFoundWithin, IsJudgeAgainstOf, IsJudgeOf, IsJudgedSerially, IsOffenceReported, JudgesTexts, JudgesTextsAgainst};
 
-use crate::answer::{Answer, show_report};
+use crate::answer::Answer;
 use crate::refusal::Refusal;
+use crate::serial::show_offence;
 use crate::texts::read_texts;
 use lu_component::Component;
 use lu_recorded::{Recorded, first_unwitnessed, read_all, write_reason_of, write_recorded};
 use lu_replay::set_or_offence;
-use lu_report::{Bounds, Finding, Report};
+use lu_report::Bounds;
 use lu_serial::learn;
 use lu_spec::{Spec, read_given_spec};
 use lu_test::Matrix;
@@ -81,26 +79,6 @@ fn judge_by<T: SerialTree>(
     }
 }
 
-/// The report of a serial offence.
-fn show_offence(
-    alloc: Global,
-    component: &Component,
-    matrix: &Matrix,
-    bounds: Bounds,
-    finding: Finding,
-) -> Result<Answer, AllocError>
-    requires of { CanRun component.now matrix.now }
-    requires limits { IsMatrix matrix.now }
-    requires offence { IsOfOffence finding }
-    requires found { IsFoundWithin component.now matrix.now bounds finding }
-    ensures { IfOk result (IsOffenceReported component.now matrix.now bounds) }
-{
-    show_report(
-        alloc,
-        &Report::new(bounds.bound(), bounds.serial(), component.local(), finding),
-    )
-}
-
 /// Recorded histories, judged by the beginnings of the serial histories; or the report of the least
 /// serial offence.
 fn judge_serially(
@@ -157,7 +135,7 @@ pub(crate) fn answer_judge(
     bounds: Bounds,
     parts: &[&[u8]],
 ) -> Result<Answer, Refusal>
-    ensures { Answered (IsJudgeOf bounds (texts parts.now)) result }
+    ensures { Answered (IsAnswerToJudge bounds (texts parts.now)) result }
 {
     let (component, matrix, histories) = three_parts(parts).ok_or(Refusal::Parts)?;
     let case = read_texts(alloc, component, matrix)?;
@@ -195,7 +173,7 @@ fn four_parts<'a, 'b>(
 
 /// `lineup judge --spec`: component, matrix, specification, and recorded histories.
 pub(crate) fn answer_judge_against(alloc: Global, parts: &[&[u8]]) -> Result<Answer, Refusal>
-    ensures { Answered (IsJudgeAgainstOf (texts parts.now)) result }
+    ensures { Answered (IsAnswerToJudgeAgainst (texts parts.now)) result }
 {
     let (component, matrix, spec, histories) = four_parts(parts).ok_or(Refusal::Parts)?;
     let case = read_texts(alloc, component, matrix)?;

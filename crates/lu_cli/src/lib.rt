@@ -6,33 +6,43 @@ mod answer;
 mod args;
 mod bundle;
 mod campaigning;
+mod certify;
+mod check;
 mod commands;
+mod comparing;
 mod compiling;
 mod conforming;
 mod counted;
 mod drawing;
 mod explaining;
+mod explanation;
 mod failing;
 mod help;
 mod input;
 mod judging;
 mod linting;
-mod order;
 mod output;
 mod program;
 mod refusal;
+mod refute;
+mod replay;
+mod request;
+mod serial;
 mod shown;
+mod shrink;
+mod spec;
 mod table;
 mod texts;
 mod told;
+mod trace;
 
 pub use answer::Answer;
 pub use args::read_request;
 pub use compiling::strings_of;
 pub use counted::Counted;
-pub use order::{
+pub use program::{answer_alone, answer_request, run};
+pub use request::{
     ArgsFault, BundleCommand, CampaignOptions, CampaignPart, CampaignThreads, CertifyOptions,
     Request, Showing,
 };
-pub use program::{answer_alone, answer_request, run};
 pub use texts::{Case, Fault, check_texts, check_texts_against, read_texts};

@@ -1,22 +1,25 @@
 //! The whole program over a reader and a writer.
 
-ghost use Rattle.std.specs.Prelude.{◌≡◌, ◌≢◌, ◌<◌, ◌≤◌, ◌-◌, ◌^◌, ◌⊎◌, Some, None, IfOk, IsErrOf};
-ghost use Rattle.lu_cli.specs.declared.order.Request.TheVariants.{Help, Lint, Ordered};
+ghost use Rattle.std.specs.Prelude.{◌≡◌, ◌≢◌, ◌<◌, ◌≤◌, ◌-◌, ◌^◌, ◌⊎◌, length, Some, None, IfOk, IsErrOf};
+ghost use Rattle.lu_cli.specs.declared.request.Request.TheVariants.{Bundle, Help, Lint};
 ghost use Rattle.lu_cli.specs.declared.program.Failure.TheVariants.{Memory};
 ghost use Rattle.lu_cli.specs.Args.{request_said};
 ghost use Rattle.lu_cli.specs.Counted.{IsUnfailed};
-ghost use Rattle.lu_cli.specs.Replies.{IsAnswerFor, IsAnswerFrom, IsAnswerOf, SaysAnswer, SaysNoCommand, Sends, TellsElse, TellsUnread, no_command, no_device};
+ghost use Rattle.lu_cli.specs.Inputs.{most_bytes};
+ghost use Rattle.lu_cli.specs.Outcomes.{no_command};
+ghost use Rattle.lu_cli.specs.Program.{IsAnswerToInput, IsAnswerToRead, IsAnswerToWords, SaysAnswer, SaysNoCommand, Sends, TellsElse, TellsUnread};
 
 use crate::answer::{Answer, refused};
 use crate::args::read_request;
 use crate::bundle::parts_in;
-use crate::commands::{carry_out, carry_out_alone, or_refusal};
+use crate::commands::{carry_out, carry_out_alone};
 use crate::counted::Counted;
 use crate::help::answer_help;
 use crate::input::{InputFault, MOST_BYTES, read_input};
 use crate::linting::answer_lint;
-use crate::order::{ArgsFault, BundleCommand, Request};
 use crate::output::write_text;
+use crate::refusal::or_refusal;
+use crate::request::{ArgsFault, BundleCommand, Request};
 use lu_report::Bounds;
 use std::alloc::{AllocError, Global};
 use std::convert::AsStr;
@@ -42,47 +45,43 @@ impl From<AllocError> for Failure {
     }
 }
 
-/// What `lint` answers to what is read.
-fn lint_read<R: Read>(
-    alloc: Global,
-    bounds: Bounds,
-    input: &mut Counted<R>,
-) -> Result<Answer, Failure>
-    requires { input.old.failures < 2 ^ 64 - 1 }
-    ensures answer { IfOk result (IsAnswerFrom (Lint bounds) (R.remaining input.old.inner)) }
-    ensures blames_none { IfOk result (λ r. r ≢ no_device) }
-    ensures device { IsErrOf result Failure.Device → input.old.failures < input.new.failures }
-    ensures unfailed { IsErrOf result Failure.Device ⊎ IsUnfailed input.old input.new }
+/// The answer to a request, and to a bundle that is not too long.
+fn answer_bundle<X: AllocGlobal + Threads + Wait>(
+    rt: &X,
+    request: Request,
+    bundle: &[u8],
+) -> Result<Answer, AllocError>
+    requires { length bundle.now ≤ most_bytes }
+    ensures { IfOk result (IsAnswerToInput request bundle.now) }
 {
-    let bundle = match read_input(alloc, input) {
-        Ok(bytes) => bytes,
-        Err(InputFault::TooLong) => return Ok(refused(alloc, "B2")?),
-        Err(InputFault::Device) => return Err(Failure::Device),
-        Err(InputFault::Memory) => return Err(Failure::Memory),
-    };
-    Ok(answer_lint(alloc, bounds, &bundle)?)
+    match request {
+        Request::Help => answer_help(rt.alloc()),
+        Request::Lint(bounds) => answer_lint(rt.alloc(), bounds, bundle),
+        Request::Bundle(command) => {
+            let parts = parts_in(rt.alloc(), bundle)?;
+            or_refusal(rt.alloc(), carry_out(rt, command, &parts))
+        }
+    }
 }
 
-/// The answer to an order and to what is read.
-fn order_read<X: AllocGlobal + Threads + Wait, R: Read>(
+/// The answer to a request, and to what is read for it.
+fn answer_read<X: AllocGlobal + Threads + Wait, R: Read>(
     rt: &X,
-    order: BundleCommand,
+    request: Request,
     input: &mut Counted<R>,
 ) -> Result<Answer, Failure>
-    requires { input.old.failures < 2 ^ 64 - 1 }
-    ensures answer { IfOk result (IsAnswerFrom (Ordered order) (R.remaining input.old.inner)) }
-    ensures blames_none { IfOk result (λ r. r ≢ no_device) }
+    requires calls { input.old.failures < 2 ^ 64 - 1 }
+    requires reads { request ≢ Help }
+    ensures answer { IfOk result (IsAnswerToRead request (R.remaining input.old.inner)) }
     ensures device { IsErrOf result Failure.Device → input.old.failures < input.new.failures }
     ensures unfailed { IsErrOf result Failure.Device ⊎ IsUnfailed input.old input.new }
 {
-    let bundle = match read_input(rt.alloc(), input) {
-        Ok(bytes) => bytes,
-        Err(InputFault::TooLong) => return Ok(refused(rt.alloc(), "B2")?),
-        Err(InputFault::Device) => return Err(Failure::Device),
-        Err(InputFault::Memory) => return Err(Failure::Memory),
-    };
-    let parts = parts_in(rt.alloc(), &bundle)?;
-    Ok(or_refusal(rt.alloc(), carry_out(rt, order, &parts))?)
+    match read_input(rt.alloc(), input) {
+        Ok(bundle) => Ok(answer_bundle(rt, request, &bundle)?),
+        Err(InputFault::TooLong) => Ok(refused(rt.alloc(), "B2")?),
+        Err(InputFault::Device) => Err(Failure::Device),
+        Err(InputFault::Memory) => Err(Failure::Memory),
+    }
 }
 
 /// The answer to what is asked for, and to what is read for it: for the help nothing is read.
@@ -92,16 +91,14 @@ fn answer_in<X: AllocGlobal + Threads + Wait, R: Read>(
     input: &mut Counted<R>,
 ) -> Result<Answer, Failure>
     requires { input.old.failures < 2 ^ 64 - 1 }
-    ensures answer { IfOk result (IsAnswerFrom request (R.remaining input.old.inner)) }
-    ensures blames_none { IfOk result (λ r. r ≢ no_device) }
+    ensures answer { IfOk result (IsAnswerToRead request (R.remaining input.old.inner)) }
     ensures idle { request ≡ Help → input.new ≡ input.old }
     ensures device { IsErrOf result Failure.Device → input.old.failures < input.new.failures }
     ensures unfailed { IsErrOf result Failure.Device ⊎ IsUnfailed input.old input.new }
 {
     match request {
         Request::Help => Ok(answer_help(rt.alloc())?),
-        Request::Lint(bounds) => lint_read(rt.alloc(), bounds, input),
-        Request::Ordered(order) => order_read(rt, order, input),
+        Request::Lint(_) | Request::Bundle(_) => answer_read(rt, request, input),
     }
 }
 
@@ -112,10 +109,9 @@ fn answer_for<X: AllocGlobal + Threads + Wait, S: AsStr, R: Read>(
     input: &mut Counted<R>,
 ) -> Result<Answer, Failure>
     requires { input.old.failures < 2 ^ 64 - 1 }
-    ensures answer { IfOk result (IsAnswerFor S.text words.now (R.remaining input.old.inner)) }
+    ensures answer { IfOk result (IsAnswerToWords S.text words.now (R.remaining input.old.inner)) }
     ensures refused { IfOk result (λ r.
         request_said S.text words.now ≡ None → r ≡ no_command) }
-    ensures blames_none { IfOk result (λ r. r ≢ no_device) }
     ensures early { request_said S.text words.now ≡ None → input.new ≡ input.old }
     ensures idle { request_said S.text words.now ≡ Some Help → input.new ≡ input.old }
     ensures device { IsErrOf result Failure.Device → input.old.failures < input.new.failures }
@@ -130,8 +126,7 @@ fn answer_for<X: AllocGlobal + Threads + Wait, S: AsStr, R: Read>(
 
 /// That the command line is refused.
 fn refuse_command(alloc: Global) -> Result<Answer, AllocError>
-    ensures answer { IfOk result (λ r. r ≡ no_command) }
-    ensures blames_none { IfOk result (λ r. r ≢ no_device) }
+    ensures { IfOk result (λ r. r ≡ no_command) }
 {
     refused(alloc, "command line")
 }
@@ -188,7 +183,7 @@ fn say<W: Write>(output: &mut Counted<W>, text: &str, status: u8) -> u8
 
 /// What `lint` answers to a bundle.
 fn lint_alone(alloc: Global, bounds: Bounds, bundle: &[u8]) -> Result<Answer, AllocError>
-    ensures { IfOk result (IsAnswerOf (Lint bounds) bundle.now) }
+    ensures { IfOk result (IsAnswerToInput (Lint bounds) bundle.now) }
 {
     if bundle.len() > MOST_BYTES {
         refused(alloc, "B2")
@@ -197,15 +192,15 @@ fn lint_alone(alloc: Global, bounds: Bounds, bundle: &[u8]) -> Result<Answer, Al
     }
 }
 
-/// The answer to an order and a bundle.
-fn order_alone(alloc: Global, order: BundleCommand, bundle: &[u8]) -> Result<Answer, AllocError>
-    ensures { IfOk result (IsAnswerOf (Ordered order) bundle.now) }
+/// The answer to a command and a bundle.
+fn command_alone(alloc: Global, command: BundleCommand, bundle: &[u8]) -> Result<Answer, AllocError>
+    ensures { IfOk result (IsAnswerToInput (Bundle command) bundle.now) }
 {
     if bundle.len() > MOST_BYTES {
         return refused(alloc, "B2");
     }
     let parts = parts_in(alloc, bundle)?;
-    or_refusal(alloc, carry_out_alone(alloc, order, &parts))
+    or_refusal(alloc, carry_out_alone(alloc, command, &parts))
 }
 
 /// The answer to what is asked for and a bundle. All is done on the calling thread.
@@ -214,12 +209,12 @@ fn order_alone(alloc: Global, order: BundleCommand, bundle: &[u8]) -> Result<Ans
 ///
 /// `AllocError` where memory was refused.
 pub fn answer_request(alloc: Global, request: Request, bundle: &[u8]) -> Result<Answer, AllocError>
-    ensures { IfOk result (IsAnswerOf request bundle.now) }
+    ensures { IfOk result (IsAnswerToInput request bundle.now) }
 {
     match request {
         Request::Help => answer_help(alloc),
         Request::Lint(bounds) => lint_alone(alloc, bounds, bundle),
-        Request::Ordered(order) => order_alone(alloc, order, bundle),
+        Request::Bundle(command) => command_alone(alloc, command, bundle),
     }
 }
 
@@ -235,7 +230,7 @@ pub fn answer_alone<S: AsStr>(
     words: &[S],
     bundle: &[u8],
 ) -> Result<Answer, AllocError>
-    ensures answer { IfOk result (IsAnswerFor S.text words.now (Some bundle.now)) }
+    ensures answer { IfOk result (IsAnswerToWords S.text words.now (Some bundle.now)) }
     ensures refused { IfOk result (λ r.
         request_said S.text words.now ≡ None → r ≡ no_command) }
 {

@@ -1,16 +1,23 @@
-//! The schedule that a text says or a report shows, and the parts of a bundle before it.
+//! What `trace` and `draw` show: the run of a schedule that a text says or a report shows.
 
 ghost use Rattle.std.specs.Prelude.{◌≡◌, IfErr, IfOk};
-ghost use Rattle.std.specs.Option.{option_map};
 ghost use Rattle.lu_text.specs.Lines.{texts};
-ghost use Rattle.lu_cli.specs.Failing as spec;
-ghost use Rattle.lu_cli.specs.Failing.{AreShownParts};
-ghost use Rattle.lu_cli.specs.Replies.{IsOfReport, IsTextOfSchedule, IsShownRefusal};
+ghost use Rattle.lu_machine.specs.Starts.{CanRun};
+ghost use Rattle.lu_cli.specs.Refusals.{Answered};
+ghost use Rattle.lu_cli.specs.Shown as spec;
+ghost use Rattle.lu_cli.specs.Shown.{AreShownParts, IsOfReport, IsShownRefusal, IsTextOfSchedule, ShowsRunOf, ShowsText};
 
+use crate::answer::Answer;
+use crate::drawing::draw;
+use crate::failing::{RunView, answer_failing};
 use crate::refusal::Refusal;
+use crate::told::read_told;
+use crate::trace::{trace, trace_from_setup};
+use lu_component::Component;
 use lu_report::read_report;
-use lu_test::{Schedule, read_schedule};
-use lu_text::Fault;
+use lu_test::{Matrix, Schedule, read_schedule};
+use lu_text::{Fault, exactly_two};
+use lu_trace::Wording;
 use std::alloc::{AllocError, Global};
 
 /// The schedule of the report that the text spells: none where it spells none with a schedule.
@@ -61,5 +68,67 @@ pub(crate) fn shown_parts<'a>(parts: &[&'a [u8]]) -> Option<(&'a [u8], &'a [u8],
             Some((component, matrix, shown))
         }
         _ => None,
+    }
+}
+
+/// The run of the schedule, shown so, or where it is infeasible.
+fn show_run(
+    alloc: Global,
+    how: Wording<'_>,
+    component: &Component,
+    matrix: &Matrix,
+    schedule: &Schedule,
+    view: RunView,
+) -> Result<Answer, AllocError>
+    requires { CanRun component.now matrix.now }
+    ensures { ShowsRunOf view how.entry component.now matrix.now schedule.now result }
+{
+    match view {
+        RunView::Trace => trace(alloc, how, component, matrix, schedule),
+        RunView::TraceFromSetup => trace_from_setup(alloc, how, component, matrix, schedule),
+        RunView::Picture => draw(alloc, how, component, matrix, schedule, None),
+    }
+}
+
+/// The run of the schedule that a text says or a report shows.
+fn show_text(
+    alloc: Global,
+    how: Wording<'_>,
+    component: &Component,
+    matrix: &Matrix,
+    text: &[u8],
+    view: RunView,
+) -> Result<Answer, Refusal>
+    requires { CanRun component.now matrix.now }
+    ensures { ShowsText view how.entry component.now matrix.now text.now result }
+{
+    let schedule = read_shown(alloc, text)?;
+    Ok(show_run(alloc, how, component, matrix, &schedule, view)?)
+}
+
+/// Component, matrix, and a schedule or a report.
+fn show_behind(alloc: Global, parts: &[&[u8]], view: RunView) -> Result<Answer, Refusal>
+    ensures { Answered (spec.IsShownBehind view (texts parts.now)) result }
+{
+    let (component, matrix, shown) = shown_parts(parts).ok_or(Refusal::Parts)?;
+    let told = read_told(alloc, component, matrix)?;
+    show_text(
+        alloc,
+        told.wording(),
+        &told.component,
+        &told.matrix,
+        shown,
+        view,
+    )
+}
+
+/// `lineup trace`, `lineup trace --setup` and `lineup draw`: component and matrix, and a schedule
+/// or a report; of component and matrix alone what fails.
+pub(crate) fn answer_shown(alloc: Global, parts: &[&[u8]], view: RunView) -> Result<Answer, Refusal>
+    ensures { Answered (spec.IsAnswerToTraceOrDraw view (texts parts.now)) result }
+{
+    match exactly_two(parts) {
+        Some((component, matrix)) => answer_failing(alloc, component, matrix, view.of_failure()),
+        None => show_behind(alloc, parts, view),
     }
 }

@@ -4,7 +4,7 @@ ghost use Rattle.std.specs.Prelude.{◌≡◌, IfErr, IfOk};
 ghost use Rattle.lu_text.specs.declared.fault.Fault.TheVariants.{Memory};
 ghost use Rattle.lu_test.specs.Matrix.{IsOf};
 ghost use Rattle.lu_machine.specs.Starts.{CanRun, IsFirstUnsettled};
-ghost use Rattle.lu_cli.specs.Texts.{AreSettled, IsFaultAgainst, IsCheckFault, IsFaultIn, IsFaultOfMatrix, IsFaultOfTexts, IsReportIn, IsReportOf, IsReportOfTexts, IsReportRead, IsSettledMatrix};
+ghost use Rattle.lu_cli.specs.Texts.{AreSettled, IsFaultOfSpec, IsCheckFault, IsCheckAgainstFault, IsFaultOfMatrix, IsFaultOfTexts, IsReportTextAgainst, IsReportText, IsReportAgainstText, IsSettledMatrix};
 
 use lu_lang::{Component, LangFault, read_component};
 use lu_machine::settles;
@@ -160,7 +160,7 @@ pub fn check_texts<X: Threads + Wait>(
     matrix: &[u8],
     options: Options,
 ) -> Result<String, Fault>
-    ensures report { IfOk result (IsReportOf component.now matrix.now options) }
+    ensures report { IfOk result (IsReportText component.now matrix.now options) }
     ensures fault { IfErr result (IsCheckFault component.now matrix.now options) }
 {
     let case = read_texts(alloc, component, matrix)?;
@@ -182,8 +182,8 @@ fn report_against<X: Threads + Wait>(
     options: Options,
 ) -> Result<Report, Fault>
     requires { CanRun component.now matrix.now }
-    ensures report { IfOk result (IsReportRead component.now matrix.now spec.now options) }
-    ensures fault { IfErr result (IsFaultAgainst component.now matrix.now spec.now options) }
+    ensures report { IfOk result (IsReportAgainstText component.now matrix.now spec.now options) }
+    ensures fault { IfErr result (IsFaultOfSpec component.now matrix.now spec.now options) }
 {
     let specification = read_given_spec(alloc, matrix, spec)?;
     let tree = specification.tree();
@@ -207,20 +207,13 @@ pub fn check_texts_against<X: Threads + Wait>(
     alloc: Global,
     component: &[u8],
     matrix: &[u8],
-    specification: &[u8],
+    spec: &[u8],
     options: Options,
 ) -> Result<String, Fault>
-    ensures report { IfOk result (IsReportIn component.now matrix.now specification.now options) }
-    ensures fault { IfErr result (IsFaultIn component.now matrix.now specification.now options) }
+    ensures report { IfOk result (IsReportTextAgainst component.now matrix.now spec.now options) }
+    ensures fault { IfErr result (IsCheckAgainstFault component.now matrix.now spec.now options) }
 {
     let case = read_texts(alloc, component, matrix)?;
-    let report = report_against(
-        rt,
-        alloc,
-        &case.component,
-        &case.matrix,
-        specification,
-        options,
-    )?;
+    let report = report_against(rt, alloc, &case.component, &case.matrix, spec, options)?;
     Ok(write_report(alloc, &report)?)
 }

@@ -1,5 +1,5 @@
 use Rattle.std.proofs.Common.{inr, refl}
-use Rattle.lu_cli.specs.Replies.{no_memory}
+use Rattle.lu_cli.specs.Outcomes.{no_memory}
 use Rattle.lineup_c.proofs.lineup_answer.Goals as goal
 
 pub returns-in-Err : goal.returns-in-Err

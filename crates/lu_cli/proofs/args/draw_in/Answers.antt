@@ -2,7 +2,7 @@ use Rattle.std.proofs.Common.{◌∙◌, Bool, Some, ap}
 use Rattle.std.specs.Prelude.{codes}
 use Rattle.std.specs.Option.{option_map}
 use Rattle.clap.specs.Words.{found_of, rows_of}
-use Rattle.lu_cli.specs.declared.order.BundleCommand.{BundleCommand}
+use Rattle.lu_cli.specs.declared.request.BundleCommand.{BundleCommand}
 use Rattle.lu_cli.specs.Args.{draw_order, flag_in, limits_with}
 use Rattle.lu_cli.proofs.args.draw_in.Goals as goal
 

@@ -3,7 +3,7 @@ use Rattle.std.specs.Str.Parse.{ParsesBool}
 use Rattle.clap.specs.Words.{found_of}
 use Rattle.clap.proofs.WalkLemmas.{one_text-rows}
 use Rattle.lu_cli.specs.Args.{flag_said}
-use Rattle.lu_cli.proofs.Orders.{flag_got}
+use Rattle.lu_cli.proofs.Requests.{flag_got}
 use Rattle.lu_cli.proofs.args.flag_in.Goals as goal
 
 pub returns : goal.returns

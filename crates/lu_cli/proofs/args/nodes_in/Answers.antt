@@ -4,7 +4,7 @@ use Rattle.clap.specs.Words.{found_of}
 use Rattle.std.specs.Prelude.{codes}
 use Rattle.clap.proofs.WalkLemmas.{one_text-rows}
 use Rattle.lu_cli.specs.Args.{number_said}
-use Rattle.lu_cli.proofs.Orders.{number_got}
+use Rattle.lu_cli.proofs.Requests.{number_got}
 use Rattle.lu_cli.proofs.args.nodes_in.Goals as goal
 
 pub returns : goal.returns

@@ -3,7 +3,7 @@ use Rattle.std.specs.Str.Parse.{ParsesUnsigned, ExplainsUnsignedError, HasUnsign
 use Rattle.clap.specs.Words.{found_of}
 use Rattle.clap.proofs.WalkLemmas.{one_text-rows}
 use Rattle.lu_cli.specs.Args.{number_said}
-use Rattle.lu_cli.proofs.Orders.{number_got}
+use Rattle.lu_cli.proofs.Requests.{number_got}
 use Rattle.lu_cli.proofs.args.number_named.Goals as goal
 
 pub returns : goal.returns

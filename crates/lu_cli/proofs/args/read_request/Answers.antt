@@ -1,5 +1,5 @@
 use Rattle.std.proofs.Common.{◌∙◌}
-use Rattle.lu_cli.proofs.Orders.{request_is, faulty, request_found, request_refused}
+use Rattle.lu_cli.proofs.Requests.{request_is, faulty, request_found, request_refused}
 use Rattle.lu_cli.proofs.args.read_request.Goals as goal
 use Rattle.lu_cli.proofs.args.read_request.Goals.{in-OutOfMemory, in_default-kind}
 

@@ -1,5 +1,5 @@
 use Rattle.std.proofs.Common.{◌∙◌}
-use Rattle.lu_cli.proofs.Orders.{request_entered}
+use Rattle.lu_cli.proofs.Requests.{request_entered}
 use Rattle.lu_cli.proofs.args.request_in.Goals as goal
 
 pub returns : goal.returns

@@ -4,7 +4,8 @@ use Rattle.lu_text.specs.Lines.{texts}
 use Rattle.lu_text.specs.Words.{exactly_two}
 use Rattle.lu_cli.specs.Failing.{IsShownAlone}
 use Rattle.lu_cli.specs.Refusals.{Answered}
-use Rattle.lu_cli.specs.Replies.{IsExplainBehind, ToTold, view_of}
+use Rattle.lu_cli.specs.Explaining.{IsExplainBehind, view_of}
+use Rattle.lu_cli.specs.Reading.{ToTold}
 use Rattle.lu_cli.proofs.explaining.answer_explain.Goals as goal
 
 pub returns-in-Some : goal.returns-in-Some

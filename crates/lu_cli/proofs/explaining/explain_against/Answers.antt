@@ -2,11 +2,12 @@ use Rattle.std.proofs.Common.{inl, subst}
 use Rattle.std.proofs.lemmas.Option.{IfSome_then}
 use Rattle.std.proofs.lemmas.Result.{err_from_is_err_and}
 use Rattle.lu_spec.specs.Codes.{spec_code_of}
-use Rattle.lu_cli.specs.declared.explaining.Presentation.TheVariants.{Words}
-use Rattle.lu_cli.specs.Explaining.{IsExplained}
+use Rattle.lu_cli.specs.declared.explanation.Presentation.TheVariants.{Words}
+use Rattle.lu_cli.specs.Explanation.{IsExplainedTarget}
 use Rattle.lu_cli.specs.Failing.{in_words}
 use Rattle.lu_cli.specs.Refusals.{line_answer}
-use Rattle.lu_cli.specs.Replies.{IsExplainedAgainst, ToGiven}
+use Rattle.lu_cli.specs.Explaining.{IsExplainedAgainstText}
+use Rattle.lu_cli.specs.Reading.{ToGiven}
 use Rattle.lu_cli.proofs.Explained.{target_answered, target_refused}
 use Rattle.lu_cli.proofs.Refuted.{given_refused}
 use Rattle.lu_cli.proofs.explaining.explain_against.Goals as goal
@@ -14,7 +15,7 @@ use Rattle.lu_cli.proofs.explaining.explain_against.Goals as goal
 pub returns-in_err-target : goal.returns-in_err-target
 returns-in_err-target c =
     let p = err_from_is_err_and c.from_residual.result c.from_residual.ensures.1 in
-    rw (p.1, p.2) (target_refused c.args.target.now (λ t. ToGiven c.args.matrix.now c.args.spec.now (λ members. IsExplained (in_words Words c.args.how) members c.args.component.now c.args.matrix.now t)) c.in_err-target.field-0.0 c.in_err-target.ensures.refused)
+    rw (p.1, p.2) (target_refused c.args.target.now (λ t. ToGiven c.args.matrix.now c.args.spec.now (λ members. IsExplainedTarget (in_words Words c.args.how) members c.args.component.now c.args.matrix.now t)) c.in_err-target.field-0.0 c.in_err-target.ensures.refused)
 
 pub returns-in_err-specification : goal.returns-in_err-specification
 returns-in_err-specification c =
@@ -24,10 +25,10 @@ returns-in_err-specification c =
     let text = c.args.spec.now in
     let fault = c.in_err-specification.field-0.0 in
     let t = c.in_ok-target.target in
-    let refused = given_refused matrix text fault (λ members. IsExplained (in_words Words c.args.how) members component matrix t) c.in_err-specification.ensures.fault in
+    let refused = given_refused matrix text fault (λ members. IsExplainedTarget (in_words Words c.args.how) members component matrix t) c.in_err-specification.ensures.fault in
     rw (p.1, p.2)
-    (IfSome_then (line_answer spec_code_of fault) {Q = IsExplainedAgainst c.args.how component matrix c.args.target.now text} refused
-    (λ a is. target_answered c.args.target.now (λ x. ToGiven matrix text (λ members. IsExplained (in_words Words c.args.how) members component matrix x)) t c.in_ok-target.ensures.read a is))
+    (IfSome_then (line_answer spec_code_of fault) {Q = IsExplainedAgainstText c.args.how component matrix c.args.target.now text} refused
+    (λ a is. target_answered c.args.target.now (λ x. ToGiven matrix text (λ members. IsExplainedTarget (in_words Words c.args.how) members component matrix x)) t c.in_ok-target.ensures.read a is))
 
 pub returns : goal.returns
 returns c =
@@ -35,5 +36,5 @@ returns c =
     let matrix = c.args.matrix.now in
     let text = c.args.spec.now in
     let t = c.in_ok-target.target in
-    target_answered c.args.target.now (λ x. ToGiven matrix text (λ members. IsExplained (in_words Words c.args.how) members component matrix x)) t c.in_ok-target.ensures.read c.in_ok-explain.field-0
-    (inl (c.in_ok-specification.specification, c.in_ok-specification.ensures.read, subst (λ members. IsExplained (in_words Words c.args.how) members component matrix t c.in_ok-explain.field-0) c.tree.ensures.set c.in_ok-explain.ensures))
+    target_answered c.args.target.now (λ x. ToGiven matrix text (λ members. IsExplainedTarget (in_words Words c.args.how) members component matrix x)) t c.in_ok-target.ensures.read c.in_ok-explain.field-0
+    (inl (c.in_ok-specification.specification, c.in_ok-specification.ensures.read, subst (λ members. IsExplainedTarget (in_words Words c.args.how) members component matrix t c.in_ok-explain.field-0) c.tree.ensures.set c.in_ok-explain.ensures))

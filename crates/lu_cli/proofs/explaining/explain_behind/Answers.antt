@@ -1,8 +1,9 @@
 use Rattle.std.proofs.Common.{◌≡◌, Some, rules}
 use Rattle.std.proofs.lemmas.Result.{err_from_is_err_and}
 use Rattle.lu_text.specs.Lines.{texts}
-use Rattle.lu_cli.specs.Failing.{in_words, shown_parts}
-use Rattle.lu_cli.specs.Replies.{IsExplainedText}
+use Rattle.lu_cli.specs.Failing.{in_words}
+use Rattle.lu_cli.specs.Shown.{shown_parts}
+use Rattle.lu_cli.specs.Explaining.{IsExplainedText}
 use Rattle.lu_cli.proofs.ToldTexts.{told_answered, told_refused}
 use Rattle.lu_cli.proofs.explaining.explain_behind.Goals as goal
 

@@ -1,5 +1,6 @@
 use Rattle.std.proofs.lemmas.Result.{err_from_is_err_and}
-use Rattle.lu_cli.specs.Explaining.{IsExplainedSerially, limits_for}
+use Rattle.lu_cli.specs.Explaining.{limits_for}
+use Rattle.lu_cli.specs.Explanation.{IsExplainedSerially}
 use Rattle.lu_cli.proofs.Explained.{target_answered, target_refused}
 use Rattle.lu_cli.proofs.explaining.explain_text.Goals as goal
 

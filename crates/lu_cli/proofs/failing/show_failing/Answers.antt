@@ -3,7 +3,7 @@ use Rattle.std.proofs.lemmas.Result.{IfOk-weaker}
 use Rattle.lu_report.specs.declared.report.Finding.{Finding}
 use Rattle.lu_cli.specs.Failing.{IsFindingExplained, ShowsRun, below, in_words}
 use Rattle.lu_cli.specs.Shows.{two_texts}
-use Rattle.lu_cli.specs.declared.explaining.Presentation.TheVariants.{Words}
+use Rattle.lu_cli.specs.declared.explanation.Presentation.TheVariants.{Words}
 use Rattle.lu_cli.specs.declared.failing.View.{View}
 use Rattle.lu_cli.specs.declared.failing.View.TheVariants.{Explanation}
 use Rattle.lu_cli.proofs.failing.show_failing.Goals as goal

@@ -1,8 +1,7 @@
 use Rattle.std.proofs.Common.{◌≡◌, Some, rules}
 use Rattle.std.proofs.lemmas.Result.{err_from_is_err_and}
 use Rattle.lu_text.specs.Lines.{texts}
-use Rattle.lu_cli.specs.Judging.{three_parts}
-use Rattle.lu_cli.specs.Replies.{IsJudgedTexts}
+use Rattle.lu_cli.specs.Judging.{IsJudgedTexts, three_parts}
 use Rattle.lu_cli.proofs.Refuted.{texts_answered, texts_refused}
 use Rattle.lu_cli.proofs.judging.answer_judge.Goals as goal
 

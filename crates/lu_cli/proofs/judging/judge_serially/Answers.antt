@@ -5,8 +5,8 @@ use Rattle.lu_machine.proofs.Starting.{start_there}
 use Rattle.lu_history.specs.declared.serial.SerialOp.{SerialOp}
 use Rattle.lu_serial.specs.Offences.{IsSetOf}
 use Rattle.lu_refute.proofs.Fitting.{learnt_closes}
-use Rattle.lu_cli.specs.Judging.{IsJudgedBy}
-use Rattle.lu_cli.specs.Replies.{IsJudgedSerially, IsOffenceReported}
+use Rattle.lu_cli.specs.Judging.{IsJudgedByMembers, IsJudgedSerially}
+use Rattle.lu_cli.specs.Serial.{IsOffenceReported}
 use Rattle.lu_cli.proofs.judging.judge_serially.Goals as goal
 
 pub closure-requires-clause-deterministic : goal.closure-requires-clause-deterministic
@@ -31,8 +31,8 @@ returns-in_ok-specification-in-Ok c =
     let there = start_there component matrix c.requires.settles in
     let set = c.in-Ok.ensures.set there.0 c.serial.result (c.in_ok-learnt.ensures.learnt there.0 there.1) in
     let own : IsSetOf there.0 c.args.bounds.serial c.in-Ok.set = rw (← c.serial.ensures.serial) set in
-    let judged = subst (λ (x : List (List SerialOp)). IfOk c.judge_by.result (IsJudgedBy x component matrix c.args.all.now)) c.tree.ensures.set c.judge_by.ensures in
-    IfOk-weaker c.judge_by.result (IsJudgedBy c.in_ok-specification-in-Ok.specification component matrix c.args.all.now) (IsJudgedSerially component matrix c.args.bounds c.args.all.now)
+    let judged = subst (λ (x : List (List SerialOp)). IfOk c.judge_by.result (IsJudgedByMembers x component matrix c.args.all.now)) c.tree.ensures.set c.judge_by.ensures in
+    IfOk-weaker c.judge_by.result (IsJudgedByMembers c.in_ok-specification-in-Ok.specification component matrix c.args.all.now) (IsJudgedSerially component matrix c.args.bounds c.args.all.now)
     (λ answer is. inl (there.0, c.in-Ok.set, c.in_ok-specification-in-Ok.specification, there.1, own.none, own.are, c.in_ok-specification-in-Ok.ensures.closure, is)) judged
 
 pub returns-in-Err : goal.returns-in-Err

@@ -2,7 +2,7 @@ use Rattle.std.proofs.Common.{List, inl, subst}
 use Rattle.lu_recorded.specs.declared.recorded.Recorded.{Recorded}
 use Rattle.std.proofs.lemmas.Result.{err_from_is_err_and}
 use Rattle.lu_text.specs.Lines.{texts}
-use Rattle.lu_cli.specs.Replies.{IsJudgedSerially}
+use Rattle.lu_cli.specs.Judging.{IsJudgedSerially}
 use Rattle.lu_cli.proofs.Judged.{recorded_refused}
 use Rattle.lu_cli.proofs.judging.judge_texts.Goals as goal
 

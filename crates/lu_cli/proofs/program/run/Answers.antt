@@ -1,20 +1,21 @@
 use Rattle.std.proofs.Common.{◌≡◌, ◌<◌, Err, inr, refl, ap, ◌∙◌, arith}
-use Rattle.lu_cli.specs.Replies.{Answer, IsAnswerFrom, no_memory}
-use Rattle.lu_cli.proofs.Sayings.{memory_else, said, said_else}
+use Rattle.lu_cli.specs.Outcomes.{Answer, no_memory}
+use Rattle.lu_cli.specs.Program.{IsAnswerToRead}
+use Rattle.lu_cli.proofs.Sayings.{memory_else, said, said_else, words_else}
 use Rattle.lu_cli.proofs.program.run.Goals as goal
 
 pub returns-in-Ok-clause-answer : goal.returns-in-Ok-clause-answer
-returns-in-Ok-clause-answer g c = λ order e reads writes.
+returns-in-Ok-clause-answer g c = λ request e reads writes.
     let told = c.say.ensures.told writes in
-    said (IsAnswerFrom order (g.R.Read.remaining c.args.input.now.inner)) c.in-Ok.answer c.as_str.result.now _ _ _ (c.in-Ok.ensures.answer order e) (c.as_str.ensures.value ∙ ap (λ (a : Answer). a.text) c.answer.view_is) (told.0, told.1 ∙ ap (λ (a : Answer). a.status) c.answer.view_is)
+    said (IsAnswerToRead request (g.R.Read.remaining c.args.input.now.inner)) c.in-Ok.answer c.as_str.result.now _ _ _ (c.in-Ok.ensures.answer request e) (c.as_str.ensures.value ∙ ap (λ (a : Answer). a.text) c.answer.view_is) (told.0, told.1 ∙ ap (λ (a : Answer). a.status) c.answer.view_is)
 
 pub returns-in-Ok-clause-blamed : goal.returns-in-Ok-clause-blamed
 returns-in-Ok-clause-blamed g c = λ writes reads.
     let told = c.say.ensures.told writes in
-    said_else c.in-Ok.answer c.as_str.result.now _ _ _ c.in-Ok.ensures.blames_none (c.as_str.ensures.value ∙ ap (λ (a : Answer). a.text) c.answer.view_is) (told.0, told.1 ∙ ap (λ (a : Answer). a.status) c.answer.view_is)
+    said_else c.in-Ok.answer c.as_str.result.now _ _ _ (words_else _ _ c.in-Ok.answer c.in-Ok.ensures.answer c.in-Ok.ensures.refused) (c.as_str.ensures.value ∙ ap (λ (a : Answer). a.text) c.answer.view_is) (told.0, told.1 ∙ ap (λ (a : Answer). a.status) c.answer.view_is)
 
 pub returns-in-Err-Memory-clause-answer : goal.returns-in-Err-Memory-clause-answer
-returns-in-Err-Memory-clause-answer g c = λ order e reads writes. inr (c.say-in-Err-Memory.ensures.told writes)
+returns-in-Err-Memory-clause-answer g c = λ request e reads writes. inr (c.say-in-Err-Memory.ensures.told writes)
 
 pub returns-in-Err-Memory-clause-refused : goal.returns-in-Err-Memory-clause-refused
 returns-in-Err-Memory-clause-refused g c = λ e writes. inr (c.say-in-Err-Memory.ensures.told writes)

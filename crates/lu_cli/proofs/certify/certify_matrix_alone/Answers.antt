@@ -1,0 +1,15 @@
+use Rattle.std.proofs.Common.{ℕ, inl, subst}
+use Rattle.std.proofs.lemmas.Result.{IfOk-weaker}
+use Rattle.lu_certify.specs.declared.limits.Limits.{Limits}
+use Rattle.lu_grain.specs.Longer.{IsMadeWith}
+use Rattle.lu_cli.specs.Certify.{IsCertified, certified_local}
+use Rattle.lu_cli.specs.Shows.{ShowsCertificate}
+use Rattle.lu_cli.proofs.certify.certify_matrix_alone.Goals as goal
+
+pub returns : goal.returns
+returns c =
+    let component = c.args.component.now in
+    let certificate = c.in_ok-certificate.certificate in
+    let at = subst (λ (n : ℕ). IsMadeWith n component c.args.matrix.now c.of-limits.result certificate) c.certified_local-local.ensures.local c.in_ok-certificate.ensures.certificate in
+    IfOk-weaker c.show_certificate.result (ShowsCertificate component certificate) (IsCertified component c.args.matrix.now c.args.asked)
+    (λ answer is. inl (certificate, subst (λ (l : Limits). IsMadeWith (certified_local c.args.asked component) component c.args.matrix.now l certificate) c.of-limits.ensures.limits at, is)) c.show_certificate.ensures

@@ -1,0 +1,44 @@
+-- What is answered to each command.
+use Rattle.std.specs.Prelude.{ℕ, List}
+use Rattle.lu_cli.specs.Explaining.{IsAnswerToExplain, IsAnswerToExplainAgainst}
+use Rattle.lu_cli.specs.declared.failing.RunView.TheVariants as run
+use Rattle.lu_cli.specs.Judging.{IsAnswerToJudge, IsAnswerToJudgeAgainst}
+use Rattle.lu_cli.specs.Compiling.{IsAnswerToCompile}
+use Rattle.lu_cli.specs.Conforming.{IsAnswerToConform}
+use Rattle.lu_cli.specs.Outcomes.{Answer}
+use Rattle.lu_cli.specs.Campaigning.{IsAnswerToCampaign}
+use Rattle.lu_cli.specs.Certify.{IsAnswerToCertify}
+use Rattle.lu_cli.specs.Check.{IsAnswerToCheck, IsAnswerToCheckAgainst}
+use Rattle.lu_cli.specs.Comparing.{IsAnswerToCampaignAgainst}
+use Rattle.lu_cli.specs.Refute.{IsAnswerToRefute}
+use Rattle.lu_cli.specs.Replay.{IsAnswerToReplay}
+use Rattle.lu_cli.specs.Serial.{IsAnswerToSerial}
+use Rattle.lu_cli.specs.Shown.{IsAnswerToTraceOrDraw}
+use Rattle.lu_cli.specs.Shrink.{IsAnswerToShrink}
+use Rattle.lu_cli.specs.Spec.{IsAnswerToSpec}
+use Rattle.lu_cli.specs.declared.explanation.Presentation.TheVariants.{Words, Picture}
+use Rattle.lu_cli.specs.declared.request.BundleCommand.{BundleCommand}
+use Rattle.lu_cli.specs.declared.request.BundleCommand.TheVariants.{Replay, Trace, TraceFromSetup, Draw, DrawExplained, Explain, ExplainAgainst, Serial, Judge, JudgeAgainst, Conform, Spec, Check, CheckAgainst, Certify, Refute, Shrink, Campaign as Campaigning, CampaignAgainst, Compile}
+
+-- the answer to a command and the parts of the bundle
+abbrev pub IsAnswerToCommand : BundleCommand → List (List ℕ) → Answer → Type 0
+IsAnswerToCommand Replay parts = IsAnswerToReplay parts
+IsAnswerToCommand Trace parts = IsAnswerToTraceOrDraw run.Trace parts
+IsAnswerToCommand TraceFromSetup parts = IsAnswerToTraceOrDraw run.TraceFromSetup parts
+IsAnswerToCommand Draw parts = IsAnswerToTraceOrDraw run.Picture parts
+IsAnswerToCommand (DrawExplained limits) parts = IsAnswerToExplain Picture limits parts
+IsAnswerToCommand (Explain limits) parts = IsAnswerToExplain Words limits parts
+IsAnswerToCommand ExplainAgainst parts = IsAnswerToExplainAgainst parts
+IsAnswerToCommand (Serial limits) parts = IsAnswerToSerial limits parts
+IsAnswerToCommand (Judge limits) parts = IsAnswerToJudge limits parts
+IsAnswerToCommand JudgeAgainst parts = IsAnswerToJudgeAgainst parts
+IsAnswerToCommand (Conform showing) parts = IsAnswerToConform showing parts
+IsAnswerToCommand Spec parts = IsAnswerToSpec parts
+IsAnswerToCommand (Check choice) parts = IsAnswerToCheck choice parts
+IsAnswerToCommand (CheckAgainst choice) parts = IsAnswerToCheckAgainst choice parts
+IsAnswerToCommand (Certify asked) parts = IsAnswerToCertify asked parts
+IsAnswerToCommand Refute parts = IsAnswerToRefute parts
+IsAnswerToCommand (Shrink limits) parts = IsAnswerToShrink limits parts
+IsAnswerToCommand (Campaigning options) parts = IsAnswerToCampaign options parts
+IsAnswerToCommand (CampaignAgainst options) parts = IsAnswerToCampaignAgainst options parts
+IsAnswerToCommand Compile parts = IsAnswerToCompile parts
