@@ -5,7 +5,7 @@ use Rattle.lu_component.specs.Component.{Declarations}
 use Rattle.lu_test.specs.Matrix.{Matrix}
 use Rattle.lu_report.specs.Parts.{Parts}
 use Rattle.lu_replay.specs.Reports.{IsReport}
-use Rattle.lu_replay.specs.Confirmed.{IsFailure}
+use Rattle.lu_report.specs.Parts.{IsFailure}
 use Rattle.lu_refine.specs.Removals.{IsShrunk}
 use Rattle.lu_report.specs.Limits.{Limits}
 use Rattle.lu_cli.specs.Shows.{reported, with_matrix}
