@@ -24,7 +24,7 @@ use Rattle.lu_lint.specs.declared.remark.FaultKind.TheVariants as part
 use Rattle.lu_lang.specs.declared.fault.LangFaultKind.TheVariants.{Name}
 use Rattle.lu_lang.specs.Faulty.{Faulty}
 use Rattle.lu_lang.specs.Place.{left_backs, open_backs}
-use Rattle.lu_lint.specs.Matrix.{judged_line, matrix_lint}
+use Rattle.lu_lint.specs.Matrix.{lint_of, matrix_lint}
 
 pub said_push : (all : List Remark) (r : Remark) → said_of (all ++ r ∷ []) ≡ said_of all ++ r.said ∷ []
 said_push all r = map-append (λ r. r.said) all (r ∷ [])
@@ -112,9 +112,8 @@ agrees l text = agree_after l [] 1 l.grammar.nothing (lines_of text)
 pub component_agrees : (text : List ℕ) → AgreeOnText (meaning_of component_grammar text) (faults_in component_lint text)
 component_agrees text = subst (λ (r : Result Declarations (Fault LangFaultKind)). AgreeOnText r (faults_in component_lint text)) (faulty_meaning text) (agrees component_lint text)
 
-pub matrix_agrees : (c : Declarations) (text : List ℕ) → AgreeOnText (meaning_of (matrix_grammar c) text) (faults_in (matrix_lint c None) text)
-unfolding judged_line
-matrix_agrees c text = agrees (matrix_lint c None) text
+pub matrix_agrees : (c : Declarations) (text : List ℕ) → AgreeOnText (meaning_of (matrix_grammar c) text) (faults_in (lint_of c) text)
+matrix_agrees c text = agrees (lint_of c) text
 
 -- the lines behind a line, in memory
 pub texts_behind : (lines : List (Bor (List ℕ))) (i : ℕ) → texts (drop i lines) ≡ drop i (texts lines)

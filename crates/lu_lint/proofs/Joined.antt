@@ -1,10 +1,11 @@
 -- What is said of a bundle, part behind part.
 use Rattle.std.proofs.Common.{◌≡◌, ℕ, List, [], ◌∷◌, ◌++◌, Option, refl, sym, ap, subst, append_assoc, ◌∙◌}
+use Rattle.lu_text.specs.Bundle.{meant_parts}
 use Rattle.lu_text.specs.Lines.{kept_lines}
 use Rattle.lu_test.specs.Matrix.{Matrix}
 use Rattle.lu_lint.specs.declared.component.ReadComponent.{ReadComponent}
 use Rattle.lu_lint.specs.declared.remark.Said.{Said}
-use Rattle.lu_lint.specs.Bundle.{BehindComponent, BundleSaid, PartsSaid, component_read, component_said, matrix_read, matrix_said, parts_by_meant, separators_from}
+use Rattle.lu_lint.specs.Bundle.{BehindComponent, BundleSaid, PartsSaid, component_read, component_said, matrix_read, matrix_said, separators_from}
 use Rattle.lu_lint.specs.Further.{BehindMatrix}
 use Rattle.lu_lint.specs.Runs.{RunsSaid}
 use Rattle.lu_lint.specs.Said.{SaysFurther, above_next}
@@ -27,7 +28,7 @@ of_component bound text parts c below all one two first is next h =
     (said ++ behind, (behind, subst (λ (x : ReadComponent). BehindComponent bound x (above_next 0 text) parts behind) is (subst (λ (n : ℕ). BehindComponent bound c n parts behind) next h.1), refl), h.2 ∙ (ap (λ (x : List Said). x ++ behind) first ∙ append_assoc all said behind))
 
 -- of the lines between the parts, and of the parts
-pub of_bundle : (bound : ℕ) (bundle : List ℕ) (lines parts : List (List ℕ)) (first found : List Said) → lines ≡ kept_lines bundle → parts ≡ parts_by_meant (kept_lines bundle) → first ≡ separators_from 1 lines → SaysFurther (PartsSaid bound parts) first found → BundleSaid bound bundle found
+pub of_bundle : (bound : ℕ) (bundle : List ℕ) (lines parts : List (List ℕ)) (first found : List Said) → lines ≡ kept_lines bundle → parts ≡ meant_parts bundle → first ≡ separators_from 1 lines → SaysFurther (PartsSaid bound parts) first found → BundleSaid bound bundle found
 of_bundle bound bundle lines parts first found l p f h =
     let said = h.0 in
     (said, subst (λ (x : List (List ℕ)). PartsSaid bound x said) p h.1, h.2 ∙ ap (λ (x : List Said). x ++ said) (f ∙ ap (separators_from 1) l))

@@ -11,7 +11,7 @@ pub mod Played
 pub mod LineNumbers
 pub mod LearntHints
 pub mod FaultsTold
-pub mod Outlined
+pub mod Signed
 pub mod FurtherParts
 pub mod LeastLines
 pub mod KeptOrder

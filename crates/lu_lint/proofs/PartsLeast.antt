@@ -1,6 +1,6 @@
 -- Whatever is said of a bundle, of each of its parts the least fault is the reader's.
 use Rattle.std.proofs.Common.{◌≡◌, ℕ, ◌+◌, ◌<◌, ◌≤◌, inl, inr, true, false, Bool, cond, List, [], ◌∷◌, ◌++◌, append-nil, append_assoc, map, Option, Some, None, Result, Ok, Err, refl, sym, ap, subst, ◌∙◌, arith}
-use Rattle.std.specs.Prelude.{All, IsPermutation, MatchBool}
+use Rattle.std.specs.Prelude.{All, IsPermutation, MatchBool, length, nat_le}
 use Rattle.std.specs.List.{filter_map}
 use Rattle.std.specs.List.Sorted.{IsStableByKey}
 use Rattle.std.specs.Ordering.{nat_cmp}
@@ -46,13 +46,14 @@ use Rattle.lu_lint.specs.declared.third.Third.{Third}
 use Rattle.lu_lint.specs.declared.third.Third.TheVariants.{Specification, Report, History, Schedule}
 use Rattle.lu_lint.specs.declared.component.ReadComponent.{ReadComponent}
 use Rattle.lu_lint.specs.declared.component.ReadComponent.TheVariants as read
-use Rattle.lu_lint.specs.Bundle.{PartsSaid, component_read, component_said, is_blurred, matrix_read, matrix_said, outline_said, parts_by_meant, separator_said, separators_from, warnings_said}
+use Rattle.lu_text.specs.Bundle.{meant_parts}
+use Rattle.lu_lint.specs.Bundle.{PartsSaid, component_read, component_said, is_blurred, matrix_read, matrix_said, separator_said, separators_from, warnings_said}
 use Rattle.lu_lint.specs.Component.{component_lint, jumps}
 use Rattle.lu_lint.specs.Further.{BehindMatrix, BehindThird, FourthSaid, fifth_said}
 use Rattle.lu_lint.specs.Least.{ComponentLeast, FourthLeast, FurtherLeast, LeastIsReaders, MatrixLeast, NoneSaid, PartsLeast, ReadersAreLeast, ReadsOrLeast, ReportLeast, Same, SameOrJump, ScheduleFirst, SpecificationLeast, ThirdLeast, component_fault, matrix_fault, report_fault, schedule_fault, specification_fault}
 use Rattle.lu_lint.specs.Lint.{Told, faults_in, told_here, with_words}
-use Rattle.lu_lint.specs.Matrix.{judged_line, matrix_lint}
-use Rattle.lu_lint.specs.Outline.{outline}
+use Rattle.lu_lint.specs.Matrix.{lint_of, matrix_lint}
+use Rattle.lu_lint.specs.Signatures.{signatures_meant}
 use Rattle.lu_lint.specs.Runs.{RunsSaid}
 use Rattle.lu_lint.specs.Said.{SaysFurther, above_next, line_below, said_faults, said_of_text, said_told}
 use Rattle.lu_lint.specs.Schedule.{AgreeOn, schedule_faults, schedule_said, schedule_told}
@@ -146,13 +147,13 @@ warnings_are : (c : ReadComponent) (lines : List (List ℕ)) → AreOf 0 (warnin
 warnings_are (read.Faulty f) lines = All-nil (λ s. part_of s.cause ≡ 0)
 warnings_are (read.Sound c) lines = lines_are c [] 1 nothing lines
 
-outline_are : (f : Faulty) (c : Option Declarations) (above : ℕ) (text : List ℕ) → AreOf 2 (outline_said f c above text)
-outline_are f None above text = All-nil (λ s. part_of s.cause ≡ 2)
-outline_are f (Some c) above text = faults_of part.Matrix 2 (λ k n. refl) above (faults_in (matrix_lint c (Some f)) text)
-
 matrix_are : (c : ReadComponent) (above : ℕ) (text : List ℕ) → AreOf 2 (matrix_said c above text)
-matrix_are (read.Faulty f) above text = outline_are f (outline f.draft) above text
-matrix_are (read.Sound c) above text = faults_of part.Matrix 2 (λ k n. refl) above (faults_in (matrix_lint c None) text)
+matrix_are (read.Faulty f) above text = go (nat_le (length (signatures_meant f)) 16)
+  where
+    go : (few : Bool) → AreOf 2 (cond few (said_of_text (matrix_lint (signatures_meant f)) above text) [])
+    go true = faults_of part.Matrix 2 (λ k n. refl) above (faults_in (matrix_lint (signatures_meant f)) text)
+    go false = All-nil (λ s. part_of s.cause ≡ 2)
+matrix_are (read.Sound c) above text = faults_of part.Matrix 2 (λ k n. refl) above (faults_in (lint_of c) text)
 
 runs_are : (bound : ℕ) (c : ReadComponent) (m : Option Matrix) (above : ℕ) (text : List ℕ) (said : List Said) → RunsSaid bound c m above text said → AreOf 0 said
 runs_are bound (read.Faulty f) m above text said h = of_none 0 said h
@@ -288,18 +289,17 @@ component_here text =
     readers_said component_fault part.Component (λ k n. refl) SameOrJump 0 (meaning_of component_grammar text) (faults_in component_lint text) (component_agrees text)
     (λ kind n e. all_behind component_lint SameOrJump component_beside [] 1 component_lint.grammar.nothing (lines_of text) kind n (faulty_meaning text ∙ e))
 
-matrix_beside : (c : Declarations) → AreBeside (matrix_lint c None) Same
+matrix_beside : (c : Declarations) → AreBeside (lint_of c) Same
 matrix_beside c = record {
   itself = λ kind. refl;
   others = λ d line lines kind. All-nil (λ other. Same kind other.0);
   at_end = λ d kind. All-nil (λ other. Same kind other.0);
 }
 
-matrix_here : (c : Declarations) (above : ℕ) (text : List ℕ) → LeastIsReaders matrix_fault Same (meaning_of (matrix_grammar c) text) (said_of_text (matrix_lint c None) above text)
-unfolding judged_line
+matrix_here : (c : Declarations) (above : ℕ) (text : List ℕ) → LeastIsReaders matrix_fault Same (meaning_of (matrix_grammar c) text) (said_of_text (lint_of c) above text)
 matrix_here c above text =
-    readers_said matrix_fault part.Matrix (λ k n. refl) Same above (meaning_of (matrix_grammar c) text) (faults_in (matrix_lint c None) text) (matrix_agrees c text)
-    (λ kind n e. all_behind (matrix_lint c None) Same (matrix_beside c) [] 1 (matrix_lint c None).grammar.nothing (lines_of text) kind n e)
+    readers_said matrix_fault part.Matrix (λ k n. refl) Same above (meaning_of (matrix_grammar c) text) (faults_in (lint_of c) text) (matrix_agrees c text)
+    (λ kind n e. all_behind (lint_of c) Same (matrix_beside c) [] 1 (lint_of c).grammar.nothing (lines_of text) kind n e)
 
 specification_here : (m : Matrix) (above : ℕ) (text : List ℕ) (said : List Said) → SpecificationSaid m above text said → SpecificationLeast (Some m) text said
 specification_here m above text said h = subst (SpecificationLeast (Some m) text) (sym h.2) (go h.0 (given_told m text h.0 h.1) (given_rise m text h.0 h.1))
@@ -545,4 +545,4 @@ by_parts bound (component ∷ matrix ∷ rest) lines found said h moved stable =
     )
 
 pub readers_are_least : ReadersAreLeast
-readers_are_least bound bundle said h = by_parts bound (parts_by_meant (kept_lines bundle)) (kept_lines bundle) h.0 said h.1 h.2 h.3
+readers_are_least bound bundle said h = by_parts bound (meant_parts bundle) (kept_lines bundle) h.0 said h.1 h.2 h.3

@@ -18,19 +18,20 @@ use Rattle.lu_test.specs.declared.matrix_fault.MatrixFaultKind.{MatrixFaultKind}
 use Rattle.lu_test.specs.declared.matrix.Call.{Call}
 use Rattle.lu_test.specs.declared.matrix_fault.MatrixFaultKind.TheVariants.{Limit}
 use Rattle.lu_test.specs.Matrix.{IsOf, Matrix, matrix_with}
-use Rattle.lu_test.specs.MatrixText.{finished, matrix_grammar}
+use Rattle.lu_test.specs.MatrixText.{finished, grammar_by}
+use Rattle.lu_test.specs.Signatures.{OpSignature}
 use Rattle.lu_test.specs.MatrixText as matrix
 use Rattle.lu_lint.specs.declared.component.ReadComponent.{ReadComponent}
 use Rattle.lu_lint.specs.declared.remark.Said.{Said}
 use Rattle.lu_lint.specs.Bundle.{component_read, component_said, warnings_said}
 use Rattle.lu_lint.specs.Component.{component_lint, read_as, read_or_left}
-use Rattle.lu_lint.specs.Outline.{faulty_of_lines, read_of_lines}
+use Rattle.lu_lint.specs.Component.{faulty_of_lines, read_of_lines}
 use Rattle.lu_lint.specs.Said.{said_of_lines, said_of_text}
 use Rattle.lu_lint.proofs.Going.{two_more}
 use Rattle.lu_lang.proofs.Understood.{faulty_meaning}
 use Rattle.lu_text.specs.Lines.{lines_of}
 use Rattle.lu_lint.specs.Lint.{left_by}
-use Rattle.lu_lint.specs.Matrix.{judged_line, matrix_if, matrix_lint, matrix_mend, left_by as left_matrix}
+use Rattle.lu_lint.specs.Matrix.{matrix_if, matrix_mend, left_by as left_matrix}
 use Rattle.lu_lint.proofs.MatrixSteps.{left_same}
 
 -- while no line has had a fault, the lines to come give what all of them give; afterwards nothing
@@ -126,13 +127,8 @@ made c d setup new none is calls of fits = go (length d.threads == 0) none new c
     go false none None calls some = absurd (let e : false ≡ true = some in cc)
     go false none (Some m) calls some = ap (λ (x : Matrix). Some x) (calls ∙ ap (λ (xs : List Call). matrix_with xs d.threads) is)
 
--- a matrix behind a component without faults is judged as it is read
-pub judged_as_read : (c : Declarations) (text : List ℕ) → meaning_of (matrix_lint c None).grammar text ≡ meaning_of (matrix_grammar c) text
-unfolding judged_line
-judged_as_read c text = refl
-
 -- one line more of a matrix
-pub matrix_on : (c : Declarations) (faulty : Option Faulty) (sound none : Bool) (n : ℕ) (d d1 next : matrix.Drafted) (fault : Option MatrixFaultKind) (line : List ℕ) (rest : List (List ℕ)) (all : Result Matrix (Fault MatrixFaultKind))
-    → is_some fault ≡ not none → (d1, fault) ≡ going_on d (matrix.line_of c.operations d (judged_line faulty line)) → next ≡ left_matrix d1 line fault → Reads (matrix_lint c faulty).grammar sound n d (line ∷ rest) all → Reads (matrix_lint c faulty).grammar (sound && none) (n + 1) next rest all
-matrix_on c faulty sound none n d d1 next fault line rest all is e left h =
-    reads_on (matrix_lint c faulty).grammar matrix_mend sound none n d d1 next fault line [] rest all is e (left ∙ left_same d1 line [] fault) h
+pub matrix_on : (all : List OpSignature) (sound none : Bool) (n : ℕ) (d d1 next : matrix.Drafted) (fault : Option MatrixFaultKind) (line : List ℕ) (rest : List (List ℕ)) (meant : Result Matrix (Fault MatrixFaultKind))
+    → is_some fault ≡ not none → (d1, fault) ≡ going_on d (matrix.line_of all d line) → next ≡ left_matrix d1 line fault → Reads (grammar_by all) sound n d (line ∷ rest) meant → Reads (grammar_by all) (sound && none) (n + 1) next rest meant
+matrix_on all sound none n d d1 next fault line rest meant is e left h =
+    reads_on (grammar_by all) matrix_mend sound none n d d1 next fault line [] rest meant is e (left ∙ left_same d1 line [] fault) h

@@ -1,13 +1,11 @@
 -- The parts of a bundle, and what is said of it.
-use Rattle.std.specs.Prelude.{◌≡◌, ℕ, ◌+◌, Bool, Option, Some, None, IsPermutation, List, [], ◌∷◌, ◌++◌, map, take, drop, codes, ◌==◌, ◌&&◌, ◌||◌, not, if◌then◌else◌, Result, Vec}
-use Rattle.std.specs.List.{concat, list_all, slice_split}
+use Rattle.std.specs.Prelude.{◌≡◌, ℕ, ◌+◌, Bool, Option, None, IsPermutation, List, [], ◌∷◌, ◌++◌, length, nat_le, ◌&&◌, not, if◌then◌else◌, Result, Vec}
 use Rattle.std.specs.List.Sorted.{IsStableByKey}
 use Rattle.std.specs.Ordering.{nat_cmp}
-use Rattle.std.specs.Str.{bytes_eq}
 use Rattle.std.specs.Result.{result_ok}
 use Rattle.lu_text.specs.Faults.{meaning_of}
-use Rattle.lu_text.specs.Lines.{is_blank, kept_lines, lines_of}
-use Rattle.lu_component.specs.Component.{Declarations}
+use Rattle.lu_text.specs.Bundle.{is_meant_as_separator, is_separator, meant_parts}
+use Rattle.lu_text.specs.Lines.{kept_lines, lines_of}
 use Rattle.lu_lang.specs.Grammar.{component_grammar}
 use Rattle.lu_lint.specs.declared.remark.Remark.{Remark}
 use Rattle.lu_lint.specs.declared.remark.Said.{Said}
@@ -15,33 +13,21 @@ use Rattle.lu_lint.specs.declared.remark.Cause.TheVariants.{Separator}
 use Rattle.lu_test.specs.Matrix.{Matrix}
 use Rattle.lu_test.specs.MatrixText.{matrix_grammar}
 use Rattle.lu_lint.specs.Further.{BehindMatrix}
-use Rattle.lu_lint.specs.Component.{component_lint, read_or_left}
+use Rattle.lu_lint.specs.Component.{component_lint, faulty_of_lines, read_of_lines, read_or_left}
 use Rattle.lu_lang.specs.Faulty.{Faulty}
-use Rattle.lu_lint.specs.Matrix.{matrix_lint}
+use Rattle.lu_lint.specs.Matrix.{lint_of, matrix_lint}
 use Rattle.lu_lint.specs.declared.component.ReadComponent.{ReadComponent}
 use Rattle.lu_lint.specs.declared.component.ReadComponent.TheVariants as read
-use Rattle.lu_lint.specs.Outline.{faulty_of_lines, outline, read_of_lines}
+use Rattle.lu_lint.specs.Signatures.{signatures_meant}
 use Rattle.lu_lint.specs.Said.{SaysAndReads, SaysFurther, above_next, said_of_lines, said_of_text}
 use Rattle.lu_lint.specs.Warnings.{warnings_of_lines}
 use Rattle.lu_lint.specs.Runs.{RunsSaid}
 
 -- ---- the lines between the parts
 
--- a line that parts
-abbrev pub is_separator : List ℕ → Bool
-is_separator line = bytes_eq line (codes "---\n") || bytes_eq line (codes "---")
-
--- blanks, and an LF
-abbrev pub are_blank : List ℕ → Bool
-are_blank bytes = list_all (λ b. is_blank b || b == 10) bytes
-
--- `---` and nothing but blanks behind it: meant to part
-abbrev pub is_meant_to_part : List ℕ → Bool
-is_meant_to_part line = bytes_eq (take 3 line) (codes "---") && are_blank (drop 3 line)
-
 -- meant to part, and parts nothing
 abbrev pub is_blurred : List ℕ → Bool
-is_blurred line = is_meant_to_part line && not (is_separator line)
+is_blurred line = is_meant_as_separator line && not (is_separator line)
 
 -- what is said of such a line, which is line n
 abbrev pub separator_said : ℕ → List ℕ → List Said
@@ -55,10 +41,6 @@ separators_from n (line ∷ lines) = separator_said n line ++ separators_from (n
 
 -- ---- the parts
 
--- what stands between the lines that part or are meant to
-abbrev pub parts_by_meant : List (List ℕ) → List (List ℕ)
-parts_by_meant lines = map concat (slice_split is_meant_to_part lines)
-
 -- what a component's text is read as: the component, where it has no fault, and else what its lines
 -- leave
 abbrev pub component_read : List ℕ → ReadComponent
@@ -70,21 +52,18 @@ abbrev pub matrix_read : ReadComponent → List ℕ → Option Matrix
 matrix_read (read.Faulty f) text = None
 matrix_read (read.Sound c) text = result_ok (meaning_of (matrix_grammar c) text)
 
--- what is said of a matrix by the operations of a component with faults, where these can be told
--- apart
-abbrev pub outline_said : Faulty → Option Declarations → ℕ → List ℕ → List Said
-outline_said f None above text = []
-outline_said f (Some c) above text =
-    said_of_text (matrix_lint c (Some f)) above text
-
--- what is said of a matrix behind a component with faults
+-- what is said of a matrix behind a component with faults: by the signatures that it was to have,
+-- where these are no more than a component may have
 abbrev pub said_behind_faulty : Faulty → ℕ → List ℕ → List Said
-said_behind_faulty f above text = outline_said f (outline f.draft) above text
+said_behind_faulty f above text =
+    if nat_le (length (signatures_meant f)) 16
+    then said_of_text (matrix_lint (signatures_meant f)) above text
+    else []
 
 -- what is said of a matrix by its component
 abbrev pub matrix_said : ReadComponent → ℕ → List ℕ → List Said
 matrix_said (read.Faulty f) above text = said_behind_faulty f above text
-matrix_said (read.Sound c) above text = said_of_text (matrix_lint c None) above text
+matrix_said (read.Sound c) above text = said_of_text (lint_of c) above text
 
 -- where it succeeds, the matrix is linted: that is said of it, and it is read, where it and its
 -- component have no fault
@@ -134,7 +113,7 @@ PartsSaid bound (component ∷ parts) said =
 -- what is said of a bundle, with this bound of serial runs
 abbrev pub BundleSaid : ℕ → List ℕ → List Said → Type 0
 BundleSaid bound bundle said =
-    SaysFurther (PartsSaid bound (parts_by_meant (kept_lines bundle)))
+    SaysFurther (PartsSaid bound (meant_parts bundle))
     (separators_from 1 (kept_lines bundle)) said
 
 -- this is said of a bundle, in any order of the lines; on each line in the order of what is found

@@ -6,7 +6,7 @@ use Rattle.lu_lang.specs.declared.fault.LangFaultKind.TheVariants.{Name}
 use Rattle.lu_lang.specs.Draft.{Drafted}
 use Rattle.lu_lang.specs.Faulty.{Faulty}
 use Rattle.lu_lang.specs.Grammar.{component_grammar}
-use Rattle.lu_text.specs.Faults.{fault_in}
+use Rattle.lu_text.specs.Faults.{fault_in, meaning_of_lines}
 use Rattle.lu_lang.specs.Meant.{faulty_grammar, mend_faulty}
 use Rattle.lu_lang.specs.Place.{backs, left_backs, open_backs}
 use Rattle.lu_lint.specs.declared.component.ReadComponent.{ReadComponent}
@@ -15,7 +15,7 @@ use Rattle.lu_lint.specs.declared.remark.Position.{Position}
 use Rattle.lu_lint.specs.declared.remark.Said.{Said}
 use Rattle.lu_lint.specs.declared.remark.FaultKind.TheVariants as part
 use Rattle.lu_lint.specs.Lint as lint
-use Rattle.lu_lint.specs.Lint.{Lint, end_told, told_at, told_on}
+use Rattle.lu_lint.specs.Lint.{Lint, draft_after, end_told, told_at, told_on}
 use Rattle.lu_lint.specs.Said.{said_faults}
 
 abbrev pub faulty_backs : Faulty → List ℕ → LangFaultKind → List ℕ
@@ -59,6 +59,15 @@ left_by f line lines fault = lint.left_by mend_faulty f line lines fault
 abbrev pub read_or_left : {E : Type 0} → Result Declarations E → Faulty → ReadComponent
 read_or_left (Ok c) left = read.Sound c
 read_or_left (Err e) left = read.Faulty left
+
+-- what the lines of a component leave, each read as it was meant
+abbrev pub faulty_of_lines : List (List ℕ) → Faulty
+faulty_of_lines lines = draft_after component_lint component_lint.grammar.nothing lines
+
+-- what these lines are read as, each as it was meant
+abbrev pub read_of_lines : List (List ℕ) → ReadComponent
+read_of_lines lines =
+    read_or_left (meaning_of_lines component_lint.grammar lines) (faulty_of_lines lines)
 
 -- what is declared at the end of the text; or the draft, where its end has a fault
 abbrev pub declared_or_left : Drafted → Result Declarations LangFaultKind

@@ -8,7 +8,7 @@ use Rattle.lu_test.specs.ScheduleText.{schedule_of}
 use Rattle.lu_lint.specs.Schedule.{AgreeOn, schedule_faults}
 use Rattle.lu_lint.specs.Lint.{AgreeOnText, faults_in}
 use Rattle.lu_lint.specs.Component.{component_lint}
-use Rattle.lu_lint.specs.Matrix.{matrix_lint}
+use Rattle.lu_lint.specs.Matrix.{lint_of}
 
 -- a component's text has no fault exactly where the reader reads it; else the first is the reader's
 abbrev pub ComponentAgrees : Type 0
@@ -19,7 +19,7 @@ ComponentAgrees =
 -- the same for a matrix of any component
 abbrev pub MatrixAgrees : Type 0
 MatrixAgrees = (c : Declarations) (text : List ℕ)
-    → AgreeOnText (meaning_of (matrix_grammar c) text) (faults_in (matrix_lint c None) text)
+    → AgreeOnText (meaning_of (matrix_grammar c) text) (faults_in (lint_of c) text)
 
 -- the same for a schedule
 abbrev pub ScheduleAgrees : Type 0

@@ -5,7 +5,6 @@ use Rattle.std.specs.List.{filter_map}
 use Rattle.lu_text.specs.declared.fault.Fault.{Fault as Refused}
 use Rattle.lu_text.specs.declared.fault.Fault.TheVariants.{At, Memory}
 use Rattle.lu_text.specs.Faults.{meaning_of}
-use Rattle.lu_text.specs.Lines.{kept_lines}
 use Rattle.lu_lang.specs.declared.fault.LangFaultKind.{LangFaultKind}
 use Rattle.lu_lang.specs.declared.fault.LangFaultKind.TheVariants.{Name}
 use Rattle.lu_lang.specs.Grammar.{component_grammar}
@@ -28,7 +27,8 @@ use Rattle.lu_lint.specs.declared.remark.Cause.TheVariants.{Fault}
 use Rattle.lu_lint.specs.declared.remark.FaultKind.TheVariants as part
 use Rattle.lu_lint.specs.declared.third.Third.{Third}
 use Rattle.lu_lint.specs.declared.third.Third.TheVariants.{Specification, Report, History, Schedule}
-use Rattle.lu_lint.specs.Bundle.{IsSaidOf, component_read, matrix_read, parts_by_meant}
+use Rattle.lu_text.specs.Bundle.{meant_parts}
+use Rattle.lu_lint.specs.Bundle.{IsSaidOf, component_read, matrix_read}
 use Rattle.lu_lint.specs.Schedule.{AgreeOn}
 use Rattle.lu_lint.specs.Third.{third_of}
 
@@ -165,4 +165,4 @@ PartsLeast (component ∷ matrix ∷ parts) said =
 abbrev pub ReadersAreLeast : Type 0
 ReadersAreLeast =
     (bound : ℕ) (bundle : List ℕ) (said : List Said) → IsSaidOf bound bundle said
-    → PartsLeast (parts_by_meant (kept_lines bundle)) said
+    → PartsLeast (meant_parts bundle) said

@@ -1,7 +1,7 @@
 pub mod Items
 pub mod Lint
 pub mod Component
-pub mod Outline
+pub mod Signatures
 pub mod Matrix
 pub mod Said
 pub mod Messages

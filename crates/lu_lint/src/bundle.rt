@@ -1,94 +1,28 @@
-//! The parts of a bundle.
+//! The lines between the parts of a bundle.
 
-ghost use Rattle.std.specs.Prelude.{◌≡◌, ◌==◌, ◌||◌, IfOk};
-ghost use Rattle.lu_text.specs.Lines as lines;
-ghost use Rattle.lu_text.specs.Lines.{kept_lines, texts};
+ghost use Rattle.std.specs.Prelude.{◌≡◌, IfOk};
+ghost use Rattle.lu_text.specs.Lines.{texts};
 ghost use Rattle.lu_lint.specs.Bundle as spec;
-ghost use Rattle.lu_lint.specs.Bundle.{parts_by_meant, separators_from};
+ghost use Rattle.lu_lint.specs.Bundle.{separators_from};
 ghost use Rattle.lu_lint.specs.Said as said;
 ghost use Rattle.lu_lint.specs.Said.{SaysAlso};
 
 use crate::remark::{Cause, Remark, Said, line_below, with_remark};
-use lu_text::cut_line;
+use lu_text::{is_meant_as_separator, is_separator, kept_lines};
 use std::alloc::{AllocError, Global};
-
-fn is_separator(line: &[u8]) -> bool
-    ensures { result ≡ spec.is_separator line.now }
-{
-    line == b"---\n".as_slice() || line == b"---".as_slice()
-}
-
-fn is_blank(byte: u8) -> bool
-    ensures { result ≡ (lines.is_blank byte || byte == 10) }
-{
-    matches!(byte, b' ' | b'\t' | b'\r' | b'\n')
-}
-
-fn are_blank(bytes: &[u8]) -> bool
-    ensures { result ≡ spec.are_blank bytes.now }
-{
-    bytes.iter().all(|byte| is_blank(*byte))
-}
-
-/// Whether a line is `---` with nothing but blanks behind it.
-fn is_meant_to_part(line: &[u8]) -> bool
-    ensures { result ≡ spec.is_meant_to_part line.now }
-{
-    match line.strip_prefix(b"---") {
-        None => false,
-        Some(rest) => are_blank(rest),
-    }
-}
 
 /// Whether a line is meant to part, and parts nothing.
 fn is_blurred(line: &[u8]) -> bool
     ensures { result ≡ spec.is_blurred line.now }
 {
-    is_meant_to_part(line) && !is_separator(line)
-}
-
-/// The lines of a text, each with its LF.
-pub(crate) fn kept_in(alloc: Global, text: &[u8]) -> Result<Vec<&[u8]>, AllocError>
-    ensures { IfOk result (λ lines. texts lines.items ≡ kept_lines text.now) }
-{
-    let mut lines = Vec::new(alloc);
-    let mut rest = text;
-    while !rest.is_empty() {
-        let (line, after) = cut_line(rest);
-        lines.push(line)?;
-        rest = after;
-    }
-    Ok(lines)
-}
-
-/// The parts between the lines that part or are meant to.
-pub(crate) fn parts_in(alloc: Global, text: &[u8]) -> Result<Vec<&[u8]>, AllocError>
-    ensures { IfOk result (λ parts. texts parts.items ≡ parts_by_meant (kept_lines text.now)) }
-{
-    let mut parts = Vec::new(alloc);
-    let mut part = text;
-    let mut size = 0;
-    let mut rest = text;
-    while !rest.is_empty() {
-        let (line, after) = cut_line(rest);
-        if is_meant_to_part(line) {
-            parts.push(&part[..size])?;
-            part = after;
-            size = 0;
-        } else {
-            size = part.len() - after.len();
-        }
-        rest = after;
-    }
-    parts.push(part)?;
-    Ok(parts)
+    is_meant_as_separator(line) && !is_separator(line)
 }
 
 /// The number of lines of the bundle before the part behind this one.
 pub(crate) fn above_next(alloc: Global, above: usize, part: &[u8]) -> Result<usize, AllocError>
     ensures { IfOk result (λ n. n ≡ said.above_next above part.now) }
 {
-    let lines = kept_in(alloc, part)?;
+    let lines = kept_lines(alloc, part)?;
     Ok(line_below(above, lines.len() + 1))
 }
 

@@ -7,13 +7,13 @@ ghost use Rattle.lu_lint.specs.Said.{SaysAlso, said_told};
 ghost use Rattle.lu_lint.specs.Third as spec;
 ghost use Rattle.lu_lint.specs.declared.remark.FaultKind.TheVariants as part;
 
-use crate::bundle::{above_next, kept_in};
+use crate::bundle::above_next;
 use crate::recorded_wording::recorded_wording;
 use crate::remark::{Cause, FaultKind, Remark, Said, line_below, with_remark};
 use crate::third::line_of;
 use lu_recorded::{RecordedFaultKind, read_recorded};
 use lu_test::Matrix;
-use lu_text::Fault;
+use lu_text::{Fault, kept_lines};
 use std::alloc::{AllocError, Global};
 
 /// What is said of a fault of a recorded history.
@@ -38,7 +38,7 @@ fn with_fault(
 ) -> Result<Vec<Remark>, AllocError>
     ensures { SaysAlso result all (said_told part.History above (lint.told_here line kind) ∷ []) }
 {
-    let lines = kept_in(alloc, text)?;
+    let lines = kept_lines(alloc, text)?;
     let words = recorded_wording(alloc, matrix, kind, line_of(&lines, line))?;
     with_remark(all, said(above, kind, line), words)
 }

@@ -8,13 +8,14 @@ ghost use Rattle.lu_lint.specs.Messages.{remarks_text};
 ghost use Rattle.lu_lint.specs.Said as said;
 ghost use Rattle.lu_lint.specs.Said.{SaysSuch, said_of};
 
-use crate::bundle::{above_next, kept_in, parts_in, with_separators};
+use crate::bundle::{above_next, with_separators};
 use crate::component::{ReadComponent, with_component};
 use crate::further::with_further;
 use crate::matrix::with_matrix;
 use crate::remark::Remark;
 use crate::runs::with_runs;
 use crate::writing::write_remarks;
+use lu_text::{kept_lines, meant_parts};
 use std::alloc::{AllocError, Global};
 
 /// What lint says of a bundle.
@@ -112,8 +113,8 @@ fn remarks_on(alloc: Global, bundle: &[u8], serial: u16) -> Result<Vec<Remark>, 
     requires few { serial ≤ 256 }
     ensures { IfOk result (λ all. BundleSaid serial bundle.now (said_of all.items)) }
 {
-    let lines = kept_in(alloc, bundle)?;
-    let parts = parts_in(alloc, bundle)?;
+    let lines = kept_lines(alloc, bundle)?;
+    let parts = meant_parts(alloc, bundle)?;
     let all = with_separators(alloc, Vec::new(alloc), &lines)?;
     let all = with_parts(alloc, all, serial, &parts)?;
     Ok(all)
@@ -128,7 +129,7 @@ fn have_fault(remarks: &[Remark]) -> bool
 
 /// Every fault of a bundle, in words: of its component, of its matrix, of the parts behind these,
 /// and of the lines between its parts. Behind a component with faults the matrix is judged by the
-/// operations that its lines were to declare.
+/// signatures of the operations that its lines were to declare.
 ///
 /// A third part is a specification where it begins with `lineup spec`, else a report where it
 /// begins with `lineup`, else a recorded history where its first word is `call`, `return` or

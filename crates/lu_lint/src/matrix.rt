@@ -1,29 +1,28 @@
 //! The faults of a matrix's text.
 
-ghost use Rattle.std.specs.Prelude.{◌≡◌, IfOk, IfSome, OnOk, []};
+ghost use Rattle.std.specs.Prelude.{◌≡◌, IfOk, IfSome, []};
 ghost use Rattle.std.specs.Option.{unwrap_or};
-ghost use Rattle.lu_component.specs.Component.{IsComponent};
 ghost use Rattle.lu_lint.specs.Lint.{told_here};
 ghost use Rattle.lu_lint.specs.Matrix as spec;
-ghost use Rattle.lu_lint.specs.Matrix.{fault_said, judged_by, lint_on};
+ghost use Rattle.lu_lint.specs.Matrix.{FitsBy, LintsMatrixLines, fault_said, lint_of};
 ghost use Rattle.lu_lint.specs.Bundle.{LintsMatrix, said_behind_faulty};
 ghost use Rattle.lu_lint.specs.Runs.{AreTest};
-ghost use Rattle.lu_lint.specs.Said.{LintsLines, LintsText, SaysAlso, said_told};
+ghost use Rattle.lu_lint.specs.Said.{LintsText, SaysAlso, said_told};
 ghost use Rattle.lu_lint.specs.declared.remark.FaultKind.TheVariants as part;
 ghost use Rattle.lu_text.specs.Faults.{fault_in, going_on};
 ghost use Rattle.lu_test.specs.Matrix.{IsOf};
-ghost use Rattle.lu_test.specs.MatrixText.{IsDraft, finished, nothing, matrix_of as left_matrix};
-ghost use Rattle.lu_text.specs.Lines.{texts};
+ghost use Rattle.lu_test.specs.MatrixText.{AreFew, CanRead, IsDraft, finished, line_of, nothing, matrix_of as left_matrix};
+ghost use Rattle.lu_text.specs.Lines.{lines_of as lines_in, texts};
 
 use crate::component::ReadComponent;
 use crate::matrix_wording::{end_wording, matrix_wording};
-use crate::outline::{outline, sure_line};
 use crate::remark::{
     Cause, FaultKind, Position, Remark, Said, line_below, with_remark, with_words,
 };
-use lu_component::Component;
+use crate::signatures::signatures_meant;
+use lu_component::{Component, MOST_OPS};
 use lu_lang::FaultyDraft;
-use lu_test::{Calls, Draft, Matrix, MatrixFaultKind, end_fault, mended};
+use lu_test::{Calls, Draft, Matrix, MatrixFaultKind, Signature, end_fault, mended, signatures_of};
 use lu_text::lines_of;
 use std::alloc::{AllocError, Global};
 
@@ -47,16 +46,6 @@ fn said(above: usize, kind: MatrixFaultKind, line: usize) -> Said
     }
 }
 
-/// What a matrix is judged by.
-#[derive(Clone, Copy, Drop)]
-pub(crate) struct Basis<'a> {
-    /// The component, or one with the operations of a component with faults.
-    pub component: &'a Component,
-
-    /// What the lines of a component with faults left.
-    pub faulty: Option<&'a FaultyDraft>,
-}
-
 /// A line, and the draft before it.
 #[derive(Clone, Copy, Drop)]
 struct Next<'a> {
@@ -64,51 +53,26 @@ struct Next<'a> {
     text: &'a [u8],
 }
 
-/// The words for a fault of a line, as it is judged.
-fn words_of_fault(
+/// The draft after one more line, and no fault; or the draft before it, and what is wrong with the
+/// line.
+fn read_line(
     alloc: Global,
-    basis: &Basis<'_>,
-    next: Next<'_>,
-    kind: MatrixFaultKind,
-) -> Result<String, AllocError> {
-    match basis.faulty {
-        None => matrix_wording(alloc, basis.component, next.draft, kind, next.text),
-        Some(faulty) => {
-            let line = sure_line(alloc, faulty, next.text)?;
-            matrix_wording(alloc, basis.component, next.draft, kind, &line)
-        }
-    }
-}
-
-/// The draft after one more line, as it is judged, and no fault; or the draft before it, and what
-/// is wrong with the line.
-#[tactic(auto, unfolding(crate::specs::Matrix::judged_line))]
-fn judged(
-    alloc: Global,
-    basis: &Basis<'_>,
+    signatures: &[Signature<'_>],
     mut draft: Draft,
     text: &[u8],
 ) -> Result<(Draft, Option<MatrixFaultKind>), AllocError>
-    requires { IsDraft draft }
-    ensures judged { IfOk result (λ r.
-        r ≡ going_on draft (judged_by basis.now draft text.now)) }
-    ensures sound { OnOk result (IsComponent basis.now.component.now) }
+    requires { CanRead signatures.now draft }
+    ensures { IfOk result (λ r.
+        r ≡ going_on draft (line_of signatures.now draft text.now)) }
 {
-    let operations = basis.component.operations();
-    let fault = match basis.faulty {
-        None => draft.line(alloc, operations, text)?,
-        Some(faulty) => {
-            let line = sure_line(alloc, faulty, text)?;
-            draft.line(alloc, operations, &line)?
-        }
-    };
+    let fault = draft.line(alloc, signatures, text)?;
     Ok((draft, fault))
 }
 
 /// The remarks with that on this line, where it has a fault.
 fn with_line(
     alloc: Global,
-    basis: &Basis<'_>,
+    signatures: &[Signature<'_>],
     all: Vec<Remark>,
     at: &Position,
     next: Next<'_>,
@@ -119,7 +83,7 @@ fn with_line(
     match fault {
         None => Ok(all),
         Some(kind) => {
-            let words = words_of_fault(alloc, basis, next, kind)?;
+            let words = matrix_wording(alloc, signatures, next.draft, kind, next.text)?;
             with_remark(all, said(at.above, kind, at.line), words)
         }
     }
@@ -168,14 +132,22 @@ fn setup_calls(alloc: Global, setup: Option<Calls>) -> Calls
     }
 }
 
+/// What lines leave, and whether they have no fault.
+#[derive(Drop)]
+pub(crate) struct LeftLines {
+    pub draft: Draft,
+    pub sound: bool,
+}
+
 /// The matrix of the component that lines without a fault, or with some, left, where there is none,
 /// nor one of the end of the text.
-fn matrix_of(alloc: Global, component: &Component, draft: Draft, sound: bool) -> Option<Matrix>
-    requires limits { IsDraft draft }
-    requires fits { IsOf (left_matrix draft) component.now }
-    ensures read { result ≡ spec.matrix_if draft sound }
+fn matrix_of(alloc: Global, component: &Component, left: LeftLines) -> Option<Matrix>
+    requires limits { IsDraft left.draft }
+    requires fits { IsOf (left_matrix left.draft) component.now }
+    ensures read { result ≡ spec.matrix_if left.draft left.sound }
     ensures fits { IfSome result (λ matrix. IsOf matrix component.now) }
 {
+    let LeftLines { draft, sound } = left;
     if !sound || end_fault(&draft).is_some() {
         return None;
     }
@@ -183,16 +155,18 @@ fn matrix_of(alloc: Global, component: &Component, draft: Draft, sound: bool) ->
     Matrix::new(component, setup_calls(alloc, setup), threads)
 }
 
-/// The remarks with those on these lines of a matrix, and the matrix, where they have no fault.
+/// The remarks with those on these lines of a matrix, whose calls are judged by these signatures,
+/// and what the lines leave.
 fn read_lines(
     alloc: Global,
-    basis: &Basis<'_>,
+    signatures: &[Signature<'_>],
     mut all: Vec<Remark>,
     above: usize,
     lines: &[&[u8]],
-) -> Result<(Vec<Remark>, Option<Matrix>), AllocError>
-    ensures said { LintsLines result all (lint_on basis.now) above (texts lines.now) }
-    ensures fits { IfOk result (λ (all, read). IfSome read (λ m. IsOf m basis.now.component.now)) }
+) -> Result<(Vec<Remark>, LeftLines), AllocError>
+    requires { AreFew signatures.now }
+    ensures said { LintsMatrixLines result all signatures.now above (texts lines.now) }
+    ensures fits { IfOk result (λ (all, left). FitsBy signatures.now left.draft) }
 {
     let mut draft = no_lines(alloc);
     let mut sound = true;
@@ -203,10 +177,10 @@ fn read_lines(
             line: before + 1,
             seen,
         };
-        let (read, fault) = judged(alloc, basis, draft, text)?;
+        let (read, fault) = read_line(alloc, signatures, draft, text)?;
         sound &= fault.is_none();
         let next = Next { draft: &read, text };
-        all = with_line(alloc, basis, all, &at, next, fault)?;
+        all = with_line(alloc, signatures, all, &at, next, fault)?;
         draft = left_by(alloc, read, fault, text)?;
         seen = with_words(alloc, at.seen, before + 1, text)?;
     }
@@ -216,26 +190,28 @@ fn read_lines(
         seen,
     };
     let all = with_end(alloc, all, &at, &draft)?;
-    Ok((all, matrix_of(alloc, basis.component, draft, sound)))
+    Ok((all, LeftLines { draft, sound }))
 }
 
-/// The remarks with those on the text of a matrix, and the matrix, where it has no fault.
+/// The remarks with those on the text of a matrix, whose calls are judged by these signatures, and
+/// what its lines leave.
 fn read_text(
     alloc: Global,
-    basis: &Basis<'_>,
+    signatures: &[Signature<'_>],
     all: Vec<Remark>,
     above: usize,
     text: &[u8],
-) -> Result<(Vec<Remark>, Option<Matrix>), AllocError>
-    ensures said { LintsText result all (lint_on basis.now) above text.now }
-    ensures fits { IfOk result (λ (all, read). IfSome read (λ m. IsOf m basis.now.component.now)) }
+) -> Result<(Vec<Remark>, LeftLines), AllocError>
+    requires { AreFew signatures.now }
+    ensures said { LintsMatrixLines result all signatures.now above (lines_in text.now) }
+    ensures fits { IfOk result (λ (all, left). FitsBy signatures.now left.draft) }
 {
     let lines = lines_of(alloc, text)?;
-    read_lines(alloc, basis, all, above, &lines)
+    read_lines(alloc, signatures, all, above, &lines)
 }
 
-/// The remarks with those on the text of a matrix, by the operations of a component with faults,
-/// where these can be told apart.
+/// The remarks with those on the text of a matrix, by the signatures that a component with faults
+/// was to have, where these are no more than a component may have.
 fn with_matrix_by(
     alloc: Global,
     all: Vec<Remark>,
@@ -245,17 +221,29 @@ fn with_matrix_by(
 ) -> Result<Vec<Remark>, AllocError>
     ensures { SaysAlso result all (said_behind_faulty faulty.now above text.now) }
 {
-    match outline(alloc, &faulty.draft)? {
-        None => Ok(all),
-        Some(component) => {
-            let basis = Basis {
-                component: &component,
-                faulty: Some(faulty),
-            };
-            let (all, _) = read_text(alloc, &basis, all, above, text)?;
-            Ok(all)
-        }
+    let signatures = signatures_meant(alloc, faulty)?;
+    if signatures.len() > MOST_OPS {
+        return Ok(all);
     }
+    let (all, _) = read_text(alloc, &signatures, all, above, text)?;
+    Ok(all)
+}
+
+/// The remarks with those on the text of a matrix of this component, and the matrix, where it has
+/// no fault.
+fn with_matrix_of(
+    alloc: Global,
+    all: Vec<Remark>,
+    component: &Component,
+    above: usize,
+    text: &[u8],
+) -> Result<(Vec<Remark>, Option<Matrix>), AllocError>
+    ensures said { LintsText result all (lint_of component.now) above text.now }
+    ensures fits { IfOk result (λ (all, read). IfSome read (λ m. IsOf m component.now)) }
+{
+    let signatures = signatures_of(alloc, component.operations())?;
+    let (all, left) = read_text(alloc, &signatures, all, above, text)?;
+    Ok((all, matrix_of(alloc, component, left)))
 }
 
 /// The remarks with those on the text of a matrix behind a component, before which `above` lines of
@@ -281,11 +269,7 @@ pub(crate) fn with_matrix(
             Ok((all, None))
         }
         ReadComponent::Sound(component) => {
-            let basis = Basis {
-                component,
-                faulty: None,
-            };
-            let (all, read) = read_text(alloc, &basis, all, above, text)?;
+            let (all, read) = with_matrix_of(alloc, all, component, above, text)?;
             Ok((all, read))
         }
     }

@@ -2,9 +2,8 @@
 
 use crate::near::{is_near, near};
 use crate::wording::{hint, is_register, shown, unknown_byte};
-use lu_component::{Component, Op};
-use lu_test::{Draft, MatrixFaultKind};
-use lu_text::{before_comment, has_name_form, parts_of, value_in, words_of};
+use lu_test::{Draft, MatrixFaultKind, Signature};
+use lu_text::{Name, before_comment, has_name_form, parts_of, value_in, words_of};
 use std::alloc::{AllocError, Global};
 
 /// The words of a call: those of a part, without the line's first word.
@@ -23,8 +22,8 @@ fn call_words<'a>(
     }
 }
 
-fn operation<'a>(component: &'a Component, name: &[u8]) -> Option<&'a Op> {
-    component.operations().iter().find(|op| op.name.is(name))
+fn signature<'a, 'b>(signatures: &'a [Signature<'b>], name: &[u8]) -> Option<&'a Signature<'b>> {
+    signatures.iter().find(|signature| signature.is(name))
 }
 
 /// The first word of a matrix's line for which this may be a slip.
@@ -60,23 +59,27 @@ fn form(alloc: Global, draft: &Draft, first: &[u8], is_empty: bool) -> Result<St
 }
 
 /// The operations that there are, parted by commas.
-fn names(alloc: Global, component: &Component) -> Result<String, AllocError> {
+fn names(alloc: Global, signatures: &[Signature<'_>]) -> Result<String, AllocError> {
     let mut out = String::new(alloc);
-    for op in component.operations() {
+    for signature in signatures {
         if !out.is_empty() {
             out.push_str(", ")?;
         }
-        out.push_str(op.name.as_str())?;
+        out.push_str(signature.name.as_str())?;
     }
     Ok(out)
 }
 
-fn no_operation(alloc: Global, component: &Component, name: &[u8]) -> Result<String, AllocError> {
+fn no_operation(
+    alloc: Global,
+    signatures: &[Signature<'_>],
+    name: &[u8],
+) -> Result<String, AllocError> {
     let said = shown(name);
-    match near(component.operations(), name) {
+    match near(signatures, name) {
         Some(near) => format!(in alloc; "the component has no operation {said}; is it {near}?"),
         None => {
-            let names = names(alloc, component)?;
+            let names = names(alloc, signatures)?;
             format!(in alloc; "the component has no operation {said}; it has {names}")
         }
     }
@@ -87,8 +90,8 @@ fn counted(count: usize, one: &'static str, many: &'static str) -> &'static str 
     if count == 1 { one } else { many }
 }
 
-fn arguments(alloc: Global, op: &Op, given: usize) -> Result<String, AllocError> {
-    let (name, takes) = (op.name.as_str(), op.args);
+fn arguments(alloc: Global, name: &Name, takes: u8, given: usize) -> Result<String, AllocError> {
+    let name = name.as_str();
     let many = counted(usize::from(takes), "argument", "arguments");
     let are = counted(given, "is", "are");
     format!(in alloc; "{name} takes {takes} {many}, here {are} {given}")
@@ -106,10 +109,24 @@ fn no_number(alloc: Global, word: &[u8]) -> Result<String, AllocError> {
     )
 }
 
+/// How many arguments the operation of this name takes, where that is known.
+fn arity<'a>(signatures: &[Signature<'a>], name: &[u8]) -> Option<(&'a Name, u8)> {
+    let signature = signature(signatures, name)?;
+    Some((signature.name, signature.arity?))
+}
+
+/// The words for the first of these that is no number, where one is none.
+fn of_numbers(alloc: Global, words: &[&[u8]]) -> Result<Option<String>, AllocError> {
+    match words.iter().find(|word| value_in(word).is_none()) {
+        Some(word) => Ok(Some(no_number(alloc, word)?)),
+        None => Ok(None),
+    }
+}
+
 /// The words for the first call that has a fault of this kind, where one has.
 fn of_call(
     alloc: Global,
-    component: &Component,
+    signatures: &[Signature<'_>],
     kind: MatrixFaultKind,
     words: &[&[u8]],
 ) -> Result<Option<String>, AllocError> {
@@ -117,18 +134,18 @@ fn of_call(
         return Ok(None);
     };
     match kind {
-        MatrixFaultKind::UnknownOp => match operation(component, name) {
+        MatrixFaultKind::UnknownOp => match signature(signatures, name) {
             Some(_) => Ok(None),
-            None => Ok(Some(no_operation(alloc, component, name)?)),
+            None => Ok(Some(no_operation(alloc, signatures, name)?)),
         },
-        MatrixFaultKind::Arguments => match operation(component, name) {
-            Some(op) if usize::from(op.args) != rest.len() => {
-                Ok(Some(arguments(alloc, op, rest.len())?))
+        MatrixFaultKind::Arguments => match arity(signatures, name) {
+            Some((name, takes)) if usize::from(takes) != rest.len() => {
+                Ok(Some(arguments(alloc, name, takes, rest.len())?))
             }
             _ => Ok(None),
         },
-        _ => match rest.iter().find(|word| value_in(word).is_none()) {
-            Some(word) => Ok(Some(no_number(alloc, word)?)),
+        _ => match arity(signatures, name) {
+            Some(_) => of_numbers(alloc, rest),
             None => Ok(None),
         },
     }
@@ -136,13 +153,13 @@ fn of_call(
 
 fn of_calls(
     alloc: Global,
-    component: &Component,
+    signatures: &[Signature<'_>],
     kind: MatrixFaultKind,
     parts: &[&[u8]],
 ) -> Result<String, AllocError> {
     for (number, part) in parts.iter().enumerate() {
         let words = call_words(alloc, number, part)?;
-        if let Some(said) = of_call(alloc, component, kind, &words)? {
+        if let Some(said) = of_call(alloc, signatures, kind, &words)? {
             return Ok(said);
         }
     }
@@ -184,7 +201,7 @@ fn first_word<'a>(words: &[&'a [u8]]) -> &'a [u8] {
 /// The words for a fault of this kind on a line, behind this draft.
 pub(crate) fn matrix_wording(
     alloc: Global,
-    component: &Component,
+    signatures: &[Signature<'_>],
     draft: &Draft,
     kind: MatrixFaultKind,
     text: &[u8],
@@ -196,7 +213,7 @@ pub(crate) fn matrix_wording(
         MatrixFaultKind::Byte => unknown_byte(alloc, text),
         MatrixFaultKind::Form => form(alloc, draft, word, first.is_empty()),
         MatrixFaultKind::Limit => limit(alloc, draft, word, parts.len()),
-        _ => of_calls(alloc, component, kind, &parts),
+        _ => of_calls(alloc, signatures, kind, &parts),
     }
 }
 

@@ -2,6 +2,7 @@
 
 use lu_component::{Array, Op};
 use lu_lang::Label;
+use lu_test::Signature;
 use lu_text::Name;
 
 /// How many bytes two words have in common before they differ.
@@ -53,6 +54,12 @@ impl HasName for Array {
 }
 
 impl HasName for Op {
+    fn name(&self) -> &str {
+        self.name.as_str()
+    }
+}
+
+impl HasName for Signature<'_> {
     fn name(&self) -> &str {
         self.name.as_str()
     }

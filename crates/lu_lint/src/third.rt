@@ -8,7 +8,6 @@ ghost use Rattle.lu_lint.specs.declared.third.Third.TheVariants.{History};
 ghost use Rattle.lu_lint.specs.Third as spec;
 ghost use Rattle.lu_lint.specs.Third.{ReportSaid, SpecificationSaid, ThirdSaid};
 
-use crate::bundle::kept_in;
 use crate::histories::with_histories;
 use crate::remark::{Cause, FaultKind, Remark, Said, line_below, with_remark};
 use crate::schedule::with_schedule;
@@ -16,7 +15,7 @@ use crate::third_wording::{report_wording, specification_wording};
 use lu_report::{ReportFaultKind, ReportLineFault, report_faults};
 use lu_spec::{SpecLineFault, given_spec_faults, has_free_entries};
 use lu_test::Matrix;
-use lu_text::{lines_of, words_of};
+use lu_text::{kept_lines, lines_of, words_of};
 use std::alloc::{AllocError, Global};
 
 /// What a third part is to be, as its first words say.
@@ -127,7 +126,7 @@ fn with_report(
 ) -> Result<Vec<Remark>, AllocError>
     ensures { SaysSuch result all (ReportSaid above text.now) }
 {
-    let lines = kept_in(alloc, text)?;
+    let lines = kept_lines(alloc, text)?;
     let faults = report_faults(alloc, &lines)?;
     let all = with_report_faults(alloc, all, above, &lines, &faults)?;
     Ok(all)
@@ -173,7 +172,7 @@ fn with_specification(
 ) -> Result<Vec<Remark>, AllocError>
     ensures { SaysSuch result all (SpecificationSaid matrix.now above text.now) }
 {
-    let lines = kept_in(alloc, text)?;
+    let lines = kept_lines(alloc, text)?;
     let free = has_free_entries(alloc, text)?;
     let faults = given_spec_faults(alloc, matrix, text)?;
     let all = with_specification_faults(alloc, all, matrix, above, free, &lines, &faults)?;

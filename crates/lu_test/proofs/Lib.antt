@@ -2,6 +2,7 @@ pub mod Form
 pub mod Loop
 pub mod Words
 pub mod RoundTrip
+pub mod Signatures
 pub mod Parts
 pub mod CallsSaid
 pub mod Threads

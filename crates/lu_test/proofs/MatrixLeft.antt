@@ -11,7 +11,7 @@ use Rattle.lu_text.proofs.Written.{All-last}
 use Rattle.lu_component.specs.Component.{Declarations}
 use Rattle.lu_test.specs.declared.matrix.Call.{Call}
 use Rattle.lu_test.specs.Matrix.{AreArguments, AreThreads, IsOf, IsCallOf}
-use Rattle.lu_test.specs.MatrixText.{Drafted, IsDraft, is_nothing, matrix_of, parts_in}
+use Rattle.lu_test.specs.MatrixText.{Drafted, HasRoom, IsDraft, is_nothing, matrix_of, parts_in}
 use Rattle.lu_test.specs.MatrixGoing.{with_empty, mend_parts, mend}
 
 -- the limits hold, and the calls are the component's
@@ -50,6 +50,27 @@ parts_kept c d h ((word ∷ words) ∷ parts) = go (bytes_eq word (codes "setup"
       fits = (All-nil (IsCallOf c), h.fits.1);
     }
     go false = empty_kept c d h (nat_le 8 (length d.threads)) refl
+
+-- there is room still
+empty_room : (d : Drafted) → HasRoom d → (b : Bool) → HasRoom (cond b d (record d { threads = d.threads ++ [] ∷ [] }))
+empty_room d h true = h
+empty_room d h false =
+    let none : List Call = [] in
+    let sum : sum_by length (d.threads ++ none ∷ []) ≡ sum_by length d.threads = rw (sum_by-append length d.threads (none ∷ [])) (omega arith) in
+    omega (arith, h, sum)
+
+parts_room : (d : Drafted) → HasRoom d → (parts : List (List Word)) → HasRoom (mend_parts d parts)
+parts_room d h [] = h
+parts_room d h ([] ∷ []) = h
+parts_room d h ([] ∷ part ∷ parts) = empty_room d h (nat_le 8 (length d.threads))
+parts_room d h ((word ∷ words) ∷ parts) = go (bytes_eq word (codes "setup") && is_nothing d)
+  where
+    go : (b : Bool) → HasRoom (cond b (record d { setup = Some [] }) (with_empty d))
+    go true = h
+    go false = empty_room d h (nat_le 8 (length d.threads))
+
+pub mend_room : (d : Drafted) → HasRoom d → (line : List ℕ) → HasRoom (mend d line)
+mend_room d h line = parts_room d h (parts_in line)
 
 pub mend_kept : (c : Declarations) (d : Drafted) → IsKept c d → (line : List ℕ) → IsKept c (mend d line)
 mend_kept c d h line = parts_kept c d h (parts_in line)

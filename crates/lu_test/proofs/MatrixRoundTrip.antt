@@ -1,10 +1,9 @@
 -- What is written of a component's matrix is read as it was.
 use Rattle.std.proofs.Common.{◌≡◌, ℕ, ◌+◌, ◌^◌, ◌<◌, ◌≤◌, Bool, true, false, Option, None, List, [], ◌∷◌, ◌++◌, length, Some, Ok, refl, sym, ap, subst, ◌∙◌, append_assoc, inl, inr, arith}
 use Rattle.std.specs.Prelude.{codes, map, ◌==◌, is_some, slice_get, sum_by, nat_lt, All}
-use Rattle.std.specs.List.{filter_map, flat_map, join_with_byte, list_all, position, slice_split, AllByRecursion}
-use Rattle.std.specs.Str.{bytes_eq}
+use Rattle.std.specs.List.{filter_map, flat_map, join_with_byte, list_all, slice_split, AllByRecursion}
 use Rattle.std.specs.Fmt.{decimal}
-use Rattle.std.specs.Option.{unwrap_or}
+use Rattle.std.specs.Option.{option_map, unwrap_or}
 use Rattle.std.proofs.lemmas.Bool.{and_parts, false_from_ne_true, eqb-true, eq-eqb, ne_eqb, le-ltb, lt-leb}
 use Rattle.std.proofs.lemmas.List.{append-nil, length-append, length-map}
 use Rattle.std.proofs.lemmas.List.Elements.{recursion_from_All}
@@ -22,6 +21,8 @@ use Rattle.lu_component.specs.Component.{Declarations, IsComponent, IsOp}
 use Rattle.lu_component.proofs.Named.{name_has, place_at}
 use Rattle.lu_test.specs.declared.matrix.Call.{Call}
 use Rattle.lu_test.specs.Matrix.{AreArguments, IsMatrix, IsOf, IsCallOf, Matrix}
+use Rattle.lu_test.specs.Signatures.{signature, signature_place, signatures}
+use Rattle.lu_test.proofs.Signatures.{same_place, signature_at}
 use Rattle.lu_test.specs.MatrixText.{Drafted, nothing, matrix_of, has_name, has_operation, has_arguments, has_values, call_of, calls_said, calls_after, calls_fault, is_full, with_thread, with_setup, by_keyword, by_parts, parts_in, line_of, matrix_grammar, operation_name, arguments_text, call_text, others_text, calls_text, line_text, thread_text, setup_text, matrix_text}
 
 -- ---- bytes that part no calls
@@ -74,10 +75,10 @@ number_parts (n ∷ arguments) h = (number_part n (omega (arith, h.0)), number_p
 record IsSaid (c : Declarations) (call : Call) : Type 0 where
   parts : AllByRecursion IsPart (call_words c call)
   joins : join_with_byte 32 (call_words c call) ≡ call_text c.operations call
-  there : has_operation c.operations (call_words c call) ≡ true
-  count : has_arguments c.operations (call_words c call) ≡ true
-  values : has_values (call_words c call) ≡ true
-  again : call_of c.operations (call_words c call) ≡ Some call
+  there : has_operation (signatures c.operations) (call_words c call) ≡ true
+  count : has_arguments (signatures c.operations) (call_words c call) ≡ true
+  values : has_values (signatures c.operations) (call_words c call) ≡ true
+  again : call_of (signatures c.operations) (call_words c call) ≡ Some call
 
 op_names : (c : Declarations) → IsComponent c → AllByRecursion (λ o. IsName o.name) c.operations
 op_names c is = each_weaker (IsOp (length c.arrays) (length c.locks)) (λ o. IsName o.name) (λ o h. h.name) c.operations (recursion_from_All (IsOp (length c.arrays) (length c.locks)) c.operations is.operations)
@@ -92,7 +93,8 @@ is_said c is call fits arguments =
     said : (op : Op) → call.op < length c.operations → slice_get c.operations call.op ≡ Some op → IsSaid c call
     said op within at =
         let small = recursion_from_All (λ n. n < 2 ^ 32) call.args arguments.1 in
-        let place : position (λ o. bytes_eq o.name (operation_name c.operations call.op)) c.operations ≡ Some call.op = place_at (λ o. o.name) c.operations call.op within is.operations_apart in
+        let place : signature_place (signatures c.operations) (operation_name c.operations call.op) ≡ Some call.op = same_place c.operations (operation_name c.operations call.op) ∙ place_at (λ o. o.name) c.operations call.op within is.operations_apart in
+        let sign : slice_get (signatures c.operations) call.op ≡ Some (signature op) = signature_at c.operations call.op ∙ ap (λ (o : Option Op). option_map signature o) at in
         let name = name_has IsName (λ o. o.name) c.operations call.op within (op_names c is) in
         let many : length call.args ≡ op.args = rw at at fits in
         let n : length (map decimal call.args) ≡ length call.args = simp length-map in
@@ -101,9 +103,9 @@ is_said c is call fits arguments =
           parts = (name_part (operation_name c.operations call.op) name.0, number_parts call.args small);
           joins = joined (operation_name c.operations call.op) call.args;
           there = rw place refl;
-          count = rw (place, at) (eq-eqb op.args (length (map decimal call.args)) (omega (arith, n, many)));
-          values = are_values call.args small;
-          again = rw place (ap (λ (ns : List ℕ). let made : Call = record { op = call.op; args = ns } in Some made) numbers);
+          count = rw (place, sign) (eq-eqb op.args (length (map decimal call.args)) (omega (arith, n, many)));
+          values = rw (place, sign) (are_values call.args small);
+          again = rw (place, sign) (ap (λ (ns : List ℕ). let made : Call = record { op = call.op; args = ns } in Some made) numbers);
         }
 
 each_said : (c : Declarations) → IsComponent c → (calls : List Call) → AllByRecursion (IsCallOf c) calls → AllByRecursion (λ call. AreArguments call.args) calls → AllByRecursion (IsSaid c) calls
@@ -189,9 +191,9 @@ line_parts_again c word part (call ∷ calls) h = parts_again (word ∷ call_wor
 after_some : (words : List Word) (parts : List (List Word)) → 0 < length words → calls_after words parts ≡ words ∷ parts
 after_some words parts some = rw (ne_eqb (length words) 0 (λ e. omega arith)) refl
 
-by_line : (c : Declarations) (draft : Drafted) (word : Word) (calls : List Call) → by_parts c.operations draft (line_parts c word calls) ≡ by_keyword c.operations draft word (map (call_words c) calls)
+by_line : (c : Declarations) (draft : Drafted) (word : Word) (calls : List Call) → by_parts (signatures c.operations) draft (line_parts c word calls) ≡ by_keyword (signatures c.operations) draft word (map (call_words c) calls)
 by_line c draft word [] = refl
-by_line c draft word (call ∷ calls) = ap (by_keyword c.operations draft word) (after_some (call_words c call) (map (call_words c) calls) (omega arith))
+by_line c draft word (call ∷ calls) = ap (by_keyword (signatures c.operations) draft word) (after_some (call_words c call) (map (call_words c) calls) (omega arith))
 
 -- ---- a thread
 
@@ -199,34 +201,34 @@ all_named : (c : Declarations) (calls : List Call) → list_all has_name (map (c
 all_named c [] = refl
 all_named c (call ∷ calls) = rw (ne_eqb (length (call_words c call)) 0 (λ e. omega arith), all_named c calls) refl
 
-all_there : (c : Declarations) (calls : List Call) → AllByRecursion (IsSaid c) calls → list_all (has_operation c.operations) (map (call_words c) calls) ≡ true
+all_there : (c : Declarations) (calls : List Call) → AllByRecursion (IsSaid c) calls → list_all (has_operation (signatures c.operations)) (map (call_words c) calls) ≡ true
 all_there c [] h = refl
 all_there c (call ∷ calls) h = rw (h.0.there, all_there c calls h.1) refl
 
-all_counted : (c : Declarations) (calls : List Call) → AllByRecursion (IsSaid c) calls → list_all (has_arguments c.operations) (map (call_words c) calls) ≡ true
+all_counted : (c : Declarations) (calls : List Call) → AllByRecursion (IsSaid c) calls → list_all (has_arguments (signatures c.operations)) (map (call_words c) calls) ≡ true
 all_counted c [] h = refl
 all_counted c (call ∷ calls) h = rw (h.0.count, all_counted c calls h.1) refl
 
-all_values : (c : Declarations) (calls : List Call) → AllByRecursion (IsSaid c) calls → list_all has_values (map (call_words c) calls) ≡ true
+all_values : (c : Declarations) (calls : List Call) → AllByRecursion (IsSaid c) calls → list_all (has_values (signatures c.operations)) (map (call_words c) calls) ≡ true
 all_values c [] h = refl
 all_values c (call ∷ calls) h = rw (h.0.values, all_values c calls h.1) refl
 
-calls_again : (c : Declarations) (calls : List Call) → AllByRecursion (IsSaid c) calls → calls_said c.operations (map (call_words c) calls) ≡ calls
+calls_again : (c : Declarations) (calls : List Call) → AllByRecursion (IsSaid c) calls → calls_said (signatures c.operations) (map (call_words c) calls) ≡ calls
 calls_again c [] h = refl
 calls_again c (call ∷ calls) h = rw h.0.again (ap (λ (rest : List Call). call ∷ rest) (calls_again c calls h.1))
 
 -- nothing is wrong with calls for which there is room
-none_wrong : (c : Declarations) (calls : List Call) (full : Bool) → AllByRecursion (IsSaid c) calls → full ≡ false → calls_fault c.operations (map (call_words c) calls) full ≡ None
+none_wrong : (c : Declarations) (calls : List Call) (full : Bool) → AllByRecursion (IsSaid c) calls → full ≡ false → calls_fault (signatures c.operations) (map (call_words c) calls) full ≡ None
 none_wrong c calls full h room =
     rw (all_named c calls, all_there c calls h, all_counted c calls h, all_values c calls h, room) refl
 
 -- a line that says this of a draft is read so
-line_reads : (c : Declarations) (draft next : Drafted) (word : Word) → IsPart word → (calls : List Call) → AllByRecursion (IsSaid c) calls → by_keyword c.operations draft word (map (call_words c) calls) ≡ Ok next
+line_reads : (c : Declarations) (draft next : Drafted) (word : Word) → IsPart word → (calls : List Call) → AllByRecursion (IsSaid c) calls → by_keyword (signatures c.operations) draft word (map (call_words c) calls) ≡ Ok next
     → Reads (matrix_grammar c) draft (line_text c.operations word calls) next
 unfolding line_of
 line_reads c draft next word part calls h is =
     let bytes = parts_bytes (line_parts c word calls) (parts_are c word part calls h) in
-    let says : line_of c.operations draft (line_of_parts (line_parts c word calls)) ≡ Ok next =
+    let says : line_of (signatures c.operations) draft (line_of_parts (line_parts c word calls)) ≡ Ok next =
     rw (allowed_line _ bytes, line_parts_again c word part calls h) (by_line c draft word calls ∙ is) in
     let whole : line_of_parts (line_parts c word calls) ++ 10 ∷ [] ≡ line_text c.operations word calls =
     ap (λ (line : List ℕ). line ++ 10 ∷ []) (line_joined c word calls h) in
@@ -239,7 +241,7 @@ thread_reads c draft calls h room few all =
     let n : length (map (call_words c) calls) ≡ length calls = simp length-map in
     let free : is_full draft.threads (length (map (call_words c) calls)) ≡ false =
     rw (n, lt-leb 8 (length draft.threads) room, le-ltb 8 (length calls) few, le-ltb 16 (sum_by length draft.threads + length calls) all) refl in
-    let says : with_thread c.operations draft (map (call_words c) calls) ≡ Ok (record draft { threads = draft.threads ++ calls ∷ [] }) =
+    let says : with_thread (signatures c.operations) draft (map (call_words c) calls) ≡ Ok (record draft { threads = draft.threads ++ calls ∷ [] }) =
     rw (none_wrong c calls _ h free, calls_again c calls h) refl in
     line_reads c draft (record draft { threads = draft.threads ++ calls ∷ [] }) (codes "thread") thread_part calls h says
 
@@ -261,7 +263,7 @@ setup_reads c (call ∷ calls) h few =
     let all : List Call = call ∷ calls in
     let n : length (map (call_words c) all) ≡ length all = simp length-map in
     let free : nat_lt 8 (length (map (call_words c) all)) ≡ false = rw (n, le-ltb 8 (length all) few) refl in
-    let says : with_setup c.operations nothing (map (call_words c) all) ≡ Ok (record { setup = Some all; threads = [] }) =
+    let says : with_setup (signatures c.operations) nothing (map (call_words c) all) ≡ Ok (record { setup = Some all; threads = [] }) =
     rw (none_wrong c all _ h free, calls_again c all h) refl in
     line_reads c nothing (record { setup = Some all; threads = [] }) (codes "setup") setup_part all h says
 

@@ -2,6 +2,7 @@ pub mod Schedule
 pub mod Matrix
 pub mod Codes
 pub mod ScheduleText
+pub mod Signatures
 pub mod MatrixText
 pub mod Laws
 pub mod MatrixLines

@@ -3,9 +3,9 @@ use Rattle.std.specs.Prelude.{◌≡◌, ℕ, List, Option, Result, IfOk}
 use Rattle.lu_text.specs.Faults.{going_on}
 use denote.Ref.{Bor, MutBor}
 use denote.Triple.Both.{Both}
-use Rattle.lu_component.specs.declared.component.Op.{Op}
 use Rattle.lu_test.specs.declared.matrix_fault.MatrixFaultKind.{MatrixFaultKind}
 use Rattle.lu_test.specs.MatrixText.{Drafted, all_words, by_parts}
+use Rattle.lu_test.specs.Signatures.{OpSignature}
 
 -- a draft before and after a line
 abbrev pub Changing : Type 0
@@ -19,6 +19,6 @@ Takes draft meant result =
     IfOk result (λ fault. (draft.exit.now, fault) ≡ going_on draft.entry.now meant)
 
 -- what a line says whose first part has these words, and its other parts
-abbrev pub by_words : List Op → Drafted → List (Bor (List ℕ)) → List (Bor (List ℕ))
+abbrev pub by_words : List OpSignature → Drafted → List (Bor (List ℕ)) → List (Bor (List ℕ))
     → Result Drafted MatrixFaultKind
-by_words operations draft words others = by_parts operations draft (all_words words others)
+by_words signatures draft words others = by_parts signatures draft (all_words words others)

@@ -12,51 +12,62 @@ use Rattle.lu_text.specs.Words.{Word}
 use Rattle.lu_text.specs.declared.fault.Fault.{Fault}
 use Rattle.lu_text.specs.Faults.{Grammar, first_fault, meaning_of_lines, or_else, says}
 use Rattle.lu_component.specs.declared.component.Op.{Op}
-use Rattle.lu_component.specs.Component.{Declarations, operation_place}
+use Rattle.lu_component.specs.Component.{Declarations}
 use Rattle.lu_test.specs.declared.matrix.Call.{Call}
 use Rattle.lu_test.specs.declared.matrix_fault.MatrixFaultKind.{MatrixFaultKind}
 use Rattle.lu_test.specs.declared.matrix_fault.MatrixFaultKind.TheVariants.{Byte, Form, UnknownOp, Arguments, Number, Limit}
 use Rattle.lu_test.specs.Matrix.{Matrix, AreThreads, IsSetup}
+use Rattle.lu_test.specs.Signatures.{OpSignature, signature_place, signatures, takes}
 
 -- ---- the words of a call: a name and arguments
 
--- the number of the operation that the first word names
-abbrev pub named_operation : List Op → List Word → Option ℕ
-named_operation operations [] = None
-named_operation operations (name ∷ arguments) = operation_place operations name
+-- the place of the signature that the first word names
+abbrev pub named_operation : List OpSignature → List Word → Option ℕ
+named_operation signatures [] = None
+named_operation signatures (name ∷ arguments) = signature_place signatures name
 
--- the operation itself
-abbrev pub operation_of : List Op → List Word → Option Op
-operation_of operations words =
-    option_and_then (slice_get operations) (named_operation operations words)
+-- the signature itself
+abbrev pub signature_of : List OpSignature → List Word → Option OpSignature
+signature_of signatures words =
+    option_and_then (slice_get signatures) (named_operation signatures words)
 
 abbrev pub has_name : List Word → Bool
 has_name words = not (length words == 0)
 
-abbrev pub has_operation : List Op → List Word → Bool
-has_operation operations words = is_some (named_operation operations words)
+abbrev pub has_operation : List OpSignature → List Word → Bool
+has_operation signatures words = is_some (named_operation signatures words)
 
--- there is the operation, and as many arguments as it has
-abbrev pub has_arguments : List Op → List Word → Bool
-has_arguments operations words =
-    option_map_or (λ op. op.args == length (drop 1 words)) (operation_of operations words) false
+-- there is the operation, and as many arguments as it takes
+abbrev pub has_arguments : List OpSignature → List Word → Bool
+has_arguments signatures words =
+    option_map_or (λ s. takes s.arity (length (drop 1 words))) (signature_of signatures words) false
 
-abbrev pub has_values : List Word → Bool
-has_values words = list_all (λ word. is_some (value_in word)) (drop 1 words)
+-- it is known how many arguments the operation takes
+abbrev pub has_arity : List OpSignature → List Word → Bool
+has_arity signatures words =
+    option_map_or (λ s. is_some s.arity) (signature_of signatures words) false
 
--- the numbers that the words behind the first are
-abbrev pub arguments_in : List Word → List ℕ
-arguments_in words = filter_map value_in (drop 1 words)
+-- the words of the arguments, which are looked at where it is known how many there are to be
+abbrev pub argument_words : List OpSignature → List Word → List Word
+argument_words signatures words = if has_arity signatures words then drop 1 words else []
+
+abbrev pub has_values : List OpSignature → List Word → Bool
+has_values signatures words =
+    list_all (λ word. is_some (value_in word)) (argument_words signatures words)
+
+-- the numbers that these words are
+abbrev pub arguments_in : List OpSignature → List Word → List ℕ
+arguments_in signatures words = filter_map value_in (argument_words signatures words)
 
 -- the call that the words say, where they name an operation
-abbrev pub call_of : List Op → List Word → Option Call
-call_of operations words =
-    option_map (λ number. record { op = number; args = arguments_in words })
-    (named_operation operations words)
+abbrev pub call_of : List OpSignature → List Word → Option Call
+call_of signatures words =
+    option_map (λ number. record { op = number; args = arguments_in signatures words })
+    (named_operation signatures words)
 
 -- the calls that the words of each part say
-abbrev pub calls_said : List Op → List (List Word) → List Call
-calls_said operations parts = filter_map (call_of operations) parts
+abbrev pub calls_said : List OpSignature → List (List Word) → List Call
+calls_said signatures parts = filter_map (call_of signatures) parts
 
 -- ---- lines
 
@@ -81,21 +92,25 @@ matrix_of draft = record { setup = unwrap_or draft.setup []; threads = draft.thr
 abbrev pub IsDraft : Drafted → Type 0
 IsDraft draft = AreThreads draft.threads × IsSetup (matrix_of draft).setup
 
--- no more operations than a component has
-abbrev pub AreFew : List Op → Type 0
-AreFew operations = length operations ≤ 16
+-- no more signatures than a component has operations
+abbrev pub AreFew : List OpSignature → Type 0
+AreFew signatures = length signatures ≤ 16
 
--- the limits hold of the operations and of what is read
-abbrev pub CanRead : List Op → Drafted → Type 0
-CanRead operations draft = AreFew operations × IsDraft draft
+-- no more calls of all threads than a matrix has
+abbrev pub HasRoom : Drafted → Type 0
+HasRoom draft = sum_by length draft.threads ≤ 16
+
+-- the limits hold that the reader counts on
+abbrev pub CanRead : List OpSignature → Drafted → Type 0
+CanRead signatures draft = AreFew signatures × HasRoom draft
 
 -- what is wrong with the calls of a line, for which there is room or not
-abbrev pub calls_fault : List Op → List (List Word) → Bool → Option MatrixFaultKind
-calls_fault operations calls full =
+abbrev pub calls_fault : List OpSignature → List (List Word) → Bool → Option MatrixFaultKind
+calls_fault signatures calls full =
     first_fault ((not (list_all has_name calls), Form)
-    ∷ (not (list_all (has_operation operations) calls), UnknownOp)
-    ∷ (not (list_all (has_arguments operations) calls), Arguments)
-    ∷ (not (list_all has_values calls), Number)
+    ∷ (not (list_all (has_operation signatures) calls), UnknownOp)
+    ∷ (not (list_all (has_arguments signatures) calls), Arguments)
+    ∷ (not (list_all (has_values signatures) calls), Number)
     ∷ (full, Limit) ∷ [])
 
 -- there is no room for one more thread of n calls
@@ -104,35 +119,35 @@ is_full threads n =
     nat_le 8 (length threads) || (nat_lt 8 n || nat_lt 16 (sum_by length threads + n))
 
 -- what is wrong with the calls of one more thread; or the draft with it
-abbrev pub with_thread : List Op → Drafted → List (List Word) → Result Drafted MatrixFaultKind
-with_thread operations draft calls =
-    or_else (calls_fault operations calls (is_full draft.threads (length calls)))
-    (record draft { threads = draft.threads ++ calls_said operations calls ∷ [] })
+abbrev pub with_thread : List OpSignature → Drafted → List (List Word) → Result Drafted MatrixFaultKind
+with_thread signatures draft calls =
+    or_else (calls_fault signatures calls (is_full draft.threads (length calls)))
+    (record draft { threads = draft.threads ++ calls_said signatures calls ∷ [] })
 
 -- what is wrong with the calls of the setup; or the draft with them
-abbrev pub with_setup : List Op → Drafted → List (List Word) → Result Drafted MatrixFaultKind
-with_setup operations draft calls =
-    or_else (calls_fault operations calls (nat_lt 8 (length calls)))
-    (record draft { setup = Some (calls_said operations calls) })
+abbrev pub with_setup : List OpSignature → Drafted → List (List Word) → Result Drafted MatrixFaultKind
+with_setup signatures draft calls =
+    or_else (calls_fault signatures calls (nat_lt 8 (length calls)))
+    (record draft { setup = Some (calls_said signatures calls) })
 
 -- behind the first word stands nothing, or calls
 abbrev pub calls_after : List Word → List (List Word) → List (List Word)
 calls_after words parts = if length words == 0 && length parts == 0 then [] else words ∷ parts
 
 -- the first word is `thread`, or, on the first line with words, `setup`
-abbrev pub by_keyword : List Op → Drafted → Word → List (List Word) → Result Drafted MatrixFaultKind
-by_keyword operations draft word calls =
-    if bytes_eq word (codes "thread") then with_thread operations draft calls
-    else (if bytes_eq word (codes "setup") && is_nothing draft then with_setup operations draft
+abbrev pub by_keyword : List OpSignature → Drafted → Word → List (List Word) → Result Drafted MatrixFaultKind
+by_keyword signatures draft word calls =
+    if bytes_eq word (codes "thread") then with_thread signatures draft calls
+    else (if bytes_eq word (codes "setup") && is_nothing draft then with_setup signatures draft
     calls else Err Form)
 
 -- a line by the words of its parts, between which stands `;`
-abbrev pub by_parts : List Op → Drafted → List (List Word) → Result Drafted MatrixFaultKind
-by_parts operations draft [] = Ok draft
-by_parts operations draft ([] ∷ []) = Ok draft
-by_parts operations draft ([] ∷ part ∷ parts) = Err Form
-by_parts operations draft ((word ∷ words) ∷ parts) =
-    by_keyword operations draft word (calls_after words parts)
+abbrev pub by_parts : List OpSignature → Drafted → List (List Word) → Result Drafted MatrixFaultKind
+by_parts signatures draft [] = Ok draft
+by_parts signatures draft ([] ∷ []) = Ok draft
+by_parts signatures draft ([] ∷ part ∷ parts) = Err Form
+by_parts signatures draft ((word ∷ words) ∷ parts) =
+    by_keyword signatures draft word (calls_after words parts)
 
 -- the words of each of these parts in memory
 abbrev pub words_in : List (Bor (List ℕ)) → List (List Word)
@@ -146,17 +161,22 @@ all_words words others = texts words ∷ words_in others
 abbrev pub parts_in : List ℕ → List (List Word)
 parts_in line = map words_of (slice_split (λ b. b == 59) (before_comment line))
 
-unfoldable pub line_of : List Op → Drafted → List ℕ → Result Drafted MatrixFaultKind
-line_of operations draft line =
-    if list_all is_allowed line then by_parts operations draft (parts_in line) else Err Byte
+unfoldable pub line_of : List OpSignature → Drafted → List ℕ → Result Drafted MatrixFaultKind
+line_of signatures draft line =
+    if list_all is_allowed line then by_parts signatures draft (parts_in line) else Err Byte
 
 -- at the end there is a thread
 abbrev pub finished : Drafted → Result Matrix MatrixFaultKind
 finished draft = says ((length draft.threads == 0, Limit) ∷ []) (matrix_of draft)
 
+-- the text of a matrix, by the signatures of the operations that its calls may name
+abbrev pub grammar_by : List OpSignature → Grammar MatrixFaultKind Drafted Matrix
+grammar_by signatures =
+    record { nothing = nothing; line = line_of signatures; finish = finished }
+
 -- the text of a matrix of a component
 abbrev pub matrix_grammar : Declarations → Grammar MatrixFaultKind Drafted Matrix
-matrix_grammar c = record { nothing = nothing; line = line_of c.operations; finish = finished }
+matrix_grammar c = grammar_by (signatures c.operations)
 
 -- the matrix of these lines, or their first fault
 abbrev pub matrix_said : Declarations → List (List ℕ) → Result Matrix (Fault MatrixFaultKind)

@@ -12,6 +12,7 @@ mod schedule;
 mod schedule_fault;
 mod schedule_going;
 mod schedule_text;
+mod signature;
 
 pub use edits::{copy_call, copy_calls, copy_matrix, cut_to, remove, setup_alone};
 pub use laws::round_trip;
@@ -24,3 +25,4 @@ pub use schedule::{MOST_LISTED_MOVES, Move, Schedule};
 pub use schedule_fault::ScheduleFault;
 pub use schedule_going::schedule_words;
 pub use schedule_text::{move_in, read_schedule, write_schedule};
+pub use signature::{Signature, signatures_of};

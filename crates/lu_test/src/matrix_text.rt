@@ -7,18 +7,20 @@ ghost use Rattle.std.specs.Str.{bytes_eq};
 ghost use Rattle.lu_text.specs.Lines.{texts, words_of};
 ghost use Rattle.lu_text.specs.Numbers.{value_in};
 ghost use Rattle.lu_text.specs.Faults.{Gives, TellsFirst, fault_in, meaning_of};
-ghost use Rattle.lu_component.specs.Component.{operation_place};
-ghost use Rattle.lu_test.specs.Matrix.{AreThreads, IsMatrix, IsOf, IsOfSome};
+ghost use Rattle.lu_component.specs.Component.{IsComponent};
+ghost use Rattle.lu_test.specs.Matrix.{IsMatrix, IsOf, IsOfSome};
 ghost use Rattle.lu_test.specs.MatrixText as spec;
 ghost use Rattle.lu_test.specs.MatrixText.{AreFew, CanRead, IsDraft, by_parts, calls_after, matrix_grammar, with_setup, with_thread, words_in};
 ghost use Rattle.lu_test.specs.MatrixLines.{Takes, by_words};
+ghost use Rattle.lu_test.specs.Signatures.{signatures as spec_signatures};
 ghost use Rattle.lu_text.specs.Results.{Builds, HasItems};
 
 use crate::matrix::{
     Arguments, Call, Calls, MOST_CALLS, MOST_CALLS_OF_THREAD, MOST_THREADS, Matrix,
 };
 use crate::matrix_fault::{MatrixFault, MatrixFaultKind};
-use lu_component::{Component, Op, operation_place};
+use crate::signature::{Signature, signature_place, signatures_of};
+use lu_component::Component;
 use lu_text::{Fault, are_allowed, before_comment, lines_of, parts_of, value_in, words_of};
 use std::alloc::{AllocError, Global};
 use std::marker::Model;
@@ -66,36 +68,60 @@ impl Part<'_> {
     }
 }
 
-/// The number of the operation that a part's first word names.
-fn named_operation(operations: &[Op], part: &Part<'_>) -> Option<usize>
-    ensures { result ≡ spec.named_operation operations.now part.now }
+/// The place of the signature that a part's first word names.
+fn named_operation(signatures: &[Signature<'_>], part: &Part<'_>) -> Option<usize>
+    ensures { result ≡ spec.named_operation signatures.now part.now }
 {
     match part.words.as_slice() {
         [] => None,
-        [name, ..] => operation_place(operations, name),
+        [name, ..] => signature_place(signatures, name),
     }
 }
 
-/// The operation that a part's first word names.
-fn operation_of<'a>(operations: &'a [Op], part: &Part<'_>) -> Option<&'a Op>
-    ensures { option_copied result ≡ spec.operation_of operations.now part.now }
+/// The signature that a part's first word names.
+fn signature_of<'a, 'b>(
+    signatures: &'a [Signature<'b>],
+    part: &Part<'_>,
+) -> Option<&'a Signature<'b>>
+    ensures { option_copied result ≡ spec.signature_of signatures.now part.now }
 {
-    operations.get(named_operation(operations, part)?)
+    signatures.get(named_operation(signatures, part)?)
 }
 
-fn has_operation(operations: &[Op], part: &Part<'_>) -> bool
-    ensures { result ≡ spec.has_operation operations.now part.now }
+fn has_operation(signatures: &[Signature<'_>], part: &Part<'_>) -> bool
+    ensures { result ≡ spec.has_operation signatures.now part.now }
 {
-    named_operation(operations, part).is_some()
+    named_operation(signatures, part).is_some()
 }
 
-/// Whether there are as many arguments as the operation has.
-fn has_arguments(operations: &[Op], part: &Part<'_>) -> bool
-    ensures { result ≡ spec.has_arguments operations.now part.now }
+/// Whether there are as many arguments as the operation takes.
+fn has_arguments(signatures: &[Signature<'_>], part: &Part<'_>) -> bool
+    ensures { result ≡ spec.has_arguments signatures.now part.now }
 {
-    match operation_of(operations, part) {
+    match signature_of(signatures, part) {
         None => false,
-        Some(op) => usize::from(op.args) == part.arguments().len(),
+        Some(signature) => signature.takes(part.arguments().len()),
+    }
+}
+
+/// Whether it is known how many arguments the operation takes.
+fn has_arity(signatures: &[Signature<'_>], part: &Part<'_>) -> bool
+    ensures { result ≡ spec.has_arity signatures.now part.now }
+{
+    match signature_of(signatures, part) {
+        None => false,
+        Some(signature) => signature.arity.is_some(),
+    }
+}
+
+/// The words of the arguments, which are looked at where it is known how many there are to be.
+fn argument_words<'a>(signatures: &[Signature<'_>], part: &'a Part<'_>) -> &'a [&'a [u8]]
+    ensures { texts result.now ≡ spec.argument_words signatures.now part.entry.now }
+{
+    if has_arity(signatures, part) {
+        part.arguments()
+    } else {
+        &[]
     }
 }
 
@@ -105,10 +131,10 @@ fn are_values(words: &[&[u8]]) -> bool
     words.iter().all(|word| value_in(word).is_some())
 }
 
-fn has_values(part: &Part<'_>) -> bool
-    ensures { result ≡ spec.has_values part.now }
+fn has_values(signatures: &[Signature<'_>], part: &Part<'_>) -> bool
+    ensures { result ≡ spec.has_values signatures.now part.now }
 {
-    are_values(part.arguments())
+    are_values(argument_words(signatures, part))
 }
 
 fn all_have_names(parts: &[Part<'_>]) -> bool
@@ -117,22 +143,22 @@ fn all_have_names(parts: &[Part<'_>]) -> bool
     parts.iter().all(|part| part.has_name())
 }
 
-fn all_have_operations(operations: &[Op], parts: &[Part<'_>]) -> bool
-    ensures { result ≡ list_all (spec.has_operation operations.now) parts.now }
+fn all_have_operations(signatures: &[Signature<'_>], parts: &[Part<'_>]) -> bool
+    ensures { result ≡ list_all (spec.has_operation signatures.now) parts.now }
 {
-    parts.iter().all(|part| has_operation(operations, part))
+    parts.iter().all(|part| has_operation(signatures, part))
 }
 
-fn all_have_arguments(operations: &[Op], parts: &[Part<'_>]) -> bool
-    ensures { result ≡ list_all (spec.has_arguments operations.now) parts.now }
+fn all_have_arguments(signatures: &[Signature<'_>], parts: &[Part<'_>]) -> bool
+    ensures { result ≡ list_all (spec.has_arguments signatures.now) parts.now }
 {
-    parts.iter().all(|part| has_arguments(operations, part))
+    parts.iter().all(|part| has_arguments(signatures, part))
 }
 
-fn all_have_values(parts: &[Part<'_>]) -> bool
-    ensures { result ≡ list_all spec.has_values parts.now }
+fn all_have_values(signatures: &[Signature<'_>], parts: &[Part<'_>]) -> bool
+    ensures { result ≡ list_all (spec.has_values signatures.now) parts.now }
 {
-    parts.iter().all(has_values)
+    parts.iter().all(|part| has_values(signatures, part))
 }
 
 /// The numbers that the words are.
@@ -145,25 +171,33 @@ fn values_of(alloc: Global, words: &[&[u8]]) -> Result<Vec<u32>, AllocError>
         .collect(alloc)
 }
 
-fn arguments_of(alloc: Global, part: &Part<'_>) -> Result<Arguments, AllocError>
-    ensures { Builds result (spec.arguments_in part.now) }
+fn arguments_of(
+    alloc: Global,
+    signatures: &[Signature<'_>],
+    part: &Part<'_>,
+) -> Result<Arguments, AllocError>
+    ensures { Builds result (spec.arguments_in signatures.now part.now) }
 {
-    let numbers = values_of(alloc, part.arguments())?;
+    let numbers = values_of(alloc, argument_words(signatures, part))?;
     Ok(Arguments::new(numbers))
 }
 
 /// The calls that the parts say.
-fn calls_said(alloc: Global, operations: &[Op], parts: &[Part<'_>]) -> Result<Vec<Call>, AllocError>
-    requires { AreFew operations.now }
-    ensures { HasItems result (spec.calls_said operations.now parts.now) }
+fn calls_said(
+    alloc: Global,
+    signatures: &[Signature<'_>],
+    parts: &[Part<'_>],
+) -> Result<Vec<Call>, AllocError>
+    requires { AreFew signatures.now }
+    ensures { HasItems result (spec.calls_said signatures.now parts.now) }
 {
     let mut calls = Vec::with_capacity(alloc, parts.len())?;
     for part in parts {
-        match named_operation(operations, part) {
+        match named_operation(signatures, part) {
             None => {}
             Some(number) => calls.push(Call {
                 op: number as u8,
-                args: arguments_of(alloc, part)?,
+                args: arguments_of(alloc, signatures, part)?,
             })?,
         }
     }
@@ -204,7 +238,7 @@ fn total_calls(threads: &[Calls]) -> usize
 
 /// Whether there is no room for one more thread of so many calls.
 fn is_full(threads: &[Calls], calls: usize) -> bool
-    requires { AreThreads threads.now }
+    requires { sum_by length threads.now ≤ 16 }
     ensures { result ≡ spec.is_full threads.now calls }
 {
     threads.len() >= MOST_THREADS
@@ -213,16 +247,20 @@ fn is_full(threads: &[Calls], calls: usize) -> bool
 }
 
 /// What is wrong with the calls of a line, if anything is. `full`: there is no room for them.
-fn calls_fault(operations: &[Op], calls: &[Part<'_>], full: bool) -> Option<MatrixFaultKind>
-    ensures { result ≡ spec.calls_fault operations.now calls.now full }
+fn calls_fault(
+    signatures: &[Signature<'_>],
+    calls: &[Part<'_>],
+    full: bool,
+) -> Option<MatrixFaultKind>
+    ensures { result ≡ spec.calls_fault signatures.now calls.now full }
 {
     if !all_have_names(calls) {
         Some(MatrixFaultKind::Form)
-    } else if !all_have_operations(operations, calls) {
+    } else if !all_have_operations(signatures, calls) {
         Some(MatrixFaultKind::UnknownOp)
-    } else if !all_have_arguments(operations, calls) {
+    } else if !all_have_arguments(signatures, calls) {
         Some(MatrixFaultKind::Arguments)
-    } else if !all_have_values(calls) {
+    } else if !all_have_values(signatures, calls) {
         Some(MatrixFaultKind::Number)
     } else if full {
         Some(MatrixFaultKind::Limit)
@@ -258,16 +296,16 @@ impl Draft {
     fn take_thread(
         &mut self,
         alloc: Global,
-        operations: &[Op],
+        signatures: &[Signature<'_>],
         calls: &[Part<'_>],
     ) -> Result<Option<MatrixFaultKind>, AllocError>
-        requires { CanRead operations.now self.old }
-        ensures { Takes self (with_thread operations.now self.old calls.now) result }
+        requires { CanRead signatures.now self.old }
+        ensures { Takes self (with_thread signatures.now self.old calls.now) result }
     {
         let full = is_full(&self.threads, calls.len());
-        let fault = calls_fault(operations, calls, full);
+        let fault = calls_fault(signatures, calls, full);
         if fault.is_none() {
-            let calls = calls_said(alloc, operations, calls)?;
+            let calls = calls_said(alloc, signatures, calls)?;
             self.threads.push(Calls::new(calls))?;
         }
         Ok(fault)
@@ -277,16 +315,16 @@ impl Draft {
     fn take_setup(
         &mut self,
         alloc: Global,
-        operations: &[Op],
+        signatures: &[Signature<'_>],
         calls: &[Part<'_>],
     ) -> Result<Option<MatrixFaultKind>, AllocError>
-        requires { AreFew operations.now }
-        ensures { Takes self (with_setup operations.now self.old calls.now) result }
+        requires { AreFew signatures.now }
+        ensures { Takes self (with_setup signatures.now self.old calls.now) result }
     {
         let full = calls.len() > MOST_CALLS_OF_THREAD;
-        let fault = calls_fault(operations, calls, full);
+        let fault = calls_fault(signatures, calls, full);
         if fault.is_none() {
-            let calls = calls_said(alloc, operations, calls)?;
+            let calls = calls_said(alloc, signatures, calls)?;
             self.setup = Some(Calls::new(calls));
         }
         Ok(fault)
@@ -296,12 +334,12 @@ impl Draft {
     fn take_words(
         &mut self,
         alloc: Global,
-        operations: &[Op],
+        signatures: &[Signature<'_>],
         words: &[&[u8]],
         more: &[&[u8]],
     ) -> Result<Option<MatrixFaultKind>, AllocError>
-        requires { CanRead operations.now self.old }
-        ensures { Takes self (by_words operations.now self.old words.now more.now) result }
+        requires { CanRead signatures.now self.old }
+        ensures { Takes self (by_words signatures.now self.old words.now more.now) result }
     {
         match words {
             [] => {
@@ -314,10 +352,10 @@ impl Draft {
             [word, rest @ ..] => {
                 if *word == b"thread".as_slice() {
                     let calls = call_parts(alloc, rest, more)?;
-                    self.take_thread(alloc, operations, &calls)
+                    self.take_thread(alloc, signatures, &calls)
                 } else if *word == b"setup".as_slice() && self.is_nothing() {
                     let calls = call_parts(alloc, rest, more)?;
-                    self.take_setup(alloc, operations, &calls)
+                    self.take_setup(alloc, signatures, &calls)
                 } else {
                     Ok(Some(MatrixFaultKind::Form))
                 }
@@ -329,23 +367,23 @@ impl Draft {
     fn take_parts(
         &mut self,
         alloc: Global,
-        operations: &[Op],
+        signatures: &[Signature<'_>],
         parts: &[&[u8]],
     ) -> Result<Option<MatrixFaultKind>, AllocError>
-        requires { CanRead operations.now self.old }
-        ensures { Takes self (by_parts operations.now self.old (words_in parts.now)) result }
+        requires { CanRead signatures.now self.old }
+        ensures { Takes self (by_parts signatures.now self.old (words_in parts.now)) result }
     {
         match parts {
             [] => Ok(None),
             [first, others @ ..] => {
                 let words = words_of(alloc, first)?;
-                self.take_words(alloc, operations, &words, others)
+                self.take_words(alloc, signatures, &words, others)
             }
         }
     }
 
-    /// Takes one more line, of a component with these operations: `None` where it has no fault, and
-    /// else its fault, and the draft is as it was.
+    /// Takes one more line, whose calls may name the operations of these signatures: `None` where it
+    /// has no fault, and else its fault, and the draft is as it was.
     ///
     /// # Errors
     ///
@@ -354,17 +392,17 @@ impl Draft {
     pub fn line(
         &mut self,
         alloc: Global,
-        operations: &[Op],
+        signatures: &[Signature<'_>],
         text: &[u8],
     ) -> Result<Option<MatrixFaultKind>, AllocError>
-        requires { CanRead operations.now self.old }
-        ensures { Takes self (spec.line_of operations.now self.old text.now) result }
+        requires { CanRead signatures.now self.old }
+        ensures { Takes self (spec.line_of signatures.now self.old text.now) result }
     {
         if !are_allowed(text) {
             return Ok(Some(MatrixFaultKind::Byte));
         }
         let parts = parts_of(alloc, b';', before_comment(text))?;
-        self.take_parts(alloc, operations, &parts)
+        self.take_parts(alloc, signatures, &parts)
     }
 }
 
@@ -401,17 +439,25 @@ fn finish(alloc: Global, draft: Draft) -> Result<Matrix, MatrixFaultKind>
     Ok(Matrix::of_calls(setup_of(alloc, draft.setup), draft.threads))
 }
 
-fn read_lines(alloc: Global, component: &Component, lines: &[&[u8]]) -> Result<Matrix, MatrixFault>
+/// The matrix of these lines, whose calls are judged by the signatures of the component's
+/// operations.
+fn read_lines(
+    alloc: Global,
+    component: &Component,
+    signatures: &[Signature<'_>],
+    lines: &[&[u8]],
+) -> Result<Matrix, MatrixFault>
+    requires sound { IsComponent component.now }
+    requires signatures { signatures.now ≡ spec_signatures component.now.operations }
     ensures exact { Gives result (spec.matrix_said component.now (texts lines.now)) }
     ensures of { IfOk result (λ matrix. IsOf matrix component.now) }
 {
-    let operations = component.operations();
     let mut draft = Draft {
         setup: None,
         threads: Vec::new(alloc),
     };
     for (before, text) in lines.iter().enumerate() {
-        if let Some(kind) = draft.line(alloc, operations, text)? {
+        if let Some(kind) = draft.line(alloc, signatures, text)? {
             return Err(Fault::At(kind, before + 1));
         }
     }
@@ -438,5 +484,6 @@ pub fn read_matrix(alloc: Global, component: &Component, text: &[u8]) -> Result<
     ensures of { IfOk result (λ matrix. IsOf matrix component.now) }
 {
     let lines = lines_of(alloc, text)?;
-    read_lines(alloc, component, &lines)
+    let signatures = signatures_of(alloc, component.operations())?;
+    read_lines(alloc, component, &signatures, &lines)
 }

@@ -3,7 +3,7 @@ use Rattle.lu_text.specs.Faults.{meaning_of_lines}
 use Rattle.lu_text.specs.Lines.{texts}
 use Rattle.lu_lint.specs.Component.{component_lint}
 use Rattle.lu_lint.specs.Lint.{draft_after, faults_after}
-use Rattle.lu_lint.specs.Outline.{faulty_of_lines}
+use Rattle.lu_lint.specs.Component.{faulty_of_lines}
 use Rattle.lu_lint.specs.Said.{said_faults, said_of, said_of_lines}
 use Rattle.lu_lint.specs.declared.remark.FaultKind.TheVariants as part
 use Rattle.lu_lint.proofs.WhileSound.{KeepsRules, Reads}

@@ -5,4 +5,4 @@ use Rattle.lu_test.proofs.Parts.{filter_map_texts}
 use Rattle.lu_test.proofs.matrix_text.arguments_of.Goals as goal
 
 pub returns : goal.returns
-returns c = c.new.ensures ∙ (c.in_ok-numbers.ensures ∙ (filter_map_texts value_in c.arguments.result.now ∙ ap (filter_map value_in) c.arguments.ensures))
+returns c = c.new.ensures ∙ (c.in_ok-numbers.ensures ∙ (filter_map_texts value_in c.argument_words.result.now ∙ ap (filter_map value_in) c.argument_words.ensures))

@@ -6,7 +6,7 @@ use Rattle.lu_test.proofs.matrix_text.named_operation.Goals as goal
 
 pub returns-in-len1-up : goal.returns-in-len1-up
 returns-in-len1-up c =
-    let operations = c.args.operations.now in
-    let e = c.operation_place.ensures in
+    let signatures = c.args.signatures.now in
+    let e = c.signature_place.ensures in
     let same = c.as_slice.ensures.value in
-    e ∙ (first_named operations c.as_slice.result.now _ c.in-len1-up.len_at_least ∙ (ap (λ ws. named_operation operations (texts ws)) same ∙ ap (named_operation operations) c.part.view_is))
+    e ∙ (first_named signatures c.as_slice.result.now _ c.in-len1-up.len_at_least ∙ (ap (λ ws. named_operation signatures (texts ws)) same ∙ ap (named_operation signatures) c.part.view_is))

@@ -1,0 +1,118 @@
+//! What the calls of a matrix are judged by where its component has faults.
+
+ghost use Rattle.std.specs.Prelude.{◌≡◌, take};
+ghost use Rattle.lu_text.specs.Results.{HasItems};
+ghost use Rattle.lu_lint.specs.Items.{Extends};
+ghost use Rattle.lu_lint.specs.Signatures as spec;
+
+use lu_component::{MOST_OPS, Op, operation_place};
+use lu_lang::{FaultyDraft, OpenOp};
+use lu_test::Signature;
+use lu_text::Name;
+use std::alloc::{AllocError, Global};
+
+fn is_open_operation(begun: &Option<OpenOp>, name: &[u8]) -> bool
+    ensures { result ≡ spec.is_open_operation begun.now name.now }
+{
+    match begun {
+        None => false,
+        Some(op) => op.name.is(name),
+    }
+}
+
+/// The signature of an operation. How many arguments it takes is not known where a line that begins
+/// it has a fault.
+fn signature_in<'a>(faulty: &FaultyDraft, name: &'a Name, args: u8) -> Signature<'a>
+    ensures { result ≡ spec.signature_in faulty.now.meant name.entry.now args }
+{
+    let arity = if faulty.is_unsure(name.as_bytes()) {
+        None
+    } else {
+        Some(args)
+    };
+    Signature { name, arity }
+}
+
+/// The signatures with that of the open operation.
+fn with_open<'a>(
+    mut signatures: Vec<Signature<'a>>,
+    faulty: &FaultyDraft,
+    begun: &'a Option<OpenOp>,
+) -> Result<Vec<Signature<'a>>, AllocError>
+    ensures { Extends result signatures.entry
+        (spec.open_signature faulty.now.meant begun.entry.now) }
+{
+    match begun {
+        None => Ok(signatures),
+        Some(op) => {
+            signatures.push(signature_in(faulty, &op.name, op.args))?;
+            Ok(signatures)
+        }
+    }
+}
+
+/// The signatures with that of this operation, unless it is named again behind.
+fn with_once<'a>(
+    mut signatures: Vec<Signature<'a>>,
+    faulty: &FaultyDraft,
+    begun: &Option<OpenOp>,
+    op: &'a Op,
+    behind: &[Op],
+) -> Result<Vec<Signature<'a>>, AllocError>
+    ensures { Extends result signatures.entry
+        (spec.signature_once faulty.now.meant begun.now op.entry.now behind.now) }
+{
+    let name = op.name.as_bytes();
+    if operation_place(behind, name).is_some() || is_open_operation(begun, name) {
+        return Ok(signatures);
+    }
+    signatures.push(signature_in(faulty, &op.name, op.args))?;
+    Ok(signatures)
+}
+
+/// Those of these operations and of the open one: of each name the last.
+fn signatures_from<'a>(
+    alloc: Global,
+    faulty: &FaultyDraft,
+    begun: &'a Option<OpenOp>,
+    ops: &'a [Op],
+) -> Result<Vec<Signature<'a>>, AllocError>
+    ensures { HasItems result
+        (spec.signatures_from faulty.now.meant begun.entry.now ops.entry.now) }
+{
+    let mut signatures = Vec::new(alloc);
+    for (before, op) in ops.iter().enumerate() {
+        let (_, behind) = ops.split_at(before + 1);
+        signatures = with_once(signatures, faulty, begun, op, behind)?;
+    }
+    let signatures = with_open(signatures, faulty, begun)?;
+    Ok(signatures)
+}
+
+/// No more operations than a component may have: the first of these.
+#[tactic(auto, using(crate::proofs::Signed::few_taken))]
+fn first_of(ops: &[Op]) -> &[Op]
+    ensures { result.now ≡ take 16 ops.now }
+{
+    if ops.len() > MOST_OPS {
+        &ops[..MOST_OPS]
+    } else {
+        ops
+    }
+}
+
+/// The signatures of the operations that lines with faults were to declare: of the first sixteen
+/// and of the open one, of each name the last.
+///
+/// # Errors
+///
+/// There is no memory for the list.
+pub(crate) fn signatures_meant<'a>(
+    alloc: Global,
+    faulty: &'a FaultyDraft,
+) -> Result<Vec<Signature<'a>>, AllocError>
+    ensures { HasItems result (spec.signatures_meant faulty.entry.now) }
+{
+    let ops = first_of(&faulty.draft.operations);
+    signatures_from(alloc, faulty, &faulty.draft.begun, ops)
+}
