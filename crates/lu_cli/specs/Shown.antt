@@ -21,7 +21,7 @@ use Rattle.lu_cli.specs.Refusals.{Answered}
 use Rattle.lu_cli.specs.Outcomes.{Answer, refused}
 use Rattle.lu_cli.specs.Drawing.{IsDrawn}
 use Rattle.lu_cli.specs.Reading.{ToSchedule, ToParts, ToTold}
-use Rattle.lu_cli.specs.Trace.{IsTraced, IsTracedFromSetup}
+use Rattle.lu_cli.specs.Trace.{IsTraced}
 
 -- ---- the parts of a bundle
 
@@ -92,8 +92,7 @@ IsShownRefusal text refused =
 
 -- the run of the schedule, shown so
 abbrev pub IsRunShown : RunView → Wording → Declarations → Matrix → List Move → Answer → Type 0
-IsRunShown run.Trace = IsTraced
-IsRunShown run.TraceFromSetup = IsTracedFromSetup
+IsRunShown (run.Trace start) = IsTraced start
 IsRunShown run.Picture = IsDrawn
 
 abbrev pub IsTextShown : RunView → Wording → Declarations → Matrix → List ℕ → Answer → Type 0
