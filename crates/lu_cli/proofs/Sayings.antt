@@ -71,7 +71,7 @@ use Rattle.lu_cli.specs.declared.explanation.Presentation.TheVariants.{Words, Pi
 use Rattle.lu_explain.specs.Explanations.{Explained}
 use Rattle.lu_lint.specs.Said.{is_fault}
 use Rattle.std.specs.List.{list_any}
-use Rattle.lu_cli.specs.Drawing.{IsDrawn, IsDrawnExplained}
+use Rattle.lu_cli.specs.Drawing.{IsDrawnExplained}
 use Rattle.lu_cli.specs.declared.explanation.Target.{Target}
 use Rattle.lu_cli.specs.declared.explanation.Target.TheVariants as target
 use Rattle.lu_cli.specs.Explaining.{IsAnswerToExplainAgainst, IsExplainBehind, IsAnswerToExplain, IsExplainedAgainstText, IsExplainedText, ToTarget, is_report, limits_for, view_of}

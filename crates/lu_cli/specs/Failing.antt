@@ -16,7 +16,6 @@ use Rattle.lu_certify.specs.declared.certificate.Certificate.TheVariants.{Linear
 use Rattle.lu_certify.specs.declared.limits.Limits.{Limits}
 use Rattle.lu_certify.specs.Certificates.{IsCertificate}
 use Rattle.lu_cli.specs.declared.failing.View.{View}
-use Rattle.lu_cli.specs.declared.failing.View.TheVariants as view
 use Rattle.lu_cli.specs.declared.failing.View.TheVariants.{Trace, Picture, Explanation, ExplainedPicture}
 use Rattle.lu_cli.specs.declared.failing.RunView.{RunView}
 use Rattle.lu_cli.specs.declared.failing.RunView.TheVariants as run
