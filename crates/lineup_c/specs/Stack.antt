@@ -1,7 +1,7 @@
 -- How much stack a command takes.
 use Rattle.std.specs.Prelude.{ℕ, ◌+◌, ◌*◌, max}
 use Rattle.lu_cli.specs.declared.request.BundleCommand.{BundleCommand}
-use Rattle.lu_cli.specs.declared.request.BundleCommand.TheVariants.{Replay, Trace, TraceFromSetup, Draw, DrawExplained, Explain, ExplainAgainst, Serial, Judge, JudgeAgainst, Conform, Spec, Check, CheckAgainst, Certify, Refute, Shrink, Campaign, CampaignAgainst, Compile}
+use Rattle.lu_cli.specs.declared.request.BundleCommand.TheVariants.{Replay, Trace, Draw, DrawExplained, Explain, ExplainAgainst, Serial, Judge, JudgeAgainst, Conform, Spec, Check, CheckAgainst, Certify, Refute, Shrink, Campaign, CampaignAgainst, Compile}
 use Rattle.lu_cli.specs.declared.request.Request.{Request}
 use Rattle.lu_cli.specs.declared.request.Request.TheVariants.{Help, Lint, Bundle}
 use Rattle.lu_report.specs.Limits.{most_moves}
@@ -15,8 +15,7 @@ stack_within bound serial = 131072 + max (2048 * bound) (8192 * (serial + 1))
 -- the same of a command: by the bounds that it is given, or by the greatest
 abbrev pub stack_of_command : BundleCommand → ℕ
 stack_of_command Replay = stack_within 0 0
-stack_of_command Trace = stack_within most_moves most_moves
-stack_of_command TraceFromSetup = stack_within most_moves most_moves
+stack_of_command (Trace start) = stack_within most_moves most_moves
 stack_of_command Draw = stack_within most_moves most_moves
 stack_of_command (DrawExplained limits) = stack_within most_moves most_moves
 stack_of_command (Explain limits) = stack_within most_moves most_moves

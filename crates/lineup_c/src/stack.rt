@@ -24,8 +24,7 @@ fn stack_of_command(command: &BundleCommand) -> usize
         | BundleCommand::JudgeAgainst
         | BundleCommand::Conform(_)
         | BundleCommand::Spec => stack_within(0, 0),
-        BundleCommand::Trace
-        | BundleCommand::TraceFromSetup
+        BundleCommand::Trace(_)
         | BundleCommand::Draw
         | BundleCommand::DrawExplained(_)
         | BundleCommand::Explain(_)

@@ -59,7 +59,7 @@ use Rattle.lu_cli.specs.declared.request.CampaignThreads.TheVariants.{Alike, Own
 use Rattle.lu_cli.specs.declared.request.Request.{Request}
 use Rattle.lu_cli.specs.declared.request.Request.TheVariants.{Help, Lint, Bundle}
 use Rattle.lu_cli.specs.declared.request.BundleCommand.{BundleCommand}
-use Rattle.lu_cli.specs.declared.request.BundleCommand.TheVariants.{Replay, Trace, TraceFromSetup, Draw, DrawExplained, Explain, ExplainAgainst, Serial, Judge, JudgeAgainst, Conform, Spec, Check, CheckAgainst, Certify, Refute, Shrink, Campaign as Campaigning, CampaignAgainst, Compile}
+use Rattle.lu_cli.specs.declared.request.BundleCommand.TheVariants.{Replay, Trace, Draw, DrawExplained, Explain, ExplainAgainst, Serial, Judge, JudgeAgainst, Conform, Spec, Check, CheckAgainst, Certify, Refute, Shrink, Campaign as Campaigning, CampaignAgainst, Compile}
 use Rattle.lu_trace.specs.declared.wording.Wording.{Wording}
 use Rattle.lu_source_text.specs.Begins.{is_source}
 use Rattle.lu_source_text.specs.declared.fault.SourceFaultKind.{SourceFaultKind}
@@ -71,7 +71,7 @@ use Rattle.lu_cli.specs.declared.explanation.Presentation.TheVariants.{Words, Pi
 use Rattle.lu_explain.specs.Explanations.{Explained}
 use Rattle.lu_lint.specs.Said.{is_fault}
 use Rattle.std.specs.List.{list_any}
-use Rattle.lu_cli.specs.Drawing.{IsDrawn, IsDrawnExplained}
+use Rattle.lu_cli.specs.Drawing.{IsDrawnExplained}
 use Rattle.lu_cli.specs.declared.explanation.Target.{Target}
 use Rattle.lu_cli.specs.declared.explanation.Target.TheVariants as target
 use Rattle.lu_cli.specs.Explaining.{IsAnswerToExplainAgainst, IsExplainBehind, IsAnswerToExplain, IsExplainedAgainstText, IsExplainedText, ToTarget, is_report, limits_for, view_of}
@@ -106,7 +106,8 @@ use Rattle.lu_cli.specs.Serial.{IsRunSerially}
 use Rattle.lu_cli.specs.Shows.{ShowsCertificate, reported, status_of, two_texts, with_matrix, with_schedule}
 use Rattle.lu_cli.specs.Shrink.{ShowsShrunk}
 use Rattle.lu_cli.specs.Spec.{IsCollected, IsAnswerToSpec}
-use Rattle.lu_cli.specs.Trace.{IsTraced, IsTracedFromSetup}
+use Rattle.lu_cli.specs.Trace.{IsTraced}
+use Rattle.lu_cli.specs.declared.request.TraceStart.{TraceStart}
 
 -- an answer that was made and said
 pub said : (IsAnswer : Answer → Type 0) (answer : Answer) (text : List ℕ) (old new : Option (List ℕ)) (status : ℕ) → IsAnswer answer → text ≡ answer.text → Appends old new text × (status ≡ answer.status) → Answers IsAnswer old new status
@@ -179,13 +180,9 @@ replayed_else : (c : Declarations) (m : Matrix) (u : List Move) (answer : Answer
 replayed_else c m u answer (inl is) = status_else answer 0 (ap (λ (a : Answer). a.status) is.3) (λ e. omega arith)
 replayed_else c m u answer (inr is) = status_else answer 1 (ap (λ (a : Answer). a.status) is.2) (λ e. omega arith)
 
-traced_else : (how : Wording) (c : Declarations) (m : Matrix) (u : List Move) (answer : Answer) → IsTraced how c m u answer → IsElse answer
-traced_else how c m u answer (inl is) = status_else answer 0 (ap (λ (a : Answer). a.status) is.2) (λ e. omega arith)
-traced_else how c m u answer (inr is) = status_else answer 1 (ap (λ (a : Answer). a.status) is.2) (λ e. omega arith)
-
-from_setup_else : (how : Wording) (c : Declarations) (m : Matrix) (u : List Move) (answer : Answer) → IsTracedFromSetup how c m u answer → IsElse answer
-from_setup_else how c m u answer (inl is) = status_else answer 0 (ap (λ (a : Answer). a.status) is.2) (λ e. omega arith)
-from_setup_else how c m u answer (inr is) = status_else answer 1 (ap (λ (a : Answer). a.status) is.2) (λ e. omega arith)
+traced_else : (start : TraceStart) (how : Wording) (c : Declarations) (m : Matrix) (u : List Move) (answer : Answer) → IsTraced start how c m u answer → IsElse answer
+traced_else start how c m u answer (inl is) = status_else answer 0 (ap (λ (a : Answer). a.status) is.2) (λ e. omega arith)
+traced_else start how c m u answer (inr is) = status_else answer 1 (ap (λ (a : Answer). a.status) is.2) (λ e. omega arith)
 
 drawn_else : (how : Wording) (why : Option Explained) (c : Declarations) (m : Matrix) (u : List Move) (answer : Answer) → IsDrawnExplained how why c m u answer → IsElse answer
 drawn_else how why c m u answer (inl is) = status_else answer 0 (ap (λ (a : Answer). a.status) is.2) (λ e. omega arith)
@@ -225,16 +222,14 @@ failure_else answer text is = status_else answer 1 (ap (λ (a : Answer). a.statu
 
 run_else : (view : View) (how : Wording) (c : Declarations) (cut : Matrix) (u : List Move) (text : List ℕ) (answer : Answer) → ShowsRun view how c cut u text answer → IsElse answer
 run_else view.Explanation how c cut u text answer (steps, made, is) = failure_else answer (below text steps) is
-run_else view.Trace how c cut u text answer (steps, made, is) = failure_else answer (below text steps) is
-run_else view.TraceFromSetup how c cut u text answer (steps, made, is) = failure_else answer (below text steps) is
+run_else (view.Trace start) how c cut u text answer (steps, made, is) = failure_else answer (below text steps) is
 run_else view.Picture how c cut u text answer (picture, made, is) = failure_else answer picture.text is
 run_else view.ExplainedPicture how c cut u text answer (picture, made, is) = failure_else answer picture.text is
 
 failing_else : (view : View) (how : Wording) (c : Declarations) (cut : Matrix) (r : Parts) (u : List Move) (answer : Answer) → ShowsFailing view how c cut r u answer → IsElse answer
 failing_else view.Explanation how c cut r u answer (why, explains, is) = run_else view.Explanation how c cut u (below (two_texts c cut r) why) answer is
 failing_else view.ExplainedPicture how c cut r u answer (picture, explains, is) = failure_else answer picture.text is
-failing_else view.Trace how c cut r u answer is = run_else view.Trace how c cut u (two_texts c cut r) answer is
-failing_else view.TraceFromSetup how c cut r u answer is = run_else view.TraceFromSetup how c cut u (two_texts c cut r) answer is
+failing_else (view.Trace start) how c cut r u answer is = run_else (view.Trace start) how c cut u (two_texts c cut r) answer is
 failing_else view.Picture how c cut r u answer is = run_else view.Picture how c cut u (two_texts c cut r) answer is
 
 by_view_else : (view : View) (how : Wording) (c : Declarations) (certificate : Certificate) (answer : Answer) → ShowsByView view how c certificate answer → IsElse answer
@@ -593,8 +588,7 @@ compile_else (source ∷ parts) answer is =
 
 -- a run that is shown
 run_view_else : (view : RunView) (how : Wording) (c : Declarations) (m : Matrix) (u : List Move) (answer : Answer) → IsRunShown view how c m u answer → IsElse answer
-run_view_else run.Trace how c m u answer is = traced_else how c m u answer is
-run_view_else run.TraceFromSetup how c m u answer is = from_setup_else how c m u answer is
+run_view_else (run.Trace start) how c m u answer is = traced_else start how c m u answer is
 run_view_else run.Picture how c m u answer is = drawn_else how None c m u answer is
 
 view_else : (shown : RunView) (parts : List (List ℕ)) (answer : Answer) → IsAnswerToTraceOrDraw shown parts answer → IsElse answer
@@ -602,8 +596,7 @@ view_else shown parts answer is = alone_or_else (view_of_failure shown) (IsShown
 
 command_else : (command : BundleCommand) (parts : List (List ℕ)) (answer : Answer) → IsAnswerToCommand command parts answer → IsElse answer
 command_else Replay parts answer is = three_else parts IsReplayed answer (λ c m u more. replayed_else c m u answer more) is
-command_else Trace parts answer is = view_else run.Trace parts answer is
-command_else TraceFromSetup parts answer is = view_else run.TraceFromSetup parts answer is
+command_else (Trace start) parts answer is = view_else (run.Trace start) parts answer is
 command_else Draw parts answer is = view_else run.Picture parts answer is
 command_else (DrawExplained limits) parts answer is = explain_else Picture limits parts answer is
 command_else (Explain limits) parts answer is = explain_else Words limits parts answer is

@@ -18,8 +18,8 @@ use Rattle.lu_cli.specs.declared.told.Words.TheVariants as told_by
 use Rattle.lu_cli.specs.declared.told.Told.{Told}
 use Rattle.lu_cli.specs.Refusals.{Answered, refusal_answer, texts_answer}
 use Rattle.lu_cli.specs.Outcomes.{Answer}
-use Rattle.lu_cli.specs.Reading.{ToMatrix, ToSettled, ToTexts, ToTold}
-use Rattle.lu_cli.specs.Telling.{IsSourceRefusal, AreTextWords, IsComponentOf, IsToldOf, IsToldRefusal, IsToldRefusalOfSource, IsTextsRefusal, IsWordingOf, TellsBy}
+use Rattle.lu_cli.specs.Reading.{ToTexts, ToTold}
+use Rattle.lu_cli.specs.Telling.{AreTextWords, IsToldOf, IsToldRefusal, IsToldRefusalOfSource, IsTextsRefusal, IsWordingOf, TellsBy}
 use Rattle.lu_cli.specs.Texts.{AreSettled, IsFaultOfMatrix, IsSettledMatrix}
 use Rattle.lu_cli.proofs.Refuted.{answered_more, texts_refused}
 

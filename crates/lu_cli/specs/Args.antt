@@ -22,9 +22,10 @@ use Rattle.lu_cli.specs.declared.request.CampaignTrial.TheVariants.{Checked, Cer
 use Rattle.lu_cli.specs.declared.request.CertifyOptions.{CertifyOptions}
 use Rattle.lu_cli.specs.declared.request.Request.{Request}
 use Rattle.lu_cli.specs.declared.request.Showing.TheVariants as showing
+use Rattle.lu_cli.specs.declared.request.TraceStart.TheVariants.{FirstMove, Setup}
 use Rattle.lu_cli.specs.declared.request.Request.TheVariants.{Help, Lint, Bundle}
 use Rattle.lu_cli.specs.declared.request.BundleCommand.{BundleCommand}
-use Rattle.lu_cli.specs.declared.request.BundleCommand.TheVariants.{Replay, Trace, TraceFromSetup, Draw, DrawExplained, Explain, ExplainAgainst, Serial, Judge, JudgeAgainst, Conform, Spec, Check, CheckAgainst, Certify, Refute, Shrink, Campaign, CampaignAgainst, Compile}
+use Rattle.lu_cli.specs.declared.request.BundleCommand.TheVariants.{Replay, Trace, Draw, DrawExplained, Explain, ExplainAgainst, Serial, Judge, JudgeAgainst, Conform, Spec, Check, CheckAgainst, Certify, Refute, Shrink, Campaign, CampaignAgainst, Compile}
 use Rattle.lu_cli.specs.declared.table.CommandRow.{CommandRow}
 use Rattle.lu_cli.specs.declared.table.Kind.{Kind}
 use Rattle.lu_cli.specs.declared.table.Kind.TheVariants.{Flag, Number, Long}
@@ -183,11 +184,11 @@ choice_in rows =
     (number_named (codes "depth") rows)
 
 -- a check against the serial runs, or one against a specification
-abbrev pub check_order : Bool → Choice → BundleCommand
-check_order against choice = if against then CheckAgainst choice else Check choice
+abbrev pub check_command : Bool → Choice → BundleCommand
+check_command against choice = if against then CheckAgainst choice else Check choice
 
 abbrev pub check_in : List Row → Option BundleCommand
-check_in rows = option_map (check_order (flag_in (codes "spec") rows)) (choice_in rows)
+check_in rows = option_map (check_command (flag_in (codes "spec") rows)) (choice_in rows)
 
 abbrev pub certify_with : Option Choice → Option ℕ → Option ℕ → Option CertifyOptions
 certify_with (Some choice) (Some local) (Some nodes) =
@@ -199,43 +200,43 @@ certify_in rows =
     certify_with (choice_in rows) (number_named (codes "local") rows) (nodes_in rows)
 
 -- a judgement by the serial runs, or one by a specification
-abbrev pub judge_order : Bool → Limits → BundleCommand
-judge_order against limits = if against then JudgeAgainst else Judge limits
+abbrev pub judge_command : Bool → Limits → BundleCommand
+judge_command against limits = if against then JudgeAgainst else Judge limits
 
 abbrev pub judge_in : List Row → Option BundleCommand
-judge_in rows = option_map (judge_order (flag_in (codes "spec") rows)) (limits_in rows)
+judge_in rows = option_map (judge_command (flag_in (codes "spec") rows)) (limits_in rows)
 
 -- how many histories are shown, or by which schedules too
-abbrev pub conform_order : Bool → BundleCommand
-conform_order with_schedules = if with_schedules then Conform showing.Schedules else Conform showing.Count
+abbrev pub conform_command : Bool → BundleCommand
+conform_command with_schedules = if with_schedules then Conform showing.Schedules else Conform showing.Count
 
 abbrev pub conform_in : List Row → BundleCommand
-conform_in rows = conform_order (flag_in (codes "show") rows)
+conform_in rows = conform_command (flag_in (codes "show") rows)
 
 -- a trace, or one from the setup on
-abbrev pub trace_order : Bool → BundleCommand
-trace_order with_setup = if with_setup then TraceFromSetup else Trace
+abbrev pub trace_command : Bool → BundleCommand
+trace_command with_setup = if with_setup then Trace Setup else Trace FirstMove
 
 abbrev pub trace_in : List Row → BundleCommand
-trace_in rows = trace_order (flag_in (codes "setup") rows)
+trace_in rows = trace_command (flag_in (codes "setup") rows)
 
 -- a picture, or one with an explanation
-abbrev pub draw_order : Bool → Limits → BundleCommand
-draw_order explained limits = if explained then DrawExplained limits else Draw
+abbrev pub draw_command : Bool → Limits → BundleCommand
+draw_command explained limits = if explained then DrawExplained limits else Draw
 
 abbrev pub draw_in : List Row → Option BundleCommand
 draw_in rows =
-    option_map (draw_order (flag_in (codes "explain") rows))
+    option_map (draw_command (flag_in (codes "explain") rows))
     (limits_with (Some 0) (number_named (codes "serial") rows))
 
 -- an explanation by the serial runs, or one by a specification
-abbrev pub explain_order : Bool → Limits → BundleCommand
-explain_order against limits = if against then ExplainAgainst else Explain limits
+abbrev pub explain_command : Bool → Limits → BundleCommand
+explain_command against limits = if against then ExplainAgainst else Explain limits
 
 -- no schedule is bounded
 abbrev pub explain_in : List Row → Option BundleCommand
 explain_in rows =
-    option_map (explain_order (flag_in (codes "spec") rows))
+    option_map (explain_command (flag_in (codes "spec") rows))
     (limits_with (Some 0) (number_named (codes "serial") rows))
 
 -- so many threads, where the number is one of 8 bits
@@ -319,12 +320,12 @@ abbrev pub campaign_options_in : List Row → Option CampaignOptions
 campaign_options_in rows = option_and_then (campaign_by rows) (trial_in rows)
 
 -- a campaign, or one that holds the component against a trusted one
-abbrev pub campaign_order : Bool → CampaignOptions → BundleCommand
-campaign_order against options = if against then CampaignAgainst options else Campaign options
+abbrev pub campaign_command : Bool → CampaignOptions → BundleCommand
+campaign_command against options = if against then CampaignAgainst options else Campaign options
 
 abbrev pub campaign_in : List Row → Option BundleCommand
 campaign_in rows =
-    option_map (campaign_order (flag_in (codes "spec") rows)) (campaign_options_in rows)
+    option_map (campaign_command (flag_in (codes "spec") rows)) (campaign_options_in rows)
 
 abbrev pub command_by : Text → List Row → Option BundleCommand
 command_by name rows =

@@ -18,13 +18,12 @@ use Rattle.lu_cli.specs.Shrink.{IsAnswerToShrink}
 use Rattle.lu_cli.specs.Spec.{IsAnswerToSpec}
 use Rattle.lu_cli.specs.declared.explanation.Presentation.TheVariants.{Words, Picture}
 use Rattle.lu_cli.specs.declared.request.BundleCommand.{BundleCommand}
-use Rattle.lu_cli.specs.declared.request.BundleCommand.TheVariants.{Replay, Trace, TraceFromSetup, Draw, DrawExplained, Explain, ExplainAgainst, Serial, Judge, JudgeAgainst, Conform, Spec, Check, CheckAgainst, Certify, Refute, Shrink, Campaign as Campaigning, CampaignAgainst, Compile}
+use Rattle.lu_cli.specs.declared.request.BundleCommand.TheVariants.{Replay, Trace, Draw, DrawExplained, Explain, ExplainAgainst, Serial, Judge, JudgeAgainst, Conform, Spec, Check, CheckAgainst, Certify, Refute, Shrink, Campaign as Campaigning, CampaignAgainst, Compile}
 
 -- the answer to a command and the parts of the bundle
 abbrev pub IsAnswerToCommand : BundleCommand → List (List ℕ) → Answer → Type 0
 IsAnswerToCommand Replay parts = IsAnswerToReplay parts
-IsAnswerToCommand Trace parts = IsAnswerToTraceOrDraw run.Trace parts
-IsAnswerToCommand TraceFromSetup parts = IsAnswerToTraceOrDraw run.TraceFromSetup parts
+IsAnswerToCommand (Trace start) parts = IsAnswerToTraceOrDraw (run.Trace start) parts
 IsAnswerToCommand Draw parts = IsAnswerToTraceOrDraw run.Picture parts
 IsAnswerToCommand (DrawExplained limits) parts = IsAnswerToExplain Picture limits parts
 IsAnswerToCommand (Explain limits) parts = IsAnswerToExplain Words limits parts

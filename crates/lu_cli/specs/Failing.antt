@@ -16,8 +16,7 @@ use Rattle.lu_certify.specs.declared.certificate.Certificate.TheVariants.{Linear
 use Rattle.lu_certify.specs.declared.limits.Limits.{Limits}
 use Rattle.lu_certify.specs.Certificates.{IsCertificate}
 use Rattle.lu_cli.specs.declared.failing.View.{View}
-use Rattle.lu_cli.specs.declared.failing.View.TheVariants as view
-use Rattle.lu_cli.specs.declared.failing.View.TheVariants.{Trace, TraceFromSetup, Picture, Explanation, ExplainedPicture}
+use Rattle.lu_cli.specs.declared.failing.View.TheVariants.{Trace, Picture, Explanation, ExplainedPicture}
 use Rattle.lu_cli.specs.declared.failing.RunView.{RunView}
 use Rattle.lu_cli.specs.declared.failing.RunView.TheVariants as run
 use Rattle.lu_cli.specs.Shows.{two_texts, ShowsCertificate, with_schedule}
@@ -25,7 +24,8 @@ use Rattle.lu_cli.specs.Outcomes.{Answer}
 use Rattle.lu_cli.specs.Drawing.{IsDrawn}
 use Rattle.lu_cli.specs.Explanation.{BySerialRuns, IsExplainedSchedule, ToFinding}
 use Rattle.lu_cli.specs.Reading.{ToTold}
-use Rattle.lu_cli.specs.Trace.{IsTraced, IsTracedFromSetup}
+use Rattle.lu_cli.specs.Trace.{IsTraced}
+use Rattle.lu_cli.specs.declared.request.TraceStart.TheVariants.{FirstMove}
 use Rattle.lu_cli.specs.declared.explanation.Presentation.{Presentation}
 use Rattle.lu_cli.specs.declared.explanation.Presentation.TheVariants.{Words, Picture as Marked}
 use Rattle.lu_cli.specs.declared.explanation.Presenting.{Presenting}
@@ -48,19 +48,17 @@ in_words by how = record { by = by; how = how }
 
 -- how what fails is shown, where a run is shown so
 abbrev pub view_of_failure : RunView → View
-view_of_failure run.Trace = Trace
-view_of_failure run.TraceFromSetup = TraceFromSetup
+view_of_failure (run.Trace start) = Trace start
 view_of_failure run.Picture = Picture
 
 -- The cut and what shows that it fails, `text`, with what each move of the schedule does below; or
 -- the picture of the schedule alone.
 abbrev pub ShowsRun : View → Wording → Declarations → Matrix → List Move → List ℕ → Answer → Type 0
 ShowsRun Explanation how c cut u text answer =
-    (steps : Answer) × IsTraced how c cut u steps × (answer ≡ failure (below text steps))
-ShowsRun Trace how c cut u text answer =
-    (steps : Answer) × IsTraced how c cut u steps × (answer ≡ failure (below text steps))
-ShowsRun TraceFromSetup how c cut u text answer =
-    (steps : Answer) × IsTracedFromSetup how c cut u steps × (answer ≡ failure (below text steps))
+    (steps : Answer) × IsTraced FirstMove how c cut u steps
+    × (answer ≡ failure (below text steps))
+ShowsRun (Trace start) how c cut u text answer =
+    (steps : Answer) × IsTraced start how c cut u steps × (answer ≡ failure (below text steps))
 ShowsRun Picture how c cut u text answer =
     (picture : Answer) × IsDrawn how c cut u picture × (answer ≡ failure picture.text)
 ShowsRun ExplainedPicture how c cut u text answer =
@@ -82,9 +80,8 @@ ShowsFailing Explanation how c cut r u answer =
 ShowsFailing ExplainedPicture how c cut r u answer =
     (picture : Answer) × IsFindingExplained (in_words Marked how) c cut r.finding picture
     × (answer ≡ failure picture.text)
-ShowsFailing Trace how c cut r u answer = ShowsRun Trace how c cut u (two_texts c cut r) answer
-ShowsFailing TraceFromSetup how c cut r u answer =
-    ShowsRun TraceFromSetup how c cut u (two_texts c cut r) answer
+ShowsFailing (Trace start) how c cut r u answer =
+    ShowsRun (Trace start) how c cut u (two_texts c cut r) answer
 ShowsFailing Picture how c cut r u answer = ShowsRun Picture how c cut u (two_texts c cut r) answer
 
 -- so it is of the result, where there is one

@@ -13,7 +13,6 @@ use Rattle.std.specs.Option.{option_map}
 use Rattle.std.specs.Str.{bytes_eq}
 use Rattle.lu_cli.specs.declared.refusal.Refusal.{Refusal}
 use Rattle.lu_cli.specs.declared.refusal.Refusal.TheVariants as refusal
-use Rattle.lu_cli.specs.declared.failing.View.TheVariants as view
 use Rattle.lu_cli.specs.declared.failing.RunView.{RunView}
 use Rattle.lu_cli.specs.declared.failing.RunView.TheVariants as run
 use Rattle.lu_cli.specs.Failing.{AloneOr, view_of_failure}
@@ -21,7 +20,7 @@ use Rattle.lu_cli.specs.Refusals.{Answered}
 use Rattle.lu_cli.specs.Outcomes.{Answer, refused}
 use Rattle.lu_cli.specs.Drawing.{IsDrawn}
 use Rattle.lu_cli.specs.Reading.{ToSchedule, ToParts, ToTold}
-use Rattle.lu_cli.specs.Trace.{IsTraced, IsTracedFromSetup}
+use Rattle.lu_cli.specs.Trace.{IsTraced}
 
 -- ---- the parts of a bundle
 
@@ -92,8 +91,7 @@ IsShownRefusal text refused =
 
 -- the run of the schedule, shown so
 abbrev pub IsRunShown : RunView → Wording → Declarations → Matrix → List Move → Answer → Type 0
-IsRunShown run.Trace = IsTraced
-IsRunShown run.TraceFromSetup = IsTracedFromSetup
+IsRunShown (run.Trace start) = IsTraced start
 IsRunShown run.Picture = IsDrawn
 
 abbrev pub IsTextShown : RunView → Wording → Declarations → Matrix → List ℕ → Answer → Type 0

@@ -1,5 +1,5 @@
 -- What is told of a component or of a source, and in which words.
-use Rattle.std.specs.Prelude.{◌≡◌, ◌⊎◌, ℕ, Bool, true, false, List, MatchBool, Ok}
+use Rattle.std.specs.Prelude.{◌≡◌, ◌⊎◌, ℕ, true, false, List, MatchBool, Ok}
 use Rattle.lu_text.specs.declared.fault.Fault.{Fault}
 use Rattle.lu_text.specs.Faults.{IsUnlessMemory}
 use Rattle.lu_text.specs.Lines.{lines_of, texts}

@@ -9,7 +9,7 @@ ghost use Rattle.lu_cli.specs.Table.{option_said};
 
 use crate::request::{
     ArgsFault, BundleCommand, CampaignOptions, CampaignPart, CampaignThreads, CampaignTrial,
-    CertifyOptions, Request, Showing,
+    CertifyOptions, Request, Showing, TraceStart,
 };
 use crate::table::{CommandRow, Kind, OptionRow, commands, options};
 use clap::builder::ValueParser;
@@ -294,8 +294,8 @@ fn campaign_options_in(given: &ArgMatches<'_>) -> Option<CampaignOptions>
 }
 
 /// A campaign, or one that holds the component against a trusted one.
-fn campaign_order(options: CampaignOptions, against: bool) -> BundleCommand
-    ensures { result ≡ spec.campaign_order against options }
+fn campaign_command(options: CampaignOptions, against: bool) -> BundleCommand
+    ensures { result ≡ spec.campaign_command against options }
 {
     if against {
         BundleCommand::CampaignAgainst(options)
@@ -308,12 +308,12 @@ fn campaign_in(given: &ArgMatches<'_>) -> Option<BundleCommand>
     ensures { result ≡ spec.campaign_in (rows_of (found_of given.now)) }
 {
     let options = campaign_options_in(given)?;
-    Some(campaign_order(options, flag_in(given, "spec")))
+    Some(campaign_command(options, flag_in(given, "spec")))
 }
 
 /// A check against the serial runs, or one against a specification.
-fn check_order(options: Options, against: bool) -> BundleCommand
-    ensures { result ≡ spec.check_order against options }
+fn check_command(options: Options, against: bool) -> BundleCommand
+    ensures { result ≡ spec.check_command against options }
 {
     if against {
         BundleCommand::CheckAgainst(options)
@@ -326,7 +326,7 @@ fn check_in(given: &ArgMatches<'_>) -> Option<BundleCommand>
     ensures { result ≡ spec.check_in (rows_of (found_of given.now)) }
 {
     let options = options_in(given)?;
-    Some(check_order(options, flag_in(given, "spec")))
+    Some(check_command(options, flag_in(given, "spec")))
 }
 
 fn certify_in(given: &ArgMatches<'_>) -> Option<CertifyOptions>
@@ -343,8 +343,8 @@ fn certify_in(given: &ArgMatches<'_>) -> Option<CertifyOptions>
 }
 
 /// A judgement by the serial runs, or one by a specification.
-fn judge_order(bounds: Bounds, against: bool) -> BundleCommand
-    ensures { result ≡ spec.judge_order against bounds }
+fn judge_command(bounds: Bounds, against: bool) -> BundleCommand
+    ensures { result ≡ spec.judge_command against bounds }
 {
     if against {
         BundleCommand::JudgeAgainst
@@ -357,12 +357,12 @@ fn judge_in(given: &ArgMatches<'_>) -> Option<BundleCommand>
     ensures { result ≡ spec.judge_in (rows_of (found_of given.now)) }
 {
     let bounds = bounds_in(given)?;
-    Some(judge_order(bounds, flag_in(given, "spec")))
+    Some(judge_command(bounds, flag_in(given, "spec")))
 }
 
 /// How many histories are shown, or by which schedules too.
-fn conform_order(with_schedules: bool) -> BundleCommand
-    ensures { result ≡ spec.conform_order with_schedules }
+fn conform_command(with_schedules: bool) -> BundleCommand
+    ensures { result ≡ spec.conform_command with_schedules }
 {
     if with_schedules {
         BundleCommand::Conform(Showing::Schedules)
@@ -374,29 +374,29 @@ fn conform_order(with_schedules: bool) -> BundleCommand
 fn conform_in(given: &ArgMatches<'_>) -> BundleCommand
     ensures { result ≡ spec.conform_in (rows_of (found_of given.now)) }
 {
-    conform_order(flag_in(given, "show"))
+    conform_command(flag_in(given, "show"))
 }
 
-/// A trace, or one from the setup on.
-fn trace_order(with_setup: bool) -> BundleCommand
-    ensures { result ≡ spec.trace_order with_setup }
+/// A trace from the first move on, or from the setup on.
+fn trace_command(with_setup: bool) -> BundleCommand
+    ensures { result ≡ spec.trace_command with_setup }
 {
     if with_setup {
-        BundleCommand::TraceFromSetup
+        BundleCommand::Trace(TraceStart::Setup)
     } else {
-        BundleCommand::Trace
+        BundleCommand::Trace(TraceStart::FirstMove)
     }
 }
 
 fn trace_in(given: &ArgMatches<'_>) -> BundleCommand
     ensures { result ≡ spec.trace_in (rows_of (found_of given.now)) }
 {
-    trace_order(flag_in(given, "setup"))
+    trace_command(flag_in(given, "setup"))
 }
 
 /// A picture, or one with an explanation.
-fn draw_order(explained: bool, bounds: Bounds) -> BundleCommand
-    ensures { result ≡ spec.draw_order explained bounds }
+fn draw_command(explained: bool, bounds: Bounds) -> BundleCommand
+    ensures { result ≡ spec.draw_command explained bounds }
 {
     if explained {
         BundleCommand::DrawExplained(bounds)
@@ -410,12 +410,12 @@ fn draw_in(given: &ArgMatches<'_>) -> Option<BundleCommand>
 {
     let serial = number_named(given, "serial")?;
     let bounds = Bounds::new(0, serial)?;
-    Some(draw_order(flag_in(given, "explain"), bounds))
+    Some(draw_command(flag_in(given, "explain"), bounds))
 }
 
 /// An explanation by the serial runs, or one by a specification.
-fn explain_order(bounds: Bounds, against: bool) -> BundleCommand
-    ensures { result ≡ spec.explain_order against bounds }
+fn explain_command(bounds: Bounds, against: bool) -> BundleCommand
+    ensures { result ≡ spec.explain_command against bounds }
 {
     if against {
         BundleCommand::ExplainAgainst
@@ -429,7 +429,7 @@ fn explain_in(given: &ArgMatches<'_>) -> Option<BundleCommand>
 {
     let serial = number_named(given, "serial")?;
     let bounds = Bounds::new(0, serial)?;
-    Some(explain_order(bounds, flag_in(given, "spec")))
+    Some(explain_command(bounds, flag_in(given, "spec")))
 }
 
 /// The request of a command's name and of what is given to the command.

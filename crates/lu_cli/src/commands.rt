@@ -40,8 +40,7 @@ pub(crate) fn carry_out_alone(
 {
     match command {
         BundleCommand::Replay => answer_replay(alloc, parts),
-        BundleCommand::Trace => answer_shown(alloc, parts, RunView::Trace),
-        BundleCommand::TraceFromSetup => answer_shown(alloc, parts, RunView::TraceFromSetup),
+        BundleCommand::Trace(start) => answer_shown(alloc, parts, RunView::Trace(start)),
         BundleCommand::Draw => answer_shown(alloc, parts, RunView::Picture),
         BundleCommand::DrawExplained(bounds) => {
             answer_explain(alloc, bounds, parts, Presentation::Picture)

@@ -15,8 +15,9 @@ use crate::answer::{Answer, show_certificate, show_schedule, write_both};
 use crate::drawing::draw;
 use crate::explanation::{Presentation, Presenting, explain_finding_serially};
 use crate::refusal::Refusal;
+use crate::request::TraceStart;
 use crate::told::read_told;
-use crate::trace::{trace, trace_from_setup};
+use crate::trace::trace;
 use lu_certify::{Certificate, DEFAULT_NODES, Limits, certify};
 use lu_component::Component;
 use lu_report::{Finding, MOST_MOVES, Report};
@@ -30,11 +31,8 @@ pub(crate) enum View {
     /// By its explanation, with what each move does.
     Explanation,
 
-    /// By what each move does.
-    Trace,
-
-    /// By what the setup and each move does.
-    TraceFromSetup,
+    /// By what each move does, from there on.
+    Trace(TraceStart),
 
     /// By a picture.
     Picture,
@@ -46,11 +44,8 @@ pub(crate) enum View {
 /// How the run of a schedule is shown.
 #[derive(Clone, Copy)]
 pub(crate) enum RunView {
-    /// By what each move does.
-    Trace,
-
-    /// By what the setup and each move does.
-    TraceFromSetup,
+    /// By what each move does, from there on.
+    Trace(TraceStart),
 
     /// By a picture.
     Picture,
@@ -62,8 +57,7 @@ impl RunView {
         ensures { result ≡ spec.view_of_failure self }
     {
         match self {
-            RunView::Trace => View::Trace,
-            RunView::TraceFromSetup => View::TraceFromSetup,
+            RunView::Trace(start) => View::Trace(start),
             RunView::Picture => View::Picture,
         }
     }
@@ -99,12 +93,12 @@ fn show_run(
     ensures { ShowsRunBelow view how.entry component.now cut.now schedule.now text result }
 {
     match view {
-        View::Explanation | View::Trace => {
-            let steps = trace(alloc, how, component, cut, schedule)?;
+        View::Explanation => {
+            let steps = trace(alloc, TraceStart::FirstMove, how, component, cut, schedule)?;
             Ok(failure(below(text, &steps)?))
         }
-        View::TraceFromSetup => {
-            let steps = trace_from_setup(alloc, how, component, cut, schedule)?;
+        View::Trace(start) => {
+            let steps = trace(alloc, start, how, component, cut, schedule)?;
             Ok(failure(below(text, &steps)?))
         }
         View::Picture | View::ExplainedPicture => {
@@ -166,7 +160,7 @@ fn show_failing(
             let picture = explain_finding_serially(alloc, component, cut, finding, by)?;
             Ok(failure(picture.text))
         }
-        View::Trace | View::TraceFromSetup | View::Picture => {
+        View::Trace(_) | View::Picture => {
             let text = write_both(alloc, component, cut, report)?;
             show_run(alloc, how, component, cut, schedule, text, view)
         }

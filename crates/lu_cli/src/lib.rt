@@ -43,6 +43,6 @@ pub use counted::Counted;
 pub use program::{answer_alone, answer_request, run};
 pub use request::{
     ArgsFault, BundleCommand, CampaignOptions, CampaignPart, CampaignThreads, CertifyOptions,
-    Request, Showing,
+    Request, Showing, TraceStart,
 };
 pub use texts::{Case, Fault, check_texts, check_texts_against, read_texts};

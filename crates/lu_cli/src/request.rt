@@ -67,6 +67,16 @@ pub struct CertifyOptions {
     pub nodes: u32,
 }
 
+/// Where a trace begins.
+#[derive(Clone, Copy, Debug, PartialEq, Eq)]
+pub enum TraceStart {
+    /// At the first move of the schedule.
+    FirstMove,
+
+    /// At the matrix's setup.
+    Setup,
+}
+
 /// What is printed of recorded histories that a component shows.
 #[derive(Clone, Copy, Debug, PartialEq, Eq)]
 pub enum Showing {
@@ -96,11 +106,9 @@ pub enum BundleCommand {
     /// `lineup replay`: play a schedule of a component and a matrix.
     Replay,
 
-    /// `lineup trace`: show what each move of a schedule does.
-    Trace,
-
-    /// `lineup trace --setup`: the same, and before it what the matrix's setup does and leaves.
-    TraceFromSetup,
+    /// `lineup trace`: show what each move of a schedule does; with `--setup`, before it what the
+    /// matrix's setup does and leaves.
+    Trace(TraceStart),
 
     /// `lineup draw`: show a schedule as a picture.
     Draw,

@@ -12,7 +12,7 @@ use crate::drawing::draw;
 use crate::failing::{RunView, answer_failing};
 use crate::refusal::Refusal;
 use crate::told::read_told;
-use crate::trace::{trace, trace_from_setup};
+use crate::trace::trace;
 use lu_component::Component;
 use lu_report::read_report;
 use lu_test::{Matrix, Schedule, read_schedule};
@@ -84,8 +84,7 @@ fn show_run(
     ensures { ShowsRunOf view how.entry component.now matrix.now schedule.now result }
 {
     match view {
-        RunView::Trace => trace(alloc, how, component, matrix, schedule),
-        RunView::TraceFromSetup => trace_from_setup(alloc, how, component, matrix, schedule),
+        RunView::Trace(start) => trace(alloc, start, how, component, matrix, schedule),
         RunView::Picture => draw(alloc, how, component, matrix, schedule, None),
     }
 }
