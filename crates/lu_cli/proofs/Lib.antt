@@ -1,5 +1,4 @@
 pub mod Known
-pub mod Lines
 pub mod Requests
 pub mod Sayings
 pub mod Reported

@@ -88,7 +88,7 @@ use Rattle.lu_conform.specs.declared.shown.Conformance.TheVariants.{Conforms, No
 use Rattle.lu_cli.specs.declared.request.CertifyOptions.{CertifyOptions}
 use Rattle.lu_cli.specs.declared.request.Showing.{Showing}
 use Rattle.lu_cli.specs.declared.request.Showing.TheVariants.{Count as CountAlone, Schedules}
-use Rattle.lu_cli.specs.Bundle.{bundle_parts}
+use Rattle.lu_text.specs.Bundle.{bundle_parts}
 use Rattle.lu_cli.specs.Help.{help_answer}
 use Rattle.lu_report.specs.Limits.{Limits}
 use Rattle.lu_cli.specs.declared.failing.RunView.{RunView}

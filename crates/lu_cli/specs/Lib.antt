@@ -1,5 +1,4 @@
 pub mod Args
-pub mod Bundle
 pub mod Campaigning
 pub mod Certify
 pub mod Check

@@ -19,7 +19,7 @@ use Rattle.lu_lint.specs.Bundle.{IsSaidOf}
 use Rattle.lu_lint.specs.Messages.{remarks_text}
 use Rattle.lu_lint.specs.Said.{is_fault, line_below, said_of}
 use Rattle.lu_report.specs.Limits.{Limits}
-use Rattle.lu_cli.specs.Bundle.{bundle_parts}
+use Rattle.lu_text.specs.Bundle.{bundle_parts}
 use Rattle.lu_cli.specs.Compiling.{behind}
 use Rattle.lu_cli.specs.Outcomes.{Answer}
 

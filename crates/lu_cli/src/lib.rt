@@ -4,7 +4,6 @@
 
 mod answer;
 mod args;
-mod bundle;
 mod campaigning;
 mod certify;
 mod check;

@@ -12,14 +12,13 @@ ghost use Rattle.lu_cli.specs.Linting as spec;
 ghost use Rattle.lu_cli.specs.Linting.{AddsMessage, AreRemarksBehind, IsFaulted, IsLint, IsLinted, IsLintedBehind, IsSourceLinted, WritesMessages};
 
 use crate::answer::Answer;
-use crate::bundle::parts_in;
 use lu_component::Component;
 use lu_lang::write_component;
 use lu_lint::{Cause, FaultKind, Remark, Said, lint};
 use lu_report::Bounds;
 use lu_source_lint::{SourceMessage, What, faults_of, warnings_of, wording};
 use lu_source_text::{compile_text, is_source};
-use lu_text::{Fault, lines_of};
+use lu_text::{Fault, bundle_parts, lines_of};
 use std::alloc::{AllocError, Global};
 
 /// Adds what stands before the words.
@@ -279,7 +278,7 @@ pub(crate) fn answer_lint(
 ) -> Result<Answer, AllocError>
     ensures { IfOk result (IsLint bounds bundle.now) }
 {
-    let parts = parts_in(alloc, bundle)?;
+    let parts = bundle_parts(alloc, bundle)?;
     match parts.split_first() {
         None => lint_component(alloc, bounds, bundle),
         Some((first, rest)) => if is_source(alloc, first)? {

@@ -11,7 +11,6 @@ ghost use Rattle.lu_cli.specs.Program.{IsAnswerToInput, IsAnswerToRead, IsAnswer
 
 use crate::answer::{Answer, refused};
 use crate::args::read_request;
-use crate::bundle::parts_in;
 use crate::commands::{carry_out, carry_out_alone};
 use crate::counted::Counted;
 use crate::help::answer_help;
@@ -21,6 +20,7 @@ use crate::output::write_text;
 use crate::refusal::or_refusal;
 use crate::request::{ArgsFault, BundleCommand, Request};
 use lu_report::Bounds;
+use lu_text::bundle_parts;
 use std::alloc::{AllocError, Global};
 use std::convert::AsStr;
 use std::io::{Read, Write};
@@ -58,7 +58,7 @@ fn answer_bundle<X: AllocGlobal + Threads + Wait>(
         Request::Help => answer_help(rt.alloc()),
         Request::Lint(bounds) => answer_lint(rt.alloc(), bounds, bundle),
         Request::Bundle(command) => {
-            let parts = parts_in(rt.alloc(), bundle)?;
+            let parts = bundle_parts(rt.alloc(), bundle)?;
             or_refusal(rt.alloc(), carry_out(rt, command, &parts))
         }
     }
@@ -199,7 +199,7 @@ fn command_alone(alloc: Global, command: BundleCommand, bundle: &[u8]) -> Result
     if bundle.len() > MOST_BYTES {
         return refused(alloc, "B2");
     }
-    let parts = parts_in(alloc, bundle)?;
+    let parts = bundle_parts(alloc, bundle)?;
     or_refusal(alloc, carry_out_alone(alloc, command, &parts))
 }
 
