@@ -5,7 +5,7 @@ use Rattle.lu_test.specs.Matrix.{Matrix}
 use Rattle.lu_history.specs.declared.serial.SerialOp.{SerialOp}
 use Rattle.lu_witness.specs.Witnesses.{IsMember}
 use Rattle.lu_report.specs.declared.report.Report.{Report}
-use Rattle.lu_machine.specs.Starts.{FromEachStart}
+use Rattle.lu_machine.specs.Tests.{FromEachStartOf}
 use Rattle.lu_replay.specs.Reports.{IsFinding, IsFindingAgainst, IsReportAgainst}
 use Rattle.lu_report.specs.declared.report.Finding.{Finding}
 use Rattle.lu_report.specs.declared.report.Finding.TheVariants.{Pass, Fail}
@@ -26,21 +26,21 @@ finding_of Abandoned = None
 -- what is found in the space with this bound of serial runs, from each start
 abbrev pub FindsFromStarts : {E : Type 0} → SearchSpace → ℕ → Result Finding E → Type 0
 FindsFromStarts space serial result =
-    FromEachStart space.component.now space.matrix.now
+    FromEachStartOf space.test
     (λ s. IfOk result (IsFinding s space.bound serial))
 
 -- what is found in the space against the set with these members
 abbrev pub FindsAgainst : {E : Type 0} → SearchSpace → List (List SerialOp) → Result Finding E
     → Type 0
 FindsAgainst space members result =
-    FromEachStart space.component.now space.matrix.now
+    FromEachStartOf space.test
     (λ s. IfOk result (IsFindingAgainst (IsMember members) s space.bound))
 
 -- the same, where the search came to its end
 abbrev pub MayFindAgainst : {E : Type 0} → SearchSpace → List (List SerialOp)
     → Result (Option Finding) E → Type 0
 MayFindAgainst space members result =
-    FromEachStart space.component.now space.matrix.now
+    FromEachStartOf space.test
     (λ s. IfOk result (λ found. IfSome found (IsFindingAgainst (IsMember members) s space.bound)))
 
 -- the report against the set with these members

@@ -9,11 +9,12 @@ use Rattle.lu_machine.specs.declared.counts.Counts.{Counts}
 use Rattle.lu_machine.specs.States.{State}
 use Rattle.lu_machine.specs.Schedules.{IsSchedule}
 use Rattle.lu_machine.specs.Starts.{CanRun, FromEachStart}
+use Rattle.lu_machine.specs.Tests.{FromEachStartOf}
 use Rattle.lu_machine.specs.Sums.{total}
 use Rattle.lu_history.specs.declared.serial.SerialOp.{SerialOp}
 use Rattle.lu_witness.specs.Goodness.{IsFirstBad, AreAllGood}
 use Rattle.lu_witness.specs.Witnesses.{IsMember}
-use Rattle.lu_tree.specs.Tables.{AreRunTables}
+use Rattle.lu_tree.specs.Tables.{AreTablesOf}
 use Rattle.lu_tree.specs.Trees.{Below, IsFoundWatched}
 use Rattle.lu_tree.specs.declared.tables.Tables.{Tables}
 use Rattle.lu_tree.specs.declared.found.Found.{Found}
@@ -99,16 +100,17 @@ Worked c matrix members tree bound pieces board w =
 
 abbrev pub IsLent : {T G : Type 0} → Job T G → Type 0
 IsLent job =
-    IsJob job.space.component.now job.space.matrix.now job.space.bound job.pieces.now job.board.now
+    IsJob job.space.test.component.now job.space.test.matrix.now job.space.bound
+    job.pieces.now job.board.now
 
 -- the tables are those of what is lent
 abbrev pub AreTablesFor : {T G : Type 0} → Job T G → Tables → Type 0
-AreTablesFor job tables = AreRunTables job.space.component.now job.space.matrix.now tables
+AreTablesFor job tables = AreTablesOf job.space.test tables
 
 -- a work for what is lent, with the set of these members
 abbrev pub IsWorkFor : {T G : Type 0} → Job T G → List (List SerialOp) → Work → Type 0
 IsWorkFor job members w =
-    IsWork job.space.component.now job.space.matrix.now members job.space.bound
+    IsWork job.space.test.component.now job.space.test.matrix.now members job.space.bound
     job.pieces.now job.board.now.board w
 
 abbrev pub AreWorksFor : {T G E Z : Type 0} → Job T G → List (List SerialOp)
@@ -119,7 +121,7 @@ AreWorksFor job members result = IfOk result (λ works. All (IsWorkFor job membe
 abbrev pub IsFoundIn : {T G E : Type 0} → Job T G → List (List SerialOp) → ℕ → Result Found E
     → Type 0
 IsFoundIn job members piece result =
-    FromEachStart job.space.component.now job.space.matrix.now
+    FromEachStartOf job.space.test
     (λ s. IfOk result
     (IsFoundWatched (IsMember members) s job.space.bound (Below (piece_at job.pieces.now piece))))
 
@@ -127,7 +129,7 @@ IsFoundIn job members piece result =
 abbrev pub Tallied : {T G : Type 0} → Job T G → List (List SerialOp) → SeatModel → Worker
     → SeatModel → Worker → Type 0
 Tallied job members before old after new =
-    FromEachStart job.space.component.now job.space.matrix.now
+    FromEachStartOf job.space.test
     (λ s. IsTally (IsMember members) s job.space.bound job.pieces.now before.view old.counts
     old.found.items
     → IsTally (IsMember members) s job.space.bound job.pieces.now after.view new.counts

@@ -18,6 +18,7 @@ use crate::threads::run_workers;
 use crate::worker::{Job, REMEMBERED};
 use lu_board::board::Board;
 use lu_component::Component;
+use lu_machine::Test;
 use lu_replay::set_or_offence;
 use lu_report::{Finding, Report};
 use lu_serial::learn;
@@ -30,13 +31,13 @@ use std::sync::Wait;
 use std::thread::Threads;
 
 /// What is checked, how, and with what.
-#[derive_where(Clone, Copy)]
 #[derive(Drop)]
 struct Checking<'a, R, G> {
     rt: &'a R,
     gate: &'a G,
     space: SearchSpace<'a>,
     options: Options,
+    ghost few: { space.bound ≤ most_moves },
 }
 
 /// What the workers find against the set of a tree.
@@ -46,17 +47,15 @@ fn search_by_workers<R: Threads + Wait, G: Gate, T: SerialTree + Sync>(
 ) -> Result<Finding, CheckFault>
 where
     T::Place: Send + Sync,
-    requires of { CanRun check.now.space.component.now check.now.space.matrix.now }
-    requires few { check.now.space.bound ≤ most_moves }
     ensures found { FindsAgainst check.now.space (T.members tree.now) result }
-    ensures limits { OnOk result (IsMatrix check.now.space.matrix.now) }
+    ensures limits { OnOk result (IsMatrix check.now.space.test.matrix.now) }
 {
     let space = check.space;
     let depth = check.options.depth();
     let pieces = frontier(
         space.alloc,
-        space.component,
-        space.matrix,
+        space.test.component,
+        space.test.matrix,
         space.bound,
         depth,
     )?;
@@ -82,10 +81,8 @@ fn search_ahead<R, G, T: SerialTree>(
     check: &Checking<'_, R, G>,
     tree: &T,
 ) -> Result<Option<Finding>, AllocError>
-    requires of { CanRun check.now.space.component.now check.now.space.matrix.now }
-    requires few { check.now.space.bound ≤ most_moves }
     ensures found { MayFindAgainst check.now.space (T.members tree.now) result }
-    ensures limits { IfOk result (λ f. IfSome f (λ _. IsMatrix check.now.space.matrix.now)) }
+    ensures limits { IfOk result (λ f. IfSome f (λ _. IsMatrix check.now.space.test.matrix.now)) }
 {
     let looks = check.options.head_start();
     if looks == 0 {
@@ -93,7 +90,12 @@ fn search_ahead<R, G, T: SerialTree>(
     }
     let space = &check.space;
     let whole = Schedule::new(Vec::new(space.alloc));
-    let tables = Tables::new(space.alloc, space.component, space.matrix, space.bound)?;
+    let tables = Tables::new(
+        space.alloc,
+        space.test.component,
+        space.test.matrix,
+        space.bound,
+    )?;
     let mut cache = Cache::new(space.alloc, tree, REMEMBERED)?;
     let mut watch = HeadStart::new(looks);
     let found = search_with(space, &tables, &mut cache, &whole, &mut watch)?;
@@ -111,10 +113,8 @@ fn search_tree<R: Threads + Wait, G: Gate, T: SerialTree + Sync>(
 ) -> Result<Finding, CheckFault>
 where
     T::Place: Send + Sync,
-    requires of { CanRun check.now.space.component.now check.now.space.matrix.now }
-    requires few { check.now.space.bound ≤ most_moves }
     ensures found { FindsAgainst check.now.space (T.members tree.now) result }
-    ensures limits { OnOk result (IsMatrix check.now.space.matrix.now) }
+    ensures limits { OnOk result (IsMatrix check.now.space.test.matrix.now) }
     ensures alone { IfErr result (λ fault. check.now.options.workers ≡ 1 → fault ≡ Memory) }
 {
     if check.options.workers() == 1 {
@@ -130,10 +130,8 @@ where
 /// The least serial offence, or what is found among all schedules. The set of serial histories is
 /// packed once for all workers.
 fn find<R: Threads + Wait, G: Gate>(check: &Checking<'_, R, G>) -> Result<Finding, CheckFault>
-    requires of { CanRun check.now.space.component.now check.now.space.matrix.now }
-    requires few { check.now.space.bound ≤ most_moves }
     ensures found { FindsFromStarts check.now.space check.now.options.serial result }
-    ensures limits { OnOk result (IsMatrix check.now.space.matrix.now) }
+    ensures limits { OnOk result (IsMatrix check.now.space.test.matrix.now) }
     ensures alone { IfErr result (λ fault. check.now.options.workers ≡ 1 → fault ≡ Memory) }
 {
     let space = check.space;
@@ -141,8 +139,8 @@ fn find<R: Threads + Wait, G: Gate>(check: &Checking<'_, R, G>) -> Result<Findin
     match set_or_offence(learn(
         space.alloc,
         space.alloc,
-        space.component,
-        space.matrix,
+        space.test.component,
+        space.test.matrix,
         serial,
     )?) {
         Ok(set) => {
@@ -181,8 +179,7 @@ pub fn check<R: Threads + Wait, G: Gate>(
     let bound = options.bound();
     let space = SearchSpace {
         alloc,
-        component,
-        matrix,
+        test: Test { component, matrix },
         bound,
     };
     let finding = find(&Checking {
@@ -220,8 +217,7 @@ where
     let bound = options.bound();
     let space = SearchSpace {
         alloc,
-        component,
-        matrix,
+        test: Test { component, matrix },
         bound,
     };
     let check = Checking {

@@ -9,6 +9,7 @@ ghost use Rattle.lu_parallel.specs.Findings.{FindsFromStarts, FindsAgainst, Repo
 
 use crate::worker::REMEMBERED;
 use lu_component::Component;
+use lu_machine::Test;
 use lu_replay::set_or_offence;
 use lu_report::{Finding, Report};
 use lu_serial::learn;
@@ -35,13 +36,17 @@ pub(crate) fn search_all<T: SerialTree>(
     space: &SearchSpace<'_>,
     tree: &T,
 ) -> Result<Finding, AllocError>
-    requires of { CanRun space.now.component.now space.now.matrix.now }
-    requires few { space.now.bound ≤ most_moves }
+    requires { space.now.bound ≤ most_moves }
     ensures found { FindsAgainst space.now (T.members tree.now) result }
-    ensures limits { OnOk result (IsMatrix space.now.matrix.now) }
+    ensures limits { OnOk result (IsMatrix space.now.test.matrix.now) }
 {
     let whole = Schedule::new(Vec::new(space.alloc));
-    let tables = Tables::new(space.alloc, space.component, space.matrix, space.bound)?;
+    let tables = Tables::new(
+        space.alloc,
+        space.test.component,
+        space.test.matrix,
+        space.bound,
+    )?;
     let mut cache = Cache::new(space.alloc, tree, REMEMBERED)?;
     let found = search_with(space, &tables, &mut cache, &whole, &mut Unwatched)?;
     Ok(finding_of(found))
@@ -53,17 +58,16 @@ fn find<A: Allocator + Clone>(
     set_alloc: A,
     serial: u16,
 ) -> Result<Finding, AllocError>
-    requires of { CanRun space.now.component.now space.now.matrix.now }
     requires few { space.now.bound ≤ most_moves }
     requires serial { IsSerialBound serial }
     ensures found { FindsFromStarts space.now serial result }
-    ensures limits { OnOk result (IsMatrix space.now.matrix.now) }
+    ensures limits { OnOk result (IsMatrix space.now.test.matrix.now) }
 {
     let learnt = learn(
         space.alloc,
         set_alloc,
-        space.component,
-        space.matrix,
+        space.test.component,
+        space.test.matrix,
         serial,
     )?;
     match set_or_offence(learnt) {
@@ -95,8 +99,7 @@ pub fn check_one<A: Allocator + Clone>(
 {
     let space = SearchSpace {
         alloc,
-        component,
-        matrix,
+        test: Test { component, matrix },
         bound,
     };
     let finding = find(&space, set_alloc, serial)?;
@@ -123,8 +126,7 @@ pub fn check_one_against<T: SerialTree>(
 {
     let space = SearchSpace {
         alloc,
-        component,
-        matrix,
+        test: Test { component, matrix },
         bound,
     };
     let finding = search_all(&space, tree)?;

@@ -8,6 +8,7 @@ use crate::gate::Gate;
 use crate::worker::{Job, work};
 use crate::works::Work;
 use lu_board::board::Seat;
+use lu_machine::Test;
 use lu_tree::SearchSpace;
 use lu_trie::SerialTree;
 use std::sync::Wait;
@@ -52,12 +53,8 @@ where
         board,
         gate,
     } = job;
-    let SearchSpace {
-        alloc,
-        component,
-        matrix,
-        bound,
-    } = space;
+    let SearchSpace { alloc, test, bound } = space;
+    let Test { component, matrix } = test;
     let mut children = Vec::with_capacity(alloc, seats.len())?;
     let mut number = 0u8;
     for seat in seats {
@@ -111,12 +108,8 @@ where
         board,
         gate,
     } = job;
-    let SearchSpace {
-        alloc,
-        component,
-        matrix,
-        bound,
-    } = space;
+    let SearchSpace { alloc, test, bound } = space;
+    let Test { component, matrix } = test;
     thread::scope(
         thread::scope_env(),
         rt,
@@ -127,8 +120,7 @@ where
         {
             let space = SearchSpace {
                 alloc,
-                component,
-                matrix,
+                test: Test { component, matrix },
                 bound,
             };
             let job = Job {

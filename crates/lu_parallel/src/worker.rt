@@ -15,7 +15,7 @@ use crate::works::{FoundPiece, Work};
 use lu_board::board::{Board, Seat};
 use lu_board::view::{Kind, Look};
 use lu_component::Component;
-use lu_machine::Counts;
+use lu_machine::{Counts, Test};
 use lu_test::{Matrix, Schedule};
 use lu_tree::{Found, SearchSpace, Tables, search_with};
 use lu_trie::SerialTree;
@@ -198,8 +198,7 @@ pub fn work<T: SerialTree, G: Gate>(
 {
     let space = SearchSpace {
         alloc,
-        component,
-        matrix,
+        test: Test { component, matrix },
         bound,
     };
     let job = Job {

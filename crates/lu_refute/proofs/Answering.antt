@@ -4,7 +4,9 @@ use Rattle.lu_component.specs.Component.{Declarations}
 use Rattle.lu_test.specs.declared.schedule.Move.{Move}
 use Rattle.lu_test.specs.Matrix.{Matrix}
 use Rattle.lu_machine.specs.States.{State}
+use Rattle.lu_machine.specs.declared.test.Test.{Test}
 use Rattle.lu_machine.specs.Starts.{IsStart}
+use Rattle.lu_machine.specs.Tests.{IsStartOf}
 use Rattle.lu_history.specs.declared.serial.SerialOp.{SerialOp}
 use Rattle.lu_serial.specs.Offences.{IsFirstOutside}
 use Rattle.lu_report.specs.declared.report.Finding.{Finding}
@@ -44,13 +46,13 @@ outside_answer s serial members (Pass counts) answer failure not_own outside = f
 
 -- ---- the same, where the set and the finding are known by equations
 
-pub none_own : (c : Declarations) (matrix : Matrix) (s : State) → IsStart c matrix s → (set members : List (List SerialOp)) → set ≡ members → (f finding : Finding) → f ≡ finding → (found : Option (List Move)) → found ≡ None → IsScheduleOfFailure c matrix set f found → (u : List Move) → IsOfFailure s members finding u → ⊥
-none_own c matrix s start set members same f finding is None none all u of =
+pub none_own : (test : Test) (s : State) → IsStartOf test s → (set members : List (List SerialOp)) → set ≡ members → (f finding : Finding) → f ≡ finding → (found : Option (List Move)) → found ≡ None → IsScheduleOfFailure test set f found → (u : List Move) → IsOfFailure s members finding u → ⊥
+none_own test s start set members same f finding is None none all u of =
     all s u start (subst (λ (x : Finding). IsOfFailure s set x u) (sym is) (subst (λ (x : List (List SerialOp)). IsOfFailure s x finding u) (sym same) of))
-none_own c matrix s start set members same f finding is (Some v) none all u of = absurd cc
+none_own test s start set members same f finding is (Some v) none all u of = absurd cc
 
-pub own_found : (c : Declarations) (matrix : Matrix) (s : State) → IsStart c matrix s → (set members : List (List SerialOp)) → set ≡ members → (f finding : Finding) → f ≡ finding → (found : Option (List Move)) (u : List Move) → found ≡ Some u → IsScheduleOfFailure c matrix set f found → IsOfFailure s members finding u
-own_found c matrix s start set members same f finding is None u some of = absurd cc
-own_found c matrix s start set members same f finding is (Some v) u some of =
+pub own_found : (test : Test) (s : State) → IsStartOf test s → (set members : List (List SerialOp)) → set ≡ members → (f finding : Finding) → f ≡ finding → (found : Option (List Move)) (u : List Move) → found ≡ Some u → IsScheduleOfFailure test set f found → IsOfFailure s members finding u
+own_found test s start set members same f finding is None u some of = absurd cc
+own_found test s start set members same f finding is (Some v) u some of =
     let e : v ≡ u = cc in
     subst (IsOfFailure s members finding) e (subst (λ (x : Finding). IsOfFailure s members x v) is (subst (λ (x : List (List SerialOp)). IsOfFailure s x f v) same (of s start)))

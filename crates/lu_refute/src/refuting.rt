@@ -9,13 +9,13 @@ ghost use Rattle.lu_report.specs.Limits.{IsSerialBound, most_moves};
 ghost use Rattle.lu_replay.specs.Confirmed.{IsShownWith};
 ghost use Rattle.lu_spec.specs.Specs.{AreOf};
 ghost use Rattle.lu_refute.specs.Linearizable.{IsCounterexampleTo, IsLinearizableTo};
-ghost use Rattle.lu_refute.specs.Answers.{IsAnswer, IsAnswerWith, IsConfirmedFailure, IsFailure, IsRefuteFault};
-ghost use Rattle.lu_refute.specs.Walks.{HasOutside, IsScheduleOfFailure, IsFromOutside, TellsRefutation};
+ghost use Rattle.lu_refute.specs.Answers.{IsAnswer, IsConfirmedFailure, IsFailure, IsRefuteFault};
+ghost use Rattle.lu_refute.specs.Walks.{HasOutside, IsAnswerOf, IsScheduleOfFailure, IsFromOutside, TellsRefutation};
 
 use crate::fault::RefuteFault;
 use crate::shortest::shortest;
 use lu_component::Component;
-use lu_machine::Status;
+use lu_machine::{Status, Test};
 use lu_replay::{ReplayFault, confirm, replay};
 use lu_report::{Finding, Report};
 use lu_serial::first_outside;
@@ -35,15 +35,13 @@ fn is_bad(status: Status, verdict: Verdict) -> bool
 /// Whether the schedule is ended, and not good for the set.
 fn refutes(
     alloc: Global,
-    component: &Component,
-    matrix: &Matrix,
+    test: Test<'_>,
     schedule: &Schedule,
     set: &Trie<Global>,
 ) -> Result<bool, AllocError>
-    requires { CanRun component.now matrix.now }
-    ensures { IfOk result (TellsRefutation component.now matrix.now set.now schedule.now) }
+    ensures { IfOk result (TellsRefutation test.entry set.now schedule.now) }
 {
-    match replay(alloc, component, matrix, schedule) {
+    match replay(alloc, test.component, test.matrix, schedule) {
         Ok(shown) => { Ok(is_bad(shown.status, verdict(&set, &shown.history))) }
         Err(ReplayFault::Infeasible(_)) => Ok(false),
         Err(ReplayFault::Memory) => Err(AllocError),
@@ -53,19 +51,17 @@ fn refutes(
 /// The schedule of a failure, where it is not good for the set.
 fn schedule_of_failure(
     alloc: Global,
-    component: &Component,
-    matrix: &Matrix,
+    test: Test<'_>,
     finding: &Finding,
     set: &Trie<Global>,
 ) -> Result<Option<Schedule>, AllocError>
-    requires { CanRun component.now matrix.now }
-    ensures { IfOk result (IsScheduleOfFailure component.now matrix.now set.now finding.now) }
+    ensures { IfOk result (IsScheduleOfFailure test.entry set.now finding.now) }
 {
     match finding {
         Finding::SerialCut(_) => Ok(None),
         Finding::Nondeterministic { .. } => Ok(None),
         Finding::Fail { schedule, why: _ } => {
-            if refutes(alloc, component, matrix, schedule, set)? {
+            if refutes(alloc, test, schedule, set)? {
                 Ok(Some(Schedule::new(Vec::from_slice(alloc, schedule.moves())?)))
             } else {
                 Ok(None)
@@ -80,21 +76,19 @@ fn schedule_of_failure(
 /// Asks that there is such a schedule.
 fn from_outside(
     alloc: Global,
-    component: &Component,
-    matrix: &Matrix,
+    test: Test<'_>,
     serial: u16,
     set: &Trie<Global>,
 ) -> Result<(Matrix, Schedule), AllocError>
-    requires of { CanRun component.now matrix.now }
     requires some { 1 ≤ serial }
     requires few { serial ≤ most_moves }
     requires empty { IsMember set.now [] }
-    requires outside { HasOutside component.now matrix.now serial set.now }
-    ensures { IfOk result (IsFromOutside component.now matrix.now serial set.now) }
+    requires outside { HasOutside test serial set.now }
+    ensures { IfOk result (IsFromOutside test.entry serial set.now) }
 {
-    match first_outside(alloc, component, matrix, serial, set)? {
+    match first_outside(alloc, test.component, test.matrix, serial, set)? {
         None => unreachable!(),
-        Some(outside) => shortest(alloc, component, matrix, &outside, set),
+        Some(outside) => shortest(alloc, test, &outside, set),
     }
 }
 
@@ -102,23 +96,21 @@ fn from_outside(
 /// bound of serial runs.
 fn answer_to(
     alloc: Global,
-    component: &Component,
-    matrix: &Matrix,
+    test: Test<'_>,
     report: &Report,
     serial: u16,
     spec: &Spec,
 ) -> Result<(Matrix, Schedule), AllocError>
-    requires component { CanRun component.now matrix.now }
-    requires spec { AreOf matrix.now spec.now }
+    requires spec { AreOf test.matrix.now spec.now }
     requires range { IsSerialBound serial }
-    requires shown { IsShownWith component.now matrix.now report.now serial }
+    requires shown { IsShownWith test.component.now test.matrix.now report.now serial }
     requires failure { IsFailure report.now.finding }
-    ensures { IfOk result (IsAnswerWith component.now matrix.now report.now serial spec.now) }
+    ensures { IfOk result (IsAnswerOf test.entry report.now serial spec.now) }
 {
     let set = spec.tree();
-    match schedule_of_failure(alloc, component, matrix, report.finding(), set)? {
-        Some(schedule) => Ok((copy_matrix(alloc, matrix)?, schedule)),
-        None => from_outside(alloc, component, matrix, serial, set),
+    match schedule_of_failure(alloc, test, report.finding(), set)? {
+        Some(schedule) => Ok((copy_matrix(alloc, test.matrix)?, schedule)),
+        None => from_outside(alloc, test, serial, set),
     }
 }
 
@@ -160,5 +152,6 @@ pub fn refute(
     if !report.is_failure() || !confirm(alloc, component, matrix, report)? {
         return Err(RefuteFault::NotShown);
     }
-    Ok(answer_to(alloc, component, matrix, report, serial, spec)?)
+    let test = Test { component, matrix };
+    Ok(answer_to(alloc, test, report, serial, spec)?)
 }

@@ -1,15 +1,14 @@
 //! The shortest beginning of a serial schedule that shows a history outside a specification.
 
 ghost use Rattle.std.specs.Prelude.{◌≡◌, [], IfOk, OnOk};
-ghost use Rattle.lu_machine.specs.Starts.{CanRun, IsStart};
 ghost use Rattle.lu_machine.specs.Steps.{IsFeasible};
+ghost use Rattle.lu_machine.specs.Tests.{IsStartOf};
 ghost use Rattle.lu_witness.specs.Witnesses.{IsMember};
 ghost use Rattle.lu_refute.specs.Whole.{made_calls};
 ghost use Rattle.lu_refute.specs.Walks.{EndsOutside, IsBeforeAnyReturn, IsFurther, IsOutsideOf, IsShortestOf, IsStop};
 
-use lu_component::Component;
 use lu_history::{SerialOp, SerialOutcome};
-use lu_machine::{Event, Machine};
+use lu_machine::{Event, Machine, Test};
 use lu_test::{Matrix, Move, Schedule, cut_to};
 use lu_trie::Trie;
 use std::alloc::{AllocError, Global};
@@ -25,19 +24,14 @@ pub(crate) struct Walk<'a> {
 
 impl<'a> Walk<'a> {
     /// The walk before the first move.
-    fn start(
-        alloc: Global,
-        component: &'a Component,
-        matrix: &'a Matrix,
-    ) -> Result<Walk<'a>, AllocError>
-        requires { CanRun component.now matrix.now }
-        ensures start { IfOk result (λ walk. IsStart component.now matrix.now walk.machine) }
+    fn start(alloc: Global, test: Test<'a>) -> Result<Walk<'a>, AllocError>
+        ensures start { IfOk result (λ walk. IsStartOf test.entry walk.machine) }
         ensures before { IfOk result IsBeforeAnyReturn }
     {
         Ok(Walk {
-            machine: Machine::start(alloc, component, matrix)?,
+            machine: Machine::start(alloc, test.component, test.matrix)?,
             entries: Vec::new(alloc),
-            calls: vec![in alloc; 0; usize::from(matrix.threads())]?,
+            calls: vec![in alloc; 0; usize::from(test.matrix.threads())]?,
         })
     }
 
@@ -80,20 +74,18 @@ impl<'a> Walk<'a> {
 /// with a whole entry and whose entries are no member: over the matrix cut to the calls made in it.
 pub(crate) fn shortest(
     alloc: Global,
-    component: &Component,
-    matrix: &Matrix,
+    test: Test<'_>,
     outside: &Schedule,
     set: &Trie<Global>,
 ) -> Result<(Matrix, Schedule), AllocError>
-    requires of { CanRun component.now matrix.now }
     requires empty { IsMember set.now [] }
-    requires outside { IsOutsideOf component.now matrix.now set.now outside.now }
-    ensures { IfOk result (IsShortestOf component.now matrix.now set.now outside.now) }
+    requires outside { IsOutsideOf test set.now outside.now }
+    ensures { IfOk result (IsShortestOf test.entry set.now outside.now) }
 {
-    let mut walk = Walk::start(alloc, component, matrix)?;
+    let mut walk = Walk::start(alloc, test)?;
     let moves = outside.moves();
     let count = walk.go_outside(moves, set)?;
-    let smaller = cut_to(alloc, matrix, &walk.calls)?;
+    let smaller = cut_to(alloc, test.matrix, &walk.calls)?;
     Ok((
         smaller,
         Schedule::new(Vec::from_slice(alloc, &moves[..count])?),

@@ -10,12 +10,6 @@ use Rattle.lu_parallel.proofs.checks.find.Goals as goal
 pub same-set : goal.same-set
 same-set g c = refl
 
-pub search_tree-requires-clause-of : goal.search_tree-requires-clause-of
-search_tree-requires-clause-of g c κs within = c.requires.of
-
-pub search_tree-requires-clause-few : goal.search_tree-requires-clause-few
-search_tree-requires-clause-few g c κs within = c.requires.few
-
 pub returns-in_ok-packed-in-Ok-clause-found : goal.returns-in_ok-packed-in-Ok-clause-found
 returns-in_ok-packed-in-Ok-clause-found g c = λ s is.
     let choice = c.args.check.now.options in

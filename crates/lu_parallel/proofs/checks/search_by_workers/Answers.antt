@@ -16,7 +16,7 @@ use Rattle.lu_parallel.proofs.checks.search_by_workers.Goals as goal
 
 pub new-requires-clause-pieces : goal.new-requires-clause-pieces
 new-requires-clause-pieces g c =
-    let start = start_there c.args.check.now.space.component.now c.args.check.now.space.matrix.now c.requires.of.settles in
+    let start = start_there c.args.check.now.space.test.component.now c.args.check.now.space.test.matrix.now c.args.check.now.space.test.can_run.settles in
     let few = (c.in_ok-pieces.ensures.frontier start.0 start.1).few in
     let long = c.in_ok-pieces.pieces.ok.0 in
     let is = c.len.ensures in
@@ -24,8 +24,8 @@ new-requires-clause-pieces g c =
 
 pub run_workers-requires-clause-job : goal.run_workers-requires-clause-job
 run_workers-requires-clause-job g c κs within = record {
-  of = c.requires.of;
-  few = c.requires.few;
+  of = c.args.check.now.space.test.can_run;
+  few = c.args.check.now.few;
   schedules = λ s is.
       subst (λ (pieces : List (List Move)). All (IsPiece s c.args.check.now.space.bound) pieces) (sym c.deref.ensures.value)
       (frontier_pieces s c.args.check.now.space.bound c.depth-depth.result c.in_ok-pieces.pieces.items (c.in_ok-pieces.ensures.frontier s is));
@@ -49,8 +49,8 @@ returns-in-Some-clause-found g c = λ s is.
     let shares = subst (λ n. SharesOut n (seats_of works)) long c.in_ok-found.ensures.pieces in
     let conclusion : IsConclusion works (Some found) = rw c.in-Some.is at c.in_ok-found.ensures.conclusion in
     let over : AreWorksOver members s bound works = record {
-      component = c.args.check.now.space.component.now;
-      matrix = c.args.check.now.space.matrix.now;
+      component = c.args.check.now.space.test.component.now;
+      matrix = c.args.check.now.space.test.matrix.now;
       start = is;
       pieces = pieces;
       cover = cover;

@@ -4,11 +4,8 @@ use Rattle.lu_replay.specs.Reports.{IsFinding, IsFindingAgainst}
 use Rattle.lu_parallel.proofs.Answers.{against_serially}
 use Rattle.lu_parallel.proofs.one_thread.find.Goals as goal
 
-pub search_all-requires-clause-of : goal.search_all-requires-clause-of
-search_all-requires-clause-of g c = c.requires.of
-
-pub search_all-requires-clause-few : goal.search_all-requires-clause-few
-search_all-requires-clause-few g c = c.requires.few
+pub search_all-requires : goal.search_all-requires
+search_all-requires g c = c.requires.few
 
 pub returns-in-Ok-clause-found : goal.returns-in-Ok-clause-found
 returns-in-Ok-clause-found g c = λ s is.

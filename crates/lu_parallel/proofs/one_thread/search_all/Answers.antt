@@ -13,8 +13,7 @@ pub search_with-requires-clause-of : goal.search_with-requires-clause-of
 search_with-requires-clause-of g c =
     let empty : c.new-whole.result ≡ [] = c.new-whole.ensures ∙ c.new.ensures.items in
     record {
-      run = c.requires.of;
-      few = c.requires.few;
+      few = c.requires;
       short = omega (arith, ap length empty);
       leads = λ s is. subst (λ (u : List Move). IsSchedule s u) (sym empty) (empty_leads s);
     }

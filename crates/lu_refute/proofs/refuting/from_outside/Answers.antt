@@ -7,7 +7,7 @@ use Rattle.lu_refute.proofs.refuting.from_outside.Goals as goal
 
 pub unreachable-requires : goal.unreachable-requires
 unreachable-requires c =
-    let start = start_there c.args.component.now c.args.matrix.now c.requires.of.settles in
+    let start = start_there c.args.test.component.now c.args.test.matrix.now c.args.test.can_run.settles in
     c.requires.outside start.0 start.1 (subst (IsFirstOutside start.0 c.args.serial c.args.set.now) c.in-None.is (c.in_ok-first_outside.ensures start.0 start.1))
 
 pub shortest-requires-clause-outside : goal.shortest-requires-clause-outside
@@ -17,7 +17,7 @@ shortest-requires-clause-outside c = λ s is.
 
 pub returns : goal.returns
 returns c =
-    IfOk-weaker c.shortest.result (IsShortestOf c.args.component.now c.args.matrix.now c.args.set.now c.in-Some.outside) (IsFromOutside c.args.component.now c.args.matrix.now c.args.serial c.args.set.now)
+    IfOk-weaker c.shortest.result (IsShortestOf c.args.test c.args.set.now c.in-Some.outside) (IsFromOutside c.args.test c.args.serial c.args.set.now)
     (λ answer short s is.
     let over = short s is in
     let least = subst (IsFirstOutside s c.args.serial c.args.set.now) c.in-Some.is (c.in_ok-first_outside.ensures s is) in

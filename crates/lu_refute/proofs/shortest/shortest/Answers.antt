@@ -22,10 +22,10 @@ cut_to-requires c =
     let stop = c.in_ok-count.ensures in
     let run = stop.short.whole in
     let front = take c.in_ok-count.count c.moves-moves.result.now in
-    let g = ground_of c.args.component.now c.in_ok-walk.walk.machine in
-    let leads = subst (λ (x : State). Leads x front run.end run.history) (grounded c.args.component.now c.args.matrix.now c.in_ok-walk.walk.machine c.in_ok-walk.ensures.start) run.leads in
+    let g = ground_of c.args.test.component.now c.in_ok-walk.walk.machine in
+    let leads = subst (λ (x : State). Leads x front run.end run.history) (grounded c.args.test.component.now c.args.test.matrix.now c.in_ok-walk.walk.machine c.in_ok-walk.ensures.start) run.leads in
     let is : c.deref.result.now ≡ made_calls run.end = c.deref.ensures.value ∙ (stop.calls ∙ ap made_calls (sym stop.ends)) in
-    subst (AreLengths c.args.matrix.now) (sym is) (made_lengths g c.args.matrix.now front run.end run.history leads)
+    subst (AreLengths c.args.test.matrix.now) (sym is) (made_lengths g c.args.test.matrix.now front run.end run.history leads)
 
 pub slice_bounds-from_slice-end : goal.slice_bounds-from_slice-end
 slice_bounds-from_slice-end c =
@@ -38,10 +38,10 @@ new-requires c =
 
 pub returns : goal.returns
 returns c =
-    λ (s : State) (is : IsStart c.args.component.now c.args.matrix.now s).
+    λ (s : State) (is : IsStart c.args.test.component.now c.args.test.matrix.now s).
     let stop = c.in_ok-count.ensures in
     let start = c.in_ok-walk.walk.machine in
-    cut_over start s (start_same c.args.component.now c.args.matrix.now start s c.in_ok-walk.ensures.start is) c.args.set.now c.moves-moves.result.now c.args.outside.now c.moves-moves.ensures.moves
+    cut_over start s (start_same c.args.test.component.now c.args.test.matrix.now start s c.in_ok-walk.ensures.start is) c.args.set.now c.moves-moves.result.now c.args.outside.now c.moves-moves.ensures.moves
     c.new.result c.in_ok-count.count (c.new.ensures ∙ c.in_ok-from_slice.ensures.items) stop.short
     c.deref.result.now (c.deref.ensures.value ∙ (stop.calls ∙ ap made_calls (sym stop.ends)))
-    c.args.matrix.now c.in_ok-smaller.smaller (start_matrix c.args.component.now c.args.matrix.now start c.in_ok-walk.ensures.start) c.in_ok-smaller.ensures
+    c.args.test.matrix.now c.in_ok-smaller.smaller (start_matrix c.args.test.component.now c.args.test.matrix.now start c.in_ok-walk.ensures.start) c.in_ok-smaller.ensures

@@ -10,9 +10,8 @@ use Rattle.lu_parallel.proofs.worker.Worker.serve.Goals as goal
 
 pub search_with-found-requires-clause-of : goal.search_with-found-requires-clause-of
 search_with-found-requires-clause-of g c =
-    let start = start_there c.args.job.now.space.component.now c.args.job.now.space.matrix.now c.requires.job.of.settles in
+    let start = start_there c.args.job.now.space.test.component.now c.args.job.now.space.test.matrix.now c.args.job.now.space.test.can_run.settles in
     record {
-      run = c.requires.job.of;
       few = c.requires.job.few;
       short = (c.requires.job.schedules start.0 start.1 c.args.piece c.index-job-piece.result c.requires.piece).0;
       leads = λ s is. (c.requires.job.schedules s is c.args.piece c.index-job-piece.result c.requires.piece).1;

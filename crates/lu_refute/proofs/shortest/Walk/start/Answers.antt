@@ -7,10 +7,10 @@ pub returns-clause-before : goal.returns-clause-before
 returns-clause-before c =
     let is = c.in_ok-start.ensures.starts in
     record {
-      quiet = none_at_start c.args.component.now c.args.matrix.now c.in_ok-start.field-0 is;
+      quiet = none_at_start c.args.test.component.now c.args.test.matrix.now c.in_ok-start.field-0 is;
       entries = c.new.ensures.items;
       calls =
           let none : ℕ = 0 in
-          let all : c.in_ok-vec.field-0.items ≡ replicate (length c.args.matrix.now.threads) none = search rules in
-          all ∙ sym (start_made c.args.component.now c.args.matrix.now c.in_ok-start.field-0 is);
+          let all : c.in_ok-vec.field-0.items ≡ replicate (length c.args.test.matrix.now.threads) none = search rules in
+          all ∙ sym (start_made c.args.test.component.now c.args.test.matrix.now c.in_ok-start.field-0 is);
     }
