@@ -18,7 +18,7 @@ use Rattle.lu_machine.specs.Steps.{IsFeasible, Step, picks_of}
 use Rattle.lu_machine.specs.Runs.{Leads, with_event}
 use Rattle.lu_machine.specs.Starts.{CanRun, IsStart, MakesAll, SetsUp, Settles, at_rest, empty_state, first_move}
 use Rattle.lu_machine.proofs.Paths.{goes_on_feasible, leads_on, leads_same}
-use Rattle.lu_machine.proofs.Starting.{after, none_settles}
+use Rattle.lu_machine.proofs.Starting.{after, none_settles, start_there}
 use Rattle.lu_lint.specs.declared.remark.RunHint.{RunHint}
 use Rattle.lu_lint.specs.Runs.{SetupRuns, event_hints, setup_hints}
 
@@ -89,16 +89,17 @@ longer_goes_on s n i end now g h whole part less =
 pub is_run : (c : Declarations) (matrix : Matrix) (m : Matrix) (i : ℕ) (now : State) (h : List Event) → m ≡ alone matrix.setup → IsMatrix m → Settles c matrix → Leads (empty_state c (alone matrix.setup)) (replicate i first_move) now h → (IsFeasible now first_move → 2056 ≤ i) → SetupRuns c matrix i h
 is_run c matrix m i now h is limits settles leads stops =
     let s = empty_state c (alone matrix.setup) in
-    let all = all_leads c matrix.setup (length matrix.setup) settles.end settles.made in
+    let start = (start_there c matrix settles).1 in
+    let all = all_leads c matrix.setup (length matrix.setup) start.end start.made in
     let few : length matrix.setup ≤ 8 = All-head (λ (x : List Call). length x ≤ 8) matrix.setup [] ((subst IsMatrix is limits).limits.each) in
     let most = all.few in
     elim (cases_lt i all.moves) [
-      | inl less ↦ (let stop = stops (longer_goes_on s all.moves i settles.end now all.history h all.leads leads less) in absurd (omega arith))
+      | inl less ↦ (let stop = stops (longer_goes_on s all.moves i start.end now all.history h all.leads leads less) in absurd (omega arith))
       | inr past ↦ elim (cases_lt all.moves i) [
-        | inl less ↦ absurd (made_all c matrix.setup settles.end settles.made (longer_goes_on s i all.moves now settles.end h all.history leads all.leads less))
+        | inl less ↦ absurd (made_all c matrix.setup start.end start.made (longer_goes_on s i all.moves now start.end h all.history leads all.leads less))
         | inr over ↦ (let e : all.moves ≡ i = omega arith in
-            let same = leads_same s (replicate i first_move) now settles.end h all.history leads (subst (λ (n : ℕ). Leads s (replicate n first_move) settles.end all.history) e all.leads) in
-            (now, subst (SetsUp c matrix) (sym same.0) settles.made, leads))
+            let same = leads_same s (replicate i first_move) now start.end h all.history leads (subst (λ (n : ℕ). Leads s (replicate n first_move) start.end all.history) e all.leads) in
+            (now, subst (SetsUp c matrix) (sym same.0) start.made, leads))
       ]
     ]
 

@@ -7,6 +7,7 @@ ghost use Rattle.lu_tree.specs.Tables.{AreRunTables};
 use crate::serial_runs::set_of;
 use crate::trees::{assert_bad, assert_clean, beginning};
 use lu_fixtures::{Fixture, ROWS, fixture_of};
+use lu_machine::Test;
 use lu_test::Schedule;
 use lu_tree::{Found, SearchSpace, Tables, Unwatched, Watch, search_watched, search_with};
 use lu_trie::{PackedTrie, SerialTree};
@@ -197,8 +198,10 @@ fn found_below<T: SerialTree>(
     assert!(rt; from.moves().len() <= 40);
     let space = SearchSpace {
         alloc: rt.alloc(),
-        component: &case.component,
-        matrix: &case.matrix,
+        test: Test {
+            component: &case.component,
+            matrix: &case.matrix,
+        },
         bound: 40,
     };
     let mut cache = Cache::new(rt.alloc(), tree, 1)?;

@@ -19,7 +19,7 @@ use Rattle.lu_machine.specs.Runs.{Leads}
 use Rattle.lu_machine.specs.Starts.{AllEnd, CanRun, IsStart, MakesAll, empty_state, first_move}
 use Rattle.lu_machine.proofs.Keeping.{step_moved}
 use Rattle.lu_machine.proofs.OneStepLaws.{feasible_one, one_feasible, one_same}
-use Rattle.lu_machine.proofs.Starting.{after, none_settles, start_same}
+use Rattle.lu_machine.proofs.Starting.{after, none_settles, start_same, start_there}
 use Rattle.lu_trace.specs.declared.wording.Wording.{Wording}
 use Rattle.lu_trace.specs.Setups.{AreSetupLines, IsWordedTraceFromSetup, LinesUpTo, SetupLines, found_lines, setup_heading, setup_line}
 use Rattle.lu_trace.specs.Traces.{AddsLines}
@@ -127,18 +127,23 @@ same_run how (suc n) (suc m) s a b k l p q over far =
     let rest = same_run how n m p.0 a b p.2 q.2 p.4 on over (λ less. far (omega (arith, less))) in
     (rest.0, p.5 ∙ (ap (λ x. setup_line how s ++ x) rest.1 ∙ sym q.5))
 
+-- no thread's calls behind those of this setup
+alone_after : List Call → Matrix
+alone_after calls = record { setup = calls; threads = [] }
+
 -- the lines up to 34,952, or to where no step is left, are those of the setup
 pub setup_lines : (how : Wording) (c : Declarations) (calls : List Call) (s now : State) (lines : List ℕ) → c.local ≤ 16 → length calls ≤ 8 → AllEnd c calls → s ≡ empty_state c (alone calls) → LinesUpTo how 34952 s now lines → AreSetupLines how c calls lines
 setup_lines how c calls s now lines few short settles is h =
-    let all = calls_steps how c calls (length calls) settles.end few settles.made in
+    let start = (start_there c (alone_after calls) settles).1 in
+    let all = calls_steps how c calls (length calls) start.end few start.made in
     let many = all.few in
     let here : SetupLines how h.0 (empty_state c (alone calls)) now lines = subst (λ (x : State). SetupLines how h.0 x now lines) is h.1 in
-    let same = same_run how h.0 all.steps (empty_state c (alone calls)) now settles.end lines all.lines here all.lines_are (ended c calls settles.end settles.made) (λ less. h.2 (omega (arith, less, many, short))) in
+    let same = same_run how h.0 all.steps (empty_state c (alone calls)) now start.end lines all.lines here all.lines_are (ended c calls start.end start.made) (λ less. h.2 (omega (arith, less, many, short))) in
     record {
-      end = settles.end;
-      made = settles.made;
+      end = start.end;
+      made = start.made;
       steps = all.steps;
-      lines_are = subst (λ x. SetupLines how all.steps (empty_state c (alone calls)) settles.end x) (sym same.1) all.lines_are;
+      lines_are = subst (λ x. SetupLines how all.steps (empty_state c (alone calls)) start.end x) (sym same.1) all.lines_are;
     }
 
 -- ---- one step more

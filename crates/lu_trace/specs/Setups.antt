@@ -7,6 +7,7 @@ use Rattle.lu_lang.specs.ComponentText.{array_word, lock_word}
 use Rattle.lu_test.specs.declared.matrix.Call.{Call}
 use Rattle.lu_test.specs.declared.schedule.Move.{Move}
 use Rattle.lu_test.specs.Matrix.{Matrix, alone}
+use Rattle.lu_machine.specs.declared.test.Test.{Test}
 use Rattle.lu_machine.specs.declared.event.Event.{Event}
 use Rattle.lu_machine.specs.States.{State, cell_of, value_at, owner_of}
 use Rattle.lu_machine.specs.Steps.{OneStep, IsFeasible}
@@ -134,8 +135,8 @@ abbrev pub WritesUpTo : {T E Z : Type 0} → Result T E → String Z → String 
     → State → Type 0
 WritesUpTo result old new how most s end = WritesLines result old new (LinesUpTo how most s end)
 
--- and by those of the matrix's setup
-abbrev pub WritesSetup : {T E Z : Type 0} → Result T E → String Z → String Z → Wording
-    → Declarations → Matrix → Type 0
-WritesSetup result old new how c matrix =
-    WritesLines result old new (AreSetupLines how c matrix.setup)
+-- and by those of the test's setup
+abbrev pub WritesSetup : {T E Z : Type 0} → Result T E → String Z → String Z → Wording → Test
+    → Type 0
+WritesSetup result old new how test =
+    WritesLines result old new (AreSetupLines how test.component.now test.matrix.now.setup)

@@ -13,7 +13,7 @@ use crate::tracing::write_worded_trace;
 use crate::wording::Wording;
 use lu_component::Component;
 use lu_lang::{array_name, lock_name};
-use lu_machine::Machine;
+use lu_machine::{Machine, Test};
 use lu_test::{Matrix, Move, Schedule, setup_alone};
 use std::alloc::{AllocError, Global};
 
@@ -73,14 +73,12 @@ fn write_setup(
     alloc: Global,
     text: &mut String,
     how: &Wording<'_>,
-    component: &Component,
-    matrix: &Matrix,
+    test: Test<'_>,
 ) -> Result<(), AllocError>
-    requires { CanRun component.now matrix.now }
-    ensures { WritesSetup result text.old text.new how.now component.now matrix.now }
+    ensures { WritesSetup result text.old text.new how.now test.entry }
 {
-    let alone = setup_alone(alloc, matrix)?;
-    let mut machine = Machine::start(alloc, component, &alone)?;
+    let alone = setup_alone(alloc, test.matrix)?;
+    let mut machine = Machine::start(alloc, test.component, &alone)?;
     write_setup_lines(text, how, &mut machine)
 }
 
@@ -215,7 +213,7 @@ pub fn write_worded_trace_from_setup(
 {
     let trace = write_worded_trace(alloc, how, component, matrix, schedule)?;
     let mut text = String::from_str(alloc, setup_heading(matrix))?;
-    write_setup(alloc, &mut text, how, component, matrix)?;
+    write_setup(alloc, &mut text, how, Test { component, matrix })?;
     let machine = Machine::start(alloc, component, matrix)?;
     text.push_str("start\n")?;
     write_found(&mut text, &machine)?;
