@@ -19,6 +19,7 @@ use lu_report::Bounds;
 use lu_source_lint::{SourceMessage, What, faults_of, warnings_of, wording};
 use lu_source_text::{compile_text, is_source};
 use lu_text::{Fault, bundle_parts, lines_of};
+use lu_wording::Words;
 use std::alloc::{AllocError, Global};
 
 /// Adds what stands before the words.
@@ -215,7 +216,7 @@ fn remarks_behind(
     let text = write_component(alloc, component)?;
     let lines = lines_of(alloc, text.as_bytes())?.len();
     let bundle = bundle_of(alloc, component, parts)?;
-    let linted = lint(alloc, &bundle, bounds.serial())?;
+    let linted = lint(alloc, &Words, &bundle, bounds.serial())?;
     remarks_below(alloc, linted.remarks, lines, source_lines)
 }
 
@@ -263,7 +264,7 @@ fn lint_source(
 fn lint_component(alloc: Global, bounds: Bounds, bundle: &[u8]) -> Result<Answer, AllocError>
     ensures { IfOk result (IsLinted bounds bundle.now) }
 {
-    let linted = lint(alloc, bundle, bounds.serial())?;
+    let linted = lint(alloc, &Words, bundle, bounds.serial())?;
     Ok(Answer {
         text: linted.text,
         status: if linted.faults { 2 } else { 0 },

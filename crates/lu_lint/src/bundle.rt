@@ -8,6 +8,7 @@ ghost use Rattle.lu_lint.specs.Said as said;
 ghost use Rattle.lu_lint.specs.Said.{SaysAlso};
 
 use crate::remark::{Cause, Remark, Said, line_below, with_remark};
+use crate::words::Wording;
 use lu_text::{is_meant_as_separator, is_separator, kept_lines};
 use std::alloc::{AllocError, Global};
 
@@ -26,19 +27,10 @@ pub(crate) fn above_next(alloc: Global, above: usize, part: &[u8]) -> Result<usi
     Ok(line_below(above, lines.len() + 1))
 }
 
-/// The words for a line that is nearly `---`.
-fn blurred_wording(alloc: Global, line: &[u8]) -> Result<String, AllocError> {
-    let beside = if line.contains(&b'\r') {
-        "a CR"
-    } else {
-        "a blank"
-    };
-    format!(in alloc; "this line is --- with {beside} behind it, so it parts nothing")
-}
-
 /// The remarks with one on this line, where it is nearly `---`.
-fn with_separator(
+fn with_separator<W: Wording>(
     alloc: Global,
+    wording: &W,
     all: Vec<Remark>,
     number: usize,
     line: &[u8],
@@ -52,19 +44,20 @@ fn with_separator(
         place: number,
         cause: Cause::Separator,
     };
-    with_remark(all, said, blurred_wording(alloc, line)?)
+    with_remark(all, said, wording.separator(alloc, line)?)
 }
 
 /// The remarks with one on each line that is nearly `---`.
-pub(crate) fn with_separators(
+pub(crate) fn with_separators<W: Wording>(
     alloc: Global,
+    wording: &W,
     mut all: Vec<Remark>,
     lines: &[&[u8]],
 ) -> Result<Vec<Remark>, AllocError>
     ensures { SaysAlso result all (separators_from 1 (texts lines.now)) }
 {
     for (before, line) in lines.iter().enumerate() {
-        all = with_separator(alloc, all, before + 1, line)?;
+        all = with_separator(alloc, wording, all, before + 1, line)?;
     }
     Ok(all)
 }

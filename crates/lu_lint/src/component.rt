@@ -15,7 +15,7 @@ use crate::remark::{
     Cause, FaultKind, Position, Remark, Said, line_before, line_below, with_remark, with_words,
 };
 use crate::warning::with_warnings;
-use crate::wording::{end_wording, jump_wording, wording};
+use crate::words::Wording;
 use lu_component::Component;
 use lu_lang::{
     Draft, FaultyDraft, LangFaultKind, end_fault, left_backs, meant_line, mended, message_backs,
@@ -36,8 +36,9 @@ fn said(at: &Position, kind: LangFaultKind, place: usize) -> Said
 }
 
 /// The remarks with those on jumps to labels that are not there, which stand so many lines before.
-fn with_jumps(
+fn with_jumps<W: Wording>(
     alloc: Global,
+    wording: &W,
     mut all: Vec<Remark>,
     at: &Position,
     draft: &Draft,
@@ -47,7 +48,7 @@ fn with_jumps(
     ensures { SaysAlso result all (spec.jumps_said at.now kind backs.now) }
 {
     for back in backs {
-        let words = jump_wording(alloc, draft, *back)?;
+        let words = wording.missing_label(alloc, draft, *back)?;
         let place = line_before(&at.seen, at.line, *back);
         all = with_remark(all, said(at, kind, place), words)?;
     }
@@ -55,21 +56,23 @@ fn with_jumps(
 }
 
 /// The words for a fault of this line, which was read as it was meant.
-fn words_of_fault(
+fn words_of_fault<W: Wording>(
     alloc: Global,
+    wording: &W,
     draft: &FaultyDraft,
     kind: LangFaultKind,
     text: &[u8],
 ) -> Result<String, AllocError> {
     match meant_line(alloc, draft, text)? {
-        None => wording(alloc, &draft.draft, kind, text),
-        Some(line) => wording(alloc, &draft.draft, kind, &line),
+        None => wording.component_fault(alloc, &draft.draft, kind, text),
+        Some(line) => wording.component_fault(alloc, &draft.draft, kind, &line),
     }
 }
 
 /// The remarks with those on a fault of this line.
-fn with_fault(
+fn with_fault<W: Wording>(
     alloc: Global,
+    wording: &W,
     all: Vec<Remark>,
     at: &Position,
     draft: &FaultyDraft,
@@ -80,17 +83,18 @@ fn with_fault(
 {
     let backs = message_backs(alloc, &draft.draft, text, kind)?;
     if backs.is_empty() {
-        let words = words_of_fault(alloc, draft, kind, text)?;
+        let words = words_of_fault(alloc, wording, draft, kind, text)?;
         let all = with_remark(all, said(at, kind, at.line), words)?;
         return Ok(all);
     }
-    let all = with_jumps(alloc, all, at, &draft.draft, kind, &backs)?;
+    let all = with_jumps(alloc, wording, all, at, &draft.draft, kind, &backs)?;
     Ok(all)
 }
 
 /// The remarks with those on this line, where it has a fault.
-fn with_line(
+fn with_line<W: Wording>(
     alloc: Global,
+    wording: &W,
     all: Vec<Remark>,
     at: &Position,
     draft: &FaultyDraft,
@@ -101,7 +105,7 @@ fn with_line(
 {
     match fault {
         None => Ok(all),
-        Some(kind) => with_fault(alloc, all, at, draft, kind, text),
+        Some(kind) => with_fault(alloc, wording, all, at, draft, kind, text),
     }
 }
 
@@ -141,8 +145,9 @@ fn left_by(
 
 /// The remarks with those on the end of the text, where it has a fault: on that, and on jumps to
 /// labels that are not there, of an operation that is open.
-fn with_end(
+fn with_end<W: Wording>(
     alloc: Global,
+    wording: &W,
     all: Vec<Remark>,
     at: &Position,
     draft: &FaultyDraft,
@@ -152,10 +157,18 @@ fn with_end(
     match end_fault(&draft.draft) {
         None => Ok(all),
         Some(kind) => {
-            let words = end_wording(alloc, &draft.draft)?;
+            let words = wording.component_end(alloc, &draft.draft)?;
             let all = with_remark(all, said(at, kind, at.line), words)?;
             let backs = open_backs(alloc, &draft.draft)?;
-            let all = with_jumps(alloc, all, at, &draft.draft, LangFaultKind::Name, &backs)?;
+            let all = with_jumps(
+                alloc,
+                wording,
+                all,
+                at,
+                &draft.draft,
+                LangFaultKind::Name,
+                &backs,
+            )?;
             Ok(all)
         }
     }
@@ -220,8 +233,9 @@ fn read_as(draft: FaultyDraft, sound: bool) -> ReadComponent
 }
 
 /// The remarks with those on these lines of a component, and what the lines are read as.
-fn read_lines(
+fn read_lines<W: Wording>(
     alloc: Global,
+    wording: &W,
     mut all: Vec<Remark>,
     lines: &[&[u8]],
 ) -> Result<(Vec<Remark>, ReadComponent), AllocError>
@@ -239,9 +253,17 @@ fn read_lines(
         let (next, fault) = read_or_fault(alloc, draft, text)?;
         sound &= fault.is_none();
         let (_, behind) = lines.split_at(before + 1);
-        all = with_line(alloc, all, &at, &next, fault, text)?;
+        all = with_line(alloc, wording, all, &at, &next, fault, text)?;
         let backs = backs_beside(alloc, &next, fault, text, behind)?;
-        all = with_jumps(alloc, all, &at, &next.draft, LangFaultKind::Name, &backs)?;
+        all = with_jumps(
+            alloc,
+            wording,
+            all,
+            &at,
+            &next.draft,
+            LangFaultKind::Name,
+            &backs,
+        )?;
         draft = left_by(alloc, next, fault, text, behind)?;
         seen = with_words(alloc, at.seen, before + 1, text)?;
     }
@@ -250,13 +272,14 @@ fn read_lines(
         line: lines.len() + 1,
         seen,
     };
-    let all = with_end(alloc, all, &at, &draft)?;
+    let all = with_end(alloc, wording, all, &at, &draft)?;
     Ok((all, read_as(draft, sound)))
 }
 
 /// The remarks with the warnings of these lines of a component, where it is read.
-fn with_warnings_of(
+fn with_warnings_of<W: Wording>(
     alloc: Global,
+    wording: &W,
     all: Vec<Remark>,
     component: &ReadComponent,
     lines: &[&[u8]],
@@ -265,7 +288,7 @@ fn with_warnings_of(
 {
     match component {
         ReadComponent::Faulty(_) => Ok(all),
-        ReadComponent::Sound(component) => with_warnings(alloc, component, all, lines),
+        ReadComponent::Sound(component) => with_warnings(alloc, wording, component, all, lines),
     }
 }
 
@@ -276,15 +299,16 @@ fn with_warnings_of(
 /// # Errors
 ///
 /// There is no memory for the remarks.
-pub(crate) fn with_component(
+pub(crate) fn with_component<W: Wording>(
     alloc: Global,
+    wording: &W,
     all: Vec<Remark>,
     text: &[u8],
 ) -> Result<(Vec<Remark>, ReadComponent), AllocError>
     ensures { SaysAndReads result all (component_said text.now) (component_read text.now) }
 {
     let lines = lines_of(alloc, text)?;
-    let (all, component) = read_lines(alloc, all, &lines)?;
-    let all = with_warnings_of(alloc, all, &component, &lines)?;
+    let (all, component) = read_lines(alloc, wording, all, &lines)?;
+    let all = with_warnings_of(alloc, wording, all, &component, &lines)?;
     Ok((all, component))
 }

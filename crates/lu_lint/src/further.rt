@@ -10,12 +10,14 @@ use crate::bundle::above_next;
 use crate::histories::with_histories;
 use crate::remark::{Cause, Remark, Said, with_remark};
 use crate::third::{Third, third_of, with_specification_of, with_third};
+use crate::words::Wording;
 use lu_test::Matrix;
 use std::alloc::{AllocError, Global};
 
 /// The remarks with one on the line before these parts, where they are parts behind the fourth.
-fn with_fifth(
+fn with_fifth<W: Wording>(
     alloc: Global,
+    wording: &W,
     all: Vec<Remark>,
     above: usize,
     parts: &[&[u8]],
@@ -29,18 +31,16 @@ fn with_fifth(
                 place: above,
                 cause: Cause::FifthPart,
             };
-            let words = String::from_str(
-                alloc,
-                "a fifth part begins behind this line; only recorded histories may be so many",
-            )?;
+            let words = wording.fifth_part(alloc)?;
             with_remark(all, said, words)
         }
     }
 }
 
 /// The remarks with those on a fourth part, and on the line behind it where parts stand there.
-fn with_fourth_part(
+fn with_fourth_part<W: Wording>(
     alloc: Global,
+    wording: &W,
     all: Vec<Remark>,
     matrix: &Option<Matrix>,
     above: usize,
@@ -49,15 +49,16 @@ fn with_fourth_part(
 ) -> Result<Vec<Remark>, AllocError>
     ensures { SaysSuch result all (FourthSaid matrix.now above (text.now ∷ texts parts.now)) }
 {
-    let all = with_specification_of(alloc, all, matrix, above, text)?;
+    let all = with_specification_of(alloc, wording, all, matrix, above, text)?;
     let above = above_next(alloc, above, text)?;
-    let all = with_fifth(alloc, all, above, parts)?;
+    let all = with_fifth(alloc, wording, all, above, parts)?;
     Ok(all)
 }
 
 /// The remarks with those on the parts behind a schedule or a report.
-fn with_fourth(
+fn with_fourth<W: Wording>(
     alloc: Global,
+    wording: &W,
     all: Vec<Remark>,
     matrix: &Option<Matrix>,
     above: usize,
@@ -67,13 +68,14 @@ fn with_fourth(
 {
     match parts.split_first() {
         None => Ok(all),
-        Some((text, others)) => with_fourth_part(alloc, all, matrix, above, text, others),
+        Some((text, others)) => with_fourth_part(alloc, wording, all, matrix, above, text, others),
     }
 }
 
 /// The remarks with those on the parts behind a third part that is this.
-fn with_behind(
+fn with_behind<W: Wording>(
     alloc: Global,
+    wording: &W,
     all: Vec<Remark>,
     third: Third,
     matrix: &Option<Matrix>,
@@ -84,16 +86,17 @@ fn with_behind(
 {
     match third {
         Third::Specification | Third::History => {
-            let all = with_histories(alloc, all, matrix, above, parts)?;
+            let all = with_histories(alloc, wording, all, matrix, above, parts)?;
             Ok(all)
         }
-        Third::Report | Third::Schedule => with_fourth(alloc, all, matrix, above, parts),
+        Third::Report | Third::Schedule => with_fourth(alloc, wording, all, matrix, above, parts),
     }
 }
 
 /// The remarks with those on a third part and on the parts behind it.
-fn with_third_part(
+fn with_third_part<W: Wording>(
     alloc: Global,
+    wording: &W,
     all: Vec<Remark>,
     matrix: &Option<Matrix>,
     above: usize,
@@ -103,15 +106,16 @@ fn with_third_part(
     ensures { SaysSuch result all (BehindMatrix matrix.now above (text.now ∷ texts parts.now)) }
 {
     let third = third_of(alloc, text)?;
-    let all = with_third(alloc, all, third, matrix, above, text)?;
+    let all = with_third(alloc, wording, all, third, matrix, above, text)?;
     let above = above_next(alloc, above, text)?;
-    let all = with_behind(alloc, all, third, matrix, above, parts)?;
+    let all = with_behind(alloc, wording, all, third, matrix, above, parts)?;
     Ok(all)
 }
 
 /// The remarks with those on the parts behind a matrix that is read or not.
-pub(crate) fn with_further(
+pub(crate) fn with_further<W: Wording>(
     alloc: Global,
+    wording: &W,
     all: Vec<Remark>,
     matrix: &Option<Matrix>,
     above: usize,
@@ -121,6 +125,6 @@ pub(crate) fn with_further(
 {
     match parts.split_first() {
         None => Ok(all),
-        Some((text, others)) => with_third_part(alloc, all, matrix, above, text, others),
+        Some((text, others)) => with_third_part(alloc, wording, all, matrix, above, text, others),
     }
 }

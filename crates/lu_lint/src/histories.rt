@@ -8,9 +8,9 @@ ghost use Rattle.lu_lint.specs.Third as spec;
 ghost use Rattle.lu_lint.specs.declared.remark.FaultKind.TheVariants as part;
 
 use crate::bundle::above_next;
-use crate::recorded_wording::recorded_wording;
 use crate::remark::{Cause, FaultKind, Remark, Said, line_below, with_remark};
 use crate::third::line_of;
+use crate::words::Wording;
 use lu_recorded::{RecordedFaultKind, read_recorded};
 use lu_test::Matrix;
 use lu_text::{Fault, kept_lines};
@@ -27,8 +27,9 @@ fn said(above: usize, kind: RecordedFaultKind, line: usize) -> Said
 }
 
 /// The remarks with one on this fault of a recorded history.
-fn with_fault(
+fn with_fault<W: Wording>(
     alloc: Global,
+    wording: &W,
     all: Vec<Remark>,
     matrix: &Matrix,
     above: usize,
@@ -39,13 +40,14 @@ fn with_fault(
     ensures { SaysAlso result all (said_told part.History above (lint.told_here line kind) ∷ []) }
 {
     let lines = kept_lines(alloc, text)?;
-    let words = recorded_wording(alloc, matrix, kind, line_of(&lines, line))?;
+    let words = wording.history_fault(alloc, matrix, kind, line_of(&lines, line))?;
     with_remark(all, said(above, kind, line), words)
 }
 
 /// The remarks with that on the first fault of a recorded history, where it has one.
-fn with_history(
+fn with_history<W: Wording>(
     alloc: Global,
+    wording: &W,
     all: Vec<Remark>,
     matrix: &Matrix,
     above: usize,
@@ -55,14 +57,17 @@ fn with_history(
 {
     match read_recorded(alloc, matrix, text) {
         Ok(_) => Ok(all),
-        Err(Fault::At(kind, line)) => with_fault(alloc, all, matrix, above, text, kind, line),
+        Err(Fault::At(kind, line)) => with_fault(
+            alloc, wording, all, matrix, above, text, kind, line,
+        ),
         Err(Fault::Memory) => Err(AllocError),
     }
 }
 
 /// The remarks with those on recorded histories of a matrix.
-fn with_each(
+fn with_each<W: Wording>(
     alloc: Global,
+    wording: &W,
     mut all: Vec<Remark>,
     matrix: &Matrix,
     mut above: usize,
@@ -71,7 +76,7 @@ fn with_each(
     ensures { SaysAlso result all (spec.histories_said matrix.now above (texts parts.now)) }
 {
     for text in parts {
-        all = with_history(alloc, all, matrix, above, text)?;
+        all = with_history(alloc, wording, all, matrix, above, text)?;
         above = above_next(alloc, above, text)?;
     }
     Ok(all)
@@ -79,8 +84,9 @@ fn with_each(
 
 /// The remarks with those on recorded histories, where there is a matrix. Before the first of them
 /// stand `above` lines of the bundle.
-pub(crate) fn with_histories(
+pub(crate) fn with_histories<W: Wording>(
     alloc: Global,
+    wording: &W,
     all: Vec<Remark>,
     matrix: &Option<Matrix>,
     above: usize,
@@ -90,6 +96,6 @@ pub(crate) fn with_histories(
 {
     match matrix {
         None => Ok(all),
-        Some(matrix) => with_each(alloc, all, matrix, above, parts),
+        Some(matrix) => with_each(alloc, wording, all, matrix, above, parts),
     }
 }

@@ -1,4 +1,4 @@
-//! Every fault of a bundle, in words.
+//! Every fault of a bundle.
 #![tactic(auto)]
 
 mod bundle;
@@ -8,22 +8,17 @@ mod histories;
 mod laws;
 mod linting;
 mod matrix;
-mod matrix_wording;
-mod near;
-mod recorded_wording;
 mod remark;
-mod run_wording;
 mod runs;
 mod schedule;
-mod shape;
 mod signatures;
 mod third;
-mod third_wording;
 mod warning;
-mod warning_wording;
-mod wording;
+mod words;
 mod writing;
 
 pub use laws::agree;
 pub use linting::{Linted, lint};
 pub use remark::{Cause, Ending, FaultKind, Hint, Operations, Remark, RunHint, Said, SerialHint};
+pub use runs::{Test, operation_count};
+pub use words::Wording;

@@ -14,6 +14,7 @@ use crate::further::with_further;
 use crate::matrix::with_matrix;
 use crate::remark::Remark;
 use crate::runs::with_runs;
+use crate::words::Wording;
 use crate::writing::write_remarks;
 use lu_text::{kept_lines, meant_parts};
 use std::alloc::{AllocError, Global};
@@ -33,8 +34,9 @@ pub struct Linted {
 
 /// The remarks with those on a matrix, before which `above` lines stand, on the parts behind it, and
 /// by runs.
-fn with_second(
+fn with_second<W: Wording>(
     alloc: Global,
+    wording: &W,
     all: Vec<Remark>,
     serial: u16,
     component: &ReadComponent,
@@ -46,16 +48,17 @@ fn with_second(
     requires few { serial ≤ 256 }
     ensures { SaysSuch result all (OnMatrix serial component.now above text.now (texts parts.now)) }
 {
-    let (all, matrix) = with_matrix(alloc, all, component, above, text)?;
+    let (all, matrix) = with_matrix(alloc, wording, all, component, above, text)?;
     let behind = above_next(alloc, above, text)?;
-    let all = with_further(alloc, all, &matrix, behind, parts)?;
-    let all = with_runs(alloc, all, component, &matrix, serial, above, text)?;
+    let all = with_further(alloc, wording, all, &matrix, behind, parts)?;
+    let all = with_runs(alloc, wording, all, component, &matrix, serial, above, text)?;
     Ok(all)
 }
 
 /// The remarks with those on the parts behind a component.
-fn with_behind(
+fn with_behind<W: Wording>(
     alloc: Global,
+    wording: &W,
     all: Vec<Remark>,
     serial: u16,
     component: &ReadComponent,
@@ -68,13 +71,16 @@ fn with_behind(
 {
     match parts.split_first() {
         None => Ok(all),
-        Some((text, others)) => with_second(alloc, all, serial, component, above, text, others),
+        Some((text, others)) => with_second(
+            alloc, wording, all, serial, component, above, text, others,
+        ),
     }
 }
 
 /// The remarks with those on a component and on the parts behind it.
-fn with_first(
+fn with_first<W: Wording>(
     alloc: Global,
+    wording: &W,
     all: Vec<Remark>,
     serial: u16,
     text: &[u8],
@@ -84,15 +90,16 @@ fn with_first(
     requires few { serial ≤ 256 }
     ensures { SaysSuch result all (PartsSaid serial (text.now ∷ texts parts.now)) }
 {
-    let (all, component) = with_component(alloc, all, text)?;
+    let (all, component) = with_component(alloc, wording, all, text)?;
     let above = above_next(alloc, 0, text)?;
-    let all = with_behind(alloc, all, serial, &component, above, parts)?;
+    let all = with_behind(alloc, wording, all, serial, &component, above, parts)?;
     Ok(all)
 }
 
 /// The remarks with those on the parts of a bundle, of which each is read once.
-fn with_parts(
+fn with_parts<W: Wording>(
     alloc: Global,
+    wording: &W,
     all: Vec<Remark>,
     serial: u16,
     parts: &[&[u8]],
@@ -103,20 +110,25 @@ fn with_parts(
 {
     match parts.split_first() {
         None => Ok(all),
-        Some((text, others)) => with_first(alloc, all, serial, text, others),
+        Some((text, others)) => with_first(alloc, wording, all, serial, text, others),
     }
 }
 
 /// What is said of a bundle, in the order in which it is found.
-fn remarks_on(alloc: Global, bundle: &[u8], serial: u16) -> Result<Vec<Remark>, AllocError>
+fn remarks_on<W: Wording>(
+    alloc: Global,
+    wording: &W,
+    bundle: &[u8],
+    serial: u16,
+) -> Result<Vec<Remark>, AllocError>
     requires some { 1 ≤ serial }
     requires few { serial ≤ 256 }
     ensures { IfOk result (λ all. BundleSaid serial bundle.now (said_of all.items)) }
 {
     let lines = kept_lines(alloc, bundle)?;
     let parts = meant_parts(alloc, bundle)?;
-    let all = with_separators(alloc, Vec::new(alloc), &lines)?;
-    let all = with_parts(alloc, all, serial, &parts)?;
+    let all = with_separators(alloc, wording, Vec::new(alloc), &lines)?;
+    let all = with_parts(alloc, wording, all, serial, &parts)?;
     Ok(all)
 }
 
@@ -127,7 +139,7 @@ fn have_fault(remarks: &[Remark]) -> bool
     remarks.iter().any(|remark| remark.said.cause.is_fault())
 }
 
-/// Every fault of a bundle, in words: of its component, of its matrix, of the parts behind these,
+/// Every fault of a bundle, in these words: of its component, of its matrix, of the parts behind these,
 /// and of the lines between its parts. Behind a component with faults the matrix is judged by the
 /// signatures of the operations that its lines were to declare.
 ///
@@ -153,7 +165,12 @@ fn have_fault(remarks: &[Remark]) -> bool
 /// # Errors
 ///
 /// There is no memory for what is said.
-pub fn lint(alloc: Global, bundle: &[u8], serial: u16) -> Result<Linted, AllocError>
+pub fn lint<W: Wording>(
+    alloc: Global,
+    wording: &W,
+    bundle: &[u8],
+    serial: u16,
+) -> Result<Linted, AllocError>
     requires some { 1 ≤ serial }
     requires few { serial ≤ 256 }
     // What is said, and of which lines.
@@ -164,7 +181,7 @@ pub fn lint(alloc: Global, bundle: &[u8], serial: u16) -> Result<Linted, AllocEr
     ensures text { IfOk result (λ l. string_bytes l.text ≡ remarks_text l.remarks.items) }
     ensures faults { IfOk result (λ l. l.faults ≡ said.have_fault l.remarks.items) }
 {
-    let mut remarks = remarks_on(alloc, bundle, serial)?;
+    let mut remarks = remarks_on(alloc, wording, bundle, serial)?;
     remarks.sort_by_key(|remark| remark.said.place)?;
     let text = write_remarks(alloc, &remarks)?;
     let faults = have_fault(&remarks);

@@ -15,11 +15,11 @@ ghost use Rattle.lu_test.specs.MatrixText.{AreFew, CanRead, IsDraft, finished, l
 ghost use Rattle.lu_text.specs.Lines.{lines_of as lines_in, texts};
 
 use crate::component::ReadComponent;
-use crate::matrix_wording::{end_wording, matrix_wording};
 use crate::remark::{
     Cause, FaultKind, Position, Remark, Said, line_below, with_remark, with_words,
 };
 use crate::signatures::signatures_meant;
+use crate::words::Wording;
 use lu_component::{Component, MOST_OPS};
 use lu_lang::FaultyDraft;
 use lu_test::{Calls, Draft, Matrix, MatrixFaultKind, Signature, end_fault, mended, signatures_of};
@@ -70,8 +70,9 @@ fn read_line(
 }
 
 /// The remarks with that on this line, where it has a fault.
-fn with_line(
+fn with_line<W: Wording>(
     alloc: Global,
+    wording: &W,
     signatures: &[Signature<'_>],
     all: Vec<Remark>,
     at: &Position,
@@ -83,7 +84,7 @@ fn with_line(
     match fault {
         None => Ok(all),
         Some(kind) => {
-            let words = matrix_wording(alloc, signatures, next.draft, kind, next.text)?;
+            let words = wording.matrix_fault(alloc, signatures, next.draft, kind, next.text)?;
             with_remark(all, said(at.above, kind, at.line), words)
         }
     }
@@ -105,8 +106,9 @@ fn left_by(
 }
 
 /// The remarks with that on the end of the text, where it has a fault.
-fn with_end(
+fn with_end<W: Wording>(
     alloc: Global,
+    wording: &W,
     all: Vec<Remark>,
     at: &Position,
     draft: &Draft,
@@ -116,7 +118,7 @@ fn with_end(
     match end_fault(draft) {
         None => Ok(all),
         Some(kind) => {
-            let words = end_wording(alloc)?;
+            let words = wording.matrix_end(alloc)?;
             with_remark(all, said(at.above, kind, at.line), words)
         }
     }
@@ -157,8 +159,9 @@ fn matrix_of(alloc: Global, component: &Component, left: LeftLines) -> Option<Ma
 
 /// The remarks with those on these lines of a matrix, whose calls are judged by these signatures,
 /// and what the lines leave.
-fn read_lines(
+fn read_lines<W: Wording>(
     alloc: Global,
+    wording: &W,
     signatures: &[Signature<'_>],
     mut all: Vec<Remark>,
     above: usize,
@@ -180,7 +183,7 @@ fn read_lines(
         let (read, fault) = read_line(alloc, signatures, draft, text)?;
         sound &= fault.is_none();
         let next = Next { draft: &read, text };
-        all = with_line(alloc, signatures, all, &at, next, fault)?;
+        all = with_line(alloc, wording, signatures, all, &at, next, fault)?;
         draft = left_by(alloc, read, fault, text)?;
         seen = with_words(alloc, at.seen, before + 1, text)?;
     }
@@ -189,14 +192,15 @@ fn read_lines(
         line: lines.len() + 1,
         seen,
     };
-    let all = with_end(alloc, all, &at, &draft)?;
+    let all = with_end(alloc, wording, all, &at, &draft)?;
     Ok((all, LeftLines { draft, sound }))
 }
 
 /// The remarks with those on the text of a matrix, whose calls are judged by these signatures, and
 /// what its lines leave.
-fn read_text(
+fn read_text<W: Wording>(
     alloc: Global,
+    wording: &W,
     signatures: &[Signature<'_>],
     all: Vec<Remark>,
     above: usize,
@@ -207,13 +211,14 @@ fn read_text(
     ensures fits { IfOk result (λ (all, left). FitsBy signatures.now left.draft) }
 {
     let lines = lines_of(alloc, text)?;
-    read_lines(alloc, signatures, all, above, &lines)
+    read_lines(alloc, wording, signatures, all, above, &lines)
 }
 
 /// The remarks with those on the text of a matrix, by the signatures that a component with faults
 /// was to have, where these are no more than a component may have.
-fn with_matrix_by(
+fn with_matrix_by<W: Wording>(
     alloc: Global,
+    wording: &W,
     all: Vec<Remark>,
     faulty: &FaultyDraft,
     above: usize,
@@ -225,14 +230,15 @@ fn with_matrix_by(
     if signatures.len() > MOST_OPS {
         return Ok(all);
     }
-    let (all, _) = read_text(alloc, &signatures, all, above, text)?;
+    let (all, _) = read_text(alloc, wording, &signatures, all, above, text)?;
     Ok(all)
 }
 
 /// The remarks with those on the text of a matrix of this component, and the matrix, where it has
 /// no fault.
-fn with_matrix_of(
+fn with_matrix_of<W: Wording>(
     alloc: Global,
+    wording: &W,
     all: Vec<Remark>,
     component: &Component,
     above: usize,
@@ -242,7 +248,7 @@ fn with_matrix_of(
     ensures fits { IfOk result (λ (all, read). IfSome read (λ m. IsOf m component.now)) }
 {
     let signatures = signatures_of(alloc, component.operations())?;
-    let (all, left) = read_text(alloc, &signatures, all, above, text)?;
+    let (all, left) = read_text(alloc, wording, &signatures, all, above, text)?;
     Ok((all, matrix_of(alloc, component, left)))
 }
 
@@ -253,8 +259,9 @@ fn with_matrix_of(
 /// # Errors
 ///
 /// There is no memory for the remarks.
-pub(crate) fn with_matrix(
+pub(crate) fn with_matrix<W: Wording>(
     alloc: Global,
+    wording: &W,
     all: Vec<Remark>,
     component: &ReadComponent,
     above: usize,
@@ -265,11 +272,11 @@ pub(crate) fn with_matrix(
 {
     match component {
         ReadComponent::Faulty(faulty) => {
-            let all = with_matrix_by(alloc, all, faulty, above, text)?;
+            let all = with_matrix_by(alloc, wording, all, faulty, above, text)?;
             Ok((all, None))
         }
         ReadComponent::Sound(component) => {
-            let (all, read) = with_matrix_of(alloc, all, component, above, text)?;
+            let (all, read) = with_matrix_of(alloc, wording, all, component, above, text)?;
             Ok((all, read))
         }
     }

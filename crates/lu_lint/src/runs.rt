@@ -20,7 +20,7 @@ use crate::component::ReadComponent;
 use crate::remark::{
     Cause, Ending, Operations, Remark, RunHint, Said, SerialHint, line_below, with_remark,
 };
-use crate::run_wording::run_wording;
+use crate::words::Wording;
 use lu_component::Component;
 use lu_history::{SerialOp, SerialOutcome};
 use lu_machine::{Event, Machine, Outcome, settles};
@@ -79,7 +79,7 @@ fn setup_hints(
 }
 
 /// The number of operations of this thread.
-pub(crate) fn operation_count(thread: u8, ops: &[SerialOp]) -> usize
+pub fn operation_count(thread: u8, ops: &[SerialOp]) -> usize
     ensures { result ≡ spec.operation_count thread ops.now }
 {
     ops.iter().filter(|op| op.thread == thread).count()
@@ -474,15 +474,18 @@ fn said_of_hint(above: usize, setup: &[usize], threads: &[usize], hint: RunHint)
 
 /// The component and the matrix that are run.
 #[derive(Clone, Copy)]
-pub(crate) struct Test<'a> {
+pub struct Test<'a> {
     pub component: &'a Component,
     pub matrix: &'a Matrix,
+
+    /// The most moves that an operation of a serial run may take after its call, 1 to 256.
     pub bound: u16,
 }
 
 /// The remarks with those of these hints.
-fn with_hints(
+fn with_hints<W: Wording>(
     alloc: Global,
+    wording: &W,
     mut all: Vec<Remark>,
     test: Test<'_>,
     above: usize,
@@ -494,15 +497,16 @@ fn with_hints(
     let setup = lines_with(alloc, b"setup", text)?;
     let threads = lines_with(alloc, b"thread", text)?;
     for hint in hints {
-        let words = run_wording(alloc, test, &hint)?;
+        let words = wording.run_warning(alloc, test, &hint)?;
         all = with_remark(all, said_of_hint(above, &setup, &threads, hint), words)?;
     }
     Ok(all)
 }
 
 /// The remarks with those that runs of the component and the matrix of this text show.
-fn with_runs_of(
+fn with_runs_of<W: Wording>(
     alloc: Global,
+    wording: &W,
     all: Vec<Remark>,
     test: Test<'_>,
     above: usize,
@@ -514,13 +518,14 @@ fn with_runs_of(
     ensures { SaysSuch result all (RunsOfTest test.entry above text.now) }
 {
     let hints = hints_of(alloc, test.component, test.matrix, test.bound)?;
-    with_hints(alloc, all, test, above, text, hints)
+    with_hints(alloc, wording, all, test, above, text, hints)
 }
 
 /// The remarks with those that runs show, where the component and the matrix of this text are read.
 /// `serial`, 1 to 256, is the bound of serial runs.
-pub(crate) fn with_runs(
+pub(crate) fn with_runs<W: Wording>(
     alloc: Global,
+    wording: &W,
     all: Vec<Remark>,
     component: &ReadComponent,
     matrix: &Option<Matrix>,
@@ -540,7 +545,7 @@ pub(crate) fn with_runs(
                 matrix,
                 bound: serial,
             };
-            with_runs_of(alloc, all, test, above, text)
+            with_runs_of(alloc, wording, all, test, above, text)
         }
         _ => Ok(all),
     }

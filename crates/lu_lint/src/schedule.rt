@@ -9,7 +9,7 @@ ghost use Rattle.lu_lint.specs.declared.remark.FaultKind.TheVariants as part;
 ghost use Rattle.lu_text.specs.Lines.{texts};
 
 use crate::remark::{Cause, FaultKind, Remark, Said, line_below, with_remark};
-use crate::third_wording::{length_wording, move_wording, schedule_form_wording};
+use crate::words::Wording;
 use lu_test::{MOST_LISTED_MOVES, ScheduleFault, move_in, schedule_words};
 use std::alloc::{AllocError, Global};
 
@@ -24,8 +24,9 @@ fn said(above: usize, kind: ScheduleFault) -> Said
 }
 
 /// The remarks with that on a word, where it is no move.
-fn with_word(
+fn with_word<W: Wording>(
     alloc: Global,
+    wording: &W,
     all: Vec<Remark>,
     above: usize,
     word: &[u8],
@@ -35,15 +36,16 @@ fn with_word(
     match move_in(word) {
         Ok(_) => Ok(all),
         Err(kind) => {
-            let words = move_wording(alloc, kind, word)?;
+            let words = wording.schedule_move(alloc, kind, word)?;
             with_remark(all, said(above, kind), words)
         }
     }
 }
 
 /// The remarks with that on the number of the words, where there are too many.
-fn with_length(
+fn with_length<W: Wording>(
     alloc: Global,
+    wording: &W,
     all: Vec<Remark>,
     above: usize,
     words: &[&[u8]],
@@ -53,13 +55,14 @@ fn with_length(
     if words.len() <= MOST_LISTED_MOVES {
         return Ok(all);
     }
-    let text = length_wording(alloc, words.len())?;
+    let text = wording.schedule_length(alloc, words.len())?;
     with_remark(all, said(above, ScheduleFault::Limit), text)
 }
 
 /// The remarks with those on these words.
-fn with_each(
+fn with_each<W: Wording>(
     alloc: Global,
+    wording: &W,
     mut all: Vec<Remark>,
     above: usize,
     words: &[&[u8]],
@@ -67,7 +70,7 @@ fn with_each(
     ensures { SaysAlso result all (schedule_said above (spec.faults_of_each (texts words.now))) }
 {
     for word in words {
-        all = with_word(alloc, all, above, word)?;
+        all = with_word(alloc, wording, all, above, word)?;
     }
     Ok(all)
 }
@@ -83,16 +86,17 @@ fn first_words<'a, 'b>(words: &'b [&'a [u8]]) -> &'b [&'a [u8]]
 }
 
 /// The remarks with those on the words of a schedule.
-fn with_words(
+fn with_words<W: Wording>(
     alloc: Global,
+    wording: &W,
     all: Vec<Remark>,
     above: usize,
     words: &[&[u8]],
 ) -> Result<Vec<Remark>, AllocError>
     ensures { SaysAlso result all (schedule_said above (spec.words_faults (texts words.now))) }
 {
-    let all = with_each(alloc, all, above, first_words(words))?;
-    let all = with_length(alloc, all, above, words)?;
+    let all = with_each(alloc, wording, all, above, first_words(words))?;
+    let all = with_length(alloc, wording, all, above, words)?;
     Ok(all)
 }
 
@@ -103,8 +107,9 @@ fn with_words(
 /// # Errors
 ///
 /// There is no memory for the remarks.
-pub(crate) fn with_schedule(
+pub(crate) fn with_schedule<W: Wording>(
     alloc: Global,
+    wording: &W,
     all: Vec<Remark>,
     above: usize,
     text: &[u8],
@@ -113,9 +118,9 @@ pub(crate) fn with_schedule(
 {
     match schedule_words(alloc, text)? {
         None => {
-            let words = schedule_form_wording(alloc, text)?;
+            let words = wording.schedule_form(alloc, text)?;
             with_remark(all, said(above, ScheduleFault::Form), words)
         }
-        Some(words) => with_words(alloc, all, above, &words),
+        Some(words) => with_words(alloc, wording, all, above, &words),
     }
 }

@@ -11,7 +11,7 @@ ghost use Rattle.lu_lint.specs.Third.{ReportSaid, SpecificationSaid, ThirdSaid};
 use crate::histories::with_histories;
 use crate::remark::{Cause, FaultKind, Remark, Said, line_below, with_remark};
 use crate::schedule::with_schedule;
-use crate::third_wording::{report_wording, specification_wording};
+use crate::words::Wording;
 use lu_report::{ReportFaultKind, ReportLineFault, report_faults};
 use lu_spec::{SpecLineFault, given_spec_faults, has_free_entries};
 use lu_test::Matrix;
@@ -101,8 +101,9 @@ fn report_said(above: usize, fault: &ReportLineFault) -> Said
 }
 
 /// The remarks with those on these faults of a report of these lines.
-fn with_report_faults(
+fn with_report_faults<W: Wording>(
     alloc: Global,
+    wording: &W,
     mut all: Vec<Remark>,
     above: usize,
     lines: &[&[u8]],
@@ -111,15 +112,16 @@ fn with_report_faults(
     ensures { SaysAlso result all (map (spec.report_said above) faults.now) }
 {
     for fault in faults {
-        let words = report_wording(alloc, fault, line_of(lines, fault.line))?;
+        let words = wording.report_fault(alloc, fault, line_of(lines, fault.line))?;
         all = with_remark(all, report_said(above, fault), words)?;
     }
     Ok(all)
 }
 
 /// The remarks with those on a report.
-fn with_report(
+fn with_report<W: Wording>(
     alloc: Global,
+    wording: &W,
     all: Vec<Remark>,
     above: usize,
     text: &[u8],
@@ -128,7 +130,7 @@ fn with_report(
 {
     let lines = kept_lines(alloc, text)?;
     let faults = report_faults(alloc, &lines)?;
-    let all = with_report_faults(alloc, all, above, &lines, &faults)?;
+    let all = with_report_faults(alloc, wording, all, above, &lines, &faults)?;
     Ok(all)
 }
 
@@ -144,8 +146,9 @@ fn specification_said(above: usize, fault: &SpecLineFault) -> Said
 
 /// The remarks with those on these faults of a specification of this matrix, of these lines, which
 /// leaves outcomes free or not.
-fn with_specification_faults(
+fn with_specification_faults<W: Wording>(
     alloc: Global,
+    wording: &W,
     mut all: Vec<Remark>,
     matrix: &Matrix,
     above: usize,
@@ -156,15 +159,22 @@ fn with_specification_faults(
     ensures { SaysAlso result all (map (spec.specification_said above) faults.now) }
 {
     for fault in faults {
-        let words = specification_wording(alloc, matrix, free, fault, line_of(lines, fault.line))?;
+        let words = wording.specification_fault(
+            alloc,
+            matrix,
+            free,
+            fault,
+            line_of(lines, fault.line),
+        )?;
         all = with_remark(all, specification_said(above, fault), words)?;
     }
     Ok(all)
 }
 
 /// The remarks with those on a specification of this matrix.
-fn with_specification(
+fn with_specification<W: Wording>(
     alloc: Global,
+    wording: &W,
     all: Vec<Remark>,
     matrix: &Matrix,
     above: usize,
@@ -175,13 +185,14 @@ fn with_specification(
     let lines = kept_lines(alloc, text)?;
     let free = has_free_entries(alloc, text)?;
     let faults = given_spec_faults(alloc, matrix, text)?;
-    let all = with_specification_faults(alloc, all, matrix, above, free, &lines, &faults)?;
+    let all = with_specification_faults(alloc, wording, all, matrix, above, free, &lines, &faults)?;
     Ok(all)
 }
 
 /// The remarks with those on a specification, where there is a matrix.
-pub(crate) fn with_specification_of(
+pub(crate) fn with_specification_of<W: Wording>(
     alloc: Global,
+    wording: &W,
     all: Vec<Remark>,
     matrix: &Option<Matrix>,
     above: usize,
@@ -191,26 +202,28 @@ pub(crate) fn with_specification_of(
 {
     match matrix {
         None => Ok(all),
-        Some(matrix) => with_specification(alloc, all, matrix, above, text),
+        Some(matrix) => with_specification(alloc, wording, all, matrix, above, text),
     }
 }
 
 /// The remarks with those on a schedule, which is what was said and the faults behind it.
-fn with_third_schedule(
+fn with_third_schedule<W: Wording>(
     alloc: Global,
+    wording: &W,
     all: Vec<Remark>,
     above: usize,
     text: &[u8],
 ) -> Result<Vec<Remark>, AllocError>
     ensures { SaysSuch result all (spec.ScheduleSaid above text.now) }
 {
-    let all = with_schedule(alloc, all, above, text)?;
+    let all = with_schedule(alloc, wording, all, above, text)?;
     Ok(all)
 }
 
 /// The remarks with that on a recorded history, where there is a matrix.
-fn with_third_history(
+fn with_third_history<W: Wording>(
     alloc: Global,
+    wording: &W,
     all: Vec<Remark>,
     matrix: &Option<Matrix>,
     above: usize,
@@ -218,13 +231,14 @@ fn with_third_history(
 ) -> Result<Vec<Remark>, AllocError>
     ensures { SaysSuch result all (ThirdSaid History matrix.now above text.now) }
 {
-    let all = with_histories(alloc, all, matrix, above, &[text])?;
+    let all = with_histories(alloc, wording, all, matrix, above, &[text])?;
     Ok(all)
 }
 
 /// The remarks with those on a third part that is to be this, behind a matrix that is read or not.
-pub(crate) fn with_third(
+pub(crate) fn with_third<W: Wording>(
     alloc: Global,
+    wording: &W,
     all: Vec<Remark>,
     third: Third,
     matrix: &Option<Matrix>,
@@ -234,9 +248,9 @@ pub(crate) fn with_third(
     ensures { SaysSuch result all (ThirdSaid third matrix.now above text.now) }
 {
     match third {
-        Third::Specification => with_specification_of(alloc, all, matrix, above, text),
-        Third::Report => with_report(alloc, all, above, text),
-        Third::History => with_third_history(alloc, all, matrix, above, text),
-        Third::Schedule => with_third_schedule(alloc, all, above, text),
+        Third::Specification => with_specification_of(alloc, wording, all, matrix, above, text),
+        Third::Report => with_report(alloc, wording, all, above, text),
+        Third::History => with_third_history(alloc, wording, all, matrix, above, text),
+        Third::Schedule => with_third_schedule(alloc, wording, all, above, text),
     }
 }

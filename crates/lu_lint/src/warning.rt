@@ -11,7 +11,7 @@ ghost use Rattle.lu_lint.specs.Warnings.{warnings_of_lines};
 ghost use Rattle.lu_text.specs.Lines.{texts};
 
 use crate::remark::{Cause, Hint, Position, Remark, Said, line_before, with_remark, with_words};
-use crate::warning_wording::warning_wording;
+use crate::words::Wording;
 use lu_component::{Arithmetic, Component, Instr};
 use lu_lang::{Draft, Label, OpenOp, Statement};
 use lu_text::words_of;
@@ -463,8 +463,9 @@ fn line_hints(
 }
 
 /// The remarks with these warnings, found at a line.
-fn with_found(
+fn with_found<W: Wording>(
     alloc: Global,
+    wording: &W,
     mut all: Vec<Remark>,
     at: &Position,
     draft: &Draft,
@@ -474,7 +475,7 @@ fn with_found(
     ensures { SaysAlso result all (map (spec.warned at.now.seen.items at.now.line) hints.now) }
 {
     for found in hints {
-        let words = warning_wording(alloc, draft, text, found.hint, found.back)?;
+        let words = wording.warning(alloc, draft, text, found.hint, found.back)?;
         let said = Said {
             place: line_before(&at.seen, at.line, found.back),
             cause: Cause::Warning(found.hint),
@@ -497,8 +498,9 @@ fn draft_behind(alloc: Global, mut draft: Draft, text: &[u8]) -> Result<Draft, A
 /// # Errors
 ///
 /// There is no memory for the remarks.
-pub(crate) fn with_warnings(
+pub(crate) fn with_warnings<W: Wording>(
     alloc: Global,
+    wording: &W,
     component: &Component,
     mut all: Vec<Remark>,
     lines: &[&[u8]],
@@ -514,7 +516,7 @@ pub(crate) fn with_warnings(
             seen,
         };
         let hints = line_hints(alloc, component, &draft, text)?;
-        all = with_found(alloc, all, &at, &draft, text, &hints)?;
+        all = with_found(alloc, wording, all, &at, &draft, text, &hints)?;
         draft = draft_behind(alloc, draft, text)?;
         seen = with_words(alloc, at.seen, before + 1, text)?;
     }

@@ -9,10 +9,10 @@ use Rattle.lu_lint.proofs.WhileSound.{component_done, reads_on, rules_on}
 use Rattle.lu_lint.proofs.component.read_lines.Goals as goal
 
 pub loop-before-init : goal.loop-before-init
-loop-before-init c = rw (c.new-draft.ensures, c.new-seen.ensures.items) (record { told = refl; left = refl; rules = λ e. nothing_draft; read = refl })
+loop-before-init over c = rw (c.new-draft.ensures, c.new-seen.ensures.items) (record { told = refl; left = refl; rules = λ e. nothing_draft; read = refl })
 
 pub loop-before-preserved : goal.loop-before-preserved
-loop-before-preserved c =
+loop-before-preserved over c =
     let step = text_more c.args.lines.now c.loop-before.before _ (omega arith) in
     let behind = ap texts c.split_at.ensures.back ∙ texts_behind c.args.lines.now (c.loop-before.before + 1) in
     record {
@@ -23,10 +23,10 @@ loop-before-preserved c =
     }
 
 pub read_as-requires : goal.read_as-requires
-read_as-requires c = c.loop-before.invariant.rules
+read_as-requires over c = c.loop-before.invariant.rules
 
 pub returns : goal.returns
-returns c =
+returns over c =
     let past = texts_end c.args.lines.now c.loop-before.before (omega arith) in
     let so_far = rw past at c.loop-before.invariant.told in
     let left = draft_done component_lint _ _ (rw past at c.loop-before.invariant.left) in (

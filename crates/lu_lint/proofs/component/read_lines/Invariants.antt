@@ -10,7 +10,7 @@ use Rattle.lu_lint.proofs.WhileSound.{KeepsRules, Reads}
 use Rattle.lu_lint.proofs.component.read_lines.Given as goal
 
 abbrev pub invariant-loop-before : goal.invariant-loop-before
-invariant-loop-before l = record {
+invariant-loop-before over l = record {
   told : said_of l.all.items ++ said_faults part.Component 0 (faults_after component_lint l.seen.items (l.before + 1) l.draft (drop l.before (texts l.lines))) ≡ said_of l.initial.all.items ++ said_of_lines component_lint 0 (texts l.lines);
   left : draft_after component_lint l.draft (drop l.before (texts l.lines)) ≡ faulty_of_lines (texts l.lines);
   rules : KeepsRules l.sound l.draft;

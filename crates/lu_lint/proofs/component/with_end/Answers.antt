@@ -7,7 +7,7 @@ use Rattle.lu_lint.proofs.Going.{are_at_end}
 use Rattle.lu_lint.proofs.component.with_end.Goals as goal
 
 pub returns-in_ok-all-in-Some-2 : goal.returns-in_ok-all-in-Some-2
-returns-in_ok-all-in-Some-2 c =
+returns-in_ok-all-in-Some-2 over c =
     let at = c.args.at.now in
     let backs = c.in_ok-backs-in-Some.ensures ∙ ap (λ (f : Faulty). open_backs f.draft.begun) c.draft.view_is in
     let fault = sym c.in-Some.is ∙ (c.end_fault.ensures ∙ ap (λ (f : Faulty). fault_in (faulty_grammar.finish f)) c.draft.view_is) in

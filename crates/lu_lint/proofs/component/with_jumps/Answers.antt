@@ -6,7 +6,7 @@ use Rattle.lu_lint.proofs.Going.{jump_more}
 use Rattle.lu_lint.proofs.component.with_jumps.Goals as goal
 
 pub loop-back-preserved : goal.loop-back-preserved
-loop-back-preserved c =
+loop-back-preserved over c =
     let at = c.args.at.now in
     let place = rw c.deref.ensures.value at c.line_before-place.ensures in
     let said = c.said.ensures ∙ ap (λ (n : ℕ). said_told part.Component at.above (told_there at.line c.args.kind n)) place in

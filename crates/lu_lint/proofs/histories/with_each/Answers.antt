@@ -3,8 +3,8 @@ use Rattle.lu_lint.proofs.FurtherParts.{ends, goes_on}
 use Rattle.lu_lint.proofs.histories.with_each.Goals as goal
 
 pub loop-text-preserved : goal.loop-text-preserved
-loop-text-preserved c =
+loop-text-preserved over c =
     goes_on c.args.matrix.now c.loop-text.above c.in_ok-above.above c.args.parts.now c.loop-text.text-index (record { ref_ptr = (0, 0); now = [] }) _ _ _ (omega arith) c.in_ok-all.ensures c.in_ok-above.ensures c.loop-text.invariant
 
 pub returns : goal.returns
-returns c = ends c.args.matrix.now c.loop-text.above c.args.parts.now c.loop-text.text-index _ _ (omega arith) c.loop-text.invariant
+returns over c = ends c.args.matrix.now c.loop-text.above c.args.parts.now c.loop-text.text-index _ _ (omega arith) c.loop-text.invariant

@@ -5,4 +5,4 @@ use Rattle.lu_lint.specs.Third.{histories_said}
 use Rattle.lu_lint.proofs.histories.with_each.Given as goal
 
 abbrev pub invariant-loop-text : goal.invariant-loop-text
-invariant-loop-text l = said_of l.all.items ++ histories_said l.matrix l.above (drop l.text-index (texts l.parts)) ≡ said_of l.initial.all.items ++ histories_said l.matrix l.initial.above (texts l.parts)
+invariant-loop-text over l = said_of l.all.items ++ histories_said l.matrix l.above (drop l.text-index (texts l.parts)) ≡ said_of l.initial.all.items ++ histories_said l.matrix l.initial.above (texts l.parts)

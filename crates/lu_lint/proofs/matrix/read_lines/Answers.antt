@@ -8,13 +8,13 @@ use Rattle.lu_lint.proofs.WhileSound.{matrix_done, matrix_on}
 use Rattle.lu_lint.proofs.matrix.read_lines.Goals as goal
 
 pub loop-before-init : goal.loop-before-init
-loop-before-init c = rw (c.no_lines-draft.ensures, c.new-seen.ensures.items) (record { room = nothing_room; fits = nothing_by c.args.signatures.now; told = refl; read = refl })
+loop-before-init over c = rw (c.no_lines-draft.ensures, c.new-seen.ensures.items) (record { room = nothing_room; fits = nothing_by c.args.signatures.now; told = refl; read = refl })
 
 pub read_line-requires : goal.read_line-requires
-read_line-requires c = (c.requires, c.loop-before.invariant.room)
+read_line-requires over c = (c.requires, c.loop-before.invariant.room)
 
 pub loop-before-preserved : goal.loop-before-preserved
-loop-before-preserved c =
+loop-before-preserved over c =
     let all = c.args.signatures.now in
     let place : Position = record { above = c.args.above; line = c.loop-before.before + 1; seen = c.loop-before.seen } in
     let step = text_more c.args.lines.now c.loop-before.before _ (omega arith) in
@@ -27,7 +27,7 @@ loop-before-preserved c =
     }
 
 pub returns-clause-said : goal.returns-clause-said
-returns-clause-said c =
+returns-clause-said over c =
     let all = c.args.signatures.now in
     let place : Position = record { above = c.args.above; line = length c.args.lines.now + 1; seen = c.loop-before.seen } in
     let past = texts_end c.args.lines.now c.loop-before.before (omega arith) in (

@@ -5,4 +5,4 @@ use Rattle.lu_lint.specs.Schedule.{faults_of_each, schedule_said}
 use Rattle.lu_lint.proofs.schedule.with_each.Given as goal
 
 abbrev pub invariant-loop-word : goal.invariant-loop-word
-invariant-loop-word l = said_of l.all.items ++ schedule_said l.above (faults_of_each (drop l.word-index (texts l.words))) ≡ said_of l.initial.all.items ++ schedule_said l.above (faults_of_each (texts l.words))
+invariant-loop-word over l = said_of l.all.items ++ schedule_said l.above (faults_of_each (drop l.word-index (texts l.words))) ≡ said_of l.initial.all.items ++ schedule_said l.above (faults_of_each (texts l.words))

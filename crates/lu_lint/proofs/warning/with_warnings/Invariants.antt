@@ -5,4 +5,4 @@ use Rattle.lu_lint.specs.Warnings.{warnings_after, warnings_of_lines}
 use Rattle.lu_lint.proofs.warning.with_warnings.Given as goal
 
 abbrev pub invariant-loop-before : goal.invariant-loop-before
-invariant-loop-before l = said_of l.all.items ++ warnings_after l.component l.seen.items (l.before + 1) l.draft (drop l.before (texts l.lines)) ≡ said_of l.initial.all.items ++ warnings_of_lines l.component (texts l.lines)
+invariant-loop-before over l = said_of l.all.items ++ warnings_after l.component l.seen.items (l.before + 1) l.draft (drop l.before (texts l.lines)) ≡ said_of l.initial.all.items ++ warnings_of_lines l.component (texts l.lines)

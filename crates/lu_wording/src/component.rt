@@ -1,7 +1,7 @@
 //! The words for a fault of a component's line: what stands there, and what was wanted.
 
-use crate::near::near;
 use crate::shape::{Shape, declaration, instruction, near_declaration, near_instruction};
+use crate::spelling::near;
 use lu_lang::{Draft, LangFaultKind, OpenOp, Statement};
 use lu_text::{Name, are_allowed, has_name_form, is_long, value_in, words_of};
 use std::alloc::{AllocError, Global};
@@ -504,7 +504,7 @@ fn wording_of_words(
 }
 
 /// The words for a fault of this kind on a line, behind this draft.
-pub fn wording(
+pub(crate) fn component_wording(
     alloc: Global,
     draft: &Draft,
     kind: LangFaultKind,
@@ -545,7 +545,7 @@ fn no_label(alloc: Global, op: &OpenOp, label: &Name) -> Result<String, AllocErr
 }
 
 /// The words for a fault at the end of the text.
-pub fn end_wording(alloc: Global, draft: &Draft) -> Result<String, AllocError> {
+pub(crate) fn end_wording(alloc: Global, draft: &Draft) -> Result<String, AllocError> {
     match &draft.begun {
         Some(op) => {
             let name = op.name.as_str();

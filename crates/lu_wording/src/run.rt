@@ -1,8 +1,7 @@
 //! The words of a warning by runs.
 
-use crate::remark::{Ending, RunHint, SerialHint};
-use crate::runs::{Test, operation_count};
 use lu_history::SerialOp;
+use lu_lint::{Ending, RunHint, SerialHint, Test, operation_count};
 use lu_test::Call;
 use std::alloc::{AllocError, Global};
 use std::fmt::Write;

@@ -1,7 +1,7 @@
 //! The words for a fault of a matrix's line: what stands there, and what was wanted.
 
-use crate::near::{is_near, near};
-use crate::wording::{hint, is_register, shown, unknown_byte};
+use crate::component::{hint, is_register, shown, unknown_byte};
+use crate::spelling::{is_near, near};
 use lu_test::{Draft, MatrixFaultKind, Signature};
 use lu_text::{Name, before_comment, has_name_form, parts_of, value_in, words_of};
 use std::alloc::{AllocError, Global};

@@ -1,7 +1,7 @@
 //! The words for a fault of a recorded history.
 
-use crate::third_wording::line_shown;
-use crate::wording::unknown_byte;
+use crate::component::unknown_byte;
+use crate::third::line_shown;
 use lu_recorded::RecordedFaultKind;
 use lu_test::Matrix;
 use std::alloc::{AllocError, Global};

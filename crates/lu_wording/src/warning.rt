@@ -1,8 +1,8 @@
 //! The words of a warning.
 
-use crate::remark::Hint;
-use crate::wording::shown;
+use crate::component::shown;
 use lu_lang::{Draft, OpenOp};
+use lu_lint::Hint;
 use lu_text::words_of;
 use std::alloc::{AllocError, Global};
 

@@ -1,6 +1,6 @@
 //! The words for a fault of a schedule, a report or a specification.
 
-use crate::wording::shown;
+use crate::component::shown;
 use lu_report::{LineForm, ReportLineFault};
 use lu_spec::{SpecFaultKind, SpecLineFault};
 use lu_test::{Matrix, ScheduleFault};
